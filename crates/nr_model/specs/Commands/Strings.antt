@@ -1,0 +1,42 @@
+-- Strings (Redis command reference, string).
+use Rattle.std.specs.Prelude.{ℕ, List, [], ◌∷◌, Option, Some, None}
+use Rattle.std.specs.FinMap as map
+use Rattle.nr_model.specs.Bytes.{Bytes}
+use Rattle.nr_model.specs.Replies.{Reply, Bulk, NullBulk, Error}
+use Rattle.nr_model.specs.Keyspace.{Key, Keyspace, Stored, Value, Text, Items, Fields, Members, Scores}
+use Rattle.nr_model.specs.Commands.Shape.{Done, unchanged, refused}
+use Rattle.nr_model.specs.Commands.Texts.{ok, wrong_type, syntax_error}
+
+pub data Strings : Type 0 where
+  Get : Strings
+  Set : Strings
+
+-- GET key: its value, or the null bulk
+abbrev pub value_reply : Value → Reply
+value_reply (Text text) = Bulk text
+value_reply (Items items) = Error wrong_type
+value_reply (Fields fields) = Error wrong_type
+value_reply (Members members) = Error wrong_type
+value_reply (Scores scores) = Error wrong_type
+
+abbrev pub stored_reply : Option Stored → Reply
+stored_reply None = NullBulk
+stored_reply (Some stored) = value_reply stored.value
+
+abbrev pub get : Keyspace → ℕ → List Bytes → Done
+get keyspace database [] = refused keyspace database syntax_error
+get keyspace database (name ∷ words) = unchanged keyspace database (stored_reply (map.get keyspace (record { database = database; name = name })))
+
+-- SET key value: the key holds the string, whatever it held, and has no deadline
+abbrev pub set : Keyspace → ℕ → List Bytes → Done
+set keyspace database [] = refused keyspace database syntax_error
+set keyspace database (name ∷ []) = refused keyspace database syntax_error
+set keyspace database (name ∷ text ∷ []) =
+    let key : Key = record { database = database; name = name } in
+    record { reply = ok; keyspace = map.insert keyspace key (record { value = Text text; deadline = None }); database = database; touched = key ∷ [] }
+set keyspace database (name ∷ text ∷ option ∷ words) = refused keyspace database syntax_error
+
+-- the arguments are the words behind the name
+abbrev pub perform : Strings → ℕ → Keyspace → ℕ → List Bytes → Done
+perform Get now keyspace database arguments = get keyspace database arguments
+perform Set now keyspace database arguments = set keyspace database arguments

@@ -1,0 +1,15 @@
+pub mod Bytes
+pub mod Numbers
+pub mod Requests
+pub mod Replies
+pub mod Patterns
+pub mod Keyspace
+pub mod Commands
+pub mod Items
+pub mod Names
+pub mod Modes
+pub mod Sequential
+pub mod Entries
+pub mod Worlds
+pub mod Explains
+pub mod Rows

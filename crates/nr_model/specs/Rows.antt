@@ -1,0 +1,4 @@
+-- Worked rows: what the definitions give for bytes and sequences that were written down apart from them.
+pub mod Integers
+pub mod Modes
+pub mod Sequential

@@ -1,0 +1,19 @@
+// Worked rows, as laws: what the definitions give for bytes and sequences that were written down apart from them.
+
+ghost use Rattle.nr_model.specs.Rows.Modes.{ModeRows};
+ghost use Rattle.nr_model.specs.Rows.Sequential.{MessageRows, SequentialRows};
+
+/// What the bytes of a connection ask for: transactions, subscriptions, unknown names and ends.
+pub fn mode_rows()
+    ensures { ModeRows }
+{}
+
+/// Who gets which messages, and the answers of the subscribing commands and PUBLISH.
+pub fn message_rows()
+    ensures { MessageRows }
+{}
+
+/// Moments, watches, and reads between writes.
+pub fn sequential_rows()
+    ensures { SequentialRows }
+{}
