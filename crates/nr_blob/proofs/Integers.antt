@@ -1,5 +1,5 @@
 -- What std's parse gives at a text that begins as an integer's does.
-use Rattle.std.proofs.Common.{◌≡◌, ℕ, ◌+◌, ◌-◌, ◌*◌, ◌^◌, ◌<◌, ◌≤◌, zero, suc, Bool, true, false, nat_lt, List, [], ◌∷◌, length, get_or, drop, Option, Some, None, Result, Ok, Err, ℤ, pos, negsuc, arith, rules, refl, sym, ◌∙◌, subst, ◌⊎◌, inl, inr}
+use Rattle.std.proofs.Common.{◌≡◌, ℕ, ◌-◌, ◌^◌, ◌<◌, ◌≤◌, zero, suc, Bool, true, false, [], ◌∷◌, length, get_or, drop, Option, Some, None, Result, Ok, Err, ℤ, pos, negsuc, arith, refl, sym, ◌∙◌, subst, ◌⊎◌, inl, inr}
 use Rattle.std.specs.Prelude.{if◌then◌else◌, IsUtf8, IsAscii}
 use lib.IntN.{neg_ℤ}
 use Rattle.std.specs.Result.{MatchResult, OkIff, result_ok}
@@ -18,10 +18,7 @@ use Rattle.nr_model.specs.Numbers.{is_digit, is_numeral, digits_value, in_i64, i
 use Rattle.nr_model.proofs.Integers.{own, positive}
 use Rattle.nr_blob.specs.Integers.{is_leading_digit, begins_nonzero}
 
-
-
-
--- at a text of digits alone, but for a sign, std's parse answers by the range
+-- where `d` says that a text is digits alone, behind its sign, std's parse answers by the range
 plain_gives : {E : Type 0} (r : Result ℤ E) (d : Bool) (k n : ℕ) → 0 < k → OkIff r ((d ≡ true) × (0 < k) × (n < 2 ^ 63)) (pos n) → result_ok r ≡ (if d then in_i64 (pos n) else None)
 plain_gives (Ok x) true k n some h = let small : n < 2 ^ 63 = h.0.2 in let same : x ≡ pos n = h.1 in grind (arith, nat_tests)
 plain_gives (Ok x) false k n some h = absurd (cc (h.0.0))
@@ -58,7 +55,7 @@ minus_value (c ∷ t) minus e = let is : c ≡ 45 = minus in rw is (signed_value
 by_plain : {E : Type 0} (text : Bytes) (r : Result ℤ E) → is_leading_digit (get_or text 0 0) ≡ true → ParsesSigned w64 10 text r → result_ok r ≡ int_value text
 by_plain text r e h =
     plain_gives r (list_all is_digit text) (length text) (digits_value text) (leading_within text 0 e)
-        (parse_signed_plain own w64 text r h (grind (arith, nat_tests)) (grind (arith, nat_tests)))
+    (parse_signed_plain own w64 text r h (grind (arith, nat_tests)) (grind (arith, nat_tests)))
     ∙ sym (plain_value text e)
 
 by_minus : {E : Type 0} (text : Bytes) (r : Result ℤ E) → get_or text 0 0 ≡ 45 → is_leading_digit (get_or text 1 0) ≡ true → ParsesSigned w64 10 text r → result_ok r ≡ int_value text
@@ -68,7 +65,7 @@ by_minus text r minus e h =
     let n : ℕ = digits_value t - 1 in
     let whole : digits_value t ≡ suc n = omega (arith, positive t (grind (arith, nat_tests))) in
     minus_gives r (list_all is_digit t) (length t) n (leading_within t 0 first)
-        (subst (λ v. OkIff r ((list_all is_digit t ≡ true) × (0 < length t) × (v ≤ 2 ^ 63)) (neg_ℤ (pos v))) whole (parse_signed_minus own w64 text r h minus))
+    (subst (λ v. OkIff r ((list_all is_digit t ≡ true) × (0 < length t) × (v ≤ 2 ^ 63)) (neg_ℤ (pos v))) whole (parse_signed_minus own w64 text r h minus))
     ∙ sym (minus_value text minus e)
 
 -- the two together, and a text that is none to std

@@ -27,7 +27,7 @@ fn parsed(text: &[u8]) -> Option<i64>
     str::from_utf8(text).ok()?.parse().ok()
 }
 
-/// Appends an integer's text.
+/// Appends an integer's text, or nothing where memory runs out.
 pub fn int_text(n: i64, out: &mut Vec<u8>) -> Result<(), Memory>
     ensures ok { OnOk result (out.new.items ≡ out.old.items ++ signed_decimal n) }
     ensures err { OnErr result (out.new.items ≡ out.old.items) }

@@ -49,9 +49,12 @@ mod tests {
 
     #[test]
     fn stands_for_std_s_refusals(rt: HostRuntime) -> Result<(), Fail> {
-        assert_eq!(rt; pushed(rt.alloc()).map(|bytes| bytes.len()), Ok(1));
+        assert_eq!(rt; pushed(rt.alloc())?.as_slice(), [7].as_slice());
         assert_eq!(rt; Memory::from(AllocError), Memory);
-        assert_eq!(rt; format!(in rt.alloc(); "{Memory}")?.as_str(), "out of memory");
+        assert_eq!(rt;
+            format!(in rt.alloc(); "{Memory}")?.as_str(),
+            "out of memory"
+        );
         Ok(())
     }
 }

@@ -1,7 +1,6 @@
 -- A text has an integer's value exactly if it is the integer's text.
-use Rattle.std.proofs.Common.{◌≡◌, ℕ, ◌+◌, ◌-◌, ◌*◌, ◌^◌, ◌<◌, ◌≤◌, zero, suc, Bool, true, false, ◌&&◌, nat_lt, List, [], ◌∷◌, length, get_or, Option, Some, None, ℤ, pos, negsuc, cond, arith, rules, refl, sym, ◌∙◌, ap, subst}
-use Rattle.std.specs.Prelude.{if◌then◌else◌, ◌==◌, bytes_eq, fold, FitsSigned}
-use Rattle.std.specs.Int.{w64}
+use Rattle.std.proofs.Common.{◌≡◌, ℕ, ◌+◌, ◌-◌, ◌*◌, ◌^◌, ◌<◌, ◌≤◌, zero, suc, Bool, true, false, ◌&&◌, nat_lt, [], ◌∷◌, length, get_or, Option, Some, None, ℤ, pos, negsuc, arith, rules, refl, sym, ap, subst}
+use Rattle.std.specs.Prelude.{if◌then◌else◌, ◌==◌, bytes_eq, fold}
 use Rattle.std.specs.List.{list_all}
 use Rattle.std.specs.Fmt.{digits, decimal, signed_decimal}
 use Rattle.std.proofs.lemmas.Fmt.{digits_decimal, digits_value-decimal, decimal-digits_value, first_decimal}

@@ -42,36 +42,75 @@ pub record Row : Type 0 where
 abbrev pub row : Bytes → Arity → Class → Command → Row
 row name arity class command = record { name = name; arity = arity; class = class; command = command }
 
--- the commands on the keyspace that are served, by section
+-- Connection and server
+abbrev pub ping_row : Row
+ping_row = row (codes "ping") (AtLeast 1) Look (Perform (OfServer server.Ping))
+
+abbrev pub select_row : Row
+select_row = row (codes "select") (Exactly 2) Change (Perform (OfServer server.Select))
+
+abbrev pub quit_row : Row
+quit_row = row (codes "quit") (AtLeast 1) InSession (OfSession session.Quit)
+
+abbrev pub multi_row : Row
+multi_row = row (codes "multi") (Exactly 1) InSession (OfSession session.Multi)
+
+abbrev pub exec_row : Row
+exec_row = row (codes "exec") (Exactly 1) InSession (OfSession session.Exec)
+
+abbrev pub discard_row : Row
+discard_row = row (codes "discard") (Exactly 1) InSession (OfSession session.Discard)
+
+abbrev pub watch_row : Row
+watch_row = row (codes "watch") (AtLeast 2) InSession (OfSession session.Watch)
+
+abbrev pub unwatch_row : Row
+unwatch_row = row (codes "unwatch") (Exactly 1) Change (OfSession session.Unwatch)
+
+abbrev pub subscribe_row : Row
+subscribe_row = row (codes "subscribe") (AtLeast 2) InSession (OfSession (session.Subscribe session.Channels))
+
+abbrev pub psubscribe_row : Row
+psubscribe_row = row (codes "psubscribe") (AtLeast 2) InSession (OfSession (session.Subscribe session.Patterns))
+
+abbrev pub unsubscribe_row : Row
+unsubscribe_row = row (codes "unsubscribe") (AtLeast 1) InSession (OfSession (session.Unsubscribe session.Channels))
+
+abbrev pub punsubscribe_row : Row
+punsubscribe_row = row (codes "punsubscribe") (AtLeast 1) InSession (OfSession (session.Unsubscribe session.Patterns))
+
+abbrev pub publish_row : Row
+publish_row = row (codes "publish") (Exactly 3) Change (OfSession session.Publish)
+
+abbrev pub pubsub_row : Row
+pubsub_row = row (codes "pubsub") (AtLeast 2) Look (OfSession session.Pubsub)
+
+-- Keys
+abbrev pub del_row : Row
+del_row = row (codes "del") (AtLeast 2) Change (Perform (OfKeys keys.Del))
+
+-- Strings
+abbrev pub get_row : Row
+get_row = row (codes "get") (Exactly 2) Look (Perform (OfStrings strings.Get))
+
+abbrev pub set_row : Row
+set_row = row (codes "set") (AtLeast 3) Change (Perform (OfStrings strings.Set))
+
+-- the commands that are served, by section
 abbrev pub server_rows : List Row
-server_rows = row (codes "ping") (AtLeast 1) Look (Perform (OfServer server.Ping)) ∷ []
+server_rows = ping_row ∷ []
 
 abbrev pub key_rows : List Row
-key_rows = row (codes "del") (AtLeast 2) Change (Perform (OfKeys keys.Del)) ∷ []
+key_rows = del_row ∷ []
 
 abbrev pub string_rows : List Row
-string_rows =
-    row (codes "get") (Exactly 2) Look (Perform (OfStrings strings.Get))
-    ∷ row (codes "set") (AtLeast 3) Change (Perform (OfStrings strings.Set))
-    ∷ []
+string_rows = get_row ∷ set_row ∷ []
 
--- the names of the commands that speak of connections
+-- the commands that speak of connections
 abbrev pub session_rows : List Row
 session_rows =
-    row (codes "quit") (AtLeast 1) InSession (OfSession session.Quit)
-    ∷ row (codes "select") (Exactly 2) Change (Perform (OfServer server.Select))
-    ∷ row (codes "multi") (Exactly 1) InSession (OfSession session.Multi)
-    ∷ row (codes "exec") (Exactly 1) InSession (OfSession session.Exec)
-    ∷ row (codes "discard") (Exactly 1) InSession (OfSession session.Discard)
-    ∷ row (codes "watch") (AtLeast 2) InSession (OfSession session.Watch)
-    ∷ row (codes "unwatch") (Exactly 1) Change (OfSession session.Unwatch)
-    ∷ row (codes "subscribe") (AtLeast 2) InSession (OfSession (session.Subscribe session.Channels))
-    ∷ row (codes "psubscribe") (AtLeast 2) InSession (OfSession (session.Subscribe session.Patterns))
-    ∷ row (codes "unsubscribe") (AtLeast 1) InSession (OfSession (session.Unsubscribe session.Channels))
-    ∷ row (codes "punsubscribe") (AtLeast 1) InSession (OfSession (session.Unsubscribe session.Patterns))
-    ∷ row (codes "publish") (Exactly 3) Change (OfSession session.Publish)
-    ∷ row (codes "pubsub") (AtLeast 2) Look (OfSession session.Pubsub)
-    ∷ []
+    quit_row ∷ select_row ∷ multi_row ∷ exec_row ∷ discard_row ∷ watch_row ∷ unwatch_row ∷ subscribe_row ∷ psubscribe_row ∷ unsubscribe_row
+    ∷ punsubscribe_row ∷ publish_row ∷ pubsub_row ∷ []
 
 -- the names that are served; another name is an unknown command
 abbrev pub served : List Row

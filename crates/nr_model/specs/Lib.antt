@@ -3,12 +3,15 @@ pub mod Numbers
 pub mod Requests
 pub mod Replies
 pub mod Patterns
+pub mod Plain
 pub mod Keyspace
 pub mod Commands
 pub mod Items
 pub mod Names
 pub mod Modes
+pub mod Served
 pub mod Sequential
+pub mod States
 pub mod Entries
 pub mod Worlds
 pub mod Explains

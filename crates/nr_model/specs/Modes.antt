@@ -56,9 +56,13 @@ abbrev pub found : Bytes → Frame → Option Row → Reading
 found name frame None = Unknown name
 found name frame (Some row) = counted row frame
 
+-- a request's name; a frame has at least one word
+abbrev pub first_word : Frame → Bytes
+first_word [] = []
+first_word (name ∷ words) = name
+
 abbrev pub reading : List Row → Frame → Reading
-reading table [] = Unknown []
-reading table (name ∷ words) = found name (name ∷ words) (row_of table name)
+reading table frame = found (first_word frame) frame (row_of table (first_word frame))
 
 -- what a request asks for, and the mode behind it
 pub record Answer : Type 0 where

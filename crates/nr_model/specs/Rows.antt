@@ -1,4 +1,7 @@
 -- Worked rows: what the definitions give for bytes and sequences that were written down apart from them.
 pub mod Integers
+pub mod Requests
+pub mod Replies
+pub mod Patterns
 pub mod Modes
 pub mod Sequential

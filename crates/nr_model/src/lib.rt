@@ -2,5 +2,9 @@
 #![tactic(auto)]
 
 pub mod fault;
+pub mod machines;
 pub mod numbers;
+pub mod patterns;
+pub mod replies;
+pub mod requests;
 pub mod rows;

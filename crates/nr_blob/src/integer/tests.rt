@@ -81,7 +81,20 @@ fn refuses_what_is_no_integer(rt: HostRuntime) {
 
 #[test]
 fn writes_what_it_reads(rt: HostRuntime) -> Result<(), Fail> {
-    for n in [0, 1, -1, 9, 10, 99, 100, -100, 12345, i64::MIN, i64::MIN + 1, i64::MAX] {
+    for n in [
+        0,
+        1,
+        -1,
+        9,
+        10,
+        99,
+        100,
+        -100,
+        12345,
+        i64::MIN,
+        i64::MIN + 1,
+        i64::MAX,
+    ] {
         let mut text = Vec::new(rt.alloc());
         int_text(n, &mut text)?;
         assert_eq!(rt; read_int(&text), Some(n));

@@ -2,12 +2,7 @@
 use Rattle.std.specs.Prelude.{◌≡◌, List, [], ◌∷◌, ◌++◌, Some, None, codes, flat_map}
 use Rattle.nr_model.specs.Bytes.{Bytes, crlf}
 use Rattle.nr_model.specs.Replies.{Reply, Simple, Error, Bulk, array}
-use Rattle.nr_model.specs.Commands.{Row, row, rows, served, Perform, OfSession, OfServer, OfKeys, OfStrings}
-use Rattle.nr_model.specs.Commands.Server as server
-use Rattle.nr_model.specs.Commands.Keys as keys
-use Rattle.nr_model.specs.Commands.Strings as strings
-use Rattle.nr_model.specs.Commands.Session as session
-use Rattle.nr_model.specs.Commands.Shape.{Exactly, AtLeast, Look, Change, InSession}
+use Rattle.nr_model.specs.Commands.{Row, rows, served, ping_row, get_row, set_row, del_row, select_row, watch_row, discard_row, subscribe_row, unsubscribe_row}
 use Rattle.nr_model.specs.Commands.Texts.{ok}
 use Rattle.nr_model.specs.Items.{Call, Deed, Say, Act, Run, Abort, End}
 use Rattle.nr_model.specs.Modes.{deeds_by}
@@ -18,42 +13,6 @@ typed lines = flat_map (λ line. line ++ crlf) lines
 
 abbrev pub call : Row → List Bytes → Call
 call r words = record { row = r; words = words }
-
-abbrev pub ping_row : Row
-ping_row = row (codes "ping") (AtLeast 1) Look (Perform (OfServer server.Ping))
-
-abbrev pub get_row : Row
-get_row = row (codes "get") (Exactly 2) Look (Perform (OfStrings strings.Get))
-
-abbrev pub set_row : Row
-set_row = row (codes "set") (AtLeast 3) Change (Perform (OfStrings strings.Set))
-
-abbrev pub del_row : Row
-del_row = row (codes "del") (AtLeast 2) Change (Perform (OfKeys keys.Del))
-
-abbrev pub select_row : Row
-select_row = row (codes "select") (Exactly 2) Change (Perform (OfServer server.Select))
-
-abbrev pub watch_row : Row
-watch_row = row (codes "watch") (AtLeast 2) InSession (OfSession session.Watch)
-
-abbrev pub unwatch_row : Row
-unwatch_row = row (codes "unwatch") (Exactly 1) Change (OfSession session.Unwatch)
-
-abbrev pub discard_row : Row
-discard_row = row (codes "discard") (Exactly 1) InSession (OfSession session.Discard)
-
-abbrev pub subscribe_row : Row
-subscribe_row = row (codes "subscribe") (AtLeast 2) InSession (OfSession (session.Subscribe session.Channels))
-
-abbrev pub psubscribe_row : Row
-psubscribe_row = row (codes "psubscribe") (AtLeast 2) InSession (OfSession (session.Subscribe session.Patterns))
-
-abbrev pub unsubscribe_row : Row
-unsubscribe_row = row (codes "unsubscribe") (AtLeast 1) InSession (OfSession (session.Unsubscribe session.Channels))
-
-abbrev pub publish_row : Row
-publish_row = row (codes "publish") (Exactly 3) Change (OfSession session.Publish)
 
 abbrev pub get_k : Call
 get_k = call get_row (codes "GET" ∷ codes "k" ∷ [])

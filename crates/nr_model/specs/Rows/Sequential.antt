@@ -4,7 +4,8 @@ use Rattle.nr_model.specs.Bytes.{Bytes}
 use Rattle.nr_model.specs.Commands.Texts.{ok}
 use Rattle.nr_model.specs.Items.{Connection, Deed, Say, Act, Run, End, Item, Sequence}
 use Rattle.nr_model.specs.Sequential.{past_of, emitted_for}
-use Rattle.nr_model.specs.Rows.Modes.{call, get_row, set_row, ping_row, subscribe_row, psubscribe_row, unsubscribe_row, unwatch_row, publish_row, watch_k, get_k, subscribe_news, queued}
+use Rattle.nr_model.specs.Commands.{set_row, ping_row, subscribe_row, psubscribe_row, unsubscribe_row, unwatch_row, publish_row}
+use Rattle.nr_model.specs.Rows.Modes.{call, watch_k, get_k, subscribe_news, queued}
 
 abbrev pub alice : Connection
 alice = record { node = 0; serial = 0 }

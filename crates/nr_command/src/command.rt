@@ -1,0 +1,48 @@
+// Commands, and requests whose command is known.
+use nr_blob::Blob;
+
+/// A command that is served, by its section of the Redis command reference.
+#[derive(Clone, Copy, Debug, PartialEq, Eq)]
+pub enum CommandId {
+    Server(Server),
+    Keys(Keys),
+    Strings(Strings),
+}
+
+/// Connection and server.
+#[derive(Clone, Copy, Debug, PartialEq, Eq)]
+pub enum Server {
+    Ping,
+}
+
+/// Keys.
+#[derive(Clone, Copy, Debug, PartialEq, Eq)]
+pub enum Keys {
+    Del,
+}
+
+/// Strings.
+#[derive(Clone, Copy, Debug, PartialEq, Eq)]
+pub enum Strings {
+    Get,
+    Set,
+}
+
+/// What a command may do.
+#[derive(Clone, Copy, Debug, PartialEq, Eq)]
+pub enum Class {
+    /// It reads the keyspace and leaves it as it is.
+    Look,
+    /// It may change the keyspace, or what the server knows of a connection.
+    Change,
+    /// The connection's own mode answers it.
+    Session,
+}
+
+/// A request whose name was found and whose words are as many as its command asks for.
+#[derive(Debug, Drop)]
+pub struct Cmd {
+    pub id: CommandId,
+    /// All words, the name first, as it was sent.
+    pub words: Vec<Blob>,
+}

@@ -1,0 +1,34 @@
+// From a request to its command.
+ghost use Rattle.nr_command.specs.Check.{Checks};
+
+use crate::command::{Cmd, CommandId};
+use crate::table::{arity_ok, lookup};
+use nr_resp::Frame;
+
+/// Why a request is no command. It hands the request back.
+#[derive(Debug, Drop)]
+pub enum CmdError {
+    /// No command has its name.
+    Unknown(Frame),
+    /// The command takes more words, or fewer.
+    Arity(CommandId, Frame),
+}
+
+/// The command of a request: its name is looked up, and then its words are counted.
+pub fn check(frame: Frame) -> Result<Cmd, CmdError>
+    ensures { Checks frame.words.items result }
+{
+    let Some(name) = frame.words.first() else {
+        return Err(CmdError::Unknown(frame));
+    };
+    let Some(id) = lookup(name.bytes()) else {
+        return Err(CmdError::Unknown(frame));
+    };
+    if !arity_ok(id, frame.words.len()) {
+        return Err(CmdError::Arity(id, frame));
+    }
+    Ok(Cmd {
+        id,
+        words: frame.words,
+    })
+}

@@ -1,0 +1,63 @@
+-- What requests ask for where only the commands on the keyspace are served.
+use Rattle.std.proofs.Common.{◌≡◌, ℕ, Bool, true, false, cond, List, [], ◌∷◌, ◌++◌, refl, ap, sym, ◌∙◌, subst}
+use Rattle.std.specs.Prelude.{map, length, find, bytes_eq, Option, Some, None}
+use Rattle.std.specs.List.{AllByRecursion}
+use Rattle.std.specs.Str.{str_to_ascii_lowercase}
+use Rattle.nr_model.specs.Bytes.{Bytes}
+use Rattle.nr_model.specs.Requests.{Frame}
+use Rattle.nr_model.specs.declared.fault.Fault.{Fault}
+use Rattle.nr_model.specs.Commands.{Row, served, row_of}
+use Rattle.nr_model.specs.Commands.Shape.{arity_ok}
+use Rattle.nr_model.specs.Items.{Call, Deed, Act, is_end}
+use Rattle.nr_model.specs.Modes.{Mode, plain, Answer, asks, answer, by_itself, found, counted, first_word, reading, reading_answer, Conversation, conversation, first_deed, last_deed, Reading, Unknown, WrongArity, Known}
+use Rattle.nr_model.specs.Served.{served_deed, ServedLaw}
+
+-- an answer leaves the plain mode, and the connection goes on
+abbrev IsPlainAnswer : Answer → Type 0
+IsPlainAnswer a = (a ≡ asks a.deed plain) × (is_end a.deed ≡ false)
+
+-- a row's command is done by itself
+abbrev IsDone : Row → Type 0
+IsDone row = (call : Call) → by_itself row.command call plain ≡ asks (Act call) plain
+
+has_one : {A : Type 0} (P : A → Type 0) (b : Bool) (y : A) (others : Option A) → P y → ((x : A) → others ≡ Some x → P x) → (x : A) → cond b (Some y) others ≡ Some x → P x
+has_one P true y others here there x e = subst P (cc) here
+has_one P false y others here there x e = there x e
+
+find_has : {A : Type 0} (P : A → Type 0) (test : A → Bool) (xs : List A) → AllByRecursion P xs → (x : A) → find test xs ≡ Some x → P x
+find_has P test [] all x e = absurd (cc)
+find_has P test (y ∷ ys) all x e = has_one P (test y) y (find test ys) all.0 (find_has P test ys all.1) x e
+
+all_done : AllByRecursion IsDone served
+all_done = ((λ call. refl), ((λ call. refl), ((λ call. refl), ((λ call. refl), tt))))
+
+-- by how the words are counted, and by what row was found
+counted_answer : (row : Row) (frame : Frame) → IsDone row → (b : Bool) → IsPlainAnswer (reading_answer (cond b (Known (record { row = row; words = frame })) (WrongArity row)) plain)
+counted_answer row frame done true =
+    let call : Call = record { row = row; words = frame } in
+    subst (λ (a : Answer). IsPlainAnswer a) (sym (done call)) (refl, refl)
+counted_answer row frame done false = (refl, refl)
+
+found_answer : (name : Bytes) (frame : Frame) (o : Option Row) → ((row : Row) → o ≡ Some row → IsDone row) → IsPlainAnswer (reading_answer (found name frame o) plain)
+found_answer name frame None done = (refl, refl)
+found_answer name frame (Some row) done = counted_answer row frame (done row refl) (arity_ok row.arity (length frame))
+
+plain_answer : (frame : Frame) → IsPlainAnswer (answer served plain frame)
+plain_answer frame = found_answer (first_word frame) frame (row_of served (first_word frame)) (find_has IsDone (λ (r : Row). bytes_eq r.name (str_to_ascii_lowercase (first_word frame))) served all_done)
+
+first_goes_on : (deed : Deed) (more : Conversation) → is_end deed ≡ false
+    → first_deed (asks deed plain) more ≡ record { deeds = deed ∷ more.deeds; mode = more.mode; ended = more.ended }
+first_goes_on deed more e = rw e
+
+conversation_along : (frames : List Frame) (fault : Option Fault)
+    → conversation served plain frames fault ≡ record { deeds = map served_deed frames ++ (last_deed fault plain).deeds; mode = plain; ended = (last_deed fault plain).ended }
+conversation_along [] None = refl
+conversation_along [] (Some fault) = refl
+conversation_along (frame ∷ frames) fault =
+    let a = plain_answer frame in
+    ap (λ (b : Answer). first_deed b (conversation served b.mode frames fault)) a.0
+    ∙ ap (first_deed (asks (served_deed frame) plain)) (conversation_along frames fault)
+    ∙ first_goes_on (served_deed frame) _ a.1
+
+pub served_is_plain : ServedLaw
+served_is_plain = record { answers = λ frame. (plain_answer frame).0; goes_on = λ frame. (plain_answer frame).1; conversations = conversation_along }
