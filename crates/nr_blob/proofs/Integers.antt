@@ -15,7 +15,7 @@ use Rattle.std.proofs.lemmas.Fmt.{IsAscii-from_digits}
 use Rattle.std.proofs.lemmas.Str.{IsUtf8-from_ascii}
 use Rattle.nr_model.specs.Bytes.{Bytes}
 use Rattle.nr_model.specs.Numbers.{is_digit, is_numeral, digits_value, in_i64, int_value}
-use Rattle.nr_model.proofs.Integers.{own, positive}
+use Rattle.nr_model.proofs.IntegerTexts.{own, positive}
 use Rattle.nr_blob.specs.Integers.{is_leading_digit, begins_nonzero}
 
 -- where `d` says that a text is digits alone, behind its sign, std's parse answers by the range

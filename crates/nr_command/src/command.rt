@@ -1,5 +1,5 @@
 // Commands, and requests whose command is known.
-use nr_blob::Blob;
+use nr_blob::{Blob, Memory};
 
 /// A command that is served, by its section of the Redis command reference.
 #[derive(Clone, Copy, Debug, PartialEq, Eq)]
@@ -45,4 +45,20 @@ pub struct Cmd {
     pub id: CommandId,
     /// All words, the name first, as it was sent.
     pub words: Vec<Blob>,
+}
+
+impl Cmd {
+    ghost use Rattle.std.specs.Prelude.{◌≡◌, IfOk};
+    ghost use Rattle.nr_command.specs.Check.{call_of};
+
+    /// The same request once more.
+    pub fn copy(&self) -> Result<Cmd, Memory>
+        ensures { IfOk result (λ cmd. call_of cmd ≡ call_of self.now) }
+    {
+        let mut words = Vec::with_capacity(*self.words.allocator(), self.words.len())?;
+        for word in &self.words {
+            words.push(word.copy()?)?;
+        }
+        Ok(Cmd { id: self.id, words })
+    }
 }

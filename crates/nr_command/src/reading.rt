@@ -32,3 +32,6 @@ pub fn check(frame: Frame) -> Result<Cmd, CmdError>
         words: frame.words,
     })
 }
+
+#[cfg(test)]
+mod tests;

@@ -1,19 +1,19 @@
 -- The machine agrees with the sequential Redis, which looks back.
-use Rattle.std.proofs.Common.{◌≡◌, ℕ, ◌+◌, Bool, true, false, cond, List, [], ◌∷◌, ◌++◌, refl, ap, sym, ◌∙◌, subst, append_assoc, arith}
+use Rattle.std.proofs.Common.{◌≡◌, ℕ, Bool, true, false, cond, List, [], ◌∷◌, ◌++◌, refl, ap, sym, ◌∙◌, append_assoc}
 use Rattle.std.proofs.lemmas.List.{reverse-append}
-use Rattle.std.specs.Prelude.{◌&&◌, ◌||◌, not, map, max, reverse, flat_map, fold, Some, None}
-use Rattle.std.specs.List.{list_all, AllByRecursion}
+use Rattle.std.specs.Prelude.{◌&&◌, ◌||◌, not, map, max, reverse, flat_map, Some, None}
+use Rattle.std.specs.List.{list_all}
 use Rattle.nr_model.specs.Bytes.{Bytes}
 use Rattle.nr_model.specs.Replies.{Reply, array}
 use Rattle.nr_model.specs.Keyspace.{Key, Keyspace, live}
-use Rattle.nr_model.specs.Commands.{Command, Perform, OfSession, OfServer, OfKeys, OfStrings, Operation, perform}
+use Rattle.nr_model.specs.Commands.{Command, Perform, OfSession, OfServer, OfKeys, OfStrings, perform}
 use Rattle.nr_model.specs.Commands.Server.{Ping, Select}
 use Rattle.nr_model.specs.Commands.Keys.{Del}
-use Rattle.nr_model.specs.Commands.Strings.{Strings, Get, Set}
+use Rattle.nr_model.specs.Commands.Strings.{Get, Set}
 use Rattle.nr_model.specs.Items.{Connection, same_connection, Call, arguments, Deed, Say, Act, Run, Abort, End, Item, Sequence, is_update}
 use Rattle.nr_model.specs.Sequential.Events.{Emission, Event, Past, keyspace_after, database_of, logged_moment, now_of}
-use Rattle.nr_model.specs.Sequential.Watches.{is_spoiled, forgets, watched_keys, command_watches, is_broken}
-use Rattle.nr_model.specs.Sequential.{Progress, acted, acted_all, one_reply, run_calls, progress_of, start, database_left, event_of, past_from, past_of, redis, emit}
+use Rattle.nr_model.specs.Sequential.Watches.{is_spoiled, forgets, watched_keys, command_watches}
+use Rattle.nr_model.specs.Sequential.{Progress, acted, acted_all, one_reply, run_calls, progress_of, start, database_left, event_of, past_from}
 use Rattle.nr_model.specs.States.{State, opening, stepped, emitted_in, after_all, emitted_all, beginning, now_in, done_by, progress_in, needs_keyspace_alone, is_plain_call, is_plain_deed, ArePlain, IsSequential}
 
 -- an operation on the keyspace leaves the database
@@ -107,7 +107,7 @@ same_progress past state item a plain =
     let here = same_deed past c (now_of past item) item.deed (start past c) (a.unwatched c (now_of past item)) plain in
     let there = same_deed past c (now_in state item) item.deed (beginning state) (a.unwatched c (now_in state item)) plain in
     let moved : done_by c (now_of past item) item.deed (start past c) ≡ done_by c (now_in state item) item.deed (beginning state) =
-        λ i. done_by c (max item.moment (a.logged i)) item.deed (started past state c a i) in
+    λ i. done_by c (max item.moment (a.logged i)) item.deed (started past state c a i) in
     (here.0 ∙ moved, there.1)
 
 -- one item further
@@ -117,16 +117,17 @@ unfolding event_of
 agrees_on past state item a plain =
     let same = same_progress past state item a plain in
     let at_zero : database_left item.deed (progress_of past item.connection (now_of past item) item.deed (start past item.connection)).database ≡ 0 =
-        zero_database item.deed _ (ap (λ (q : Progress). q.database) same.0 ∙ same.1) in
-    (record {
-      keyspace = ap (λ (q : Progress). q.keyspace) same.0;
-      logged = λ i. cond (is_update item.deed) (max item.moment (a.logged i)) (a.logged i);
-      databases = λ c. cond_same (same_connection item.connection c) _ _ at_zero (a.databases c);
-      unwatched = λ c now touched.
-          rw (nothing_watched (event_of past item) item.deed plain)
-          (both_false (not (same_connection item.connection c && forgets item.deed)) (same_connection item.connection c) _ (a.unwatched c now (touched ++ (event_of past item).touched)));
-    },
-    ap (λ (q : Progress). q.messages ++ map {A = Reply} (λ reply. record { connection = item.connection; reply = reply }) q.replies) same.0)
+    zero_database item.deed _ (ap (λ (q : Progress). q.database) same.0 ∙ same.1) in (
+      record {
+        keyspace = ap (λ (q : Progress). q.keyspace) same.0;
+        logged = λ i. cond (is_update item.deed) (max item.moment (a.logged i)) (a.logged i);
+        databases = λ c. cond_same (same_connection item.connection c) _ _ at_zero (a.databases c);
+        unwatched = λ c now touched.
+            rw (nothing_watched (event_of past item) item.deed plain)
+            (both_false (not (same_connection item.connection c && forgets item.deed)) (same_connection item.connection c) _ (a.unwatched c now (touched ++ (event_of past item).touched)));
+      },
+      ap (λ (q : Progress). q.messages ++ map {A = Reply} (λ reply. record { connection = item.connection; reply = reply }) q.replies) same.0,
+    )
 
 abbrev emitted_by : Past → List Emission
 emitted_by past = flat_map (λ (event : Event). event.emitted) (reverse past)
@@ -150,10 +151,11 @@ unfolding past_from
 agrees_along [] past state a plain = (a.keyspace, sym (append-nil (emitted_by past)))
 agrees_along (item ∷ items) past state a plain =
     let one = agrees_on past state item a plain.0 in
-    let more = agrees_along items (event_of past item ∷ past) (stepped state item) one.0 plain.1 in
-    (more.0,
-    more.1 ∙ ap (λ xs. xs ++ emitted_all (stepped state item) items) (one_more (event_of past item) past ∙ ap (λ xs. emitted_by past ++ xs) one.1)
-    ∙ append_assoc (emitted_by past) (emitted_in state item) (emitted_all (stepped state item) items))
+    let more = agrees_along items (event_of past item ∷ past) (stepped state item) one.0 plain.1 in (
+      more.0,
+      more.1 ∙ ap (λ xs. xs ++ emitted_all (stepped state item) items) (one_more (event_of past item) past ∙ ap (λ xs. emitted_by past ++ xs) one.1)
+          ∙ append_assoc (emitted_by past) (emitted_in state item) (emitted_all (stepped state item) items),
+    )
 
 opens : Agrees [] opening
 opens = record { keyspace = refl; logged = refl; databases = λ c. refl; unwatched = λ c now touched. refl }

@@ -1,5 +1,5 @@
 -- int_value reads exactly the texts that signed_decimal writes.
-use Rattle.std.proofs.Common.{◌≡◌, ℕ, zero, suc, ◌+◌, ◌-◌, ◌*◌, ◌^◌, ◌<◌, Bool, true, false, ◌&&◌, cond, eqb, ltb, leb, [], ◌∷◌, length, get_or, Some, None, ℤ, pos, negsuc, ◌⊎◌, inl, inr, fold, refl, sym, ap, ◌∙◌, subst, arith, rules, decimal}
+use Rattle.std.proofs.Common.{◌≡◌, ℕ, zero, suc, ◌+◌, ◌-◌, ◌*◌, ◌^◌, ◌<◌, ◌≤◌, Bool, true, false, ◌&&◌, cond, eqb, ltb, leb, [], ◌∷◌, length, get_or, Some, None, ℤ, pos, negsuc, ◌⊎◌, inl, inr, fold, refl, sym, ap, ◌∙◌, subst, arith, rules, decimal}
 use Rattle.std.specs.Prelude.{bytes_eq, FitsSigned}
 use Rattle.std.specs.Int.{w64}
 use Rattle.std.specs.Fmt.{signed_decimal}
@@ -36,14 +36,17 @@ numeral_decimal ds h fits =
     let parts = numeral_parts ds h in
     decimal-digits_value own ds parts.0 parts.1 (λ e. absurd (omega (arith, parts.2, e))) fits
 
+value_ge : (n : ℕ) (ds : Bytes) → n ≤ fold (λ m d. 10 * m + (d - 48)) n ds
+value_ge n [] = omega arith
+value_ge n (d ∷ ds) = omega (arith, value_ge (10 * n + (d - 48)) ds)
+
+-- digits that begin with 1 to 9 write no 0
+pub positive : (ds : Bytes) → 48 < get_or ds 0 0 → 0 < digits_value ds
+positive [] h = absurd (omega arith)
+positive (d ∷ ds) h = omega (arith, value_ge (0 + (d - 48)) ds)
+
 pub numeral_above : (ds : Bytes) → is_numeral ds ≡ true → 0 < digits_value ds
-numeral_above ds h = by_value (digits_value ds) refl
-  where
-    by_value : (n : ℕ) → digits_value ds ≡ n → 0 < digits_value ds
-    by_value zero e =
-        let zero_text : ds ≡ 48 ∷ [] = sym (numeral_decimal ds h (omega arith)) ∙ ap decimal e ∙ decimal_digit 0 (omega arith) in
-        absurd (omega (arith, (numeral_parts ds h).2, ap (λ s. get_or s 0 0) zero_text))
-    by_value (suc n) e = omega arith
+numeral_above ds h = positive ds (numeral_parts ds h).2
 
 not_zero_text : (ds : Bytes) → is_numeral ds ≡ true → bytes_eq ds (48 ∷ []) ≡ false
 not_zero_text [] h = cc

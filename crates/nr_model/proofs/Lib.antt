@@ -1,4 +1,3 @@
-pub mod Integers
 pub mod IntegerTexts
 pub mod Fronts
 pub mod Cuts
@@ -11,3 +10,4 @@ pub mod Writing
 pub mod Live
 pub mod Agreement
 pub mod ServedDeeds
+pub mod Counts

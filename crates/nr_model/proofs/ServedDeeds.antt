@@ -1,5 +1,5 @@
 -- What requests ask for where only the commands on the keyspace are served.
-use Rattle.std.proofs.Common.{◌≡◌, ℕ, Bool, true, false, cond, List, [], ◌∷◌, ◌++◌, refl, ap, sym, ◌∙◌, subst}
+use Rattle.std.proofs.Common.{◌≡◌, Bool, true, false, cond, List, [], ◌∷◌, ◌++◌, refl, ap, sym, ◌∙◌, subst}
 use Rattle.std.specs.Prelude.{map, length, find, bytes_eq, Option, Some, None}
 use Rattle.std.specs.List.{AllByRecursion}
 use Rattle.std.specs.Str.{str_to_ascii_lowercase}
@@ -9,7 +9,7 @@ use Rattle.nr_model.specs.declared.fault.Fault.{Fault}
 use Rattle.nr_model.specs.Commands.{Row, served, row_of}
 use Rattle.nr_model.specs.Commands.Shape.{arity_ok}
 use Rattle.nr_model.specs.Items.{Call, Deed, Act, is_end}
-use Rattle.nr_model.specs.Modes.{Mode, plain, Answer, asks, answer, by_itself, found, counted, first_word, reading, reading_answer, Conversation, conversation, first_deed, last_deed, Reading, Unknown, WrongArity, Known}
+use Rattle.nr_model.specs.Modes.{plain, Answer, asks, answer, by_itself, found, first_word, reading_answer, Conversation, conversation, first_deed, last_deed, WrongArity, Known}
 use Rattle.nr_model.specs.Served.{served_deed, ServedLaw}
 
 -- an answer leaves the plain mode, and the connection goes on

@@ -1,5 +1,5 @@
 -- Bytes: what requests, replies, names and values are made of.
-use Rattle.std.specs.Prelude.{ℕ, Bool, ◌||◌, ◌==◌, if◌then◌else◌, List, [], ◌∷◌, map, take}
+use Rattle.std.specs.Prelude.{ℕ, ◌||◌, ◌==◌, if◌then◌else◌, List, [], ◌∷◌, map, take}
 
 -- a text, each of whose bytes is a number below 256
 abbrev pub Bytes : Type 0

@@ -1,5 +1,5 @@
 -- Values, keys with their deadlines, and what of them is live at a moment.
-use Rattle.std.specs.Prelude.{◌≡◌, ℕ, ◌^◌, Bool, true, cond, List, Option, Some, None, ℤ, pos, int_lt, min, refl, ◌⊎◌}
+use Rattle.std.specs.Prelude.{◌≡◌, ℕ, ◌^◌, Bool, true, List, Option, Some, None, ℤ, pos, int_lt, min, refl, ◌⊎◌}
 use Rattle.std.proofs.Common.{inl, inr}
 use Rattle.std.specs.declared.cmp.Ordering.{Ordering}
 use Rattle.std.specs.Ordering.{nat_cmp, ordering_then}

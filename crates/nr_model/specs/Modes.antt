@@ -1,5 +1,5 @@
 -- The mode of a connection, and what each of its requests asks of the server: its deeds (Redis command reference, transactions, pub/sub).
-use Rattle.std.specs.Prelude.{ℕ, Bool, true, false, ◌||◌, nat_lt, cond, if◌then◌else◌, List, [], ◌∷◌, ◌++◌, length, Option, Some, None, codes}
+use Rattle.std.specs.Prelude.{Bool, true, false, nat_lt, cond, if◌then◌else◌, List, [], ◌∷◌, ◌++◌, length, Option, Some, None, codes}
 use Rattle.nr_model.specs.Bytes.{Bytes}
 use Rattle.nr_model.specs.Requests.{Frame, Framing, framing_of, fault_text}
 use Rattle.nr_model.specs.declared.fault.Fault.{Fault}

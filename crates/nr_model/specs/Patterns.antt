@@ -1,6 +1,5 @@
 -- Patterns, as KEYS and PSUBSCRIBE take them (Redis, glob-style patterns).
-use Rattle.std.specs.Prelude.{◌≡◌, ℕ, Bool, true, false, not, ◌&&◌, ◌||◌, ◌==◌, nat_le, min, max, IsTrue, if◌then◌else◌, List, [], ◌∷◌, ◌++◌}
-use Rattle.std.specs.List.{list_any}
+use Rattle.std.specs.Prelude.{◌≡◌, ℕ, Bool, true, false, not, ◌&&◌, ◌||◌, ◌==◌, nat_le, min, max, if◌then◌else◌, List, [], ◌∷◌, ◌++◌}
 use Rattle.nr_model.specs.Bytes.{Bytes}
 
 -- what one byte of a pattern stands for inside a class: itself, even where it is `-` (escaped), or as it is (plain)

@@ -1,5 +1,5 @@
 -- Connections where only the commands on the keyspace are served: they have no transactions and no subscriptions, so their mode stays plain.
-use Rattle.std.specs.Prelude.{◌≡◌, ℕ, false, List, [], ◌++◌, map, Option}
+use Rattle.std.specs.Prelude.{◌≡◌, false, List, ◌++◌, map, Option}
 use Rattle.nr_model.specs.Requests.{Frame}
 use Rattle.nr_model.specs.declared.fault.Fault.{Fault}
 use Rattle.nr_model.specs.Commands.{served}

@@ -1,12 +1,12 @@
 -- One sequential Redis as a machine that goes from state to state, where its commands need the keyspace alone: a law says that it answers
 -- as the sequential Redis, which looks back, along every sequence of such commands.
-use Rattle.std.specs.Prelude.{◌≡◌, ℕ, Bool, true, false, ◌&&◌, cond, max, List, [], ◌∷◌, ◌++◌, map, fold}
+use Rattle.std.specs.Prelude.{◌≡◌, ℕ, Bool, true, false, cond, max, List, [], ◌∷◌, ◌++◌, map}
 use Rattle.std.specs.List.{list_all, AllByRecursion}
 use Rattle.std.specs.FinMap as finmap
-use Rattle.nr_model.specs.Replies.{Reply, Error, array}
+use Rattle.nr_model.specs.Replies.{Error, array}
 use Rattle.nr_model.specs.Keyspace.{Keyspace}
-use Rattle.nr_model.specs.Commands.{Command, Perform, OfSession, OfServer, OfKeys, OfStrings, Operation}
-use Rattle.nr_model.specs.Commands.Server.{Server, Ping, Select}
+use Rattle.nr_model.specs.Commands.{Command, Perform, OfSession, OfServer, OfKeys, OfStrings}
+use Rattle.nr_model.specs.Commands.Server.{Ping, Select}
 use Rattle.nr_model.specs.Items.{Call, Deed, Say, Act, Run, Abort, End, Item, Sequence, is_update, Connection}
 use Rattle.nr_model.specs.Sequential.Events.{Emission}
 use Rattle.nr_model.specs.Sequential.{Progress, acted, acted_all, one_reply, last_reply, exec_abort, redis, emit}

@@ -7,11 +7,9 @@ ghost use Rattle.nr_model.specs.States.{IsSequential};
 /// keyspace alone: in its keyspace, and in all that is emitted.
 pub fn machine_law()
     ensures { IsSequential }
-{
-}
+{}
 
 /// Where only the commands on the keyspace are served, a connection's mode stays plain, and its deeds are those of each request by itself.
 pub fn served_law()
     ensures { ServedLaw }
-{
-}
+{}

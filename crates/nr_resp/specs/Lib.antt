@@ -1,3 +1,5 @@
-pub mod Seen
 pub mod Frames
+pub mod Lines
+pub mod Seen
 pub mod Stream
+pub mod Unfinished

@@ -1,5 +1,4 @@
 -- The replies of the code as those of the definitions.
-use Rattle.std.specs.Prelude.{ℕ, List, map}
 use Rattle.nr_model.specs.Replies.{Reply, Replies, Simple, Error, Int, Bulk, NullBulk, Array, NullArray, Empty, Cons}
 use Rattle.nr_resp.specs.declared.reply.Reply as code
 use Rattle.nr_resp.specs.declared.reply.Reply.{Row_of-Reply, end_of-Reply, more_of-Reply}

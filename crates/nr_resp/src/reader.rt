@@ -1,16 +1,17 @@
 // Requests, from bytes in any pieces.
-ghost use Rattle.std.specs.Prelude.{◌≡◌, ℕ, [], ◌++◌, None, Some, Err, OnOk, OnErr, IfOk, IfErr, take, IsErr};
+ghost use Rattle.std.specs.Prelude.{◌≡◌, ℕ, [], ◌++◌, None, Some, Err, OnOk, OnErr, IfErr, take};
 ghost use Rattle.nr_model.specs.Requests.{framing_of};
-ghost use Rattle.nr_model.specs.Requests.Seen.{words_seen, frames_seen as plain_seen};
 ghost use Rattle.nr_model.specs.declared.fault.Fault.{Fault};
 ghost use Rattle.nr_resp.specs.Frames.{frames_seen};
 
 use crate::frame::Frame;
-use nr_blob::Blob;
 use nr_model::fault::Fault;
-use nr_model::requests::plain_frames;
 use std::alloc::{AllocError, AllocFailed, Global};
 use std::marker::Model;
+use unfinished::Unfinished;
+
+mod lines;
+mod unfinished;
 
 /// Why a reader is closed.
 #[derive(Clone, Copy, Debug, PartialEq, Eq)]
@@ -46,7 +47,7 @@ impl<T: Drop> From<AllocFailed<T>> for FeedError {
 /// Reads the requests of one connection. It keeps what has come of the next one.
 #[derive(Drop)]
 pub struct Reader {
-    rest: Vec<u8>,
+    next: Unfinished,
     closed: Option<FeedError>,
 }
 
@@ -55,7 +56,12 @@ impl Model for Reader {
 
     ghost Value = { Stream };
 
-    ghost view = { λ reader. record { rest = reader.rest.items; closed = reader.closed } };
+    ghost use Rattle.std.specs.Prelude.{◌≡◌, None};
+    ghost use Rattle.nr_resp.specs.Unfinished.{bytes_of, IsHeld};
+
+    ghost view = { λ reader. record { rest = bytes_of reader.next; closed = reader.closed } };
+
+    ghost invariant = { λ reader. reader.closed ≡ None → IsHeld reader.next };
 }
 
 impl Reader {
@@ -66,7 +72,7 @@ impl Reader {
         ensures { result ≡ open_at [] }
     {
         Reader {
-            rest: Vec::new(alloc),
+            next: Unfinished::new(alloc),
             closed: None,
         }
     }
@@ -90,58 +96,10 @@ impl Reader {
         if let Some(error) = self.closed {
             return Err(error);
         }
-        match next(*self.rest.allocator(), &self.rest, piece, frames) {
-            Ok(rest) => {
-                self.rest = rest;
-                Ok(())
-            }
-            Err(error) => {
-                self.closed = Some(error);
-                Err(error)
-            }
+        let fed = self.next.feed(piece, frames);
+        if let Err(error) = fed {
+            self.closed = Some(error);
         }
+        fed
     }
-}
-
-fn next(alloc: Global, rest: &[u8], piece: &[u8], frames: &mut Vec<Frame>) -> Result<Vec<u8>, FeedError>
-    ensures ok { IfOk result (λ left. left.items ≡ (framing_of (rest.now ++ piece.now)).rest) }
-    ensures frames { OnOk result (frames_seen frames.new.items ≡ frames_seen frames.old.items ++ (framing_of (rest.now ++ piece.now)).frames) }
-    ensures whole { OnOk result ((framing_of (rest.now ++ piece.now)).fault ≡ None) }
-    ensures fault { (fault : Fault) → result ≡ Err (FeedError.Fault fault) →
-        ((framing_of (rest.now ++ piece.now)).fault ≡ Some fault)
-        × (frames_seen frames.new.items ≡ frames_seen frames.old.items ++ (framing_of (rest.now ++ piece.now)).frames) }
-    ensures memory { result ≡ Err FeedError.Memory →
-        frames_seen frames.new.items ≡ frames_seen frames.old.items }
-{
-    let mut bytes = Vec::from_slice(alloc, rest)?;
-    bytes.extend_from_slice(piece)?;
-    let framing = plain_frames(alloc, &bytes)?;
-    frames.append(&mut frames_of(alloc, framing.frames)?)?;
-    match framing.fault {
-        Some(fault) => Err(FeedError::Fault(fault)),
-        None => Ok(framing.rest),
-    }
-}
-
-fn frames_of(alloc: Global, mut plain: Vec<Vec<Vec<u8>>>) -> Result<Vec<Frame>, FeedError>
-    ensures ok { IfOk result (λ frames. frames_seen frames.items ≡ plain_seen plain.items) }
-    ensures memory { IsErr result → result ≡ Err FeedError.Memory }
-{
-    let mut frames = Vec::new(alloc);
-    while !plain.is_empty() {
-        let words = plain.remove(0);
-        frames.push(frame_of(alloc, words)?)?;
-    }
-    Ok(frames)
-}
-
-fn frame_of(alloc: Global, mut plain: Vec<Vec<u8>>) -> Result<Frame, FeedError>
-    ensures ok { IfOk result (λ frame. frame.words.items ≡ words_seen plain.items) }
-    ensures memory { IsErr result → result ≡ Err FeedError.Memory }
-{
-    let mut words = Vec::new(alloc);
-    while !plain.is_empty() {
-        words.push(Blob::from(plain.remove(0)))?;
-    }
-    Ok(Frame { words })
 }

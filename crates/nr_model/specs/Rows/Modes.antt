@@ -1,7 +1,7 @@
 -- Rows of modes and deeds: what the bytes of a connection ask for.
-use Rattle.std.specs.Prelude.{◌≡◌, List, [], ◌∷◌, ◌++◌, Some, None, codes, flat_map}
+use Rattle.std.specs.Prelude.{◌≡◌, List, [], ◌∷◌, ◌++◌, Some, codes, flat_map}
 use Rattle.nr_model.specs.Bytes.{Bytes, crlf}
-use Rattle.nr_model.specs.Replies.{Reply, Simple, Error, Bulk, array}
+use Rattle.nr_model.specs.Replies.{Simple, Error, Bulk, array}
 use Rattle.nr_model.specs.Commands.{Row, rows, served, ping_row, get_row, set_row, del_row, select_row, watch_row, discard_row, subscribe_row, unsubscribe_row}
 use Rattle.nr_model.specs.Commands.Texts.{ok}
 use Rattle.nr_model.specs.Items.{Call, Deed, Say, Act, Run, Abort, End}

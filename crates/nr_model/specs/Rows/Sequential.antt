@@ -1,5 +1,5 @@
 -- Rows of the sequential Redis: subscribers and their messages, moments, watches, reads between writes.
-use Rattle.std.specs.Prelude.{◌≡◌, ℕ, List, [], ◌∷◌, ◌++◌, map, Some, None, codes}
+use Rattle.std.specs.Prelude.{◌≡◌, ℕ, List, [], ◌∷◌, ◌++◌, map, Some, codes}
 use Rattle.nr_model.specs.Bytes.{Bytes}
 use Rattle.nr_model.specs.Commands.Texts.{ok}
 use Rattle.nr_model.specs.Items.{Connection, Deed, Say, Act, Run, End, Item, Sequence}

@@ -1,17 +1,17 @@
 -- Who is subscribed to what, and the messages that they get (Redis, pub/sub).
-use Rattle.std.specs.Prelude.{ℕ, ◌+◌, Bool, true, false, not, ◌&&◌, cond, List, [], ◌∷◌, ◌++◌, length, map, fold, filter, flat_map, Option, Some, None, bytes_eq, pos, codes}
+use Rattle.std.specs.Prelude.{Bool, true, false, ◌&&◌, cond, List, [], ◌∷◌, ◌++◌, length, map, filter, flat_map, Option, Some, None, bytes_eq, pos, codes}
 use Rattle.std.specs.List.{list_any}
 use Rattle.std.specs.Str.{str_to_ascii_lowercase}
 use Rattle.nr_model.specs.Bytes.{Bytes}
 use Rattle.nr_model.specs.Replies.{Reply, Int, Bulk, NullBulk, Error, array}
 use Rattle.nr_model.specs.Patterns.{matches}
 use Rattle.nr_model.specs.Keyspace.{byte_cmp}
-use Rattle.nr_model.specs.Commands.{Command, Perform, OfSession}
+use Rattle.nr_model.specs.Commands.{Command, OfSession}
 use Rattle.nr_model.specs.Commands.Session.{Kind, Channels, Patterns, Subscribe, Unsubscribe}
 use Rattle.nr_model.specs.Commands.Texts.{syntax_error}
-use Rattle.nr_model.specs.Names.{put, in_order, Held, held, how_many_held, subscribed, unsubscribed}
-use Rattle.nr_model.specs.Items.{Connection, connection_cmp, same_connection, Call, arguments, Deed, Say, Act, Run, Abort, End, Item}
-use Rattle.nr_model.specs.Sequential.Events.{Emission, Event, Past}
+use Rattle.nr_model.specs.Names.{in_order, Held, held, how_many_held, subscribed, unsubscribed}
+use Rattle.nr_model.specs.Items.{Connection, connection_cmp, same_connection, arguments, Deed, Say, Act, Run, Abort, End, Item}
+use Rattle.nr_model.specs.Sequential.Events.{Emission, Past}
 
 abbrev pub same_kind : Kind → Kind → Bool
 same_kind Channels Channels = true

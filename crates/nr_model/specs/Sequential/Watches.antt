@@ -4,9 +4,9 @@ use Rattle.std.specs.List.{list_any}
 use Rattle.std.specs.FinMap as finmap
 use Rattle.nr_model.specs.Bytes.{Bytes}
 use Rattle.nr_model.specs.Keyspace.{Key, Stored, is_live_at}
-use Rattle.nr_model.specs.Commands.{Command, Perform, OfSession}
+use Rattle.nr_model.specs.Commands.{Command, OfSession}
 use Rattle.nr_model.specs.Commands.Session.{Watch, Unwatch, Discard}
-use Rattle.nr_model.specs.Items.{Connection, same_connection, Call, arguments, Deed, Say, Act, Run, Abort, End}
+use Rattle.nr_model.specs.Items.{Connection, same_connection, arguments, Deed, Say, Act, Run, Abort, End}
 use Rattle.nr_model.specs.Sequential.Events.{Event, Past}
 
 abbrev pub same_key : Key → Key → Bool

@@ -1,0 +1,74 @@
+-- What was taken and what is left, as items.
+use Rattle.std.proofs.Common.{◌≡◌, ℕ, zero, suc, ◌≤◌, Bool, true, false, not, cond, List, [], ◌∷◌, ◌++◌, length, take, refl, sym, ap, ◌∙◌, arith}
+use Rattle.std.specs.Prelude.{◌&&◌}
+use Rattle.std.proofs.lemmas.List.{length-take}
+use Rattle.nr_model.specs.Items.{Item, is_update}
+use Rattle.nr_model.specs.Entries.{Jobs, leading, not_leading, left_after, leads_as_update, has_read_of, most_entry_jobs, entry_jobs}
+use Rattle.nr_entry.specs.declared.job.Job.{Job}
+use Rattle.nr_entry.specs.Jobs.{item_of, items_of}
+use Rattle.nr_entry.specs.Entry.{are_updates}
+use Rattle.nr_entry.specs.Choice.{marked, unmarked, leading_marks}
+use Rattle.nr_entry.proofs.Marks.{marked_leading, unmarked_left, map-marked, map-unmarked, take_all_leading, left_by_all, length-leading_marks}
+
+how_many : (jobs : List Job) → length (items_of jobs) ≡ length jobs
+how_many [] = refl
+how_many (x ∷ jobs) = ap suc (how_many jobs)
+
+pub one_mark_each : (leads : Jobs → Item → Bool) (most : ℕ) (waiting : List Job) (marks : List Bool) → marks ≡ leading_marks leads most [] (items_of waiting) → length marks ≡ length waiting
+one_mark_each leads most waiting marks is = ap length is ∙ length-leading_marks leads most [] (items_of waiting) ∙ how_many waiting
+
+pub taken_lead : (leads : Jobs → Item → Bool) (most : ℕ) (waiting taken : List Job) (marks : List Bool)
+    → marks ≡ leading_marks leads most [] (items_of waiting)
+    → taken ≡ marked marks waiting
+    → items_of taken ≡ take most (leading leads [] (items_of waiting))
+taken_lead leads most waiting taken marks is moved =
+    ap items_of moved
+    ∙ map-marked item_of marks waiting
+    ∙ ap (λ (ms : List Bool). marked ms (items_of waiting)) is
+    ∙ marked_leading leads most [] (items_of waiting)
+
+pub others_left : (leads : Jobs → Item → Bool) (most : ℕ) (waiting left : List Job) (marks : List Bool)
+    → marks ≡ leading_marks leads most [] (items_of waiting)
+    → left ≡ unmarked marks waiting
+    → items_of left ≡ left_after leads most [] (items_of waiting)
+others_left leads most waiting left marks is moved =
+    ap items_of moved
+    ∙ map-unmarked item_of marks waiting
+    ∙ ap (λ (ms : List Bool). unmarked ms (items_of waiting)) is
+    ∙ unmarked_left leads most [] (items_of waiting)
+
+-- the same, where there is room for all
+pub all_taken : (leads : Jobs → Item → Bool) (most : ℕ) (waiting taken : List Job) → most ≡ length waiting → items_of taken ≡ take most (leading leads [] (items_of waiting)) → items_of taken ≡ leading leads [] (items_of waiting)
+all_taken leads most waiting taken all is = is ∙ take_all_leading leads most [] (items_of waiting) (omega (arith, how_many waiting))
+
+pub all_left : (leads : Jobs → Item → Bool) (most : ℕ) (waiting left : List Job) → most ≡ length waiting → items_of left ≡ left_after leads most [] (items_of waiting) → items_of left ≡ not_leading leads [] (items_of waiting)
+all_left leads most waiting left all is = is ∙ left_by_all leads most [] (items_of waiting) (omega (arith, how_many waiting))
+
+-- what is taken into an entry are updates, and not too many
+one_more_update : (u free : Bool) (x : Item) (more : Jobs) → u ≡ is_update x.deed → are_updates more ≡ true → are_updates (cond (u && free) (x ∷ more) more) ≡ true
+one_more_update true true x more is rest = ap (λ (b : Bool). b && are_updates more) (sym is) ∙ rest
+one_more_update true false x more is rest = rest
+one_more_update false free x more is rest = rest
+
+leading_updates : (before jobs : Jobs) → are_updates (leading leads_as_update before jobs) ≡ true
+leading_updates before [] = refl
+leading_updates before (x ∷ jobs) =
+    one_more_update (is_update x.deed) (not (has_read_of x.connection before)) x (leading leads_as_update (before ++ x ∷ []) jobs) refl (leading_updates (before ++ x ∷ []) jobs)
+
+both : (a b : Bool) → (a && b) ≡ true → (a ≡ true) × (b ≡ true)
+both true b e = (refl, e)
+both false b e = absurd (cc e)
+
+front_updates : (room : ℕ) (jobs : Jobs) → are_updates jobs ≡ true → are_updates (take room jobs) ≡ true
+front_updates zero [] all = refl
+front_updates zero (x ∷ jobs) all = refl
+front_updates (suc room) [] all = refl
+front_updates (suc room) (x ∷ jobs) all =
+    let parts = both (is_update x.deed) (are_updates jobs) all in
+    ap (λ (b : Bool). b && are_updates (take room jobs)) parts.0 ∙ front_updates room jobs parts.1
+
+pub entry_updates : (waiting taken : List Job) → items_of taken ≡ entry_jobs (items_of waiting) → are_updates (items_of taken) ≡ true
+entry_updates waiting taken is = ap are_updates is ∙ front_updates most_entry_jobs (leading leads_as_update [] (items_of waiting)) (leading_updates [] (items_of waiting))
+
+pub entry_length : (waiting taken : List Job) → items_of taken ≡ entry_jobs (items_of waiting) → length taken ≤ most_entry_jobs
+entry_length waiting taken is = omega (arith, how_many taken, ap length is, length-take most_entry_jobs (leading leads_as_update [] (items_of waiting)))

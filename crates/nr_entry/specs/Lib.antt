@@ -1,0 +1,4 @@
+pub mod Kinds
+pub mod Jobs
+pub mod Choice
+pub mod Entry

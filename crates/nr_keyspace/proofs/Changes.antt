@@ -1,0 +1,67 @@
+-- The changes of a database, on its entries and its ordered deadlines at once.
+use Rattle.std.proofs.Common.{◌≡◌, ℕ, Vec, Global, Bool, true, false, cond, Option, Some, None, List, refl, ap, sym, ◌∙◌, subst, true≢false, is_some, Result, Ok, Err, OnOk, OnErr, OnSome}
+use Rattle.std.specs.Option.{option_map}
+use Rattle.std.specs.Map.{lookup, KeepsOthers}
+use Rattle.std.specs.FinMap as map
+use Rattle.std.specs.FinSet as set
+use Rattle.nr_model.specs.Bytes.{Bytes}
+use Rattle.nr_model.specs.Keyspace.{Stored, is_live_at}
+use Rattle.nr_model.proofs.Live.{only_live}
+use Rattle.nr_keyspace.specs.Deadlines.{due_cmp, without_deadline, IsReplaced}
+use Rattle.nr_keyspace.specs.Stores.{Store, IsIndexed, bytes_of, store_of, stored_of, deadline_of}
+use Rattle.nr_keyspace.specs.declared.database.Entry.{Entry}
+use Rattle.nr_keyspace.proofs.Named.{is_name, same_name, get-store, inserted, removed, reordered}
+use Rattle.nr_keyspace.proofs.Indexed.{insert_indexed, remove_indexed}
+
+abbrev pub Entries : Type 0
+Entries = List (Vec ℕ Global × Entry)
+
+abbrev pub IsReordered : Entries → Entries → Type 0
+IsReordered old new = (k : Vec ℕ Global) → lookup (same_name bytes_of k) new ≡ lookup (same_name bytes_of k) old
+
+pub put_store : (old room new : Entries) (name : Bytes) (entry : Entry) → IsReordered old room → lookup (is_name bytes_of name) new ≡ Some entry → KeepsOthers (same_name bytes_of) (is_name bytes_of name) room new
+    → store_of bytes_of new ≡ map.insert (store_of bytes_of old) name (stored_of entry)
+put_store old room new name entry same at_name others = inserted bytes_of room new name entry at_name others ∙ ap (λ m. map.insert m name (stored_of entry)) (reordered bytes_of old room same)
+
+pub put_indexed : (old room new : Entries) (dues after : set.FinSet due_cmp) (name : Bytes) (entry : Entry) → IsIndexed (store_of bytes_of old) dues → IsReordered old room → lookup (is_name bytes_of name) new ≡ Some entry → KeepsOthers (same_name bytes_of) (is_name bytes_of name) room new
+    → IsReplaced dues after entry.deadline name → IsIndexed (store_of bytes_of new) after
+put_indexed old room new dues after name entry was same at_name others replaced =
+    subst (λ store. IsIndexed store after) (sym (put_store old room new name entry same at_name others)) (insert_indexed (store_of bytes_of old) dues after name (stored_of entry) was replaced)
+
+pub refused_indexed : (old room : Entries) (dues after : set.FinSet due_cmp) → IsIndexed (store_of bytes_of old) dues → IsReordered old room → after ≡ dues → IsIndexed (store_of bytes_of room) after
+refused_indexed old room dues after was same kept = subst (λ store. IsIndexed store after) (sym (reordered bytes_of old room same)) (subst (IsIndexed (store_of bytes_of old)) (sym kept) was)
+
+pub removed_indexed : (old new : Entries) (dues fewer : set.FinSet due_cmp) (name kept_name : Bytes) (entry : Entry) → IsIndexed (store_of bytes_of old) dues → Some entry ≡ lookup (is_name bytes_of name) old → name ≡ kept_name
+    → lookup (is_name bytes_of name) new ≡ None → KeepsOthers (same_name bytes_of) (is_name bytes_of name) old new → fewer ≡ without_deadline dues entry.deadline kept_name → IsIndexed (store_of bytes_of new) fewer
+removed_indexed old new dues fewer name kept_name entry was found named at_name others taken =
+    let deadline : deadline_of (map.get (store_of bytes_of old) name) ≡ entry.deadline = ap deadline_of (get-store bytes_of old name ∙ ap (option_map stored_of) (sym found)) in
+    let same : without_deadline dues (deadline_of (map.get (store_of bytes_of old) name)) name ≡ fewer = ap (λ d. without_deadline dues d name) deadline ∙ ap (without_deadline dues entry.deadline) named ∙ sym taken in
+    subst (λ store. IsIndexed store fewer) (sym (removed bytes_of old new name at_name others))
+    (subst (IsIndexed (map.remove (store_of bytes_of old) name)) same (remove_indexed (store_of bytes_of old) dues name was))
+
+is_some-map : {A B : Type 0} (f : A → B) (o : Option A) → is_some (option_map f o) ≡ is_some o
+is_some-map f None = refl
+is_some-map f (Some x) = refl
+
+shown_if : (live : Bool) (found : Stored) → is_some (cond live (Some found) None) ≡ true → cond live (Some found) None ≡ Some found
+shown_if true found some = refl
+shown_if false found some = absurd (true≢false (sym some))
+
+-- what is live and stored is what is stored
+pub shown : {A : Type 0} (now : ℕ) (stored : Option Stored) (found : Stored) (f : A → Stored) (seen : Option A) → stored ≡ Some found → option_map f seen ≡ only_live now stored → is_some seen ≡ true → only_live now stored ≡ Some found
+shown now stored found f seen at is some =
+    let live : is_some (only_live now (Some found)) ≡ true = ap (λ o. is_some (only_live now o)) (sym at) ∙ ap is_some (sym is) ∙ is_some-map f seen ∙ some in
+    ap (only_live now) at ∙ shown_if (is_live_at now found.deadline) found live
+
+-- what holds whatever came, holds where memory ran out
+pub on_err : {A E P : Type 0} (result : Result A E) → P → OnErr result P
+on_err (Ok x) holds = tt
+on_err (Err e) holds = holds
+
+pub ok_then : {A E P Q : Type 0} (result : Result A E) → OnOk result P → (P → Q) → OnOk result Q
+ok_then (Ok x) holds then = then holds
+ok_then (Err e) holds then = tt
+
+pub some_then : {A P Q : Type 0} (result : Option A) → OnSome result P → (P → Q) → OnSome result Q
+some_then (Some x) holds then = then holds
+some_then None holds then = tt

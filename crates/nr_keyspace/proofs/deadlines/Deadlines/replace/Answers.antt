@@ -1,0 +1,13 @@
+use Rattle.std.proofs.Common.{ap, ◌∙◌, sym, true≢false}
+use Rattle.nr_keyspace.specs.Deadlines.{with_deadline, without_deadline, IsReplaced}
+use Rattle.nr_keyspace.proofs.Replaced.{moved, kept, same_deadline}
+use Rattle.nr_keyspace.proofs.deadlines.Deadlines.replace.Goals as goal
+
+pub returns-then-eq-clause-ok : goal.returns-then-eq-clause-ok
+returns-then-eq-clause-ok c = kept c.args.self.now c.args.before c.args.after c.args.name.items c.requires
+    ((same_deadline c.args.before c.args.after c.eq.result c.eq.ensures).0 c.if-eq.true)
+
+pub returns-clause-ok : goal.returns-clause-ok
+returns-clause-ok c = rw (c.take.ensures.taken, c.in_ok-add.ensures.ok)
+    (moved c.args.self.now c.args.before c.args.after c.args.name.items c.requires
+    (λ e. true≢false (sym ((same_deadline c.args.before c.args.after c.eq.result c.eq.ensures).1 e) ∙ c.if-eq.false)))

@@ -1,0 +1,4 @@
+pub mod Deadlines
+pub mod Joined
+pub mod Stores
+pub mod Values

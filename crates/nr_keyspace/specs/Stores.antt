@@ -1,0 +1,42 @@
+-- The keys of one database as a finite map.
+use Rattle.std.proofs.Common.{Vec, Global}
+use Rattle.std.specs.Prelude.{◌≡◌, ℕ, ℤ, Option, Some, None, List}
+use Rattle.std.specs.Prelude as prelude
+use Rattle.std.specs.FinMap as map
+use Rattle.std.specs.FinSet as set
+use Rattle.std.specs.Coded.{Coded}
+use Rattle.nr_model.specs.Bytes.{Bytes}
+use Rattle.nr_model.specs.Keyspace.{byte_cmp, Stored, coded_bytes, coded_stored}
+use Rattle.nr_keyspace.specs.Values.{value_of}
+use Rattle.nr_keyspace.specs.Deadlines.{due_cmp, has_deadline}
+use Rattle.nr_keyspace.specs.declared.database.Entry.{Entry}
+
+-- what the definitions store at a name
+abbrev pub stored_of : Entry → Stored
+stored_of entry = record { value = value_of entry.value; deadline = entry.deadline }
+
+abbrev pub Store : Type 0
+Store = map.FinMap byte_cmp Stored
+
+abbrev pub coded_store : Coded Store
+coded_store = map.code coded_bytes coded_stored
+
+-- a name, without where it lies in memory
+abbrev pub bytes_of : Vec ℕ Global → Bytes
+bytes_of name = name.items
+
+-- each as the bytes of a name and what is stored there
+abbrev pub stored_entries : {Name : Type 0} → (Name → Bytes) → List (Name × Entry) → List (Bytes × Stored)
+stored_entries bytes entries = prelude.map (λ e. (bytes e.0, stored_of e.1)) entries
+
+abbrev pub store_of : {Name : Type 0} → (Name → Bytes) → List (Name × Entry) → Store
+store_of bytes entries = map.from_entries (stored_entries bytes entries)
+
+-- the deadline at a name, if there is one
+abbrev pub deadline_of : Option Stored → Option ℤ
+deadline_of None = None
+deadline_of (Some stored) = stored.deadline
+
+-- the deadlines are those of the names
+pub record IsIndexed (store : Store) (dues : set.FinSet due_cmp) : Type 0 where
+  pub exact : (deadline : ℤ) (name : Bytes) → set.contains dues (deadline, name) ≡ has_deadline deadline (deadline_of (map.get store name))

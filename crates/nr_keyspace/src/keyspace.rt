@@ -1,0 +1,103 @@
+// All databases.
+ghost use Rattle.std.specs.Prelude.{◌≡◌, ℕ, length, IfOk, OnOk, OnErr, OnSome, IfNone};
+ghost use Rattle.std.specs.Option.{option_map};
+ghost use Rattle.std.specs.FinMap as map;
+ghost use Rattle.nr_model.specs.Keyspace as model;
+ghost use Rattle.nr_keyspace.specs.Values.{value_of};
+ghost use Rattle.nr_keyspace.specs.Joined.{key_of, store_at, IsSwept};
+
+use crate::database::Database;
+use crate::db::{DATABASES, Db};
+use crate::value::Value;
+use nr_blob::{Blob, Memory};
+use std::alloc::Global;
+use std::hash::RandomState;
+use std::marker::Model;
+
+/// Keys with their values and deadlines, in sixteen databases. A deadline is the millisecond from which its key is gone;
+/// a key that is gone takes room until a sweep.
+#[derive(Drop)]
+pub struct Keyspace {
+    databases: Vec<Database>,
+}
+
+impl Model for Keyspace {
+    ghost use Rattle.std.specs.Prelude.{◌≡◌, length};
+    ghost use Rattle.nr_model.specs.Keyspace as model;
+    ghost use Rattle.nr_keyspace.specs.Joined.{joined};
+
+    ghost Value = { model.Keyspace };
+
+    ghost coded = { model.coded_keyspace };
+
+    ghost view = { λ k. joined k.databases.items };
+
+    ghost invariant = { λ k. length k.databases.items ≡ model.how_many_databases };
+}
+
+fn empty_databases(alloc: Global, keys: RandomState) -> Result<Vec<Database>, Memory>
+    ensures count { IfOk result (λ databases. length databases.items ≡ model.how_many_databases) }
+    ensures empty { IfOk result (λ databases. (database : ℕ) → store_at databases.items database ≡ map.empty) }
+{
+    let mut databases = Vec::with_capacity(alloc, DATABASES)?;
+    for _ in 0..DATABASES {
+        databases.push(Database::new(alloc, keys))?;
+    }
+    Ok(databases)
+}
+
+fn sweep_each(databases: &mut [Database], now: u64)
+    ensures { IsSwept now databases.old databases.new }
+{
+    for database in databases.iter_mut() {
+        database.sweep(now);
+    }
+}
+
+impl Keyspace {
+    /// Sixteen empty databases. Strangers choose the keys, so the hasher takes a seed of its own.
+    pub fn new(alloc: Global, keys: RandomState) -> Result<Keyspace, Memory>
+        ensures { IfOk result (λ keyspace. keyspace ≡ map.empty) }
+    {
+        Ok(Keyspace {
+            databases: empty_databases(alloc, keys)?,
+        })
+    }
+
+    /// The value of a live key.
+    pub fn get(&self, now: u64, database: Db, name: &[u8]) -> Option<&Value>
+        ensures { option_map (λ value. value_of value.now) result ≡ option_map (λ stored. stored.value) (map.get (model.live self.now now) (key_of database name.now)) }
+    {
+        self.databases[database.index()].get(now, name)
+    }
+
+    /// Stores a value and its deadline in the place of whatever the key had. Where memory runs out nothing changes.
+    pub fn put(
+        &mut self,
+        database: Db,
+        name: Blob,
+        value: Value,
+        deadline: Option<i64>,
+    ) -> Result<(), Memory>
+        ensures ok { OnOk result (self.new ≡ map.insert self.old (key_of database name) (record { value = value_of value; deadline = deadline })) }
+        ensures err { OnErr result (self.new ≡ self.old) }
+    {
+        self.databases[database.index()].put(name.into_vec(), value, deadline)
+    }
+
+    /// Takes a live key out, and gives its value.
+    pub fn remove(&mut self, now: u64, database: Db, name: &[u8]) -> Option<Value>
+        ensures value { option_map value_of result ≡ option_map (λ stored. stored.value) (map.get (model.live self.old now) (key_of database name.now)) }
+        ensures removed { OnSome result (self.new ≡ map.remove self.old (key_of database name.now)) }
+        ensures unchanged { IfNone result (self.new ≡ self.old) }
+    {
+        self.databases[database.index()].remove(now, name)
+    }
+
+    /// Takes each key out that is gone at the moment. It looks at those alone, found by their deadlines.
+    pub fn sweep(&mut self, now: u64)
+        ensures { self.new ≡ model.live self.old now }
+    {
+        sweep_each(&mut self.databases, now);
+    }
+}

@@ -1,0 +1,21 @@
+// What a key holds.
+ghost use Rattle.std.specs.Prelude.{◌≡◌, IfOk};
+
+use nr_blob::{Blob, Memory};
+
+/// The value of a key.
+#[derive(Debug, Drop)]
+pub enum Value {
+    String(Blob),
+}
+
+impl Value {
+    /// The same value once more. Linear in its size.
+    pub fn copy(&self) -> Result<Value, Memory>
+        ensures { IfOk result (λ value. value ≡ self.now) }
+    {
+        match self {
+            Value::String(bytes) => Ok(Value::String(bytes.copy()?)),
+        }
+    }
+}

@@ -1,0 +1,136 @@
+-- What stands behind the headers of arrays and bulks.
+use Rattle.std.proofs.Common.{◌≡◌, ℕ, zero, suc, ◌+◌, ◌-◌, ◌^◌, ◌<◌, ◌≤◌, Bool, true, false, cond, eqb, ltb, leb, List, [], ◌∷◌, ◌++◌, length, take, drop, Some, None, ℤ, pos, refl, sym, ap, ◌∙◌, arith, append_assoc, length-append, zero-add, decimal}
+use Rattle.std.specs.Prelude.{FitsSigned, flat_map}
+use Rattle.std.specs.Int.{w64}
+use Rattle.std.specs.Fmt.{signed_decimal}
+use Rattle.std.specs.List.{list_any, list_all, AllByRecursion}
+use Rattle.std.proofs.lemmas.List.{take_at, drop_at}
+use Rattle.std.proofs.lemmas.List.Folds.{list_any-append}
+use Rattle.std.proofs.lemmas.Bool.{and_parts, or_from, leb-true, lt-ltb, le-ltb, le-leb, ne_eqb}
+use Rattle.std.proofs.lemmas.Fmt.{length_signed_le}
+use Rattle.nr_model.specs.declared.fault.Fault.{Fault}
+use Rattle.nr_model.specs.declared.fault.Fault.TheVariants.{Count, Length}
+use Rattle.nr_model.specs.Bytes.{Bytes, crlf}
+use Rattle.nr_model.specs.Numbers.{is_digit, int_value}
+use Rattle.nr_model.specs.Requests.{Front, Whole, Faulty, Partial, front_then, most_words, most_word_bytes, most_header_bytes, line_at, number_or, header_at, is_count, is_length, how_many, ending_at, word_at, bulk_at, bulks_at, request_at, Framing, framing_of, unfinished, broken, bulk_text}
+use Rattle.nr_model.specs.Requests.Laws.{framing_by}
+use Rattle.nr_model.proofs.Cuts.{step_law}
+use Rattle.nr_model.proofs.Fronts.{is_lf, line_of_line}
+use Rattle.nr_model.proofs.IntegerTexts.{value_of_text, all_digits_text}
+use Rattle.nr_model.proofs.PlainFrames.{with_front}
+use Rattle.nr_resp.specs.Lines.{said}
+use Rattle.nr_resp.specs.Unfinished.{array_head, bulk_head, array_front, LacksWords}
+use Rattle.nr_resp.proofs.Lines.{ends_cr, said_of}
+
+digits_no_lf : (ds : Bytes) → list_all is_digit ds ≡ true → list_any is_lf ds ≡ false
+digits_no_lf [] h = refl
+digits_no_lf (d ∷ ds) h =
+    let parts = and_parts _ _ h in
+    let low : 48 ≤ d = leb-true 48 d ((and_parts (leb 48 d) (leb d 57) parts.0).0) in
+    or_from _ _ (ne_eqb d 10 (λ e. omega arith)) (digits_no_lf ds parts.1)
+
+signed_fits : (n : ℕ) → n < 2 ^ 63 → FitsSigned w64 (pos n)
+signed_fits n small = record { sfits = small }
+
+-- a header that says a number is read as it
+header_reads : (fault : Fault) (fits : ℤ → Bool) (mark n : ℕ) (left : Bytes) → eqb mark 10 ≡ false → n < 2 ^ 32 → fits (pos n) ≡ true
+    → header_at fault fits (mark ∷ (decimal n ++ 13 ∷ 10 ∷ left)) ≡ Whole (pos n) left
+header_reads fault fits mark n left other small fit =
+    let text = decimal n in
+    let line : Bytes = mark ∷ (text ++ 13 ∷ []) in
+    let signed : FitsSigned w64 (pos n) = signed_fits n (omega arith) in
+    let no_lf : list_any is_lf line ≡ false = or_from _ _ other (list_any-append is_lf text (13 ∷ []) ∙ or_from _ _ (digits_no_lf text (all_digits_text n (omega arith))) refl) in
+    let split : mark ∷ (text ++ 13 ∷ 10 ∷ left) ≡ line ++ 10 ∷ left = ap (λ bs. mark ∷ bs) (sym (append_assoc text (13 ∷ []) (10 ∷ left))) in
+    let digits : length text ≤ 21 = length_signed_le 20 (pos n) (omega (arith, signed.sfits)) signed.sfits in
+    let short : ltb most_header_bytes (length line) ≡ false = le-ltb 64 (length line) (omega (arith, length-append text (13 ∷ []))) in
+    let found : line_at most_header_bytes fault (mark ∷ (text ++ 13 ∷ 10 ∷ left)) ≡ Whole line left =
+    ap (line_at most_header_bytes fault) split ∙ line_of_line most_header_bytes fault line left no_lf ∙ ap (λ b. cond b (Faulty fault) (Whole line left)) short in
+    ap (λ front. front_then front (said fault fits)) found
+    ∙ said_of fault fits mark text left
+    ∙ ap (λ number. number_or fault fits number left) (value_of_text (pos n) signed)
+    ∙ ap (λ b. cond b (Whole (pos n) left) (Faulty fault)) fit
+
+array_reads : (count : ℕ) (left : Bytes) → count ≤ most_words → request_at (array_head count ++ left) ≡ bulks_at count left
+array_reads count left few =
+    ap (λ bs. request_at (42 ∷ bs)) (append_assoc (decimal count) crlf left)
+    ∙ ap (λ front. front_then front (λ n rest. bulks_at (how_many n) rest)) (header_reads Count is_count 42 count left refl (omega arith) (le-leb count most_words few))
+
+pub bulk_reads : (len : ℕ) (left : Bytes) → len ≤ most_word_bytes → bulk_at (bulk_head len ++ left) ≡ word_at len left
+bulk_reads len left short =
+    ap (λ bs. bulk_at (36 ∷ bs)) (append_assoc (decimal len) crlf left)
+    ∙ ap (λ front. front_then front (λ n rest. word_at (how_many n) rest)) (header_reads Length is_length 36 len left refl (omega arith) (le-leb len most_word_bytes short))
+
+-- the bytes of a word are not all there
+pub word_unfinished : (len : ℕ) (part : Bytes) → length part < len → word_at len part ≡ Partial
+word_unfinished len part less = ap (λ b. cond b Partial (ending_at (take len part) (drop len part))) (lt-ltb (length part) len less)
+
+-- what follows a word is its ending
+pub word_ends : (word left : Bytes) → word_at (length word) (word ++ left) ≡ ending_at word left
+word_ends word left =
+    let bytes : Bytes = word ++ left in
+    let enough : ltb (length bytes) (length word) ≡ false = le-ltb (length bytes) (length word) (omega (arith, length-append word left)) in
+    ap (λ b. cond b Partial (ending_at (take (length word) bytes) (drop (length word) bytes))) enough
+    ∙ ap (λ w. ending_at w (drop (length word) bytes)) (take_at word left (length word) refl)
+    ∙ ap (ending_at word) (drop_at word left (length word) refl)
+
+-- a bulk's text, and the same by its header
+pub bulk_by_head : (word left : Bytes) → bulk_text word ++ left ≡ bulk_head (length word) ++ (word ++ 13 ∷ 10 ∷ left)
+bulk_by_head word left = append_assoc (bulk_head (length word) ++ word) crlf left ∙ append_assoc (bulk_head (length word)) word (crlf ++ left)
+
+bulk_whole : (word left : Bytes) → length word ≤ most_word_bytes → bulk_at (bulk_text word ++ left) ≡ Whole word left
+bulk_whole word left short =
+    ap bulk_at (bulk_by_head word left) ∙ bulk_reads (length word) (word ++ 13 ∷ 10 ∷ left) short ∙ word_ends word (13 ∷ 10 ∷ left)
+
+abbrev AreShort : List Bytes → Type 0
+AreShort words = AllByRecursion (λ word. length word ≤ most_word_bytes) words
+
+bulks_behind : (words : List Bytes) (n : ℕ) (left : Bytes) → AreShort words → bulks_at (length words + n) (flat_map bulk_text words ++ left) ≡ with_front words (bulks_at n left)
+bulks_behind [] n left short = ap (λ m. bulks_at m left) (zero-add n) ∙ sym (no_front (bulks_at n left))
+  where
+    no_front : (read : Front (List Bytes)) → with_front [] read ≡ read
+    no_front (Whole words rest) = refl
+    no_front (Faulty fault) = refl
+    no_front Partial = refl
+bulks_behind (word ∷ words) n left short =
+    let size : suc (length words) + n ≡ suc (length words + n) = omega arith in
+    ap (λ m. bulks_at m (flat_map bulk_text (word ∷ words) ++ left)) size
+    ∙ ap (bulks_at (suc (length words + n))) (append_assoc (bulk_text word) (flat_map bulk_text words) left)
+    ∙ ap (λ front. front_then front (behind (length words + n))) (bulk_whole word (flat_map bulk_text words ++ left) short.0)
+    ∙ ap (λ front. front_then front (λ words' rest'. Whole (word ∷ words') rest')) (bulks_behind words n left short.1)
+    ∙ one_more (bulks_at n left)
+  where
+    behind : ℕ → Bytes → Bytes → Front (List Bytes)
+    behind m word' rest = front_then (bulks_at m rest) (λ words' rest'. Whole (word' ∷ words') rest')
+
+    one_more : (read : Front (List Bytes)) → front_then (with_front words read) (λ words' rest'. Whole (word ∷ words') rest') ≡ with_front (word ∷ words) read
+    one_more (Whole others rest) = refl
+    one_more (Faulty fault) = refl
+    one_more Partial = refl
+
+-- behind the first words of an array stand the others
+request_behind : (count : ℕ) (words : List Bytes) (left : Bytes) → LacksWords count words
+    → request_at (array_front count words ++ left) ≡ with_front words (front_then (bulk_at left) (λ word rest. front_then (bulks_at (count - length words - 1) rest) (λ others rest'. Whole (word ∷ others) rest')))
+request_behind count words left lacks =
+    let less = lacks.lacks in
+    let all : count ≡ length words + suc (count - length words - 1) = omega arith in
+    ap request_at (append_assoc (array_head count) (flat_map bulk_text words) left)
+    ∙ array_reads count (flat_map bulk_text words ++ left) lacks.few
+    ∙ ap (λ n. bulks_at n (flat_map bulk_text words ++ left)) all
+    ∙ bulks_behind words (suc (count - length words - 1)) left lacks.short
+
+pub framing_partial : (bytes : Bytes) → request_at bytes ≡ Partial → framing_of bytes ≡ unfinished bytes
+framing_partial bytes e = step_law bytes ∙ ap (framing_by bytes) e
+
+pub framing_faulty : (bytes : Bytes) (fault : Fault) → request_at bytes ≡ Faulty fault → framing_of bytes ≡ broken fault
+framing_faulty bytes fault e = step_law bytes ∙ ap (framing_by bytes) e
+
+abbrev others_of : ℕ → List Bytes → Front Bytes → Front (List Bytes)
+others_of n words front = with_front words (front_then front (λ word rest. front_then (bulks_at n rest) (λ others rest'. Whole (word ∷ others) rest')))
+
+pub partial_behind : (count : ℕ) (words : List Bytes) (left : Bytes) → LacksWords count words → bulk_at left ≡ Partial → framing_of (array_front count words ++ left) ≡ unfinished (array_front count words ++ left)
+partial_behind count words left lacks e =
+    framing_partial (array_front count words ++ left) (request_behind count words left lacks ∙ ap (others_of (count - length words - 1) words) e)
+
+pub faulty_behind : (count : ℕ) (words : List Bytes) (left : Bytes) (fault : Fault) → LacksWords count words → bulk_at left ≡ Faulty fault → framing_of (array_front count words ++ left) ≡ broken fault
+faulty_behind count words left fault lacks e =
+    framing_faulty (array_front count words ++ left) fault (request_behind count words left lacks ∙ ap (others_of (count - length words - 1) words) e)

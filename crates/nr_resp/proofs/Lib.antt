@@ -1,0 +1,5 @@
+pub mod Arrays
+pub mod Heads
+pub mod Lines
+pub mod Stages
+pub mod Writing

@@ -1,0 +1,6 @@
+use Rattle.std.proofs.Common.{◌≡◌, ◌++◌, ap, sym, subst}
+use Rattle.nr_resp.specs.Unfinished.{bytes_of}
+use Rattle.nr_resp.proofs.reader.Reader.feed.Goals as goal
+
+pub returns-in-Err-clause-memory : goal.returns-in-Err-clause-memory
+returns-in-Err-clause-memory c = λ is_open is. rw (← c.self.view_is) (c.in-Err.ensures.memory is)

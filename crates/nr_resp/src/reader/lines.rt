@@ -1,0 +1,152 @@
+// The lines of requests.
+ghost use Rattle.std.specs.Prelude.{◌≡◌, ◌++◌, false, OnOk, IfOk, IfErr, MatchOption, MatchResult, true};
+ghost use Rattle.std.specs.List.{list_any};
+ghost use Rattle.nr_model.specs.Requests.{is_blank, is_count, is_length, is_quote, words_of, ends_with_cr, without_last, without_cr};
+ghost use Rattle.nr_resp.specs.Lines.{begins, Ends, Numbers, Says, Misses, HasQuotes};
+ghost use Rattle.nr_model.specs.declared.fault.Fault.TheVariants as faults;
+
+use super::FeedError;
+use memchr::memchr;
+use nr_blob::{Blob, read_int};
+use nr_model::fault::Fault;
+use std::alloc::{AllocError, Global};
+
+const MOST_WORDS: i64 = 1_048_576;
+
+const MOST_WORD_BYTES: i64 = 536_870_912;
+
+/// Whether the bytes that are held, and then the piece, begin with this byte.
+pub fn begins_with(mark: u8, held: &[u8], piece: &[u8]) -> bool
+    ensures { result ≡ begins mark (held.now ++ piece.now) }
+{
+    match (held, piece) {
+        ([first, ..], _) | ([], [first, ..]) => *first == mark,
+        ([], []) => false,
+    }
+}
+
+/// The place of the first LF, where it comes behind no more bytes than there is room for.
+///
+/// # Errors
+///
+/// The fault, where more bytes come before it.
+pub fn line_end(room: usize, fault: Fault, piece: &[u8]) -> Result<Option<usize>, FeedError>
+    ensures { Ends room fault piece.now result }
+{
+    let end = memchr(b'\n', piece);
+    if end.unwrap_or(piece.len()) > room {
+        return Err(FeedError::Fault(fault));
+    }
+    Ok(end)
+}
+
+/// The bytes that are held, and then the front: the front itself where none are held.
+pub fn joined<'a>(held: &'a mut Vec<u8>, front: &'a [u8]) -> Result<&'a [u8], AllocError>
+    ensures { IfOk result (λ line. line.now ≡ held.old.items ++ front.now) }
+{
+    if held.is_empty() {
+        return Ok(front);
+    }
+    held.extend_from_slice(front)?;
+    Ok(held.as_slice())
+}
+
+/// How many words the header of an array says, where a negative number says none.
+///
+/// # Errors
+///
+/// The line does not end with CR, or says no number of at most 1,048,576.
+pub fn count_of(line: &[u8]) -> Result<usize, FeedError>
+    ensures ok { IfOk result (λ count. Says is_count line.now count) }
+    ensures fault { IfErr result (λ error. Misses faults.Count is_count line.now error) }
+{
+    match number_of(line)? {
+        Some(count) if count <= MOST_WORDS => Ok(usize::try_from(count).unwrap_or(0)),
+        _ => Err(FeedError::Fault(Fault::Count)),
+    }
+}
+
+/// How many bytes the header of a bulk says.
+///
+/// # Errors
+///
+/// The line does not end with CR, or says no number from 0 to 536,870,912.
+pub fn length_of(line: &[u8]) -> Result<usize, FeedError>
+    ensures ok { IfOk result (λ len. Says is_length line.now len) }
+    ensures fault { IfErr result (λ error. Misses faults.Length is_length line.now error) }
+{
+    match number_of(line)? {
+        Some(len) if 0 <= len && len <= MOST_WORD_BYTES => Ok(usize::try_from(len).unwrap_or(0)),
+        _ => Err(FeedError::Fault(Fault::Length)),
+    }
+}
+
+/// The number of a header line, behind its mark, if it has one.
+fn number_of(line: &[u8]) -> Result<Option<i64>, FeedError>
+    ensures { Numbers line.now result }
+{
+    let Some(header) = before_cr(line) else {
+        return Err(FeedError::Fault(Fault::LineEnd));
+    };
+    Ok(read_int(header.get(1..).unwrap_or(&[])))
+}
+
+/// A line without the CR that ends it, where it does.
+fn before_cr(line: &[u8]) -> Option<&[u8]>
+    ensures { MatchOption result (ends_with_cr line.now ≡ false) (λ front. (ends_with_cr line.now ≡ true) × (front.now ≡ without_last line.now)) }
+{
+    line.strip_suffix(b"\r")
+}
+
+fn without_cr(line: &[u8]) -> &[u8]
+    ensures { result.now ≡ without_cr line.now }
+{
+    before_cr(line).unwrap_or(line)
+}
+
+/// The words of an inline line.
+///
+/// # Errors
+///
+/// The line holds a quotation mark, or memory runs out.
+pub fn inline_words(alloc: Global, line: &[u8]) -> Result<Vec<Blob>, FeedError>
+    ensures ok { IfOk result (λ words. (list_any is_quote line.now ≡ false) × (words.items ≡ words_of (without_cr line.now))) }
+    ensures fault { IfErr result (λ error. HasQuotes line.now error) }
+{
+    if has_quotes(line) {
+        return Err(FeedError::Fault(Fault::Quotes));
+    }
+    Ok(words_of(alloc, without_cr(line))?)
+}
+
+fn has_quotes(line: &[u8]) -> bool
+    ensures { result ≡ list_any is_quote line.now }
+{
+    line.iter().any(|c| *c == b'"' || *c == b'\'')
+}
+
+/// The words of a line, which spaces and tabs part.
+fn words_of(alloc: Global, line: &[u8]) -> Result<Vec<Blob>, AllocError>
+    ensures { IfOk result (λ words. words.items ≡ words_of line.now) }
+{
+    let mut words = Vec::new(alloc);
+    let mut word = Vec::new(alloc);
+    for c in line {
+        if !is_blank(*c) {
+            word.push(*c)?;
+        } else if !word.is_empty() {
+            words.push(Blob::from(word))?;
+            word = Vec::new(alloc);
+        }
+    }
+    if !word.is_empty() {
+        words.push(Blob::from(word))?;
+    }
+    Ok(words)
+}
+
+fn is_blank(c: u8) -> bool
+    ensures { result ≡ is_blank c }
+{
+    c == b' ' || c == b'\t'
+}

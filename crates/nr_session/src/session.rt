@@ -1,0 +1,186 @@
+// The session of a connection.
+ghost use Rattle.std.specs.Prelude.{◌≡◌, ◌↔◌, ℕ, ◌+◌, ◌<◌, ◌^◌, ◌++◌, [], true, false, None, Some, Err, OnOk, OnErr, IfOk, IfSome, IsNone, is_ok, unwrap_or, if◌then◌else◌, length, take};
+ghost use Rattle.nr_model.specs.Items.{End};
+ghost use Rattle.nr_model.specs.Worlds.{jobs_from};
+ghost use Rattle.nr_resp.specs.Frames.{frames_seen};
+ghost use Rattle.nr_resp.specs.Stream.{open_at};
+ghost use Rattle.nr_entry.specs.Jobs.{connection_of, item_of, items_of};
+ghost use Rattle.nr_session.specs.Standing.{framed, asked, request_jobs, IsFrontOf};
+
+use crate::jobs::{push_close, push_jobs};
+use crate::requests::fault_reply;
+use nr_blob::Memory;
+use nr_entry::{ConnId, Job, JobKind};
+use nr_model::fault::Fault;
+use nr_resp::{FeedError, Frame, Reader};
+use std::alloc::Global;
+use std::marker::Model;
+
+/// What a piece of bytes led to.
+#[derive(Drop)]
+struct Progress {
+    /// The number of the next job.
+    next: u64,
+    ended: bool,
+}
+
+// Reads a piece: its frames and the fault that they end with, or the frames before a refusal.
+fn read(reader: &mut Reader, piece: &[u8], frames: &mut Vec<Frame>) -> Result<Option<Fault>, Memory>
+    requires is_open { reader.old.closed ≡ None }
+    requires empty { frames.old.items ≡ [] }
+    ensures front { IsFrontOf (frames_seen frames.new.items) (framed reader.old.rest piece.now).frames }
+    ensures fault { IfOk result (λ fault. (framed reader.old.rest piece.now).fault ≡ fault) }
+    ensures frames { OnOk result (frames_seen frames.new.items ≡ (framed reader.old.rest piece.now).frames) }
+    ensures rest { IfOk result (λ fault. fault ≡ None → reader.new ≡ open_at (framed reader.old.rest piece.now).rest) }
+{
+    match reader.feed(piece, frames) {
+        Ok(()) => Ok(None),
+        Err(FeedError::Fault(fault)) => Ok(Some(fault)),
+        Err(FeedError::Memory) => Err(Memory),
+    }
+}
+
+// Reads a piece, and adds the jobs that it asks for.
+fn feed_requests(
+    alloc: Global,
+    conn: ConnId,
+    reader: &mut Reader,
+    next: u64,
+    moment: u64,
+    piece: &[u8],
+    jobs: &mut Vec<Job>,
+) -> Result<Progress, Memory>
+    requires is_open { reader.old.closed ≡ None }
+    requires fits { next + (length reader.old.rest + length piece.now) + 1 < 2 ^ 64 }
+    ensures jobs { OnOk result (items_of jobs.new.items ≡ items_of jobs.old.items
+        ++ jobs_from (connection_of conn) next moment (asked reader.old.rest piece.now).deeds) }
+    ensures next { IfOk result (λ progress. progress.next ≡ next + length (asked reader.old.rest piece.now).deeds) }
+    ensures ended { IfOk result (λ progress. progress.ended ≡ (asked reader.old.rest piece.now).ended) }
+    ensures rest { IfOk result (λ progress. progress.ended ≡ false → reader.new ≡ open_at (framed reader.old.rest piece.now).rest) }
+    ensures err { OnErr result ((n : ℕ) × (items_of jobs.new.items ≡ items_of jobs.old.items
+        ++ take n (request_jobs (connection_of conn) next moment (framed reader.old.rest piece.now).frames))) }
+{
+    let mut frames = Vec::new(alloc);
+    let fed = read(reader, piece, &mut frames);
+    let number = next + frames.len() as u64;
+    push_jobs(alloc, conn, next, moment, &mut frames, jobs)?;
+    match fed? {
+        None => Ok(Progress {
+            next: number,
+            ended: false,
+        }),
+        Some(fault) => {
+            push_close(conn, number, moment, Some(fault_reply(alloc, fault)?), jobs)?;
+            Ok(Progress {
+                next: number + 1,
+                ended: true,
+            })
+        }
+    }
+}
+
+/// Why a session took no bytes.
+#[derive(Clone, Copy, Debug, PartialEq, Eq)]
+pub enum SessionError {
+    /// The connection has ended. Nothing changes.
+    Ended,
+    /// There was no memory left. The session has ended.
+    Memory,
+}
+
+/// The session of a connection: it turns the bytes that come into jobs.
+#[derive(Drop)]
+pub struct Session {
+    alloc: Global,
+    conn: ConnId,
+    reader: Reader,
+    next: u64,
+    ended: bool,
+    gave_end: bool,
+}
+
+impl Model for Session {
+    ghost use Rattle.std.specs.Prelude.{◌≡◌, false, None};
+    ghost use Rattle.nr_entry.specs.Jobs.{connection_of};
+    ghost use Rattle.nr_session.specs.Standing.{Standing};
+
+    ghost Value = { Standing };
+
+    ghost view = { λ s. record { connection = connection_of s.conn; rest = s.reader.rest; next = s.next; ended = s.ended; gave_end = s.gave_end } };
+
+    ghost invariant = { λ s. s.ended ≡ false → s.reader.closed ≡ None };
+}
+
+impl Session {
+    pub fn new(alloc: Global, conn: ConnId) -> Self
+        ensures { result ≡ record { connection = connection_of conn; rest = []; next = 0; ended = false; gave_end = false } }
+    {
+        Session {
+            alloc,
+            conn,
+            reader: Reader::new(alloc),
+            next: 0,
+            ended: false,
+            gave_end: false,
+        }
+    }
+
+    /// Takes bytes, and adds the jobs that they ask for, numbered on, each at the moment. A fault's error is the reply of a close.
+    ///
+    /// # Errors
+    ///
+    /// `Ended`, and nothing changes; or `Memory`, and the session has ended: the jobs of the requests before are there.
+    pub fn feed(&mut self, bytes: &[u8], moment: u64, jobs: &mut Vec<Job>) -> Result<(), SessionError>
+        requires fits { self.old.next + (length self.old.rest + length bytes.now) + 1 < 2 ^ 64 }
+        ensures jobs { OnOk result (items_of jobs.new.items ≡ items_of jobs.old.items
+            ++ jobs_from self.old.connection self.old.next moment (asked self.old.rest bytes.now).deeds) }
+        ensures next { OnOk result (self.new.next ≡ self.old.next + length (asked self.old.rest bytes.now).deeds) }
+        ensures goes_on { OnOk result (self.new.ended ≡ (asked self.old.rest bytes.now).ended) }
+        ensures gave_end { self.new.gave_end ≡ (if is_ok result then (asked self.old.rest bytes.now).ended else self.old.gave_end) }
+        ensures rest { OnOk result (self.new.ended ≡ false → self.new.rest ≡ (framed self.old.rest bytes.now).rest) }
+        ensures connection { self.new.connection ≡ self.old.connection }
+
+        ensures ended { (result ≡ Err SessionError.Ended) ↔ (self.old.ended ≡ true) }
+        ensures unchanged { result ≡ Err SessionError.Ended → (self.new ≡ self.old) × (jobs.new.items ≡ jobs.old.items) }
+        ensures memory { result ≡ Err SessionError.Memory → (self.new.ended ≡ true) × ((n : ℕ) × (items_of jobs.new.items ≡ items_of jobs.old.items
+            ++ take n (request_jobs self.old.connection self.old.next moment (framed self.old.rest bytes.now).frames))) }
+    {
+        if self.ended {
+            return Err(SessionError::Ended);
+        }
+        match feed_requests(self.alloc, self.conn, &mut self.reader, self.next, moment, bytes, jobs) {
+            Ok(progress) => {
+                self.next = progress.next;
+                self.ended = progress.ended;
+                self.gave_end = progress.ended;
+                Ok(())
+            }
+            Err(_) => {
+                self.ended = true;
+                Err(SessionError::Memory)
+            }
+        }
+    }
+
+    /// Ends the session. The close has no reply, and the number of the first job that was dropped, else the next; there is none
+    /// exactly where the session gave an end and nothing was dropped.
+    pub fn close(&mut self, moment: u64, dropped: Option<u64>) -> Option<Job>
+        ensures none { IsNone result ↔ ((self.old.gave_end ≡ true) × (dropped ≡ None)) }
+        ensures job { IfSome result (λ job. item_of job ≡ record { connection = self.old.connection; number = unwrap_or dropped self.old.next; moment = moment; deed = End None }) }
+        ensures ended { self.new ≡ record self.old { ended = true } }
+    {
+        self.ended = true;
+        if self.gave_end && dropped.is_none() {
+            return None;
+        }
+        Some(Job {
+            conn: self.conn,
+            number: dropped.unwrap_or(self.next),
+            moment,
+            kind: JobKind::Close(None),
+        })
+    }
+}
+
+#[cfg(test)]
+mod tests;
