@@ -1,4 +1,7 @@
 // Commands, and requests whose command is known.
+ghost use Rattle.std.specs.Prelude.{◌≡◌, IfOk};
+ghost use Rattle.nr_command.specs.Check.{call_of};
+
 use nr_blob::{Blob, Memory};
 
 /// A command that is served, by its section of the Redis command reference.
@@ -48,9 +51,6 @@ pub struct Cmd {
 }
 
 impl Cmd {
-    ghost use Rattle.std.specs.Prelude.{◌≡◌, IfOk};
-    ghost use Rattle.nr_command.specs.Check.{call_of};
-
     /// The same request once more.
     pub fn copy(&self) -> Result<Cmd, Memory>
         ensures { IfOk result (λ cmd. call_of cmd ≡ call_of self.now) }
@@ -60,5 +60,29 @@ impl Cmd {
             words.push(word.copy()?)?;
         }
         Ok(Cmd { id: self.id, words })
+    }
+}
+
+#[cfg(test)]
+mod tests {
+    use super::*;
+    use std::test::Fail;
+
+    #[test]
+    fn copies_its_words(rt: HostRuntime) -> Result<(), Fail> {
+        let alloc = rt.alloc();
+        let words = vec![in alloc;
+            Blob::from_slice(alloc, b"SET")?,
+            Blob::from_slice(alloc, b"key")?,
+            Blob::from_slice(alloc, b"")?,
+        ]?;
+        let id = CommandId::Strings(Strings::Set);
+        let copied = Cmd { id, words }.copy()?;
+        assert_eq!(rt; copied.id, id);
+        assert_eq!(rt; copied.words.len(), 3);
+        for (word, want) in copied.words.iter().zip([b"SET".as_slice(), b"key", b""]) {
+            assert_eq!(rt; word.bytes(), want);
+        }
+        Ok(())
     }
 }

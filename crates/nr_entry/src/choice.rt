@@ -83,3 +83,6 @@ fn take_marked(alloc: Global, waiting: &mut Vec<Job>, marks: &[bool]) -> Result<
     }
     Ok(taken)
 }
+
+#[cfg(test)]
+mod tests;

@@ -110,3 +110,6 @@ impl Job {
         }
     }
 }
+
+#[cfg(test)]
+mod tests;

@@ -1,5 +1,5 @@
 -- The changes of a database, on its entries and its ordered deadlines at once.
-use Rattle.std.proofs.Common.{◌≡◌, ℕ, Vec, Global, Bool, true, false, cond, Option, Some, None, List, refl, ap, sym, ◌∙◌, subst, true≢false, is_some, Result, Ok, Err, OnOk, OnErr, OnSome}
+use Rattle.std.proofs.Common.{◌≡◌, ℕ, ℤ, Vec, Global, Bool, true, false, cond, Option, Some, None, List, refl, ap, sym, ◌∙◌, subst, true≢false, is_some, Result, Ok, Err, OnOk, OnErr, OnSome}
 use Rattle.std.specs.Option.{option_map}
 use Rattle.std.specs.Map.{lookup, KeepsOthers}
 use Rattle.std.specs.FinMap as map
@@ -8,7 +8,9 @@ use Rattle.nr_model.specs.Bytes.{Bytes}
 use Rattle.nr_model.specs.Keyspace.{Stored, is_live_at}
 use Rattle.nr_model.proofs.Live.{only_live}
 use Rattle.nr_keyspace.specs.Deadlines.{due_cmp, without_deadline, IsReplaced}
-use Rattle.nr_keyspace.specs.Stores.{Store, IsIndexed, bytes_of, store_of, stored_of, deadline_of}
+use Rattle.nr_keyspace.specs.Stores.{Store, IsIndexed, redated, bytes_of, store_of, stored_of, deadline_of}
+use Rattle.nr_keyspace.specs.Values.{value_of}
+use Rattle.nr_keyspace.specs.declared.value.Value.{Value}
 use Rattle.nr_keyspace.specs.declared.database.Entry.{Entry}
 use Rattle.nr_keyspace.proofs.Named.{is_name, same_name, get-store, inserted, removed, reordered}
 use Rattle.nr_keyspace.proofs.Indexed.{insert_indexed, remove_indexed}
@@ -65,3 +67,20 @@ ok_then (Err e) holds then = tt
 pub some_then : {A P Q : Type 0} (result : Option A) → OnSome result P → (P → Q) → OnSome result Q
 some_then (Some x) holds then = then holds
 some_then None holds then = tt
+
+-- the entry at a name with another deadline is what is stored there with another deadline
+pub redated_entries : (old new : Entries) (name : Bytes) (found written : Entry) → Some found ≡ lookup (is_name bytes_of name) old → lookup (is_name bytes_of name) new ≡ Some written → KeepsOthers (same_name bytes_of) (is_name bytes_of name) old new
+    → written.value ≡ found.value → store_of bytes_of new ≡ redated (store_of bytes_of old) name (map.get (store_of bytes_of old) name) written.deadline
+redated_entries old new name found written is at_name others same =
+    inserted bytes_of old new name written at_name others
+    ∙ ap (λ (v : Value). let s : Stored = record { value = value_of v; deadline = written.deadline } in map.insert (store_of bytes_of old) name s) same
+    ∙ sym (ap (λ (o : Option Stored). redated (store_of bytes_of old) name o written.deadline) (get-store bytes_of old name ∙ ap (option_map stored_of) (sym is)))
+
+pub redated_none : (old : Entries) (name : Bytes) (deadline : Option ℤ) → None ≡ lookup (is_name bytes_of name) old → store_of bytes_of old ≡ redated (store_of bytes_of old) name (map.get (store_of bytes_of old) name) deadline
+redated_none old name deadline is = sym (ap (λ (o : Option Stored). redated (store_of bytes_of old) name o deadline) (get-store bytes_of old name ∙ ap (option_map stored_of) (sym is)))
+
+pub redated_indexed : (old new : Entries) (dues after : set.FinSet due_cmp) (name : Bytes) (stored : Stored) (deadline : Option ℤ) → IsIndexed (store_of bytes_of old) dues → map.get (store_of bytes_of old) name ≡ Some stored
+    → store_of bytes_of new ≡ redated (store_of bytes_of old) name (map.get (store_of bytes_of old) name) deadline → IsReplaced dues after deadline name → IsIndexed (store_of bytes_of new) after
+redated_indexed old new dues after name stored deadline was at is replaced =
+    let s : Stored = record { value = stored.value; deadline = deadline } in
+    subst (λ store. IsIndexed store after) (sym (is ∙ ap (λ (o : Option Stored). redated (store_of bytes_of old) name o deadline) at)) (insert_indexed (store_of bytes_of old) dues after name s was replaced)

@@ -47,8 +47,8 @@ remove_indexed store dues name was = record {
   exact = λ deadline q.
       contains-without dues (deadline_of (map.get store name)) name deadline q
       ∙ gone (eq_by_cmp byte_cmp q name) (has_deadline deadline (deadline_of (map.get store name))) (set.contains dues (deadline, q)) (has_deadline deadline (deadline_of (map.get store q)))
-          (λ here. was.exact deadline q ∙ ap (λ n. has_deadline deadline (deadline_of (map.get store n))) (named q name here))
-          (λ _. was.exact deadline q)
+      (λ here. was.exact deadline q ∙ ap (λ n. has_deadline deadline (deadline_of (map.get store n))) (named q name here))
+      (λ _. was.exact deadline q)
       ∙ elim (eq_by_cmp byte_cmp q name) as (λ t. cond t false (has_deadline deadline (deadline_of (map.get store q))) ≡ has_deadline deadline (deadline_of (cond t None (map.get store q)))) [
         | true ↦ refl
         | false ↦ refl
@@ -94,7 +94,7 @@ pub sweep_shrinks : (dues fewer : set.FinSet due_cmp) (name : Bytes) (now : ℕ)
 sweep_shrinks dues fewer name now popped =
     let one : set.len dues ≡ 0 → ⊥ = λ none. true≢false (sym popped.2 ∙ ap (λ s. set.contains s (popped.0, name)) (set.empty_of_len dues none) ∙ set.contains-empty due_cmp (popped.0, name)) in
     let left : set.len fewer ≡ set.len dues - 1 =
-        ap set.len popped.3 ∙ set.len-remove due_total dues (popped.0, name) ∙ ap (λ b. cond b (set.len dues - 1) (set.len dues)) popped.2 in
+    ap set.len popped.3 ∙ set.len-remove due_total dues (popped.0, name) ∙ ap (λ b. cond b (set.len dues - 1) (set.len dues)) popped.2 in
     omega (arith, one)
 
 has_itself : (deadline : ℤ) → has_deadline deadline (Some deadline) ≡ true

@@ -1,18 +1,19 @@
 -- What the databases have at a key, and what a change of one of them is.
-use Rattle.std.proofs.Common.{◌≡◌, ◌≢◌, ℕ, zero, suc, ◌+◌, ◌<◌, ◌≤◌, Bool, true, false, cond, ◌&&◌, eqb, Option, Some, None, List, [], ◌∷◌, ◌++◌, length, get_or, set, refl, ap, sym, ◌∙◌, subst, true≢false, arith, ltb, ltb-false, le_trans, get_or-set_same, get_or-set_other}
+use Rattle.std.proofs.Common.{◌≡◌, ◌≢◌, ℤ, ℕ, zero, suc, ◌+◌, ◌<◌, ◌≤◌, Bool, true, false, cond, ◌&&◌, eqb, Option, Some, None, List, [], ◌∷◌, ◌++◌, length, get_or, set, refl, ap, sym, ◌∙◌, subst, true≢false, arith, ltb, ltb-false, le_trans, get_or-set_same, get_or-set_other}
 use Rattle.std.specs.declared.cmp.Ordering.{Ordering}
 use Rattle.std.specs.declared.cmp.Ordering.TheVariants.{Less, Equal, Greater}
 use Rattle.std.specs.Ordering.{is_eq, eq_by_cmp, nat_cmp, ordering_then}
 use Rattle.std.specs.Cmp.{unsigned_tied, unsigned_Decides}
 use Rattle.std.specs.Cmp.Lexicographic.{nat_list_cmp_total}
 use Rattle.std.specs.Option.{option_or}
+use Rattle.std.specs.List.{SwappedAt}
 use Rattle.std.specs.FinMap as map
 use Rattle.std.proofs.lemmas.List.{get_or_default, get_or_past, set-get_or}
 use Rattle.nr_model.specs.Bytes.{Bytes}
 use Rattle.nr_model.specs.Keyspace.{Key, Keyspace, key_cmp, byte_cmp, Stored, live}
 use Rattle.nr_model.proofs.Live.{key_total, get-live, only_live}
-use Rattle.nr_keyspace.specs.Stores.{Store}
-use Rattle.nr_keyspace.specs.Joined.{key_of, with_entries, joined_from, joined, store_at, IsSwept}
+use Rattle.nr_keyspace.specs.Stores.{Store, redated}
+use Rattle.nr_keyspace.specs.Joined.{key_of, with_entries, joined_from, joined, store_at, IsSwept, other_of, exchanged}
 use Rattle.nr_keyspace.proofs.Orders.{key_exact}
 
 same_number : (a b : ℕ) → eqb a b ≡ true → a ≡ b
@@ -30,7 +31,7 @@ both_equal Equal s = refl
 both_equal Greater s = refl
 
 -- two keys tie where their databases and their names do
-tied : (key : Key) (database : ℕ) (name : Bytes) → eq_by_cmp key_cmp key (key_of database name) ≡ (eqb key.database database && eq_by_cmp byte_cmp key.name name)
+pub tied : (key : Key) (database : ℕ) (name : Bytes) → eq_by_cmp key_cmp key (key_of database name) ≡ (eqb key.database database && eq_by_cmp byte_cmp key.name name)
 tied key database name = both_equal (nat_cmp key.database database) (byte_cmp key.name name) ∙ ap (λ b. b && eq_by_cmp byte_cmp key.name name) (unsigned_tied key.database database)
 
 first_of : {A : Type 0} (a b : Bool) (x : A) (found rest : Option A) → cond (a && b) (Some x) (cond a (option_or found rest) rest) ≡ cond a (option_or (cond b (Some x) found) rest) rest
@@ -105,7 +106,7 @@ changed stores database store new name w is below change key =
     get-set stores database new key below
     ∙ ap (λ o. cond (eqb key.database database) o (map.get (joined stores) key)) (change key.name)
     ∙ narrowed (eqb key.database database) (eq_by_cmp byte_cmp key.name name) w (map.get store key.name) (map.get (joined stores) key)
-        (λ e. sym (get-at stores database store key.name is below) ∙ ap (λ d. map.get (joined stores) (key_of d key.name)) (sym (same_number key.database database e)))
+    (λ e. sym (get-at stores database store key.name is below) ∙ ap (λ d. map.get (joined stores) (key_of d key.name)) (sym (same_number key.database database e)))
     ∙ ap (λ b. cond b w (map.get (joined stores) key)) (sym (tied key database name))
 
 pub inserted : (stores : List Store) (database : ℕ) (store : Store) (name : Bytes) (stored : Stored) → store ≡ get_or stores database store → database < length stores
@@ -151,3 +152,21 @@ all_swept now count old new all is = record {
             none ∙ sym (ap (only_live now) none)
       ] refl;
 }
+
+pub redated_at : (stores : List Store) (database : ℕ) (store : Store) (name : Bytes) (stored : Option Stored) (deadline : Option ℤ) → store ≡ get_or stores database store → database < length stores
+    → joined (set stores database (redated store name stored deadline)) ≡ redated (joined stores) (key_of database name) stored deadline
+redated_at stores database store name None deadline is below = unchanged stores database store is
+redated_at stores database store name (Some stored) deadline is below = inserted stores database store name (record { value = stored.value; deadline = deadline }) is below
+
+store-swap : (a b : ℕ) (old new : List Store) → SwappedAt old new a b → (database : ℕ) → store_at new database ≡ store_at old (other_of a b database)
+store-swap a b old new at database =
+    elim (eqb database a) as (λ t. eqb database a ≡ t → store_at new database ≡ store_at old (cond t b (cond (eqb database b) a database))) [
+      | true ↦ λ is. ap (store_at new) (same_number database a is) ∙ at.0 map.empty
+      | false ↦ λ not_a. elim (eqb database b) as (λ t. eqb database b ≡ t → store_at new database ≡ store_at old (cond t a database)) [
+        | true ↦ λ is. ap (store_at new) (same_number database b is) ∙ at.1 map.empty
+        | false ↦ λ not_b. at.2 database map.empty (other_number database a not_a) (other_number database b not_b)
+      ] refl
+    ] refl
+
+pub exchanged_in : (a b : ℕ) (old new : List Store) → SwappedAt old new a b → (key : Key) → map.get (joined new) key ≡ map.get (joined old) (exchanged a b key)
+exchanged_in a b old new at key = get-joined new key ∙ ap (λ s. map.get s key.name) (store-swap a b old new at key.database) ∙ sym (get-joined old (exchanged a b key))

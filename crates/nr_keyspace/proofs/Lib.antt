@@ -5,3 +5,7 @@ pub mod Named
 pub mod Indexed
 pub mod Changes
 pub mod Joined
+pub mod Copied
+pub mod Names
+pub mod Listed
+pub mod Counted

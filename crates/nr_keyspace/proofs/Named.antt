@@ -48,12 +48,12 @@ module _ {Name : Type 0} (bytes : Name → Bytes) where
   unfolding KeepsOthers
   changed old new name w at_name others q =
       let found : lookup (is_name q) new ≡ cond (bytes_eq q name) w (lookup (is_name q) old) =
-          elim (bytes_eq q name) as (λ t. bytes_eq q name ≡ t → lookup (is_name q) new ≡ cond t w (lookup (is_name q) old)) [
-            | true ↦ λ t. ap (λ n. lookup (is_name n) new) ((bytes_decides q name).0 t) ∙ at_name
-            | false ↦ λ t. others (is_name q)
-                (λ x y same. nat_list_eq_equiv.congr q (bytes x) (bytes y) same)
-                (λ k same. ap (bytes_eq q) (sym ((bytes_decides name (bytes k)).0 same)) ∙ t)
-          ] refl in
+      elim (bytes_eq q name) as (λ t. bytes_eq q name ≡ t → lookup (is_name q) new ≡ cond t w (lookup (is_name q) old)) [
+        | true ↦ λ t. ap (λ n. lookup (is_name n) new) ((bytes_decides q name).0 t) ∙ at_name
+        | false ↦ λ t. others (is_name q)
+            (λ x y same. nat_list_eq_equiv.congr q (bytes x) (bytes y) same)
+            (λ k same. ap (bytes_eq q) (sym ((bytes_decides name (bytes k)).0 same)) ∙ t)
+      ] refl in
       get-store new q ∙ ap (option_map stored_of) found ∙ cond-put (bytes_eq q name) w (lookup (is_name q) old)
       ∙ ap (λ b. cond b (option_map stored_of w) (option_map stored_of (lookup (is_name q) old))) (texts_ties q name)
       ∙ ap (cond (eq_by_cmp byte_cmp q name) (option_map stored_of w)) (sym (get-store old q))
@@ -79,11 +79,11 @@ module _ {Name : Type 0} (bytes : Name → Bytes) where
   reordered old new same = map.same_map nat_list_cmp_total exact_bytes _ _ (λ q.
       get-store new q
       ∙ ap (option_map stored_of) (
-          elim (lookup (is_name q) old) as (λ o. lookup (is_name q) old ≡ o → lookup (is_name q) new ≡ lookup (is_name q) old) [
-            | Some entry ↦ λ found. found_at old new same q entry found
-            | None ↦ λ none. elim (lookup (is_name q) new) as (λ o. lookup (is_name q) new ≡ o → lookup (is_name q) new ≡ lookup (is_name q) old) [
-              | Some entry ↦ λ found. sym (found_at new old (λ k. sym (same k)) q entry found)
-              | None ↦ λ too. too ∙ sym none
-            ] refl
-          ] refl)
+      elim (lookup (is_name q) old) as (λ o. lookup (is_name q) old ≡ o → lookup (is_name q) new ≡ lookup (is_name q) old) [
+        | Some entry ↦ λ found. found_at old new same q entry found
+        | None ↦ λ none. elim (lookup (is_name q) new) as (λ o. lookup (is_name q) new ≡ o → lookup (is_name q) new ≡ lookup (is_name q) old) [
+          | Some entry ↦ λ found. sym (found_at new old (λ k. sym (same k)) q entry found)
+          | None ↦ λ too. too ∙ sym none
+        ] refl
+      ] refl)
       ∙ sym (get-store old q))

@@ -106,9 +106,9 @@ same_first {A} first popped all rest at_first parts = let e : Some popped ≡ So
 pub popped_was : {Name : Type 0} (bytes : Name → Bytes) (now : ℕ) (first popped : ℤ × Name) (all rest : List (ℤ × Name)) (before : set.FinSet due_cmp) → set.from_list (dues_of bytes all) ≡ before
     → slice_get all 0 ≡ Some first → all ≡ popped ∷ rest → int_lt (pos now) first.0 ≡ false → list_any (is_due bytes (due bytes popped)) rest ≡ false → KeepsOthers (eq_by_cmp (stored_cmp bytes)) (is_due bytes (due bytes popped)) all rest
     → (deadline : ℤ) × (int_lt (pos now) deadline ≡ false) × (set.contains before (deadline, bytes popped.1) ≡ true) × (set.from_list {R = due_cmp} (dues_of bytes rest) ≡ set.remove before (deadline, bytes popped.1))
-popped_was {Name} bytes now first popped all rest before seen at_first parts late gone others =
-    ( popped.0
-    , ap (λ (k : ℤ × Name). int_lt (pos now) k.0) (sym (same_first first popped all rest at_first parts)) ∙ late
-    , ap (λ dues. set.contains dues (due bytes popped)) (sym seen ∙ ap (λ keys. set.from_list {R = due_cmp} (dues_of bytes keys)) parts) ∙ first_found bytes popped rest
-    , removed bytes all rest (due bytes popped) gone others ∙ ap (λ dues. set.remove dues (due bytes popped)) seen
-    )
+popped_was {Name} bytes now first popped all rest before seen at_first parts late gone others = (
+  popped.0,
+  ap (λ (k : ℤ × Name). int_lt (pos now) k.0) (sym (same_first first popped all rest at_first parts)) ∙ late,
+  ap (λ dues. set.contains dues (due bytes popped)) (sym seen ∙ ap (λ keys. set.from_list {R = due_cmp} (dues_of bytes keys)) parts) ∙ first_found bytes popped rest,
+  removed bytes all rest (due bytes popped) gone others ∙ ap (λ dues. set.remove dues (due bytes popped)) seen,
+)

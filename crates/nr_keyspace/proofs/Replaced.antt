@@ -59,8 +59,8 @@ moved dues before after name had apart = record {
       contains-without (with_deadline dues after name) before name deadline other
       ∙ ap (λ b. not (has_deadline deadline before && eq_by_cmp byte_cmp other name) && b) (contains-with dues after name deadline other)
       ∙ picked (has_deadline deadline before) (has_deadline deadline after) (eq_by_cmp byte_cmp other name) (set.contains dues (deadline, other))
-          (λ here. ap (λ n. set.contains dues (deadline, n)) (exact_bytes other name ((Equal-is (byte_cmp other name)).0 here)) ∙ had deadline)
-          (one_deadline before after apart deadline);
+      (λ here. ap (λ n. set.contains dues (deadline, n)) (exact_bytes other name ((Equal-is (byte_cmp other name)).0 here)) ∙ had deadline)
+      (one_deadline before after apart deadline);
 }
 
 pub kept : (dues : set.FinSet due_cmp) (before after : Option ℤ) (name : Bytes) → ((deadline : ℤ) → set.contains dues (deadline, name) ≡ has_deadline deadline before) → before ≡ after

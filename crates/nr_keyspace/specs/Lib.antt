@@ -1,4 +1,5 @@
 pub mod Deadlines
 pub mod Joined
+pub mod Names
 pub mod Stores
 pub mod Values

@@ -2,6 +2,7 @@
 use Rattle.std.proofs.Common.{Vec, Global}
 use Rattle.std.specs.Prelude.{◌≡◌, ℕ, ℤ, Option, Some, None, List}
 use Rattle.std.specs.Prelude as prelude
+use Rattle.std.specs.declared.cmp.Ordering.{Ordering}
 use Rattle.std.specs.FinMap as map
 use Rattle.std.specs.FinSet as set
 use Rattle.std.specs.Coded.{Coded}
@@ -36,6 +37,11 @@ store_of bytes entries = map.from_entries (stored_entries bytes entries)
 abbrev pub deadline_of : Option Stored → Option ℤ
 deadline_of None = None
 deadline_of (Some stored) = stored.deadline
+
+-- with another deadline where something was stored
+abbrev pub redated : {K : Type 0} {R : K → K → Ordering} → map.FinMap R Stored → K → Option Stored → Option ℤ → map.FinMap R Stored
+redated kept at None deadline = kept
+redated kept at (Some stored) deadline = map.insert kept at (record { value = stored.value; deadline = deadline })
 
 -- the deadlines are those of the names
 pub record IsIndexed (store : Store) (dues : set.FinSet due_cmp) : Type 0 where

@@ -1,8 +1,11 @@
 // The deadlines of one database, in order.
-ghost use Rattle.std.specs.Prelude.{◌≡◌, ℤ, true, false, pos, int_lt, IsTrue, IfSome, IfNone, IfOk, OnOk, OnErr, ◌<◌};
+ghost use Rattle.std.specs.Prelude.{◌≡◌, ℤ, true, false, pos, int_lt, IsTrue, IfSome, IfNone, IfOk, OnOk, OnErr, ◌<◌, ◌+◌};
+ghost use Rattle.std.specs.FinMap as map;
 ghost use Rattle.std.specs.FinSet as set;
 ghost use Rattle.nr_model.specs.Bytes.{Bytes};
 ghost use Rattle.nr_keyspace.specs.Deadlines.{with_deadline, without_deadline, has_deadline, IsReplaced};
+ghost use Rattle.nr_keyspace.specs.Names.{live_store};
+ghost use Rattle.nr_keyspace.specs.Stores.{Store, IsIndexed};
 
 use crate::moment::is_live;
 use nr_blob::Memory;
@@ -107,5 +110,19 @@ impl Deadlines {
         }
         let (_, name) = self.ordered.pop_first()?;
         Some(name)
+    }
+
+    /// How many deadlines are not after the moment. Looks at those and one more.
+    pub(crate) fn count_expired(&self, now: u64) -> usize
+        ensures { (store : Store) → IsIndexed store self.now → map.len (live_store store now) + result ≡ map.len store }
+    {
+        let mut count = 0;
+        for due in self.ordered.iter() {
+            if is_live(now, Some(due.0)) {
+                return count;
+            }
+            count += 1;
+        }
+        count
     }
 }

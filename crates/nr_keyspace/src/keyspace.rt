@@ -1,10 +1,12 @@
 // All databases.
-ghost use Rattle.std.specs.Prelude.{◌≡◌, ℕ, length, IfOk, OnOk, OnErr, OnSome, IfNone};
+ghost use Rattle.std.specs.Prelude.{◌≡◌, ℕ, length, IfOk, OnOk, OnErr, OnSome, IfNone, is_some};
 ghost use Rattle.std.specs.Option.{option_map};
 ghost use Rattle.std.specs.FinMap as map;
 ghost use Rattle.nr_model.specs.Keyspace as model;
 ghost use Rattle.nr_keyspace.specs.Values.{value_of};
-ghost use Rattle.nr_keyspace.specs.Joined.{key_of, store_at, IsSwept};
+ghost use Rattle.nr_keyspace.specs.Names.{names_in};
+ghost use Rattle.nr_keyspace.specs.Stores.{redated};
+ghost use Rattle.nr_keyspace.specs.Joined.{key_of, store_at, exchanged, IsSwept};
 
 use crate::database::Database;
 use crate::db::{DATABASES, Db};
@@ -46,6 +48,16 @@ fn empty_databases(alloc: Global, keys: RandomState) -> Result<Vec<Database>, Me
     Ok(databases)
 }
 
+fn copy_each(alloc: Global, databases: &[Database]) -> Result<Vec<Database>, Memory>
+    ensures { IfOk result (λ copies. copies.items ≡ databases.now) }
+{
+    let mut copies = Vec::with_capacity(alloc, databases.len())?;
+    for database in databases {
+        copies.push(database.copy(alloc)?)?;
+    }
+    Ok(copies)
+}
+
 fn sweep_each(databases: &mut [Database], now: u64)
     ensures { IsSwept now databases.old databases.new }
 {
@@ -64,11 +76,42 @@ impl Keyspace {
         })
     }
 
+    /// The same keyspace once more, with what is gone and not swept. Linear in what is stored.
+    pub fn copy(&self) -> Result<Keyspace, Memory>
+        ensures { IfOk result (λ keyspace. keyspace ≡ self.now) }
+    {
+        let alloc = *self.databases.allocator();
+        Ok(Keyspace {
+            databases: copy_each(alloc, &self.databases)?,
+        })
+    }
+
     /// The value of a live key.
     pub fn get(&self, now: u64, database: Db, name: &[u8]) -> Option<&Value>
         ensures { option_map (λ value. value_of value.now) result ≡ option_map (λ stored. stored.value) (map.get (model.live self.now now) (key_of database name.now)) }
     {
         self.databases[database.index()].get(now, name)
+    }
+
+    /// The deadline of a live key, if it has one.
+    pub fn deadline(&self, now: u64, database: Db, name: &[u8]) -> Option<Option<i64>>
+        ensures { result ≡ option_map (λ stored. stored.deadline) (map.get (model.live self.now now) (key_of database name.now)) }
+    {
+        self.databases[database.index()].deadline(now, name)
+    }
+
+    /// How many keys are live in a database. Looks at the deadlines that have passed alone.
+    pub fn len(&self, now: u64, database: Db) -> usize
+        ensures { result ≡ length (names_in (model.live self.now now) database) }
+    {
+        self.databases[database.index()].len(now)
+    }
+
+    /// The names of a database's live keys, in byte order. Looks at every key of the database.
+    pub fn keys(&self, alloc: Global, now: u64, database: Db) -> Result<Vec<Blob>, Memory>
+        ensures { IfOk result (λ names. names.items ≡ names_in (model.live self.now now) database) }
+    {
+        self.databases[database.index()].names(alloc, now)
     }
 
     /// Stores a value and its deadline in the place of whatever the key had. Where memory runs out nothing changes.
@@ -94,6 +137,28 @@ impl Keyspace {
         self.databases[database.index()].remove(now, name)
     }
 
+    /// Gives a live key another deadline, or none, and says whether there was one. Where memory runs out nothing changes.
+    pub fn set_deadline(
+        &mut self,
+        now: u64,
+        database: Db,
+        name: &[u8],
+        deadline: Option<i64>,
+    ) -> Result<bool, Memory>
+        ensures live { IfOk result (λ was_live. was_live ≡ is_some (map.get (model.live self.old now) (key_of database name.now))) }
+        ensures ok { let key = key_of database name.now in OnOk result (self.new ≡ redated self.old key (map.get (model.live self.old now) key) deadline) }
+        ensures err { OnErr result (self.new ≡ self.old) }
+    {
+        self.databases[database.index()].set_deadline(now, name, deadline)
+    }
+
+    /// Exchanges two databases, in constant time.
+    pub fn swap(&mut self, a: Db, b: Db)
+        ensures { (key : model.Key) → map.get self.new key ≡ map.get self.old (exchanged a b key) }
+    {
+        self.databases.swap(a.index(), b.index());
+    }
+
     /// Takes each key out that is gone at the moment. It looks at those alone, found by their deadlines.
     pub fn sweep(&mut self, now: u64)
         ensures { self.new ≡ model.live self.old now }
@@ -101,3 +166,6 @@ impl Keyspace {
         sweep_each(&mut self.databases, now);
     }
 }
+
+#[cfg(test)]
+mod tests;

@@ -1,8 +1,7 @@
 -- What stands behind the headers of arrays and bulks.
-use Rattle.std.proofs.Common.{◌≡◌, ℕ, zero, suc, ◌+◌, ◌-◌, ◌^◌, ◌<◌, ◌≤◌, Bool, true, false, cond, eqb, ltb, leb, List, [], ◌∷◌, ◌++◌, length, take, drop, Some, None, ℤ, pos, refl, sym, ap, ◌∙◌, arith, append_assoc, length-append, zero-add, decimal}
+use Rattle.std.proofs.Common.{◌≡◌, ℕ, suc, ◌+◌, ◌-◌, ◌^◌, ◌<◌, ◌≤◌, Bool, true, false, cond, eqb, ltb, leb, List, [], ◌∷◌, ◌++◌, length, take, drop, ℤ, pos, refl, sym, ap, ◌∙◌, arith, append_assoc, length-append, zero-add, decimal}
 use Rattle.std.specs.Prelude.{FitsSigned, flat_map}
 use Rattle.std.specs.Int.{w64}
-use Rattle.std.specs.Fmt.{signed_decimal}
 use Rattle.std.specs.List.{list_any, list_all, AllByRecursion}
 use Rattle.std.proofs.lemmas.List.{take_at, drop_at}
 use Rattle.std.proofs.lemmas.List.Folds.{list_any-append}
@@ -11,8 +10,8 @@ use Rattle.std.proofs.lemmas.Fmt.{length_signed_le}
 use Rattle.nr_model.specs.declared.fault.Fault.{Fault}
 use Rattle.nr_model.specs.declared.fault.Fault.TheVariants.{Count, Length}
 use Rattle.nr_model.specs.Bytes.{Bytes, crlf}
-use Rattle.nr_model.specs.Numbers.{is_digit, int_value}
-use Rattle.nr_model.specs.Requests.{Front, Whole, Faulty, Partial, front_then, most_words, most_word_bytes, most_header_bytes, line_at, number_or, header_at, is_count, is_length, how_many, ending_at, word_at, bulk_at, bulks_at, request_at, Framing, framing_of, unfinished, broken, bulk_text}
+use Rattle.nr_model.specs.Numbers.{is_digit}
+use Rattle.nr_model.specs.Requests.{Front, Whole, Faulty, Partial, front_then, most_words, most_word_bytes, most_header_bytes, line_at, number_or, header_at, is_count, is_length, how_many, ending_at, word_at, bulk_at, bulks_at, request_at, framing_of, unfinished, broken, bulk_text}
 use Rattle.nr_model.specs.Requests.Laws.{framing_by}
 use Rattle.nr_model.proofs.Cuts.{step_law}
 use Rattle.nr_model.proofs.Fronts.{is_lf, line_of_line}
@@ -20,7 +19,7 @@ use Rattle.nr_model.proofs.IntegerTexts.{value_of_text, all_digits_text}
 use Rattle.nr_model.proofs.PlainFrames.{with_front}
 use Rattle.nr_resp.specs.Lines.{said}
 use Rattle.nr_resp.specs.Unfinished.{array_head, bulk_head, array_front, LacksWords}
-use Rattle.nr_resp.proofs.Lines.{ends_cr, said_of}
+use Rattle.nr_resp.proofs.Lines.{said_of}
 
 digits_no_lf : (ds : Bytes) → list_all is_digit ds ≡ true → list_any is_lf ds ≡ false
 digits_no_lf [] h = refl

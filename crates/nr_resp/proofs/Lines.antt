@@ -1,9 +1,8 @@
 -- Where lines end, and what they say.
-use Rattle.std.proofs.Common.{◌≡◌, ℕ, zero, suc, ◌+◌, ◌-◌, ◌^◌, ◌<◌, ◌≤◌, Bool, true, false, cond, eqb, ltb, List, [], ◌∷◌, ◌++◌, length, take, drop, get_or, Option, Some, None, ℤ, refl, sym, ap, ◌∙◌, subst, arith, append_assoc, length-append}
+use Rattle.std.proofs.Common.{◌≡◌, ℕ, suc, ◌+◌, ◌-◌, ◌<◌, ◌≤◌, Bool, true, false, cond, eqb, [], ◌∷◌, ◌++◌, length, take, drop, get_or, Option, Some, None, ℤ, refl, sym, ap, ◌∙◌, subst, arith, append_assoc, length-append}
 use Rattle.std.specs.Prelude.{FitsSigned, Ok, unwrap_or}
 use Rattle.std.specs.Int.{w64}
 use Rattle.std.specs.Fmt.{signed_decimal}
-use Rattle.std.specs.List.{list_any}
 use Rattle.std.proofs.lemmas.List.{take_at, get_or-take, take-append-drop, length-take-le, drop_more, append-nil}
 use Rattle.std.proofs.lemmas.List.Folds.{list_any-append}
 use Rattle.std.proofs.lemmas.Bool.{or_from, eqb-true, eqb-false, lt-ltb, le-ltb}
@@ -11,7 +10,7 @@ use Rattle.nr_model.specs.declared.fault.Fault.{Fault}
 use Rattle.nr_model.specs.declared.fault.Fault.TheVariants.{LineEnd}
 use Rattle.nr_model.specs.Bytes.{Bytes}
 use Rattle.nr_model.specs.Numbers.{int_value}
-use Rattle.nr_model.specs.Requests.{Front, Whole, Faulty, Partial, line_at, number_or, ends_with_cr, without_last}
+use Rattle.nr_model.specs.Requests.{Whole, Faulty, Partial, line_at, number_or, ends_with_cr, without_last}
 use Rattle.nr_model.specs.Requests.Laws.{Extends}
 use Rattle.nr_model.proofs.Fronts.{is_lf, line_of_open, line_of_line, line_extends}
 use Rattle.nr_model.proofs.IntegerTexts.{text_of_value}

@@ -1,16 +1,16 @@
 -- What each stage of an unfinished request does with the next bytes.
-use Rattle.std.proofs.Common.{◌≡◌, ℕ, zero, suc, ◌+◌, ◌-◌, ◌<◌, ◌≤◌, ◌≢◌, Bool, true, false, ◌&&◌, cond, eqb, leb, List, [], ◌∷◌, ◌++◌, length, take, drop, get_or, Some, None, ℤ, pos, negsuc, inl, inr, refl, sym, ap, ◌∙◌, subst, arith, append_assoc, length-append, decimal}
-use Rattle.std.specs.Prelude.{FitsSigned, ◌≤ℤ◌, flat_map}
+use Rattle.std.proofs.Common.{◌≡◌, ℕ, ◌+◌, ◌-◌, ◌<◌, ◌≤◌, ◌≢◌, Bool, true, false, ◌&&◌, cond, eqb, List, [], ◌∷◌, ◌++◌, length, take, drop, get_or, Some, None, ℤ, pos, negsuc, inl, inr, refl, sym, ap, ◌∙◌, subst, arith, append_assoc, length-append}
+use Rattle.std.specs.Prelude.{FitsSigned, ◌≤ℤ◌}
 use Rattle.std.specs.Int.{w64}
 use Rattle.std.specs.Fmt.{signed_decimal}
 use Rattle.std.specs.List.{list_any, AllByRecursion}
 use Rattle.std.proofs.lemmas.List.{append-nil, flat_map_more, nil_from_length, take_at}
-use Rattle.std.proofs.lemmas.Bool.{leb-true, eqb-true, eqb-false, ne_eqb, cases_lt}
+use Rattle.std.proofs.lemmas.Bool.{leb-true, eqb-true, ne_eqb, cases_lt}
 use Rattle.std.proofs.lemmas.Int.{ints}
 use Rattle.nr_model.specs.declared.fault.Fault.{Fault}
 use Rattle.nr_model.specs.declared.fault.Fault.TheVariants.{Count, Length, Dollar, Inline, LineEnd, Quotes}
 use Rattle.nr_model.specs.Bytes.{Bytes, crlf}
-use Rattle.nr_model.specs.Requests.{Frame, Front, Whole, Faulty, Partial, front_then, most_words, most_word_bytes, most_header_bytes, most_inline_bytes, line_at, is_count, is_length, how_many, ending_at, word_at, bulk_at, bulks_at, array_at, inline_at, request_at, Framing, with_request, unfinished, broken, framing_of, words_of, without_cr, is_quote, bulk_text, array_text, Spells, array, empty_array, inline}
+use Rattle.nr_model.specs.Requests.{Frame, Front, Whole, Faulty, Partial, front_then, most_words, most_word_bytes, most_header_bytes, most_inline_bytes, line_at, is_count, is_length, how_many, ending_at, word_at, bulk_at, bulks_at, array_at, inline_at, request_at, Framing, unfinished, broken, framing_of, words_of, without_cr, is_quote, bulk_text, array_text, Spells, array, empty_array}
 use Rattle.nr_model.specs.Requests.Laws.{with_frames, framing_by}
 use Rattle.nr_model.proofs.Cuts.{step_law}
 use Rattle.nr_model.proofs.Spellings.{each_is_found}
@@ -19,8 +19,8 @@ use Rattle.nr_resp.specs.declared.reader.FeedError.TheVariants as errors
 use Rattle.nr_resp.specs.declared.reader.unfinished.Stage.{Stage}
 use Rattle.nr_resp.specs.declared.reader.unfinished.Stage.TheVariants.{Line, Header, Body, Ending}
 use Rattle.nr_resp.specs.Lines.{begins, may_begin, most_line, long_line, IsLineFront, IsFirstLf, IsTooLong, Says, Misses, HasQuotes, said}
-use Rattle.nr_resp.specs.Unfinished.{array_head, bulk_head, array_front, bytes_at, LacksWords, Fits, Reads, Breaks}
-use Rattle.nr_resp.proofs.Lines.{text_said, line_too_long, line_unfinished, line_whole, still_front, now_long, now_whole, split_at_lf, begins_held, begins_line}
+use Rattle.nr_resp.specs.Unfinished.{array_head, bulk_head, array_front, bytes_at, Fits, Reads, Breaks}
+use Rattle.nr_resp.proofs.Lines.{text_said, line_too_long, line_unfinished, line_whole, now_long, now_whole, split_at_lf, begins_line}
 use Rattle.nr_resp.proofs.Heads.{bulk_reads, word_unfinished, word_ends, bulk_by_head, framing_partial, framing_faulty, partial_behind, faulty_behind}
 
 -- the same bytes

@@ -1,11 +1,11 @@
 -- The lines of requests: where one ends, and what a whole one says.
-use Rattle.std.specs.Prelude.{◌≡◌, ℕ, ◌+◌, ◌<◌, ◌≤◌, Bool, true, false, ◌==◌, if◌then◌else◌, List, [], ◌∷◌, ◌++◌, length, take, drop, slice_index, Option, Some, None, Result, Ok, Err, ℤ}
+use Rattle.std.specs.Prelude.{◌≡◌, ℕ, ◌<◌, ◌≤◌, Bool, true, false, ◌==◌, if◌then◌else◌, [], ◌∷◌, ◌++◌, length, take, drop, slice_index, Option, Some, None, Result, Ok, Err, ℤ}
 use Rattle.std.specs.List.{list_any}
 use Rattle.nr_model.specs.declared.fault.Fault.{Fault}
 use Rattle.nr_model.specs.declared.fault.Fault.TheVariants.{Count, Inline, LineEnd, Quotes}
 use Rattle.nr_model.specs.Bytes.{Bytes}
 use Rattle.nr_model.specs.Numbers.{int_value}
-use Rattle.nr_model.specs.Requests.{Front, Whole, Faulty, number_or, most_header_bytes, most_inline_bytes, ends_with_cr, without_last, how_many, is_quote}
+use Rattle.nr_model.specs.Requests.{Front, Faulty, number_or, most_header_bytes, most_inline_bytes, ends_with_cr, without_last, how_many, is_quote}
 use Rattle.nr_resp.specs.declared.reader.FeedError.{FeedError}
 use Rattle.nr_resp.specs.declared.reader.FeedError.TheVariants as errors
 

@@ -78,6 +78,12 @@ impl Reader {
     }
 
     /// Takes the next piece, and adds each request that is whole now. After an error the reader is closed, and repeats it.
+    ///
+    /// It takes time with the piece, and keeps room only for bytes that came, whatever count or length a header says.
+    ///
+    /// # Errors
+    ///
+    /// A fault as soon as the bytes so far decide it, or the refusal of memory.
     pub fn feed(&mut self, piece: &[u8], frames: &mut Vec<Frame>) -> Result<(), FeedError>
         ensures ok { OnOk result ((self.old.closed ≡ None) × (self.new ≡ open_at (framing_of (self.old.rest ++ piece.now)).rest)) }
         ensures frames { OnOk result (frames_seen frames.new.items ≡ frames_seen frames.old.items ++ (framing_of (self.old.rest ++ piece.now)).frames) }
@@ -103,3 +109,14 @@ impl Reader {
         fed
     }
 }
+
+#[cfg(test)]
+impl Reader {
+    /// How many bytes it keeps room for, those of its words apart.
+    fn room(&self) -> usize {
+        self.next.room()
+    }
+}
+
+#[cfg(test)]
+mod tests;

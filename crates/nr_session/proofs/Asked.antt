@@ -80,9 +80,11 @@ front_few rest piece frames f = omega (arith, few_frames rest piece, ap length f
 pub jobs_front : (c : Connection) (number moment : ℕ) (old now : List Item) (some all : List (List Bytes)) → IsFrontOf some all
     → ((n : ℕ) × (now ≡ old ++ take n (request_jobs c number moment some))) → (n : ℕ) × (now ≡ old ++ take n (request_jobs c number moment all))
 jobs_front c number moment old now some all f h =
-    let inner = front_of_front h.0 f.0 (request_jobs c number moment all) in
-    (inner.0, h.1 ∙ ap (λ frames. old ++ take h.0 (request_jobs c number moment frames)) f.1
-        ∙ ap (λ js. old ++ take h.0 js) (jobs_take c number moment f.0 all) ∙ ap (λ js. old ++ js) inner.1)
+    let inner = front_of_front h.0 f.0 (request_jobs c number moment all) in (
+      inner.0,
+      h.1 ∙ ap (λ frames. old ++ take h.0 (request_jobs c number moment frames)) f.1
+          ∙ ap (λ js. old ++ take h.0 js) (jobs_take c number moment f.0 all) ∙ ap (λ js. old ++ js) inner.1,
+    )
 
 pub jobs_whole : (c : Connection) (number moment : ℕ) (old now : List Item) (some : List (List Bytes)) → now ≡ old ++ request_jobs c number moment some
     → (n : ℕ) × (now ≡ old ++ take n (request_jobs c number moment some))
@@ -97,7 +99,7 @@ fault_jobs c next moment len old mid new frames ds last close requests ends coun
     let number : next + len ≡ next + length (map served_deed frames) = omega (arith, count, length-map frames served_deed) in
     ends ∙ ap (λ js. js ++ jobs_from c (next + len) moment (close ∷ [])) requests ∙ append_assoc old jobs _
     ∙ ap (λ js. old ++ js)
-        (ap (λ d. jobs ++ jobs_from c (next + len) moment (d ∷ [])) same
-        ∙ ap (λ n. jobs ++ jobs_from c n moment (last ∷ [])) number
-        ∙ sym (jobs_append c next moment (map served_deed frames) (last ∷ [])))
+    (ap (λ d. jobs ++ jobs_from c (next + len) moment (d ∷ [])) same
+    ∙ ap (λ n. jobs ++ jobs_from c n moment (last ∷ [])) number
+    ∙ sym (jobs_append c next moment (map served_deed frames) (last ∷ [])))
     ∙ ap (λ xs. old ++ jobs_from c next moment xs) (sym all)

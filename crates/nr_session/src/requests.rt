@@ -106,7 +106,11 @@ fn push_quoted(text: &mut Vec<u8>, word: &[u8]) -> Result<(), Memory>
 fn shown(word: &[u8]) -> &[u8]
     ensures { result.now ≡ take 128 word.now }
 {
-    if word.len() <= MOST_QUOTED_BYTES { word } else { &word[..MOST_QUOTED_BYTES] }
+    if word.len() <= MOST_QUOTED_BYTES {
+        word
+    } else {
+        &word[..MOST_QUOTED_BYTES]
+    }
 }
 
 // CR and LF as spaces.

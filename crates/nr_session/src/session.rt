@@ -130,7 +130,12 @@ impl Session {
     /// # Errors
     ///
     /// `Ended`, and nothing changes; or `Memory`, and the session has ended: the jobs of the requests before are there.
-    pub fn feed(&mut self, bytes: &[u8], moment: u64, jobs: &mut Vec<Job>) -> Result<(), SessionError>
+    pub fn feed(
+        &mut self,
+        bytes: &[u8],
+        moment: u64,
+        jobs: &mut Vec<Job>,
+    ) -> Result<(), SessionError>
         requires fits { self.old.next + (length self.old.rest + length bytes.now) + 1 < 2 ^ 64 }
         ensures jobs { OnOk result (items_of jobs.new.items ≡ items_of jobs.old.items
             ++ jobs_from self.old.connection self.old.next moment (asked self.old.rest bytes.now).deeds) }
@@ -148,7 +153,15 @@ impl Session {
         if self.ended {
             return Err(SessionError::Ended);
         }
-        match feed_requests(self.alloc, self.conn, &mut self.reader, self.next, moment, bytes, jobs) {
+        match feed_requests(
+            self.alloc,
+            self.conn,
+            &mut self.reader,
+            self.next,
+            moment,
+            bytes,
+            jobs,
+        ) {
             Ok(progress) => {
                 self.next = progress.next;
                 self.ended = progress.ended;

@@ -38,7 +38,15 @@ fn each_row_is_found(rt: HostRuntime) -> Result<(), Fail> {
 fn names_are_whole_and_of_any_case(rt: HostRuntime) {
     assert_eq!(rt; lookup(b"GeT"), Some(CommandId::Strings(Strings::Get)));
     assert_eq!(rt; lookup(b"PING"), Some(CommandId::Server(Server::Ping)));
-    for word in [b"ge".as_slice(), b"getx", b"pin", b"pingx", b"", b"multi", b"g\xc5t"] {
+    for word in [
+        b"ge".as_slice(),
+        b"getx",
+        b"pin",
+        b"pingx",
+        b"",
+        b"multi",
+        b"g\xc5t",
+    ] {
         assert_eq!(rt; lookup(word), None);
     }
 }
@@ -46,11 +54,18 @@ fn names_are_whole_and_of_any_case(rt: HostRuntime) {
 #[test]
 fn requests_are_checked(rt: HostRuntime) -> Result<(), Fail> {
     let alloc = rt.alloc();
-    let cmd = check(request(alloc, &[b"get", b"k"])?).ok().ok_or("refused")?;
+    let cmd = check(request(alloc, &[b"get", b"k"])?)
+        .ok()
+        .ok_or("refused")?;
     assert_eq!(rt; cmd.id, CommandId::Strings(Strings::Get));
     assert_eq!(rt; cmd.words.len(), 2);
     let short = check(request(alloc, &[b"get"])?);
-    assert!(rt; matches!(&short, Err(CmdError::Arity(CommandId::Strings(Strings::Get), _))));
+    assert!(rt;
+        matches!(
+            &short,
+            Err(CmdError::Arity(CommandId::Strings(Strings::Get), _))
+        )
+    );
     let unknown = check(request(alloc, &[b"nosuch", b"k"])?);
     assert!(rt; matches!(&unknown, Err(CmdError::Unknown(_))));
     Ok(())

@@ -37,11 +37,11 @@ pub enum Stage {
 /// A request, as far as it has come.
 #[derive(Drop)]
 pub struct Unfinished {
-    pub stage: Stage,
+    stage: Stage,
     /// The whole words of an array.
-    pub words: Vec<Blob>,
+    words: Vec<Blob>,
     /// What has come of the line or the body that is next.
-    pub part: Vec<u8>,
+    part: Vec<u8>,
 }
 
 impl Unfinished {
@@ -57,6 +57,10 @@ impl Unfinished {
     }
 
     /// Takes a whole piece, and adds each request that ends in it.
+    ///
+    /// # Errors
+    ///
+    /// The bytes so far are no requests, or memory runs out. What it then holds says nothing.
     pub fn feed(&mut self, piece: &[u8], frames: &mut Vec<Frame>) -> Result<(), FeedError>
         requires { IsHeld self.old }
         ensures held { OnOk result (IsHeld self.new) }
@@ -77,11 +81,7 @@ impl Unfinished {
     }
 
     /// Takes a front of the piece, and gives what is left of it.
-    pub fn step<'a>(
-        &mut self,
-        piece: &'a [u8],
-        frames: &mut Vec<Frame>,
-    ) -> Result<&'a [u8], FeedError>
+    fn step<'a>(&mut self, piece: &'a [u8], frames: &mut Vec<Frame>) -> Result<&'a [u8], FeedError>
         requires held { IsHeld self.old }
         requires some { 0 < length piece.now }
         ensures held { OnOk result (IsHeld self.new) }
@@ -228,6 +228,15 @@ impl Unfinished {
             frames.push(Frame { words })?;
         }
         Ok(&piece[1..])
+    }
+}
+
+#[cfg(test)]
+impl Unfinished {
+    /// How many bytes its buffers have room for, those of its words apart.
+    pub fn room(&self) -> usize {
+        let words = self.words.capacity().saturating_mul(mem::size_of::<Blob>());
+        self.part.capacity().saturating_add(words)
     }
 }
 

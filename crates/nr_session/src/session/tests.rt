@@ -4,10 +4,7 @@ use nr_entry::JobKind;
 use nr_resp::Reply;
 use std::test::Fail;
 
-const CONN: ConnId = ConnId {
-    node: 0,
-    serial: 7,
-};
+const CONN: ConnId = ConnId { node: 0, serial: 7 };
 
 fn command_of(kind: &JobKind) -> Option<CommandId> {
     match kind {
@@ -18,7 +15,9 @@ fn command_of(kind: &JobKind) -> Option<CommandId> {
 
 fn error_of(kind: &JobKind) -> Option<&[u8]> {
     match kind {
-        JobKind::Local(Reply::Error(text)) | JobKind::Close(Some(Reply::Error(text))) => Some(text.bytes()),
+        JobKind::Local(Reply::Error(text)) | JobKind::Close(Some(Reply::Error(text))) => Some(
+            text.bytes(),
+        ),
         _ => None,
     }
 }
@@ -27,7 +26,10 @@ fn error_of(kind: &JobKind) -> Option<&[u8]> {
 fn requests_become_jobs(rt: HostRuntime) -> Result<(), Fail> {
     let mut session = Session::new(rt.alloc(), CONN);
     let mut jobs = Vec::new(rt.alloc());
-    assert_eq!(rt; session.feed(b"PING\r\nset k v\r\nGE", 100, &mut jobs), Ok(()));
+    assert_eq!(rt;
+        session.feed(b"PING\r\nset k v\r\nGE", 100, &mut jobs),
+        Ok(())
+    );
     assert_eq!(rt; session.feed(b"T k\r\ndel k\r\n", 200, &mut jobs), Ok(()));
     let wanted = [
         (100, CommandId::Server(Server::Ping)),
@@ -49,7 +51,10 @@ fn requests_become_jobs(rt: HostRuntime) -> Result<(), Fail> {
 fn faults_end_the_session(rt: HostRuntime) -> Result<(), Fail> {
     let mut session = Session::new(rt.alloc(), CONN);
     let mut jobs = Vec::new(rt.alloc());
-    assert_eq!(rt; session.feed(b"NOSUCH\r\nget\r\n*1\r\n@PING\r\n", 100, &mut jobs), Ok(()));
+    assert_eq!(rt;
+        session.feed(b"NOSUCH\r\nget\r\n*1\r\n@PING\r\n", 100, &mut jobs),
+        Ok(())
+    );
     let wanted = [
         b"ERR unknown command 'NOSUCH'".as_slice(),
         b"ERR wrong number of arguments for 'get' command",
@@ -59,7 +64,10 @@ fn faults_end_the_session(rt: HostRuntime) -> Result<(), Fail> {
     for (job, text) in jobs.iter().zip(wanted.iter()) {
         assert_eq!(rt; error_of(&job.kind), Some(*text));
     }
-    assert_eq!(rt; session.feed(b"PING\r\n", 100, &mut jobs), Err(SessionError::Ended));
+    assert_eq!(rt;
+        session.feed(b"PING\r\n", 100, &mut jobs),
+        Err(SessionError::Ended)
+    );
     assert_eq!(rt; jobs.len(), 3);
     Ok(())
 }
@@ -69,7 +77,10 @@ fn closes_have_the_number_of_what_was_dropped(rt: HostRuntime) -> Result<(), Fai
     let mut jobs = Vec::new(rt.alloc());
     let mut open = Session::new(rt.alloc(), CONN);
     assert_eq!(rt; open.feed(b"PING\r\nPING\r\n", 100, &mut jobs), Ok(()));
-    assert_eq!(rt; open.close(300, None).map(|job| (job.number, job.moment)), Some((2, 300)));
+    assert_eq!(rt;
+        open.close(300, None).map(|job| (job.number, job.moment)),
+        Some((2, 300))
+    );
     let mut dropped = Session::new(rt.alloc(), CONN);
     assert_eq!(rt; dropped.feed(b"PING\r\nPING\r\n", 100, &mut jobs), Ok(()));
     assert_eq!(rt; dropped.close(300, Some(1)).map(|job| job.number), Some(1));

@@ -12,7 +12,7 @@ invariant-loop-frame l =
     (l.number + length l.frames.items ≡ l.next + length l.fn.frames.items)
     × (length l.fn.jobs.items ≤ length l.jobs.items)
     × (items_of l.jobs.items ++ jobs_from (connection_of l.conn) l.number l.moment (map served_deed (frames_seen (reverse l.frames.items)))
-        ≡ items_of l.fn.jobs.items ++ jobs_from (connection_of l.conn) l.next l.moment (map served_deed (frames_seen l.fn.frames.items)))
+    ≡ items_of l.fn.jobs.items ++ jobs_from (connection_of l.conn) l.next l.moment (map served_deed (frames_seen l.fn.frames.items)))
 
 abbrev pub decreases-loop-frame : goal.decreases-loop-frame
 decreases-loop-frame l = length l.frames.items

@@ -13,8 +13,8 @@ returns-clause-ok c =
     let below : c.index.result < length c.self.inside.databases.items = omega arith in
     let stored : model.Stored = record { value = value_of c.args.value; deadline = c.args.deadline } in
     ok_then c.put.result c.put.ensures.ok (λ is.
-        ap (λ store. joined (set c.self.inside.databases.items c.index.result store)) is
-        ∙ inserted c.self.inside.databases.items c.index.result c.index_mut.result.now c.into_vec.result.items stored c.index_mut.ensures.value below
-        ∙ ap (λ keyspace. map.insert keyspace (key_of c.index.result c.into_vec.result.items) stored) c.self.view_is
-        ∙ ap (λ (name : Bytes). map.insert c.args.self.now (key_of c.index.result name) stored) c.into_vec.ensures
-        ∙ ap (λ database. map.insert c.args.self.now (key_of database c.args.name) stored) c.index.ensures.value)
+    ap (λ store. joined (set c.self.inside.databases.items c.index.result store)) is
+    ∙ inserted c.self.inside.databases.items c.index.result c.index_mut.result.now c.into_vec.result.items stored c.index_mut.ensures.value below
+    ∙ ap (λ keyspace. map.insert keyspace (key_of c.index.result c.into_vec.result.items) stored) c.self.view_is
+    ∙ ap (λ (name : Bytes). map.insert c.args.self.now (key_of c.index.result name) stored) c.into_vec.ensures
+    ∙ ap (λ database. map.insert c.args.self.now (key_of database c.args.name) stored) c.index.ensures.value)

@@ -1,5 +1,3 @@
-use Rattle.std.proofs.Common.{◌≡◌, ◌++◌, ap, sym, subst}
-use Rattle.nr_resp.specs.Unfinished.{bytes_of}
 use Rattle.nr_resp.proofs.reader.Reader.feed.Goals as goal
 
 pub returns-in-Err-clause-memory : goal.returns-in-Err-clause-memory

@@ -1,4 +1,4 @@
-use Rattle.std.proofs.Common.{◌≡◌, ◌+◌, ◌++◌, ◌∷◌, [], true, false, get_or, drop, refl, sym, ap, ◌∙◌}
+use Rattle.std.proofs.Common.{◌≡◌, ◌+◌, true, false, get_or, drop, refl, sym, ◌∙◌}
 use Rattle.nr_model.specs.Requests.{is_blank, words_of}
 use Rattle.nr_model.proofs.PlainFrames.{blank_behind, blank_alone, word_at_end, no_word_at_end, byte_apart, byte_joined, still_unparted, at_end, vec_some, vec_none}
 use Rattle.nr_resp.proofs.reader.lines.words_of.Goals as goal
