@@ -5,3 +5,4 @@ pub mod Replies
 pub mod Patterns
 pub mod Modes
 pub mod Sequential
+pub mod Worlds

@@ -2,6 +2,7 @@
 
 ghost use Rattle.nr_model.specs.Rows.Modes.{ModeRows};
 ghost use Rattle.nr_model.specs.Rows.Sequential.{MessageRows, SequentialRows};
+ghost use Rattle.nr_model.specs.Rows.Worlds.{WorldRows};
 
 /// What the bytes of a connection ask for: transactions, subscriptions, unknown names and ends.
 pub fn mode_rows()
@@ -16,4 +17,9 @@ pub fn message_rows()
 /// Moments, watches, and reads between writes.
 pub fn sequential_rows()
     ensures { SequentialRows }
+{}
+
+/// Steps of a world of one node: their outcomes, what is handed out, and a sequence that explains it.
+pub fn world_rows()
+    ensures { WorldRows }
 {}
