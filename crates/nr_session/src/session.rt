@@ -194,6 +194,3 @@ impl Session {
         })
     }
 }
-
-#[cfg(test)]
-mod tests;
