@@ -11,7 +11,7 @@ use Rattle.nr_model.specs.Modes.{plain, last_deed}
 use Rattle.nr_model.specs.Served.{served_deed}
 use Rattle.nr_model.specs.Worlds.{jobs_from}
 use Rattle.nr_model.proofs.ServedDeeds.{served_is_plain}
-use Rattle.nr_model.proofs.Counts.{frames_le_bytes}
+use Rattle.nr_model.proofs.Counts.{frames_le_bytes, frames_and_rest_le_bytes}
 use Rattle.nr_session.specs.Standing.{framed, asked, request_jobs, IsFrontOf}
 
 append_nil : {A : Type 0} (xs : List A) → xs ++ [] ≡ xs
@@ -40,6 +40,10 @@ ended_broken rest piece fault e =
 -- no more frames than bytes
 pub few_frames : (rest piece : Bytes) → length (framed rest piece).frames ≤ length rest + length piece
 few_frames rest piece = omega (arith, frames_le_bytes (rest ++ piece), length-append rest piece)
+
+-- nor more frames and bytes of the rest
+pub few_frames_and_rest : (rest piece : Bytes) → length (framed rest piece).frames + length (framed rest piece).rest ≤ length rest + length piece
+few_frames_and_rest rest piece = omega (arith, frames_and_rest_le_bytes (rest ++ piece), length-append rest piece)
 
 -- jobs of deeds behind others
 pub jobs_append : (c : Connection) (number moment : ℕ) (ds es : List Deed) → jobs_from c number moment (ds ++ es) ≡ jobs_from c number moment ds ++ jobs_from c (number + length ds) moment es

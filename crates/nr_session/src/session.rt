@@ -1,5 +1,5 @@
 // The session of a connection.
-ghost use Rattle.std.specs.Prelude.{◌≡◌, ◌↔◌, ℕ, ◌+◌, ◌<◌, ◌^◌, ◌++◌, [], true, false, None, Some, Err, OnOk, OnErr, IfOk, IfSome, IsNone, is_ok, unwrap_or, if◌then◌else◌, length, take};
+ghost use Rattle.std.specs.Prelude.{◌≡◌, ◌↔◌, ℕ, ◌+◌, ◌<◌, ◌≤◌, ◌^◌, ◌++◌, [], true, false, None, Some, Err, OnOk, OnErr, IfOk, IfSome, IsNone, is_ok, unwrap_or, if◌then◌else◌, length, take};
 ghost use Rattle.nr_model.specs.Items.{End};
 ghost use Rattle.nr_model.specs.Worlds.{jobs_from};
 ghost use Rattle.nr_resp.specs.Frames.{frames_seen};
@@ -57,6 +57,7 @@ fn feed_requests(
     ensures next { IfOk result (λ progress. progress.next ≡ next + length (asked reader.old.rest piece.now).deeds) }
     ensures ended { IfOk result (λ progress. progress.ended ≡ (asked reader.old.rest piece.now).ended) }
     ensures rest { IfOk result (λ progress. progress.ended ≡ false → reader.new ≡ open_at (framed reader.old.rest piece.now).rest) }
+    ensures numbers { IfOk result (λ progress. progress.ended ≡ false → progress.next + length reader.new.rest ≤ next + (length reader.old.rest + length piece.now)) }
     ensures err { OnErr result ((n : ℕ) × (items_of jobs.new.items ≡ items_of jobs.old.items
         ++ take n (request_jobs (connection_of conn) next moment (framed reader.old.rest piece.now).frames))) }
 {
@@ -136,13 +137,14 @@ impl Session {
         moment: u64,
         jobs: &mut Vec<Job>,
     ) -> Result<(), SessionError>
-        requires fits { self.old.next + (length self.old.rest + length bytes.now) + 1 < 2 ^ 64 }
+        requires fits { self.old.ended ≡ false → self.old.next + (length self.old.rest + length bytes.now) + 1 < 2 ^ 64 }
         ensures jobs { OnOk result (items_of jobs.new.items ≡ items_of jobs.old.items
             ++ jobs_from self.old.connection self.old.next moment (asked self.old.rest bytes.now).deeds) }
         ensures next { OnOk result (self.new.next ≡ self.old.next + length (asked self.old.rest bytes.now).deeds) }
         ensures goes_on { OnOk result (self.new.ended ≡ (asked self.old.rest bytes.now).ended) }
         ensures gave_end { self.new.gave_end ≡ (if is_ok result then (asked self.old.rest bytes.now).ended else self.old.gave_end) }
         ensures rest { OnOk result (self.new.ended ≡ false → self.new.rest ≡ (framed self.old.rest bytes.now).rest) }
+        ensures numbers { OnOk result (self.new.ended ≡ false → self.new.next + length self.new.rest ≤ self.old.next + (length self.old.rest + length bytes.now)) }
         ensures connection { self.new.connection ≡ self.old.connection }
 
         ensures ended { (result ≡ Err SessionError.Ended) ↔ (self.old.ended ≡ true) }
@@ -194,3 +196,6 @@ impl Session {
         })
     }
 }
+
+#[cfg(test)]
+mod tests;

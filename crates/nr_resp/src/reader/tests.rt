@@ -1,6 +1,9 @@
 use super::*;
+use std::io;
 use std::process::Abort;
+use std::rt::Clock;
 use std::test::Fail;
+use std::time::{Duration, Instant};
 
 // Each word with a space behind it, each frame with a line feed behind it.
 fn shown(alloc: Global, frames: &[Frame]) -> Result<Vec<u8>, AllocError> {
@@ -139,14 +142,7 @@ fn adds_the_frames_before_a_fault(rt: HostRuntime) -> Result<(), Fail> {
 fn bounds_an_inline_line(rt: HostRuntime) -> Result<(), Fail> {
     let alloc = rt.alloc();
     let long = vec![in alloc; b'a'; 65_537]?;
-    let fault = Some(Fault::Inline);
-    expect_pieces(&rt, alloc, &[&long], b"", fault)?;
-    for end in [1, 65_536] {
-        assert!(rt; end < long.len());
-        let (front, back) = long.split_at(end);
-        expect_pieces(&rt, alloc, &[front, back], b"", fault)?;
-        expect_pieces(&rt, alloc, &[front], b"", None)?;
-    }
+    expect_fault(&rt, alloc, &long, Fault::Inline)?;
     Ok(())
 }
 
@@ -187,6 +183,46 @@ fn takes_a_long_body_in_pieces(rt: HostRuntime) -> Result<(), Fail> {
     let word = &frames[0].words[0];
     assert_eq!(rt; word.len(), 8_388_608);
     assert!(rt; word.bytes().iter().all(|c| *c == b'x'));
+    Ok(())
+}
+
+// The time that a request of this header and so many pieces takes.
+fn time_of(
+    rt: &(impl Abort + Clock),
+    alloc: Global,
+    header: &[u8],
+    piece: &[u8],
+    count: usize,
+) -> io::Result<Duration> {
+    let mut reader = Reader::new(alloc);
+    let mut frames = Vec::new(alloc);
+    let start = Instant::now(rt)?;
+    assert_eq!(rt; reader.feed(header, &mut frames), Ok(()));
+    for _ in 0..count {
+        assert_eq!(rt; reader.feed(piece, &mut frames), Ok(()));
+    }
+    assert_eq!(rt; reader.feed(b"\r\n", &mut frames), Ok(()));
+    let elapsed = start.elapsed(rt)?;
+    assert_eq!(rt; frames.len(), 1);
+    Ok(elapsed)
+}
+
+// The least of several times, since another program may take the processor in between.
+#[test]
+fn takes_time_linear_in_the_bytes(rt: HostRuntime) -> Result<(), Fail> {
+    let alloc = rt.alloc();
+    let piece = vec![in alloc; b'x'; 16_384]?;
+    let mut short = Duration::MAX;
+    let mut long = Duration::MAX;
+    for _ in 0..9 {
+        short = short.min(time_of(&rt, alloc, b"*1\r\n$835584\r\n", &piece, 51)?);
+        long = long.min(time_of(&rt, alloc, b"*1\r\n$8388608\r\n", &piece, 512)?);
+    }
+    let ratio = long.as_micros() / short.as_micros().max(1);
+    assert!(rt;
+        ratio <= 12,
+        "ten times the bytes take {ratio} times the time"
+    );
     Ok(())
 }
 

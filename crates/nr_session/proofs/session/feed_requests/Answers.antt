@@ -9,11 +9,12 @@ use Rattle.nr_model.specs.Bytes.{Bytes}
 use Rattle.nr_model.specs.Served.{served_deed}
 use Rattle.nr_model.specs.Worlds.{jobs_from}
 use Rattle.nr_resp.specs.Frames.{frames_seen}
+use Rattle.nr_resp.specs.Stream.{Stream}
 use Rattle.nr_resp.specs.declared.frame.Frame.{Frame}
 use Rattle.nr_entry.specs.Jobs.{connection_of, items_of}
 use Rattle.nr_session.specs.Standing.{framed, asked, request_jobs}
 use Rattle.nr_session.proofs.Fronts.{on_err}
-use Rattle.nr_session.proofs.Asked.{deeds_whole, ended_whole, deeds_broken, ended_broken, front_few, fault_jobs, jobs_front, jobs_whole}
+use Rattle.nr_session.proofs.Asked.{deeds_whole, ended_whole, deeds_broken, ended_broken, few_frames_and_rest, front_few, fault_jobs, jobs_front, jobs_whole}
 use Rattle.nr_session.proofs.session.feed_requests.Goals as goal
 
 pub overflow_add-number : goal.overflow_add-number
@@ -46,6 +47,10 @@ returns-in-None-clause-next c =
 
 pub returns-in-None-clause-ended : goal.returns-in-None-clause-ended
 returns-in-None-clause-ended c = sym (ended_whole c.args.reader.now.rest c.args.piece.now (c.in_ok-fed.ensures.fault ∙ c.in-None.is))
+
+pub returns-in-None-clause-numbers : goal.returns-in-None-clause-numbers
+returns-in-None-clause-numbers c going =
+    omega (arith, few_frames_and_rest c.args.reader.now.rest c.args.piece.now, ap (λ (s : Stream). length s.rest) (c.in_ok-fed.ensures.rest c.in-None.is), ap length c.in_ok-fed.ensures.frames, length-map c.read-fed.new.frames.items (λ (frame : Frame). frame.words.items), c.len.ensures)
 
 pub returns-in_err-fault_reply-in-Some-clause-err : goal.returns-in_err-fault_reply-in-Some-clause-err
 returns-in_err-fault_reply-in-Some-clause-err c =
