@@ -11,3 +11,16 @@ pub mod Live
 pub mod Agreement
 pub mod ServedDeeds
 pub mod Counts
+pub mod WorldsLists
+pub mod WorldsTaken
+pub mod WorldsSteps
+pub mod WorldsPlain
+pub mod WorldsLogged
+pub mod WorldsGrow
+pub mod WorldsAsked
+pub mod WorldsFed
+pub mod WorldsEmitted
+pub mod WorldsHanded
+pub mod WorldsGiven
+pub mod WorldsAbsent
+pub mod WorldsExplained

@@ -24,7 +24,7 @@ has_one : {A : Type 0} (P : A → Type 0) (b : Bool) (y : A) (others : Option A)
 has_one P true y others here there x e = subst P (cc) here
 has_one P false y others here there x e = there x e
 
-find_has : {A : Type 0} (P : A → Type 0) (test : A → Bool) (xs : List A) → AllByRecursion P xs → (x : A) → find test xs ≡ Some x → P x
+pub find_has : {A : Type 0} (P : A → Type 0) (test : A → Bool) (xs : List A) → AllByRecursion P xs → (x : A) → find test xs ≡ Some x → P x
 find_has P test [] all x e = absurd (cc)
 find_has P test (y ∷ ys) all x e = has_one P (test y) y (find test ys) all.0 (find_has P test ys all.1) x e
 

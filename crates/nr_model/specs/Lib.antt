@@ -15,4 +15,5 @@ pub mod States
 pub mod Entries
 pub mod Worlds
 pub mod Explains
+pub mod Explained
 pub mod Rows

@@ -8,3 +8,4 @@ pub mod patterns;
 pub mod replies;
 pub mod requests;
 pub mod rows;
+pub mod worlds;

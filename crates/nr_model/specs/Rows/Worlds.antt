@@ -1,7 +1,6 @@
 -- Rows of the world of one node: the outcomes of steps, what they hand out, and a sequence that explains it.
 use Rattle.std.specs.Prelude.{◌≡◌, List, [], ◌∷◌, map, codes}
-use Rattle.nr_model.specs.Bytes.{Bytes}
-use Rattle.nr_model.specs.Items.{Connection, Sequence}
+use Rattle.nr_model.specs.Items.{Connection}
 use Rattle.nr_model.specs.Worlds.{Setup, Step, Open, Feed, Apply, Look, Collect, Close, NoSuch, Ended, TooMany, Nothing, Outcome, Opened, Done, Idle, World, world_after, taken_from, fresh, handed_to, sequence_of}
 use Rattle.nr_model.specs.Explains.{Explains, IsAccounted}
 

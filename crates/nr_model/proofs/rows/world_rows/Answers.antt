@@ -1,18 +1,11 @@
-use Rattle.std.proofs.Common.{◌≡◌, ℕ, Bool, true, false, ◌&&◌, [], refl, sym, subst, eqb}
-use Rattle.std.proofs.lemmas.Bool.{and_parts, eqb-true}
+use Rattle.std.proofs.Common.{◌≡◌, Bool, true, false, [], refl, subst}
 use Rattle.std.specs.Fmt.{digits}
 use Rattle.nr_model.specs.Requests.{framing_of, frames_within}
 use Rattle.nr_model.specs.Sequential.{past_from, event_of}
 use Rattle.nr_model.specs.Items.{Connection, same_connection}
-use Rattle.nr_model.specs.Rows.Worlds.{first, pinged}
+use Rattle.nr_model.specs.Rows.Worlds.{first}
+use Rattle.nr_model.proofs.WorldsLists.{same_is}
 use Rattle.nr_model.proofs.rows.world_rows.Goals as goal
-
-same_is : (a b : Connection) → same_connection a b ≡ true → a ≡ b
-same_is a b e =
-    let both = and_parts (eqb a.node b.node) (eqb a.serial b.serial) e in
-    let node : a.node ≡ b.node = eqb-true a.node b.node both.0 in
-    let serial : a.serial ≡ b.serial = eqb-true a.serial b.serial both.1 in
-    λ i. record { node = node i; serial = serial i }
 
 -- the one connection of the row, and any other
 by_connection : (P : Connection → Type 0) → P first → ((d : Connection) → same_connection first d ≡ false → P d) → (d : Connection) → P d
