@@ -1,0 +1,4 @@
+pub mod Acted
+pub mod Folds
+pub mod Progressed
+pub mod Entries

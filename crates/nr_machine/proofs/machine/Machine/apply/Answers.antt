@@ -1,0 +1,29 @@
+use Rattle.std.proofs.Common.{arith, ◌≡◌, true, List, refl, ap, ◌∙◌}
+use Rattle.nr_model.specs.Entries.{entry_items}
+use Rattle.nr_entry.specs.Entry.{are_updates}
+use Rattle.nr_entry.specs.Jobs.{items_of}
+use Rattle.nr_entry.specs.declared.job.Job.{Job}
+use Rattle.nr_machine.specs.Machines.{Standing}
+use Rattle.nr_machine.specs.Emitted.{items_at}
+use Rattle.nr_machine.proofs.Entries.{items_at-entry, updates_at, none_yet, so_far, on_err}
+use Rattle.nr_machine.proofs.machine.Machine.apply.Goals as goal
+
+pub loop-job-init : goal.loop-job-init
+loop-job-init c =
+    let moment = c.args.entry.now.moment in
+    let all : items_at c.deref-job-items.result.now moment ≡ entry_items (items_of c.args.entry.now.jobs.items) =
+    ap (λ (jobs : List Job). items_at jobs moment) c.deref-job-items.ensures.value ∙ items_at-entry c.args.entry.now.jobs.items moment c.args.entry.now.latest in
+    record {
+      failed = refl;
+      along = none_yet _ _ _ _ c.deref-job-items.result.now moment (ap (λ (s : Standing). s.state) c.self.view_is) all;
+    }
+
+pub apply_job-requires : goal.apply_job-requires
+apply_job-requires c =
+    let updates : are_updates (items_of c.deref-job-items.result.now) ≡ true = ap (λ (jobs : List Job). are_updates (items_of jobs)) c.deref-job-items.ensures.value ∙ c.args.entry.now.updates in
+    updates_at c.deref-job-items.result.now c.loop-job.job-index c.job-item.result updates (omega arith) c.job-item.is
+
+pub returns-in_err-apply_job-clause-partly : goal.returns-in_err-apply_job-clause-partly
+returns-in_err-apply_job-clause-partly c =
+    let same = c.in_err-apply_job.ensures.unchanged in
+    on_err c.from_residual.result _ (rw same (so_far _ _ _ _ _ _ _ c.loop-job.invariant.along))

@@ -1,0 +1,3 @@
+pub mod Machines
+pub mod Progressed
+pub mod Emitted
