@@ -1,5 +1,5 @@
 // The request whose bytes have come in part.
-ghost use Rattle.std.specs.Prelude.{◌≡◌, ◌++◌, ◌∷◌, ◌<◌, ℕ, [], length, take, None, Some, Err, OnOk, IfOk, IfErr, IsErr};
+ghost use Rattle.std.specs.Prelude.{◌≡◌, ◌++◌, ◌∷◌, ◌<◌, ℕ, [], length, take, None, Some, Err, OnOk, IfOk, IfErr, IsErr, vec_capacity};
 ghost use Rattle.nr_model.specs.Bytes.{Bytes};
 ghost use Rattle.nr_model.specs.Requests.{framing_of};
 ghost use Rattle.nr_model.specs.declared.fault.Fault.{Fault};
@@ -124,7 +124,7 @@ impl Unfinished {
         Ok(&piece[end + 1..])
     }
 
-    /// Takes a whole first line.
+    /// Takes a whole first line. Whatever count it says, no room is reserved for words.
     fn begin(
         &mut self,
         starred: bool,
@@ -139,6 +139,7 @@ impl Unfinished {
         ensures held { OnOk result (IsHeld self.new) }
         ensures moved { OnOk result ((left : Bytes) → Reads (line.now ++ 10 ∷ left) (bytes_of self.new ++ left) (frames_seen frames.old.items) (frames_seen frames.new.items)) }
         ensures stopped { IfErr result (λ error. (left : Bytes) → Breaks (line.now ++ 10 ∷ left) error) }
+        ensures no_room { OnOk result (vec_capacity self.new.words ≡ vec_capacity self.old.words) }
         ensures kept { IsErr result → frames_seen frames.new.items ≡ frames_seen frames.old.items }
     {
         if starred {
@@ -155,6 +156,7 @@ impl Unfinished {
         Ok(())
     }
 
+    // Takes a front of a bulk's header. Behind a whole one no room is reserved: only bytes that come take any.
     fn header<'a>(&mut self, count: usize, piece: &'a [u8]) -> Result<&'a [u8], FeedError>
         requires held { IsHeld self.old }
         requires stage { self.old.stage ≡ stages.Header count }
@@ -163,6 +165,7 @@ impl Unfinished {
         ensures shorter { IfOk result (λ left. length left.now < length piece.now) }
         ensures moved { IfOk result (λ left. bytes_of self.new ++ left.now ≡ bytes_of self.old ++ piece.now) }
         ensures stopped { IfErr result (λ error. Breaks (bytes_of self.old ++ piece.now) error) }
+        ensures no_room { OnOk result (self.new.part.items ≡ [] → vec_capacity self.new.part ≡ 0) }
     {
         if !begins_with(b'$', &self.part, piece) {
             return Err(FeedError::Fault(Fault::Dollar(piece[0])));
