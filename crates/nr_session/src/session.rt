@@ -126,6 +126,13 @@ impl Session {
         }
     }
 
+    /// Whether it takes no more bytes.
+    pub fn has_ended(&self) -> bool
+        ensures { result ≡ self.now.ended }
+    {
+        self.ended
+    }
+
     /// Takes bytes, and adds the jobs that they ask for, numbered on, each at the moment. A fault's error is the reply of a close.
     ///
     /// # Errors

@@ -1,0 +1,273 @@
+-- A server that holds a world's seats takes each step as the world does.
+use Rattle.std.proofs.Common.{◌≡◌, ℕ, ◌+◌, ◌-◌, ◌<◌, ◌≤◌, Bool, true, false, cond, ltb, leb, List, [], ◌∷◌, ◌++◌, length, drop, inl, inr, subst, refl, ap, sym, ◌∙◌, arith, length-append}
+use Rattle.std.specs.Prelude.{map, filter, not, ◌&&◌, ◌||◌, ◌==◌, if◌then◌else◌, Option, Some, None, option_to_list, is_none, unwrap_or, nat_le}
+use Rattle.std.proofs.lemmas.Bool.{cases_Bool}
+use Rattle.std.proofs.Math.Dec.{eqb-suc-zero}
+use Rattle.nr_world.proofs.Told.{same_either}
+use Rattle.nr_model.specs.Commands.{served}
+use Rattle.std.proofs.lemmas.Bool.Decides.{nat_tests}
+use Rattle.std.proofs.lemmas.List.Folds.{list_any-append}
+use Rattle.nr_model.specs.Bytes.{Bytes}
+use Rattle.nr_model.specs.Keyspace.{moment}
+use Rattle.nr_model.specs.Items.{Connection, same_connection, Item, End}
+use Rattle.nr_model.specs.Modes.{Conversation, framed_conversation, plain}
+use Rattle.nr_model.specs.Sequential.{bytes_for, emitted_for}
+use Rattle.nr_model.specs.States.{State, emitted_all}
+use Rattle.nr_model.specs.Entries.{Jobs, entry_jobs, read_jobs, entry_items}
+use Rattle.nr_model.specs.Worlds.{Setup, Step, Open, Feed, Apply, Look, Collect, Close, Reason, sequence_of, handed_to, Outcome, Opened, Done, NoSuch, Ended, TooMany, Nothing, idle_where, Handed, Closing, World, exists, is_closed, asked_by, waiting_for, connections_of, collected, own_jobs, jobs_from, close_number, close_job, fed, closed, effect, outcome, after_step, effect_by, fed_to}
+use Rattle.nr_model.specs.Explained.{IsExplained, IsAbsent, IsFed, Runs, state_of, rest_of, framed_next, asked_next}
+use Rattle.nr_model.specs.Requests.{framing_of}
+use Rattle.nr_model.proofs.WorldsLists.{same_is, same_self}
+use Rattle.nr_session.specs.Standing.{asked}
+use Rattle.nr_world.specs.Seats.{Seat, fresh_seat, fed_seat, closed_seat, emptied, heard, told, end_of, first_number, collected_seats}
+use Rattle.nr_world.specs.Numbered.{is_seated, seat_at, at_seat}
+use Rattle.nr_world.specs.Lives.{Live, live_outcome, live_effect, live_after, live_by}
+use Rattle.nr_world.specs.Agreed.{seat_in, live_in}
+use Rattle.nr_world.proofs.Numbered.{of_serial, seated_below, seated_is}
+use Rattle.nr_world.proofs.Serials.{serials, length-serials, seat_of_serial, serials_push, serials_changed, serials_collected}
+
+-- as many seats as connections were opened
+pub seats_are : (world : World) → length (live_in world).seats ≡ world.opened
+seats_are world = length-serials (seat_in world) 0 world.opened
+
+pub seated_where : (world : World) (c : Connection) → is_seated c (live_in world).seats ≡ exists world c
+seated_where world c = ap (λ n. c.node == 0 && ltb c.serial n) (seats_are world)
+
+-- the seat of a connection that exists
+pub seat_is : (world : World) (c : Connection) → exists world c ≡ true → seat_at c (live_in world).seats ≡ seat_in world c
+seat_is world c here =
+    let seated : is_seated c (live_in world).seats ≡ true = seated_where world c ∙ here in
+    let below : c.serial < world.opened = omega (arith, seated_below c (live_in world).seats seated, seats_are world) in
+    seat_of_serial (seat_in world) 0 world.opened c.serial (fresh_seat c) below ∙ ap (seat_in world) (sym (seated_is c (live_in world).seats seated))
+
+collected_is : (world : World) → collected_seats (live_in world).seats ≡ collected world
+collected_is world = serials_collected (seat_in world) (waiting_for world) (connections_of world) (λ c. refl) (λ c. refl)
+
+-- room for one more
+room : (most opened closed : ℕ) → closed ≤ opened → leb most (opened - closed) ≡ leb (most + closed) opened
+room most opened closed h = grind (arith, nat_tests)
+
+-- a test of a connection matters where it exists
+where_exists : (here : Bool) (a b : Bool) → (here ≡ true → a ≡ b) → idle_where (not here) NoSuch (idle_where a Ended Done) ≡ idle_where (not here) NoSuch (idle_where b Ended Done)
+where_exists true a b h = ap (λ (x : Bool). idle_where x Ended Done) (h refl)
+where_exists false a b h = refl
+
+-- the outcomes agree
+pub outcomes_agree : (setup : Setup) (world : World) (step : Step) → length world.closed ≤ world.opened → live_outcome setup (live_in world) step ≡ outcome setup world step
+outcomes_agree setup world (Open node worker) h =
+    ap (λ (b : Bool). idle_where (not (node == 0 && worker == 0)) NoSuch (idle_where b TooMany (Opened (of_serial (length (live_in world).seats))))) (room setup.connections world.opened (length world.closed) h)
+    ∙ ap (λ n. idle_where (not (node == 0 && worker == 0)) NoSuch (idle_where (nat_le (setup.connections + length world.closed) world.opened) TooMany (Opened (of_serial n)))) (seats_are world)
+outcomes_agree setup world (Feed c time bytes) h =
+    ap (λ (b : Bool). idle_where (not b) NoSuch (idle_where (seat_at c (live_in world).seats).ended Ended Done)) (seated_where world c)
+    ∙ where_exists (exists world c) _ _ (λ here. ap (λ (s : Seat). s.ended) (seat_is world c here))
+outcomes_agree setup world (Apply node) h = refl
+outcomes_agree setup world (Look node) h = refl
+outcomes_agree setup world (Collect node worker) h =
+    ap (λ (handed : List Handed). idle_where (not (node == 0 && worker == 0)) NoSuch (idle_where (length handed == 0) Nothing Done)) (collected_is world)
+outcomes_agree setup world (Close c time) h =
+    ap (λ (b : Bool). idle_where (not b) NoSuch (idle_where (seat_at c (live_in world).seats).closed Ended Done)) (seated_where world c)
+    ∙ where_exists (exists world c) _ _ (λ here. ap (λ (s : Seat). s.closed) (seat_is world c here))
+
+-- the seats of a step that changes each seat by itself
+changed_seats : (world after : World) (change : Seat → Seat) → after.opened ≡ world.opened → ((c : Connection) → change (seat_in world c) ≡ seat_in after c)
+    → map change (live_in world).seats ≡ (live_in after).seats
+changed_seats world after change same h =
+    serials_changed (seat_in world) (seat_in after) change 0 world.opened (λ i within. h (of_serial (0 + i))) ∙ ap (λ n. map (seat_in after) (serials 0 n)) (sym same)
+
+-- nothing waits for a closed connection
+shut_waits : (world : World) (c : Connection) → is_closed world c ≡ true → waiting_for world c ≡ []
+shut_waits world c e = ap (λ (b : Bool). if b then [] else drop (length (handed_to c world.handed)) (emitted_for c (sequence_of world))) e
+
+-- what waits behind items that were executed
+run_output : (world after : World) (items : List Item) (c : Connection) → Runs world items after → is_closed after c ≡ is_closed world c → (closed : Bool) → is_closed world c ≡ closed
+    → cond closed (waiting_for world c) (waiting_for world c ++ bytes_for c (emitted_all (state_of world) items)) ≡ waiting_for after c
+run_output world after items c runs same true is = shut_waits world c is ∙ sym (shut_waits after c (same ∙ is))
+run_output world after items c runs same false is = sym (runs.waits c is)
+
+heard_output : (seat : Seat) (bytes : Bytes) (closed : Bool) → seat.closed ≡ closed → heard bytes seat ≡ record seat { output = cond closed seat.output (seat.output ++ bytes) }
+heard_output seat bytes true e = ap (λ b. cond b seat (record seat { output = seat.output ++ bytes })) e
+heard_output seat bytes false e = ap (λ b. cond b seat (record seat { output = seat.output ++ bytes })) e
+
+told_seat : (world after : World) (items : List Item) (c : Connection) → Runs world items after → is_closed after c ≡ is_closed world c
+    → told (emitted_all (state_of world) items) (seat_in world c) ≡ record (seat_in world c) { output = waiting_for after c }
+told_seat world after items c runs same =
+    heard_output (seat_in world c) (bytes_for c (emitted_all (state_of world) items)) (is_closed world c) refl
+    ∙ ap (λ (bytes : Bytes). record (seat_in world c) { output = bytes }) (run_output world after items c runs same (is_closed world c) refl)
+
+abbrev live_by_parts : State → List Seat → ℕ → Jobs → List Handed → Live
+live_by_parts state seats count waiting handed = record { state = state; seats = seats; open_connections = count; waiting = waiting; handed = handed }
+
+live_same : (state state' : State) (seats seats' : List Seat) (count count' : ℕ) (waiting waiting' : Jobs) (handed handed' : List Handed) → state ≡ state' → seats ≡ seats' → count ≡ count' → waiting ≡ waiting' → handed ≡ handed'
+    → live_by_parts state seats count waiting handed ≡ live_by_parts state' seats' count' waiting' handed'
+live_same state state' seats seats' count count' waiting waiting' handed handed' a b d e f = λ i. live_by_parts (a i) (b i) (d i) (e i) (f i)
+
+apply_agrees : (world : World) (node : ℕ) → IsExplained world → live_effect (live_in world) (Apply node) ≡ live_in (effect world (Apply node))
+apply_agrees world node x =
+    let runs = x.moved.applied node in
+    live_same _ _ _ _ _ _ _ _ _ _ (sym runs.state)
+    (changed_seats world (effect world (Apply node)) (told (emitted_all (state_of world) (entry_items (entry_jobs world.waiting)))) refl (λ c. told_seat world (effect world (Apply node)) (entry_items (entry_jobs world.waiting)) c runs refl))
+    refl refl refl
+
+look_agrees : (world : World) (node : ℕ) → IsExplained world → live_effect (live_in world) (Look node) ≡ live_in (effect world (Look node))
+look_agrees world node x =
+    let runs = x.moved.looked node in
+    live_same _ _ _ _ _ _ _ _ _ _ (sym runs.state)
+    (changed_seats world (effect world (Look node)) (told (emitted_all (state_of world) (read_jobs world.waiting))) refl (λ c. told_seat world (effect world (Look node)) (read_jobs world.waiting) c runs refl))
+    refl refl refl
+
+collect_agrees : (world : World) (node worker : ℕ) → IsExplained world → live_effect (live_in world) (Collect node worker) ≡ live_in (effect world (Collect node worker))
+collect_agrees world node worker x =
+    live_same _ _ _ _ _ _ _ _ _ _ refl
+    (changed_seats world (effect world (Collect node worker)) emptied refl (λ c. ap (λ (bytes : Bytes). record (seat_in world c) { output = bytes }) (sym (x.moved.collected node worker c))))
+    refl refl (ap (λ (handed : List Handed). world.handed ++ handed) (collected_is world))
+
+-- a connection that was never opened
+absent_seat : (world : World) (c : Connection) → IsAbsent world c → seat_in world c ≡ fresh_seat c
+absent_seat world c a =
+    ap (λ (k : Conversation). record { connection = c; rest = cond (k.ended || is_closed world c) [] (rest_of world c); next = length k.deeds; ended = k.ended || is_closed world c; gave_end = k.ended; output = waiting_for world c; closed = is_closed world c }) a.asked
+    ∙ ap (λ (b : Bool). record { connection = c; rest = cond b [] (rest_of world c); next = 0; ended = b; gave_end = false; output = waiting_for world c; closed = b }) a.unclosed
+    ∙ ap (λ (rest : Bytes). record { connection = c; rest = rest; next = 0; ended = false; gave_end = false; output = waiting_for world c; closed = false }) a.rest
+    ∙ ap (λ (bytes : Bytes). record { connection = c; rest = []; next = 0; ended = false; gave_end = false; output = bytes; closed = false }) a.waits
+
+unopened : (opened : ℕ) → (0 == 0 && ltb opened opened) ≡ false
+unopened opened = grind (arith, nat_tests)
+
+open_agrees : (world : World) (node worker : ℕ) → IsExplained world → length world.closed ≤ world.opened → live_effect (live_in world) (Open node worker) ≡ live_in (effect world (Open node worker))
+open_agrees world node worker x h =
+    let next = of_serial world.opened in
+    let fresh_one : fresh_seat (of_serial (length (live_in world).seats)) ≡ seat_in world (of_serial (0 + world.opened)) =
+    ap (λ n. fresh_seat (of_serial n)) (seats_are world) ∙ sym (absent_seat world next (x.absent next (unopened world.opened))) ∙ ap (λ n. seat_in world (of_serial n)) (omega arith) in
+    live_same _ _ _ _ _ _ _ _ _ _ refl
+    (ap (λ (s : Seat). (live_in world).seats ++ s ∷ []) fresh_one ∙ sym (serials_push (seat_in world) 0 world.opened))
+    (omega arith) refl refl
+
+or_false : (b : Bool) → (b || false) ≡ b
+or_false true = refl
+or_false false = refl
+
+or_true : (b : Bool) → (b || true) ≡ true
+or_true true = refl
+or_true false = refl
+
+-- a seat by its bytes, what waits, and whether it was closed
+abbrev seat_by : Connection → Bytes → Bytes → Bool → Seat
+seat_by c text output closed =
+    let k = framed_conversation served plain (framing_of text) in
+    record { connection = c; rest = cond (k.ended || closed) [] (framing_of text).rest; next = length k.deeds; ended = k.ended || closed; gave_end = k.ended; output = output; closed = closed }
+
+-- one connection changes
+one_changed : (world after : World) (c : Connection) (change : Seat → Seat) → change (seat_in world c) ≡ seat_in after c → ((d : Connection) → same_connection c d ≡ false → seat_in world d ≡ seat_in after d)
+    → (d : Connection) → at_seat c change (seat_in world d) ≡ seat_in after d
+one_changed world after c change own others d =
+    elim (cases_Bool (same_connection d c)) [
+      | inl e ↦ ap (λ b. cond b (change (seat_in world d)) (seat_in world d)) e
+          ∙ subst (λ (k : Connection). change (seat_in world k) ≡ seat_in after k) (sym (same_is d c e)) own
+      | inr e ↦ ap (λ b. cond b (change (seat_in world d)) (seat_in world d)) e ∙ others d (same_either c d ∙ e)
+    ]
+
+fed_own : (world : World) (c : Connection) (time : ℕ) (bytes : Bytes) → IsFed world c time bytes → (asked_by world c).ended ≡ false → is_closed world c ≡ false
+    → fed_seat bytes (seat_in world c) ≡ seat_in (fed world c time bytes) c
+fed_own world c time bytes f on unclosed =
+    let going : ((asked_by world c).ended || is_closed world c) ≡ false = ap (λ b. b || is_closed world c) on ∙ unclosed in
+    let after = fed world c time bytes in
+    let ends : asked_next world c bytes ≡ asked_next world c bytes = refl in
+    let ended : (asked_next world c bytes).ended ≡ ((asked_by after c).ended || is_closed after c) =
+    sym (or_false (asked_next world c bytes).ended) ∙ ap (λ b. b || false) (sym f.ended) ∙ ap (λ b. (asked_by after c).ended || b) (sym unclosed) in
+    ap (λ (b : Bool). fed_seat bytes (record (seat_in world c) { rest = cond b [] (rest_of world c) })) going
+    ∙ ap (λ (b : Bool). record { connection = c; rest = cond b [] (framed_next world c bytes).rest; next = length (asked_by world c).deeds + length (asked_next world c bytes).deeds; ended = b; gave_end = (asked_next world c bytes).ended; output = waiting_for world c; closed = is_closed world c }) ended
+    ∙ (λ i. record { connection = c; rest = cond ((asked_by after c).ended || is_closed after c) [] (sym f.rest i); next = sym f.next i; ended = (asked_by after c).ended || is_closed after c; gave_end = sym f.ended i; output = waiting_for world c; closed = is_closed world c })
+
+feed_agrees : (world : World) (c : Connection) (time : ℕ) (bytes : Bytes) → IsExplained world → exists world c ≡ true → (asked_by world c).ended ≡ false → is_closed world c ≡ false
+    → live_effect (live_in world) (Feed c time bytes) ≡ live_in (effect world (Feed c time bytes))
+feed_agrees world c time bytes x here on unclosed =
+    let f = x.moved.fed c time bytes on in
+    let going : ((asked_by world c).ended || is_closed world c) ≡ false = ap (λ b. b || is_closed world c) on ∙ unclosed in
+    let seat = seat_is world c here in
+    live_same _ _ _ _ _ _ _ _ _ _ refl
+    (changed_seats world (fed world c time bytes) (at_seat c (fed_seat bytes)) refl
+    (one_changed world (fed world c time bytes) c (fed_seat bytes) (fed_own world c time bytes f on unclosed)
+    (λ d other. ap (λ (text : Bytes). seat_by d text (waiting_for world d) (is_closed world d)) (sym (x.moved.unfed c d time bytes other)))))
+    refl
+    (ap (λ (s : Seat). world.waiting ++ jobs_from c s.next (moment time) (asked s.rest bytes).deeds) seat
+    ∙ ap (λ (b : Bool). world.waiting ++ jobs_from c (length (asked_by world c).deeds) (moment time) (asked (cond b [] (rest_of world c)) bytes).deeds) going
+    ∙ ap (λ (jobs : Jobs). world.waiting ++ jobs) (sym f.jobs))
+    refl
+
+end_same : (gave : Bool) (next time : ℕ) (c : Connection) (dropped : Jobs)
+    → cond {A = Option Item} (gave && is_none (first_number dropped)) None (Some (record { connection = c; number = unwrap_or (first_number dropped) next; moment = time; deed = End None }))
+    ≡ cond {A = Option Item} (gave && length dropped == 0) None (Some (record { connection = c; number = close_number next dropped; moment = time; deed = End None }))
+end_same gave next time c [] = refl
+end_same gave next time c (job ∷ jobs) =
+    ap (λ (b : Bool). cond {A = Option Item} (gave && b) None (Some (record { connection = c; number = job.number; moment = time; deed = End None }))) (sym (eqb-suc-zero (length jobs)))
+
+closed_where : (world : World) (c d : Connection) (time : ℕ) → is_closed (closed world c time) d ≡ (is_closed world d || (same_connection c d || false))
+closed_where world c d time = list_any-append (λ (k : Closing). same_connection k.connection d) world.closed (record { connection = c; job = close_job world c time } ∷ [])
+
+closed_own : (world : World) (c : Connection) (time : ℕ) → IsExplained world → closed_seat (seat_in world c) ≡ seat_in (closed world c time) c
+closed_own world c time x =
+    let after = closed world c time in
+    let shut : is_closed after c ≡ true = closed_where world c c time ∙ ap (λ b. is_closed world c || (b || false)) (same_self c) ∙ or_true (is_closed world c) in
+    let ended : ((asked_by world c).ended || is_closed after c) ≡ true = ap (λ b. (asked_by world c).ended || b) shut ∙ or_true (asked_by world c).ended in
+    λ i. record {
+      connection = c;
+      rest = cond (sym ended i) [] (rest_of world c);
+      next = length (asked_by world c).deeds;
+      ended = sym ended i;
+      gave_end = (asked_by world c).ended;
+      output = sym (x.moved.closed c time) i;
+      closed = sym shut i;
+    }
+
+closed_other : (world : World) (c d : Connection) (time : ℕ) → IsExplained world → same_connection c d ≡ false → seat_in world d ≡ seat_in (closed world c time) d
+closed_other world c d time x other =
+    let after = closed world c time in
+    let same : is_closed after d ≡ is_closed world d = closed_where world c d time ∙ ap (λ b. is_closed world d || (b || false)) other ∙ or_false (is_closed world d) in
+    λ i. seat_by d (fed_to d world.fed) (sym (x.moved.unclosed c d time other) i) (sym same i)
+
+close_agrees : (world : World) (c : Connection) (time : ℕ) → IsExplained world → exists world c ≡ true → live_effect (live_in world) (Close c time) ≡ live_in (effect world (Close c time))
+close_agrees world c time x here =
+    let kept = filter (λ (job : Item). not (same_connection job.connection c)) world.waiting in
+    let dropped = own_jobs c world.waiting in
+    live_same _ _ _ _ _ _ _ _ _ _ refl
+    (changed_seats world (closed world c time) (at_seat c closed_seat) refl (one_changed world (closed world c time) c closed_seat (closed_own world c time x) (λ d other. closed_other world c d time x other)))
+    (omega (arith, length-append world.closed (record { connection = c; job = close_job world c time } ∷ [])))
+    (ap (λ (s : Seat). kept ++ option_to_list (end_of (first_number dropped) (moment time) s)) (seat_is world c here)
+    ∙ ap (λ (job : Option Item). kept ++ option_to_list job) (end_same (asked_by world c).ended (length (asked_by world c).deeds) (moment time) c dropped))
+    refl
+
+-- a step that isn't enabled changes nothing
+unless : (holds : Bool) (reason : Reason) (otherwise : Outcome) (world : World) (step : Step) → (holds ≡ false → live_by otherwise (live_in world) step ≡ live_in (effect_by otherwise world step))
+    → live_by (idle_where holds reason otherwise) (live_in world) step ≡ live_in (effect_by (idle_where holds reason otherwise) world step)
+unless true reason otherwise world step q = refl
+unless false reason otherwise world step q = q refl
+
+neither : (a b : Bool) → (a || b) ≡ false → (a ≡ false) × (b ≡ false)
+neither true b e = absurd (cc)
+neither false b e = (refl, e)
+
+not_not : (b : Bool) → not b ≡ false → b ≡ true
+not_not true e = refl
+not_not false e = absurd (cc)
+
+by_outcome : (setup : Setup) (world : World) (step : Step) → IsExplained world → length world.closed ≤ world.opened
+    → live_by (outcome setup world step) (live_in world) step ≡ live_in (after_step setup world step)
+by_outcome setup world (Open node worker) x h =
+    unless (not (node == 0 && worker == 0)) NoSuch _ world (Open node worker) (λ here.
+    unless (nat_le (setup.connections + length world.closed) world.opened) TooMany _ world (Open node worker) (λ space. open_agrees world node worker x h))
+by_outcome setup world (Feed c time bytes) x h =
+    unless (not (exists world c)) NoSuch _ world (Feed c time bytes) (λ here.
+    unless ((asked_by world c).ended || is_closed world c) Ended _ world (Feed c time bytes) (λ on.
+    let both = neither (asked_by world c).ended (is_closed world c) on in feed_agrees world c time bytes x (not_not (exists world c) here) both.0 both.1))
+by_outcome setup world (Apply node) x h =
+    unless (not (node == 0)) NoSuch _ world (Apply node) (λ here. unless (length (entry_jobs world.waiting) == 0) Nothing _ world (Apply node) (λ some. apply_agrees world node x))
+by_outcome setup world (Look node) x h =
+    unless (not (node == 0)) NoSuch _ world (Look node) (λ here. unless (length (read_jobs world.waiting) == 0) Nothing _ world (Look node) (λ some. look_agrees world node x))
+by_outcome setup world (Collect node worker) x h =
+    unless (not (node == 0 && worker == 0)) NoSuch _ world (Collect node worker) (λ here. unless (length (collected world) == 0) Nothing _ world (Collect node worker) (λ some. collect_agrees world node worker x))
+by_outcome setup world (Close c time) x h =
+    unless (not (exists world c)) NoSuch _ world (Close c time) (λ here. unless (is_closed world c) Ended _ world (Close c time) (λ on. close_agrees world c time x (not_not (exists world c) here)))
+
+-- the server is where the world is, one step further
+pub steps_agree : (setup : Setup) (world : World) (step : Step) → IsExplained world → length world.closed ≤ world.opened
+    → live_after setup (live_in world) step ≡ live_in (after_step setup world step)
+steps_agree setup world step x few = ap (λ o. live_by o (live_in world) step) (outcomes_agree setup world step few) ∙ by_outcome setup world step x few

@@ -1,0 +1,103 @@
+-- Steps that change nothing.
+use Rattle.std.proofs.Common.{◌≡◌, ℕ, suc, Bool, true, false, cond, List, [], ◌∷◌, ◌++◌, length, take, refl, ap, sym, ◌∙◌, append-nil, length-append, arith, eqb, eq-eqb}
+use Rattle.std.specs.Prelude.{map, not, ◌==◌, ◌&&◌}
+use Rattle.std.proofs.lemmas.List.{length-map}
+use Rattle.std.proofs.lemmas.Bool.{eqb-true}
+use Rattle.nr_model.specs.Items.{Item}
+use Rattle.nr_model.specs.Entries.{Jobs, leading, not_leading, left_after, leads_as_update, leads_as_read, entry_jobs, left_by_entry, read_jobs, left_by_reads}
+use Rattle.nr_model.specs.Worlds.{Setup, Step, Apply, Look, Collect, Done, NoSuch, Nothing, idle_where, Handed}
+use Rattle.nr_world.specs.Seats.{Seat, emptied, collected_seats}
+use Rattle.nr_world.specs.Lives.{Live, live_by, live_after}
+use Rattle.nr_model.specs.States.{emitted_all, State}
+use Rattle.nr_model.proofs.WorldsTaken.{look_reads}
+use Rattle.nr_entry.specs.Jobs.{item_of, items_of}
+use Rattle.nr_entry.specs.declared.job.Job.{Job}
+use Rattle.nr_world.specs.Seats.{told}
+use Rattle.nr_world.specs.Lives.{live_effect}
+use Rattle.nr_world.proofs.Looking.{reads_kept}
+use Rattle.nr_world.proofs.Emptied.{none_waits}
+
+idle_either : (absent none : Bool) (live : Live) (step : Step) → none ≡ true → live_by (idle_where absent NoSuch (idle_where none Nothing Done)) live step ≡ live
+idle_either true none live step h = refl
+idle_either false true live step h = refl
+idle_either false false live step h = absurd (cc)
+
+no_items : {A : Type 0} (xs : List A) → length xs ≡ 0 → xs ≡ []
+no_items [] h = refl
+no_items (x ∷ xs) h = absurd (omega arith)
+
+-- a collect where nothing waits
+pub collect_idle : (setup : Setup) (live : Live) (node worker : ℕ) (seats : List Seat) (handed : List Handed) → seats ≡ map emptied live.seats → handed ≡ live.handed ++ collected_seats live.seats
+    → length handed ≡ length live.handed → record live { seats = seats; handed = handed } ≡ live_after setup live (Collect node worker)
+collect_idle setup live node worker seats handed emptied_all all long =
+    let none : length (collected_seats live.seats) ≡ 0 = omega (arith, ap length all, length-append live.handed (collected_seats live.seats)) in
+    let same_handed : handed ≡ live.handed = all ∙ ap (λ (more : List Handed). live.handed ++ more) (no_items (collected_seats live.seats) none) ∙ append-nil live.handed in
+    let same_seats : seats ≡ live.seats = emptied_all ∙ none_waits live.seats none in
+    ap (λ (s : List Seat). record live { seats = s; handed = handed }) same_seats
+    ∙ ap (λ (h : List Handed). record live { handed = h }) same_handed
+    ∙ sym (idle_either (not (node == 0 && worker == 0)) (length (collected_seats live.seats) == 0) live (Collect node worker) (eq-eqb _ 0 none))
+
+first_leads : (room : ℕ) (leads : Bool) (job : Item) (more : Jobs) → length (take (suc room) (cond leads (job ∷ more) more)) ≡ 0 → (leads ≡ false) × (length (take (suc room) more) ≡ 0)
+first_leads room false job more h = (refl, h)
+first_leads room true job more h = absurd (omega arith)
+
+-- where none leads, all go on waiting
+left_whole : (leads : Jobs → Item → Bool) (room : ℕ) (before jobs : Jobs) → length (take (suc room) (leading leads before jobs)) ≡ 0 → left_after leads (suc room) before jobs ≡ jobs
+left_whole leads room before [] h = refl
+left_whole leads room before (job ∷ jobs) h =
+    let first = first_leads room (leads before job) job (leading leads (before ++ job ∷ []) jobs) h in
+    let more = left_whole leads room (before ++ job ∷ []) jobs first.1 in
+    let other = first.0 in
+    rw (other, left_after) (ap (λ (js : Jobs). job ∷ js) more)
+
+read_leads : (leads : Bool) (job : Item) (more : Jobs) → length (cond leads (job ∷ more) more) ≡ 0 → (leads ≡ false) × (length more ≡ 0)
+read_leads false job more h = (refl, h)
+read_leads true job more h = absurd (omega arith)
+
+not_leading_whole : (leads : Jobs → Item → Bool) (before jobs : Jobs) → length (leading leads before jobs) ≡ 0 → not_leading leads before jobs ≡ jobs
+not_leading_whole leads before [] h = refl
+not_leading_whole leads before (job ∷ jobs) h =
+    let first = read_leads (leads before job) job (leading leads (before ++ job ∷ []) jobs) h in
+    let more = not_leading_whole leads (before ++ job ∷ []) jobs first.1 in
+    ap (λ b. cond b (not_leading leads (before ++ job ∷ []) jobs) (job ∷ not_leading leads (before ++ job ∷ []) jobs)) first.0
+    ∙ ap (λ (js : Jobs). job ∷ js) more
+
+-- an entry, and a look, where no job leads
+pub apply_idle : (setup : Setup) (live : Live) (node : ℕ) (waiting : Jobs) → waiting ≡ left_by_entry live.waiting → length (entry_jobs live.waiting) ≡ 0
+    → record live { waiting = waiting } ≡ live_after setup live (Apply node)
+apply_idle setup live node waiting left none =
+    ap (λ (jobs : Jobs). record live { waiting = jobs }) (left ∙ left_whole leads_as_update 1023 [] live.waiting none)
+    ∙ sym (idle_either (not (node == 0)) (length (entry_jobs live.waiting) == 0) live (Apply node) (eq-eqb _ 0 none))
+
+pub look_idle : (setup : Setup) (live : Live) (node : ℕ) (waiting : Jobs) → waiting ≡ left_by_reads live.waiting → length (read_jobs live.waiting) ≡ 0
+    → record live { waiting = waiting } ≡ live_after setup live (Look node)
+look_idle setup live node waiting left none =
+    ap (λ (jobs : Jobs). record live { waiting = jobs }) (left ∙ not_leading_whole leads_as_read [] live.waiting none)
+    ∙ sym (idle_either (not (node == 0)) (length (read_jobs live.waiting) == 0) live (Look node) (eq-eqb _ 0 none))
+
+-- no job was taken
+pub none_taken : (jobs : List Job) (count : ℕ) (test : Bool) (all : Jobs) → test ≡ eqb count 0 → test ≡ true → count ≡ length jobs → items_of jobs ≡ all → length all ≡ 0
+none_taken jobs count test all is holds long taken =
+    let none : count ≡ 0 = eqb-true count 0 (sym is ∙ holds) in
+    omega (arith, ap length taken, length-map jobs item_of)
+
+some_taken : (jobs : List Job) (count : ℕ) (test : Bool) (all : Jobs) → test ≡ eqb count 0 → test ≡ false → count ≡ length jobs → items_of jobs ≡ all → eqb (length all) 0 ≡ false
+some_taken jobs count test all is fails long taken =
+    let long : length all ≡ count = omega (arith, ap length taken, length-map jobs item_of) in
+    ap (λ n. eqb n 0) long ∙ sym is ∙ fails
+
+done_where : (absent none : Bool) (live : Live) (step : Step) → absent ≡ false → none ≡ false → live_by (idle_where absent NoSuch (idle_where none Nothing Done)) live step ≡ live_effect live step
+done_where true none live step a b = absurd (cc)
+done_where false true live step a b = absurd (cc)
+done_where false false live step a b = refl
+
+-- a look that runs some reads
+pub look_done : (setup : Setup) (live : Live) (node : ℕ) (jobs : List Job) (count : ℕ) (test : Bool) (seats : List Seat) (waiting : Jobs) → node ≡ 0
+    → test ≡ eqb count 0 → test ≡ false → count ≡ length jobs → items_of jobs ≡ read_jobs live.waiting → waiting ≡ left_by_reads live.waiting
+    → seats ≡ map (told (emitted_all live.state (read_jobs live.waiting))) live.seats → record live { seats = seats; waiting = waiting } ≡ live_after setup live (Look node)
+look_done setup live node jobs count test seats waiting here is fails long taken left all =
+    ap (λ (s : List Seat). record live { seats = s; waiting = waiting }) all
+    ∙ ap (λ (w : Jobs). record live { seats = map (told (emitted_all live.state (read_jobs live.waiting))) live.seats; waiting = w }) left
+    ∙ ap (λ (state : State). record live { state = state; seats = map (told (emitted_all live.state (read_jobs live.waiting))) live.seats; waiting = left_by_reads live.waiting })
+    (sym (reads_kept live.state (read_jobs live.waiting) (look_reads live.waiting)))
+    ∙ sym (done_where (not (node == 0)) (length (read_jobs live.waiting) == 0) live (Look node) (ap (λ n. not (n == 0)) here) (some_taken jobs count test (read_jobs live.waiting) is fails long taken))

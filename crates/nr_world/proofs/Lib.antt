@@ -1,0 +1,11 @@
+pub mod Numbered
+pub mod Emptied
+pub mod Dropped
+pub mod Told
+pub mod Idle
+pub mod Looking
+pub mod Serials
+pub mod Agree
+pub mod Bounds
+pub mod Held
+pub mod Runs

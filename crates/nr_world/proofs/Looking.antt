@@ -1,0 +1,90 @@
+-- Reads leave the state as it is.
+use Rattle.std.proofs.Common.{◌≡◌, ℕ, zero, suc, ◌+◌, ◌<◌, ◌≤◌, Bool, true, false, cond, List, [], ◌∷◌, ◌++◌, length, drop, get_or, refl, ap, sym, ◌∙◌, append_assoc, append-nil, arith, add-one, drop-cons}
+use Rattle.std.specs.Prelude.{max, not}
+use Rattle.std.proofs.lemmas.List.{drop_all}
+use Rattle.nr_model.specs.Bytes.{Bytes}
+use Rattle.nr_model.specs.Keyspace.{Keyspace}
+use Rattle.nr_model.specs.Commands.{Command, Perform, OfSession}
+use Rattle.nr_model.specs.Commands.Session.{Multi, Exec, Discard, Watch, Unwatch, Quit, Subscribe, Unsubscribe, Publish, Pubsub}
+use Rattle.nr_model.specs.Commands.Shape.{Class, Look, Change, InSession}
+use Rattle.nr_model.specs.Items.{Connection, Call, arguments, Deed, Say, Act, Run, Abort, End, Item, Sequence, is_look, is_update}
+use Rattle.nr_model.specs.Sequential.Events.{Emission}
+use Rattle.nr_model.specs.Sequential.{Progress, kept, published, acted}
+use Rattle.nr_model.specs.States.{State, stepped, emitted_in, emitted_all, after_all, done_by, beginning, now_in}
+use Rattle.nr_entry.specs.Jobs.{item_of, items_of}
+use Rattle.nr_entry.specs.declared.job.Job.{Job}
+use Rattle.nr_world.specs.Executing.{AreReads}
+
+look_kept : (class : Class) (before after : Keyspace) → elim (is_look class) [ true ↦ false | false ↦ true ] ≡ false → kept class before after ≡ before
+look_kept Look before after h = refl
+look_kept Change before after h = absurd (cc)
+look_kept InSession before after h = absurd (cc)
+
+published_kept : (words : List Bytes) (p : Progress) → (published [] words p).keyspace ≡ p.keyspace
+published_kept [] p = refl
+published_kept (channel ∷ []) p = refl
+published_kept (channel ∷ message ∷ words) p = refl
+
+acted_kept : (c : Connection) (now : ℕ) (command : Command) (call : Call) (p : Progress) → is_update (Act call) ≡ false → (acted [] c now command call p).keyspace ≡ p.keyspace
+acted_kept c now (Perform operation) call p h = look_kept call.row.class p.keyspace _ h
+acted_kept c now (OfSession (Subscribe kind)) call p h = refl
+acted_kept c now (OfSession (Unsubscribe kind)) call p h = refl
+acted_kept c now (OfSession Publish) call p h = published_kept (arguments call) p
+acted_kept c now (OfSession Pubsub) call p h = refl
+acted_kept c now (OfSession Multi) call p h = refl
+acted_kept c now (OfSession Exec) call p h = refl
+acted_kept c now (OfSession Discard) call p h = refl
+acted_kept c now (OfSession Watch) call p h = refl
+acted_kept c now (OfSession Unwatch) call p h = refl
+acted_kept c now (OfSession Quit) call p h = refl
+
+done_kept : (c : Connection) (now : ℕ) (deed : Deed) (p : Progress) → is_update deed ≡ false → (done_by c now deed p).keyspace ≡ p.keyspace
+done_kept c now (Say reply) p h = refl
+done_kept c now (Act call) p h = acted_kept c now call.row.command call p h
+done_kept c now (Run calls) p h = absurd (cc)
+done_kept c now Abort p h = absurd (cc)
+done_kept c now (End reply) p h = absurd (cc)
+
+not_true : (b : Bool) → not b ≡ true → b ≡ false
+not_true true h = absurd (cc)
+not_true false h = refl
+
+-- a read leaves the state, and so do reads
+pub read_kept : (state : State) (item : Item) → not (is_update item.deed) ≡ true → stepped state item ≡ state
+read_kept state item h =
+    let read = not_true (is_update item.deed) h in
+    ap (λ (keyspace : Keyspace). record { keyspace = keyspace; logged = cond (is_update item.deed) (max item.moment state.logged) state.logged })
+    (done_kept item.connection (now_in state item) item.deed (beginning state) read)
+    ∙ ap (λ (b : Bool). record { keyspace = state.keyspace; logged = cond b (max item.moment state.logged) state.logged }) read
+
+pub reads_kept : (state : State) (items : Sequence) → AreReads items → after_all state items ≡ state
+reads_kept state [] h = refl
+reads_kept state (item ∷ items) h = ap (λ s. after_all s items) (read_kept state item h.0) ∙ reads_kept state items h.1
+
+-- each of these is a read
+pub read_at : (jobs : List Job) (i : ℕ) (job : Job) → AreReads (items_of jobs) → i < length jobs → not (is_update (item_of (get_or jobs i job)).deed) ≡ true
+read_at [] i job h within = absurd (omega arith)
+read_at (first ∷ jobs) zero job h within = h.0
+read_at (first ∷ jobs) (suc i) job h within = read_at jobs i job h.1 (omega arith)
+
+pub is_read : (jobs : List Job) (i : ℕ) (job : Job) → AreReads (items_of jobs) → i < length jobs → job ≡ get_or jobs i job → is_update (item_of job).deed ≡ false
+is_read jobs i job h within is =
+    ap (λ (j : Job). is_update (item_of j).deed) is ∙ not_true (is_update (item_of (get_or jobs i job)).deed) (read_at jobs i job h within)
+
+-- one read further
+pub reads_step : (state : State) (jobs : List Job) (i : ℕ) (job : Job) (so_far next all : List Emission) → AreReads (items_of jobs) → i < length jobs → job ≡ get_or jobs i job
+    → next ≡ so_far ++ emitted_in state (item_of job) → so_far ++ emitted_all state (items_of (drop i jobs)) ≡ all → next ++ emitted_all state (items_of (drop (i + 1) jobs)) ≡ all
+reads_step state jobs i job so_far next all reads within is emitted before =
+    let cut : drop i jobs ≡ job ∷ drop (i + 1) jobs = rw add-one (drop-cons jobs i job within ∙ ap (λ x. x ∷ drop (suc i) jobs) (sym is)) in
+    let read : not (is_update (item_of job).deed) ≡ true = ap (λ (j : Job). not (is_update (item_of j).deed)) is ∙ read_at jobs i job reads within in
+    let rest = items_of (drop (i + 1) jobs) in
+    ap (λ (es : List Emission). es ++ emitted_all state rest) emitted
+    ∙ append_assoc so_far (emitted_in state (item_of job)) (emitted_all state rest)
+    ∙ ap (λ (s : State). so_far ++ (emitted_in state (item_of job) ++ emitted_all s rest)) (sym (read_kept state (item_of job) read))
+    ∙ ap (λ (left : List Job). so_far ++ emitted_all state (items_of left)) (sym cut)
+    ∙ before
+
+-- past the last
+pub reads_end : (state : State) (jobs : List Job) (i : ℕ) (so_far all : List Emission) → length jobs ≤ i → so_far ++ emitted_all state (items_of (drop i jobs)) ≡ all → so_far ≡ all
+reads_end state jobs i so_far all past before =
+    sym (append-nil so_far) ∙ ap (λ (left : List Job). so_far ++ emitted_all state (items_of left)) (sym (drop_all i jobs past)) ∙ before

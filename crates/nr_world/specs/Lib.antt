@@ -1,0 +1,11 @@
+pub mod Setups
+pub mod Seen
+pub mod Seats
+pub mod Numbered
+pub mod Lives
+pub mod Served
+pub mod Executing
+pub mod Agreed
+pub mod Ready
+pub mod Standing
+pub mod Answered

@@ -1,0 +1,139 @@
+// All connections.
+ghost use Rattle.std.specs.Prelude.{◌≡◌, ◌<◌, ◌+◌, ◌^◌, ◌++◌, ◌∷◌, [], true, false, IfOk, OnOk, IfSome, IsSome, ◌↔◌, IsTrue, length, map};
+ghost use Rattle.std.specs.Option.{option_map};
+ghost use Rattle.nr_model.specs.Replies.{reply_text};
+ghost use Rattle.nr_model.specs.Worlds.{jobs_from};
+ghost use Rattle.nr_resp.specs.Seen.{reply_of};
+ghost use Rattle.nr_entry.specs.Jobs.{connection_of, item_of, items_of};
+ghost use Rattle.nr_machine.specs.Emitted.{emissions_seen};
+ghost use Rattle.nr_session.specs.Standing.{asked};
+ghost use Rattle.nr_world.specs.Seats.{fresh_seat, fed_seat, closed_seat, emptied, heard, end_of, told, collected_seats};
+ghost use Rattle.nr_world.specs.Seen.{handed_seen};
+ghost use Rattle.nr_world.specs.Numbered.{is_seated, seat_at, at_seat};
+
+use crate::collecting::collect;
+use crate::connection::Connection;
+use crate::step::Handed;
+use nr_blob::Memory;
+use nr_entry::{ConnId, Job};
+use nr_machine::Emission;
+use nr_resp::Reply;
+use std::alloc::Global;
+use std::marker::Model;
+
+/// The connections of node 0, by serial.
+#[derive(Drop)]
+pub(crate) struct Connections {
+    list: Vec<Connection>,
+}
+
+impl Model for Connections {
+    ghost use Rattle.std.specs.Prelude.{List};
+    ghost use Rattle.nr_world.specs.Seats.{Seat};
+    ghost use Rattle.nr_world.specs.Numbered.{IsNumbered};
+
+    ghost Value = { List Seat };
+
+    ghost view = { λ c. c.list.items };
+
+    ghost invariant = { λ c. IsNumbered 0 c.list.items };
+}
+
+impl Connections {
+    pub(crate) fn new(alloc: Global) -> Connections
+        ensures { result ≡ [] }
+    {
+        Connections {
+            list: Vec::new(alloc),
+        }
+    }
+
+    /// Whether there is such a connection.
+    pub(crate) fn contains(&self, conn: ConnId) -> bool
+        ensures { result ≡ is_seated (connection_of conn) self.now }
+    {
+        conn.node == 0 && (conn.serial as usize) < self.list.len()
+    }
+
+    /// One connection more.
+    pub(crate) fn add(&mut self, alloc: Global) -> Result<ConnId, Memory>
+        ensures conn { IfOk result (λ conn. connection_of conn ≡ record { node = 0; serial = length self.old }) }
+        ensures seats { OnOk result (self.new ≡ self.old ++ fresh_seat (record { node = 0; serial = length self.old }) ∷ []) }
+    {
+        let conn = ConnId {
+            node: 0,
+            serial: self.list.len() as u64,
+        };
+        self.list.push(Connection::new(alloc, conn))?;
+        Ok(conn)
+    }
+
+    /// Whether a connection takes no more bytes.
+    pub(crate) fn has_ended(&self, conn: ConnId) -> bool
+        requires { IsTrue (is_seated (connection_of conn) self.now) }
+        ensures { result ≡ (seat_at (connection_of conn) self.now).ended }
+    {
+        self.list[conn.serial as usize].has_ended()
+    }
+
+    pub(crate) fn is_closed(&self, conn: ConnId) -> bool
+        requires { IsTrue (is_seated (connection_of conn) self.now) }
+        ensures { result ≡ (seat_at (connection_of conn) self.now).closed }
+    {
+        self.list[conn.serial as usize].is_closed()
+    }
+
+    /// Feeds bytes to a connection, and adds the jobs that they ask for, each at the moment. Linear in the bytes and the jobs.
+    pub(crate) fn feed(
+        &mut self,
+        conn: ConnId,
+        moment: u64,
+        bytes: &[u8],
+        jobs: &mut Vec<Job>,
+    ) -> Result<(), Memory>
+        requires seated { IsTrue (is_seated (connection_of conn) self.old) }
+        requires going { (seat_at (connection_of conn) self.old).ended ≡ false }
+        requires fits { (seat_at (connection_of conn) self.old).next + (length (seat_at (connection_of conn) self.old).rest + length bytes.now) + 1 < 2 ^ 64 }
+        ensures seats { OnOk result (self.new ≡ map (at_seat (connection_of conn) (fed_seat bytes.now)) self.old) }
+        ensures jobs { OnOk result (items_of jobs.new.items ≡ items_of jobs.old.items ++ jobs_from (connection_of conn) (seat_at (connection_of conn) self.old).next moment (asked (seat_at (connection_of conn) self.old).rest bytes.now).deeds) }
+    {
+        self.list[conn.serial as usize].feed(moment, bytes, jobs)
+    }
+
+    /// Closes a connection, and gives the job of its end, if it needs one.
+    pub(crate) fn close(&mut self, conn: ConnId, moment: u64, dropped: Option<u64>) -> Option<Job>
+        requires seated { IsTrue (is_seated (connection_of conn) self.old) }
+        ensures seats { self.new ≡ map (at_seat (connection_of conn) closed_seat) self.old }
+        ensures job { option_map item_of result ≡ end_of dropped moment (seat_at (connection_of conn) self.old) }
+    {
+        self.list[conn.serial as usize].close(moment, dropped)
+    }
+
+    /// Writes a reply to what waits for a connection, unless it is closed or there is none.
+    pub(crate) fn hear(&mut self, conn: ConnId, reply: &Reply) -> Result<(), Memory>
+        ensures { OnOk result (self.new ≡ map (at_seat (connection_of conn) (heard (reply_text (reply_of reply.now)))) self.old) }
+    {
+        if !self.contains(conn) {
+            return Ok(());
+        }
+        self.list[conn.serial as usize].hear(reply)
+    }
+
+    /// Hands out what waits for each connection, by serial. Linear in the connections.
+    pub(crate) fn collect(&mut self, alloc: Global, handed: &mut Vec<Handed>) -> Result<(), Memory>
+        ensures handed { OnOk result (map handed_seen handed.new.items ≡ map handed_seen handed.old.items ++ collected_seats self.old) }
+        ensures seats { OnOk result (self.new ≡ map emptied self.old) }
+    {
+        collect(alloc, &mut self.list, handed)
+    }
+
+    /// Writes what was emitted to what waits for the connections that are there and not closed, in order.
+    pub(crate) fn tell(&mut self, emissions: &[Emission]) -> Result<(), Memory>
+        ensures { OnOk result (self.new ≡ map (told (emissions_seen emissions.now)) self.old) }
+    {
+        for emission in emissions {
+            self.hear(emission.conn, &emission.reply)?;
+        }
+        Ok(())
+    }
+}
