@@ -1,7 +1,7 @@
 // The world of one node.
 ghost use Rattle.std.specs.Prelude.{◌≡◌, ◌<◌, ◌+◌, ◌^◌, ◌++◌, ◌∷◌, [], true, false, IfOk, OnOk, OnErr, IsErr, map};
 ghost use Rattle.nr_model.specs.Worlds.{outcome};
-ghost use Rattle.nr_world.specs.Seen.{step_seen, outcome_seen, handed_seen};
+ghost use Rattle.nr_world.specs.Seen.{step_seen, outcome_seen, taken_seen, handed_seen};
 ghost use Rattle.nr_world.specs.Ready.{bytes_of, bytes_in};
 ghost use Rattle.nr_world.specs.Standing.{steps_of, world_of, IsKept};
 
@@ -81,6 +81,13 @@ impl World {
         })?;
         self.has_failed = false;
         Ok(outcome)
+    }
+
+    /// The steps that were taken, and what came of each.
+    pub fn past(&self) -> &[Taken]
+        ensures { map taken_seen result.now ≡ self.now.past }
+    {
+        &self.taken
     }
 
     /// The bytes that were handed out, in order.
