@@ -9,3 +9,4 @@ pub mod Agree
 pub mod Bounds
 pub mod Held
 pub mod Runs
+pub mod Rounds

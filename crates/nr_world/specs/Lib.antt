@@ -9,3 +9,4 @@ pub mod Agreed
 pub mod Ready
 pub mod Standing
 pub mod Answered
+pub mod Settled

@@ -2,6 +2,7 @@
 #![tactic(auto)]
 
 pub use running::{fits, run};
+pub use settling::Settled;
 pub use setup::Setup;
 pub use step::{Handed, Outcome, Reason, Step, Taken};
 pub use world::World;
@@ -13,6 +14,7 @@ mod dropping;
 mod reading;
 mod running;
 mod server;
+mod settling;
 mod setup;
 mod step;
 mod world;

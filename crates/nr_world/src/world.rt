@@ -64,6 +64,7 @@ impl World {
         ensures outcome { IfOk result (λ done. outcome_seen done ≡ outcome self.old.setup (world_of self.old) (step_seen step.now)) }
         ensures past { IfOk result (λ done. self.new.past ≡ self.old.past ++ record { step = step_seen step.now; outcome = outcome_seen done } ∷ []) }
         ensures setup { self.new.setup ≡ self.old.setup }
+        ensures was { OnOk result (IsKept self.old) }
         ensures kept { OnOk result (IsKept self.new) }
         ensures still { OnOk result (self.new.failed ≡ false) }
         ensures failed { OnErr result (self.new.failed ≡ true) }

@@ -5,7 +5,7 @@ use Rattle.nr_model.specs.Worlds.{outcome}
 use Rattle.nr_world.specs.Seen.{step_seen, outcome_seen, taken_seen}
 use Rattle.nr_world.specs.Served.{live_of}
 use Rattle.nr_world.specs.Ready.{bytes_of, bytes_in}
-use Rattle.nr_world.specs.Standing.{Standing, steps_of, world_of}
+use Rattle.nr_world.specs.Standing.{Standing, steps_of, world_of, IsKept}
 use Rattle.nr_world.specs.declared.step.Taken.{Taken}
 use Rattle.nr_world.proofs.Held.{held_ready, held_outcome, held_next, held_kept}
 use Rattle.nr_world.proofs.world.World.step.Goals as goal
@@ -27,6 +27,10 @@ returns-clause-outcome c =
     subst (λ (v : Standing). outcome_seen c.in_ok-outcome.outcome ≡ outcome v.setup (world_of v) (step_seen c.args.step.now)) c.self.view_is
     (held_outcome c.self.inside.setup (map taken_seen c.self.inside.taken.items) (live_of c.self.inside.server) (step_seen c.args.step.now) (outcome_seen c.in_ok-outcome.outcome)
     (c.self.invariant c.if-self.false) c.in_ok-outcome.ensures.outcome)
+
+pub returns-clause-was : goal.returns-clause-was
+returns-clause-was c =
+    subst (λ (v : Standing). IsKept v) c.self.view_is (held_kept _ (live_of c.self.inside.server) refl refl refl (c.self.invariant c.if-self.false))
 
 pub returns-clause-kept : goal.returns-clause-kept
 returns-clause-kept c =

@@ -1,0 +1,4 @@
+pub mod Faults
+pub mod Written
+pub mod Runs
+pub mod Serving

@@ -1,0 +1,40 @@
+-- A world whose one connection is served.
+use Rattle.std.specs.Prelude.{◌≡◌, Bool, true, false, List, [], ◌++◌, length}
+use Rattle.nr_model.specs.Worlds.{Handed, Outcome, Opened, Done, Idle, asked_by, own_jobs, handed_to}
+use Rattle.nr_model.specs.Explains.{asked_jobs, jobs_executed}
+use Rattle.nr_world.specs.Ready.{bytes_in}
+use Rattle.nr_world.specs.Standing.{Standing, steps_of, world_of}
+use Rattle.noderedis.specs.Runs.{first, alone, fed_bytes, emitted_bytes}
+
+-- the connection was opened and not closed, and all steps' bytes were fed to it
+pub record IsOpen (v : Standing) : Type 0 where
+  pub setup : v.setup ≡ alone
+  pub handed : v.handed ≡ (world_of v).handed
+  pub opened : (world_of v).opened ≡ 1
+  pub closed : (world_of v).closed ≡ []
+  pub counted : bytes_in (steps_of v.past) ≡ length (fed_bytes (world_of v))
+
+-- all that it asked for was executed, and all that was emitted for it was handed out
+pub record IsSettled (v : Standing) : Type 0 where
+  pub is_open : IsOpen v
+  pub executed : own_jobs first (jobs_executed (world_of v)) ≡ asked_jobs (world_of v) first
+  pub handed : handed_to first v.handed ≡ emitted_bytes (world_of v)
+
+-- nothing was fed yet
+pub record IsFresh (v : Standing) : Type 0 where
+  pub settled : IsSettled v
+  pub fed : fed_bytes (world_of v) ≡ []
+  pub handed : v.handed ≡ []
+  pub goes_on : (asked_by (world_of v) first).ended ≡ false
+
+-- steps were taken that feed nothing: the connection stays open, and nothing that was handed out is taken back
+pub record Follows (v w : Standing) : Type 0 where
+  pub is_open : IsOpen w
+  pub fed : (world_of w).fed ≡ (world_of v).fed
+  pub handed : (more : List Handed) × (w.handed ≡ v.handed ++ more)
+
+-- whether a step was done
+abbrev pub went : Outcome → Bool
+went Done = true
+went (Idle reason) = false
+went (Opened c) = false
