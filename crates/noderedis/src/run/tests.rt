@@ -159,3 +159,18 @@ fn says_that_a_write_failed(rt: HostRuntime) -> Result<(), Fail> {
     }
     Ok(())
 }
+
+// Whichever allocation fails, the answer is a refusal or the whole row.
+#[test]
+fn answers_or_refuses(rt: HostRuntime) -> Result<(), Fail> {
+    let mut writer = wide(rt.alloc());
+    writer.taken = Vec::with_capacity(rt.alloc(), 64)?;
+    let result = served(&rt, &mut whole(SET_AND_GET), &mut writer)?;
+    if result.is_ok() {
+        assert_eq!(rt; writer.taken.as_slice(), OK_AND_VALUE);
+    } else {
+        assert_eq!(rt; result, Err(Fault::Memory));
+        assert!(rt; OK_AND_VALUE.starts_with(writer.taken.as_slice()));
+    }
+    Ok(())
+}
