@@ -6,13 +6,15 @@ use Rattle.std.specs.Io.KnownBytes.{Keeps, Appends, Consumes}
 use Rattle.std.proofs.Math.Seq.{drop-append_seam}
 use Rattle.std.proofs.lemmas.List.{length-append, length-take}
 use Rattle.nr_model.specs.Bytes.{Bytes}
-use Rattle.nr_model.specs.Worlds.{Step, World, Handed, asked_by, handed_to, world_after}
-use Rattle.nr_model.proofs.WorldsExplained.{each_is_explained}
+use Rattle.nr_model.specs.Worlds.{Setup, Step, World, Handed, asked_by, handed_to, world_after, fresh}
+use Rattle.nr_model.specs.Explained.{state_of}
 use Rattle.nr_model.proofs.WorldsHanded.{handed_to-append}
 use Rattle.nr_world.specs.Standing.{Standing, steps_of, world_of}
+use Rattle.nr_world.specs.Answered.{IsAnswered}
+use Rattle.nr_world.proofs.Runs.{kept_is_answered}
 use Rattle.noderedis.specs.Written.{AppendsSome}
-use Rattle.noderedis.specs.Runs.{first, alone, fed_bytes, emitted_bytes, IsAnswered, IsWhole, IsOver}
-use Rattle.noderedis.specs.Serving.{IsSettled, IsFresh}
+use Rattle.noderedis.specs.Runs.{first, alone, fed_bytes, emitted_bytes, IsBegun, IsWhole, IsOver}
+use Rattle.noderedis.specs.Serving.{IsOpen, IsSettled, IsFresh}
 use Rattle.noderedis.proofs.Written.{some_none, some_all, some_behind}
 
 pub record IsRunning (v : Standing) (count written : ℕ) (goes_on : Bool) (input left before after : Option Bytes) : Type 0 where
@@ -25,20 +27,22 @@ pub record IsRunning (v : Standing) (count written : ℕ) (goes_on : Bool) (inpu
 
 -- what a run owes at each end
 abbrev pub Answered : Option Bytes → Option Bytes → Option Bytes → Option Bytes → Type 0
-Answered input left before after = (steps : List Step) × IsAnswered (world_after alone steps) input left before after
+Answered input left before after = (steps : List Step) × (world : Standing) × IsBegun steps world input left before after
 
 -- a world of the run's setup
-answered_by : (v : Standing) (input left before after : Option Bytes) → v.setup ≡ alone
+begun_by : (v : Standing) (input left before after : Option Bytes) → IsOpen v
+    → (more : Bytes) → Consumes input left (fed_bytes (world_of v) ++ more) → AppendsSome before after (emitted_bytes (world_of v)) → IsBegun (steps_of v.past) v input left before after
+begun_by v input left before after is_open more fed written =
+    let this : world_of v ≡ world_after alone (steps_of v.past) = ap (λ s. world_after s (steps_of v.past)) is_open.setup in
+    record {
+      answered = subst (λ (s : Setup). IsAnswered s (steps_of v.past) v) is_open.setup (kept_is_answered v is_open.kept);
+      fed = (more, subst (λ (w : World). Consumes input left (fed_bytes w ++ more)) this fed);
+      written = subst (λ (w : World). AppendsSome before after (emitted_bytes w)) this written;
+    }
+
+answered_by : (v : Standing) (input left before after : Option Bytes) → IsOpen v
     → (more : Bytes) → Consumes input left (fed_bytes (world_of v) ++ more) → AppendsSome before after (emitted_bytes (world_of v)) → Answered input left before after
-answered_by v input left before after same more fed written =
-    let this : world_of v ≡ world_after alone (steps_of v.past) = ap (λ s. world_after s (steps_of v.past)) same in (
-      steps_of v.past,
-      record {
-        explained = (each_is_explained.explained alone (steps_of v.past)).explains;
-        fed = (more, subst (λ (w : World). Consumes input left (fed_bytes w ++ more)) this fed);
-        written = subst (λ (w : World). AppendsSome before after (emitted_bytes w)) this written;
-      },
-    )
+answered_by v input left before after is_open more fed written = (steps_of v.past, v, begun_by v input left before after is_open more fed written)
 
 -- before the first piece
 pub starting : (v : Standing) (a b : Option Bytes) → IsFresh v → IsRunning v 0 0 true a a b b
@@ -69,11 +73,16 @@ at_end v n m t input left before after next run read =
     }
 
 -- no step was taken
+none_taken : Standing
+none_taken = record { setup = alone; past = []; handed = []; waits = []; keyspace = (state_of fresh).keyspace; failed = true }
+
 pub not_begun : (a b : Option Bytes) → Answered a a b b
+unfolding none_taken
 not_begun a b = (
   [],
+  none_taken,
   record {
-    explained = (each_is_explained.explained alone []).explains;
+    answered = kept_is_answered none_taken (record { past = refl; handed = refl; waits = refl; keyspace = refl });
     fed = ([], Consumes-nil a);
     written = some_none b (emitted_bytes (world_after alone []));
   },
@@ -83,7 +92,7 @@ not_begun a b = (
 pub not_served : (v : Standing) (n m : ℕ) (t : Bool) (input left before after next : Option Bytes) (piece : Bytes) → IsRunning v n m t input left before after
     → Consumes left next piece → Answered input next before after
 not_served v n m t input left before after next piece run read =
-    answered_by v input next before after run.settled.is_open.setup piece (Consumes-trans input left next (fed_bytes (world_of v)) piece run.taken read)
+    answered_by v input next before after run.settled.is_open piece (Consumes-trans input left next (fed_bytes (world_of v)) piece run.taken read)
     (some_all before after (emitted_bytes (world_of v)) (subst (Appends before after) run.settled.handed run.sent))
 
 -- a piece was served: what was handed out since
@@ -100,7 +109,7 @@ pub not_written : (v w : Standing) (n m : ℕ) (t : Bool) (input left before aft
     → Consumes left next piece → IsSettled w → fed_bytes (world_of w) ≡ fed_bytes (world_of v) ++ piece → (more : List Handed) × (w.handed ≡ v.handed ++ more)
     → AppendsSome after last (handed_to first (drop m w.handed)) → Answered input next before last
 not_written v w n m t input left before after next last piece run read settled fed grown some =
-    answered_by w input next before last settled.is_open.setup []
+    answered_by w input next before last settled.is_open []
     (subst (Consumes input next) (sym (append-nil (fed_bytes (world_of w)) ∙ fed)) (Consumes-trans input left next (fed_bytes (world_of v)) piece run.taken read))
     (some_behind before after last (handed_to first v.handed) (handed_to first (drop m w.handed)) (emitted_bytes (world_of w)) run.sent some
     (fresh_bytes v w m run.handed grown ∙ settled.handed))
@@ -121,18 +130,15 @@ one_piece v w n m count written t more input left before after next last piece r
     }
 
 -- the run is over
-pub over : (v : Standing) (n m : ℕ) (t : Bool) (input left before after : Option Bytes) → IsRunning v n m t input left before after
-    → IsOver (world_of v) left → (steps : List Step) × IsAnswered (world_after alone steps) input left before after × IsWhole (world_after alone steps) input left before after
+pub over : (v : Standing) (n m : ℕ) (t : Bool) (input left before after : Option Bytes) → IsRunning v n m t input left before after → IsOver (world_of v) left
+    → (steps : List Step) × ((world : Standing) × IsBegun steps world input left before after) × IsWhole (world_after alone steps) input left before after
 over v n m t input left before after run ends =
     let this : world_of v ≡ world_after alone (steps_of v.past) = ap (λ s. world_after s (steps_of v.past)) run.settled.is_open.setup in
     let written = subst (Appends before after) run.settled.handed run.sent in
-    let whole : IsWhole (world_of v) input left before after = record { over = ends; fed = run.taken; executed = run.settled.executed; written = written } in (
+    let whole : IsWhole (world_of v) input left before after = record { over = ends; fed = run.taken; executed = run.settled.executed; written = written } in
+    let read = subst (Consumes input left) (sym (append-nil (fed_bytes (world_of v)))) run.taken in (
       steps_of v.past,
-      record {
-        explained = (each_is_explained.explained alone (steps_of v.past)).explains;
-        fed = ([], subst (λ (w : World). Consumes input left (fed_bytes w ++ [])) this (subst (Consumes input left) (sym (append-nil (fed_bytes (world_of v)))) run.taken));
-        written = subst (λ (w : World). AppendsSome before after (emitted_bytes w)) this (some_all before after (emitted_bytes (world_of v)) written);
-      },
+      (v, begun_by v input left before after run.settled.is_open [] read (some_all before after (emitted_bytes (world_of v)) written)),
       subst (λ (w : World). IsWhole w input left before after) this whole,
     )
 

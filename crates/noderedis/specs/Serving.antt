@@ -1,15 +1,15 @@
 -- A world whose one connection is served.
-use Rattle.std.specs.Prelude.{◌≡◌, Bool, true, false, List, [], ◌++◌, length}
-use Rattle.nr_model.specs.Worlds.{Handed, Outcome, Opened, Done, Idle, asked_by, own_jobs, handed_to}
+use Rattle.std.specs.Prelude.{◌≡◌, false, [], length}
+use Rattle.nr_model.specs.Worlds.{asked_by, own_jobs, handed_to}
 use Rattle.nr_model.specs.Explains.{asked_jobs, jobs_executed}
 use Rattle.nr_world.specs.Ready.{bytes_in}
-use Rattle.nr_world.specs.Standing.{Standing, steps_of, world_of}
+use Rattle.nr_world.specs.Standing.{Standing, steps_of, world_of, IsKept}
 use Rattle.noderedis.specs.Runs.{first, alone, fed_bytes, emitted_bytes}
 
 -- the connection was opened and not closed, and all steps' bytes were fed to it
 pub record IsOpen (v : Standing) : Type 0 where
   pub setup : v.setup ≡ alone
-  pub handed : v.handed ≡ (world_of v).handed
+  pub kept : IsKept v
   pub opened : (world_of v).opened ≡ 1
   pub closed : (world_of v).closed ≡ []
   pub counted : bytes_in (steps_of v.past) ≡ length (fed_bytes (world_of v))
@@ -26,15 +26,3 @@ pub record IsFresh (v : Standing) : Type 0 where
   pub fed : fed_bytes (world_of v) ≡ []
   pub handed : v.handed ≡ []
   pub goes_on : (asked_by (world_of v) first).ended ≡ false
-
--- steps were taken that feed nothing: the connection stays open, and nothing that was handed out is taken back
-pub record Follows (v w : Standing) : Type 0 where
-  pub is_open : IsOpen w
-  pub fed : (world_of w).fed ≡ (world_of v).fed
-  pub handed : (more : List Handed) × (w.handed ≡ v.handed ++ more)
-
--- whether a step was done
-abbrev pub went : Outcome → Bool
-went Done = true
-went (Idle reason) = false
-went (Opened c) = false

@@ -36,12 +36,12 @@ ends_cr [] = refl
 ends_cr (x ∷ []) = refl
 ends_cr (x ∷ y ∷ xs) = ends_cr (y ∷ xs)
 
-cr_ends : (xs : Bytes) → ends_with_cr xs ≡ true → (front : Bytes) × (xs ≡ front ++ 13 ∷ [])
+pub cr_ends : (xs : Bytes) → ends_with_cr xs ≡ true → (front : Bytes) × (xs ≡ front ++ 13 ∷ [])
 cr_ends [] e = cc
 cr_ends (x ∷ []) e = ([], ap (λ c. c ∷ []) (eqb-true x 13 e))
 cr_ends (x ∷ y ∷ xs) e = let found = cr_ends (y ∷ xs) e in (x ∷ found.0, ap (λ cs. x ∷ cs) found.1)
 
-last_gone : (xs : Bytes) (c : ℕ) → without_last (xs ++ c ∷ []) ≡ xs
+pub last_gone : (xs : Bytes) (c : ℕ) → without_last (xs ++ c ∷ []) ≡ xs
 last_gone xs c = take_at xs (c ∷ []) _ (omega (arith, length-append xs (c ∷ [])))
 
 digits_no_lf : (ds : Bytes) → list_all is_digit ds ≡ true → list_any is_lf ds ≡ false
@@ -67,7 +67,7 @@ said_of fault fits mark text rest =
     ap (λ b. cond b (number_or fault fits (int_value (drop 1 (without_last (mark ∷ (text ++ 13 ∷ []))))) rest) (Faulty LineEnd)) (ends_cr (mark ∷ text))
     ∙ ap (λ line. number_or fault fits (int_value (drop 1 line)) rest) (last_gone (mark ∷ text) 13)
 
-header_only : (fault : Fault) (fits : ℤ → Bool) (mark : ℕ) (z : ℤ) (rest : Bytes) → eqb mark 10 ≡ false → FitsSigned w64 z → fits z ≡ true → header_at fault fits (mark ∷ (signed_decimal z ++ 13 ∷ 10 ∷ rest)) ≡ Whole z rest
+pub header_only : (fault : Fault) (fits : ℤ → Bool) (mark : ℕ) (z : ℤ) (rest : Bytes) → eqb mark 10 ≡ false → FitsSigned w64 z → fits z ≡ true → header_at fault fits (mark ∷ (signed_decimal z ++ 13 ∷ 10 ∷ rest)) ≡ Whole z rest
 header_only fault fits mark z rest other small fit =
     let text = signed_decimal z in
     let line : Bytes = mark ∷ (text ++ 13 ∷ []) in
@@ -152,7 +152,7 @@ header_found fault fits mark bytes z rest other e =
     faulty_whole : Faulty LineEnd ≡ Whole z rest → ⊥
     faulty_whole e = cc
 
-word_only : (word more : Bytes) → word_at (length word) (word ++ 13 ∷ 10 ∷ more) ≡ Whole word more
+pub word_only : (word more : Bytes) → word_at (length word) (word ++ 13 ∷ 10 ∷ more) ≡ Whole word more
 word_only word more =
     let bytes : Bytes = word ++ 13 ∷ 10 ∷ more in
     let enough : ltb (length bytes) (length word) ≡ false = le-ltb (length bytes) (length word) (omega (arith, length-append word (13 ∷ 10 ∷ more))) in
@@ -207,10 +207,10 @@ bulk_split word more =
     ap (λ bs. 36 ∷ bs)
     (append_assoc (text ++ crlf ++ word) crlf more ∙ append_assoc (text ++ crlf) word (crlf ++ more) ∙ append_assoc text crlf (word ++ (crlf ++ more)))
 
-fits_low : (n : ℕ) → n < 2 ^ 63 → FitsSigned w64 (pos n)
+pub fits_low : (n : ℕ) → n < 2 ^ 63 → FitsSigned w64 (pos n)
 fits_low n low = record { sfits = low }
 
-bulk_only : (word more : Bytes) → length word ≤ most_word_bytes → bulk_at (bulk_text word ++ more) ≡ Whole word more
+pub bulk_only : (word more : Bytes) → length word ≤ most_word_bytes → bulk_at (bulk_text word ++ more) ≡ Whole word more
 bulk_only word more short =
     ap bulk_at (bulk_split word more)
     ∙ ap (λ front. front_then front (λ len rest. word_at (how_many len) rest))

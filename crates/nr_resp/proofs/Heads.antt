@@ -1,63 +1,28 @@
 -- What stands behind the headers of arrays and bulks.
-use Rattle.std.proofs.Common.{◌≡◌, ℕ, suc, ◌+◌, ◌-◌, ◌^◌, ◌<◌, ◌≤◌, Bool, true, false, cond, eqb, ltb, leb, List, [], ◌∷◌, ◌++◌, length, take, drop, ℤ, pos, refl, sym, ap, ◌∙◌, arith, append_assoc, length-append, zero-add, decimal}
-use Rattle.std.specs.Prelude.{FitsSigned, flat_map}
-use Rattle.std.specs.Int.{w64}
-use Rattle.std.specs.List.{list_any, list_all, AllByRecursion}
+use Rattle.std.proofs.Common.{◌≡◌, ℕ, suc, ◌+◌, ◌-◌, ◌<◌, ◌≤◌, false, cond, ltb, List, [], ◌∷◌, ◌++◌, length, take, drop, pos, refl, sym, ap, ◌∙◌, arith, append_assoc, length-append, zero-add, decimal}
+use Rattle.std.specs.Prelude.{flat_map}
+use Rattle.std.specs.List.{AllByRecursion}
 use Rattle.std.proofs.lemmas.List.{take_at, drop_at}
-use Rattle.std.proofs.lemmas.List.Folds.{list_any-append}
-use Rattle.std.proofs.lemmas.Bool.{and_parts, or_from, leb-true, lt-ltb, le-ltb, le-leb, ne_eqb}
-use Rattle.std.proofs.lemmas.Fmt.{length_signed_le}
+use Rattle.std.proofs.lemmas.Bool.{lt-ltb, le-ltb, le-leb}
 use Rattle.nr_model.specs.declared.fault.Fault.{Fault}
 use Rattle.nr_model.specs.declared.fault.Fault.TheVariants.{Count, Length}
 use Rattle.nr_model.specs.Bytes.{Bytes, crlf}
-use Rattle.nr_model.specs.Numbers.{is_digit}
-use Rattle.nr_model.specs.Requests.{Front, Whole, Faulty, Partial, front_then, most_words, most_word_bytes, most_header_bytes, line_at, number_or, header_at, is_count, is_length, how_many, ending_at, word_at, bulk_at, bulks_at, request_at, framing_of, unfinished, broken, bulk_text}
+use Rattle.nr_model.specs.Requests.{Front, Whole, Faulty, Partial, front_then, most_words, most_word_bytes, is_count, is_length, how_many, ending_at, word_at, bulk_at, bulks_at, request_at, framing_of, unfinished, broken, bulk_text}
 use Rattle.nr_model.specs.Requests.Laws.{framing_by}
 use Rattle.nr_model.proofs.Cuts.{step_law}
-use Rattle.nr_model.proofs.Fronts.{is_lf, line_of_line}
-use Rattle.nr_model.proofs.IntegerTexts.{value_of_text, all_digits_text}
+use Rattle.nr_model.proofs.Spellings.{header_only, fits_low, bulk_only}
 use Rattle.nr_model.proofs.PlainFrames.{with_front}
-use Rattle.nr_resp.specs.Lines.{said}
 use Rattle.nr_resp.specs.Unfinished.{array_head, bulk_head, array_front, LacksWords}
-use Rattle.nr_resp.proofs.Lines.{said_of}
-
-digits_no_lf : (ds : Bytes) → list_all is_digit ds ≡ true → list_any is_lf ds ≡ false
-digits_no_lf [] h = refl
-digits_no_lf (d ∷ ds) h =
-    let parts = and_parts _ _ h in
-    let low : 48 ≤ d = leb-true 48 d ((and_parts (leb 48 d) (leb d 57) parts.0).0) in
-    or_from _ _ (ne_eqb d 10 (λ e. omega arith)) (digits_no_lf ds parts.1)
-
-signed_fits : (n : ℕ) → n < 2 ^ 63 → FitsSigned w64 (pos n)
-signed_fits n small = record { sfits = small }
-
--- a header that says a number is read as it
-header_reads : (fault : Fault) (fits : ℤ → Bool) (mark n : ℕ) (left : Bytes) → eqb mark 10 ≡ false → n < 2 ^ 32 → fits (pos n) ≡ true
-    → header_at fault fits (mark ∷ (decimal n ++ 13 ∷ 10 ∷ left)) ≡ Whole (pos n) left
-header_reads fault fits mark n left other small fit =
-    let text = decimal n in
-    let line : Bytes = mark ∷ (text ++ 13 ∷ []) in
-    let signed : FitsSigned w64 (pos n) = signed_fits n (omega arith) in
-    let no_lf : list_any is_lf line ≡ false = or_from _ _ other (list_any-append is_lf text (13 ∷ []) ∙ or_from _ _ (digits_no_lf text (all_digits_text n (omega arith))) refl) in
-    let split : mark ∷ (text ++ 13 ∷ 10 ∷ left) ≡ line ++ 10 ∷ left = ap (λ bs. mark ∷ bs) (sym (append_assoc text (13 ∷ []) (10 ∷ left))) in
-    let digits : length text ≤ 21 = length_signed_le 20 (pos n) (omega (arith, signed.sfits)) signed.sfits in
-    let short : ltb most_header_bytes (length line) ≡ false = le-ltb 64 (length line) (omega (arith, length-append text (13 ∷ []))) in
-    let found : line_at most_header_bytes fault (mark ∷ (text ++ 13 ∷ 10 ∷ left)) ≡ Whole line left =
-    ap (line_at most_header_bytes fault) split ∙ line_of_line most_header_bytes fault line left no_lf ∙ ap (λ b. cond b (Faulty fault) (Whole line left)) short in
-    ap (λ front. front_then front (said fault fits)) found
-    ∙ said_of fault fits mark text left
-    ∙ ap (λ number. number_or fault fits number left) (value_of_text (pos n) signed)
-    ∙ ap (λ b. cond b (Whole (pos n) left) (Faulty fault)) fit
 
 array_reads : (count : ℕ) (left : Bytes) → count ≤ most_words → request_at (array_head count ++ left) ≡ bulks_at count left
 array_reads count left few =
     ap (λ bs. request_at (42 ∷ bs)) (append_assoc (decimal count) crlf left)
-    ∙ ap (λ front. front_then front (λ n rest. bulks_at (how_many n) rest)) (header_reads Count is_count 42 count left refl (omega arith) (le-leb count most_words few))
+    ∙ ap (λ front. front_then front (λ n rest. bulks_at (how_many n) rest)) (header_only Count is_count 42 (pos count) left refl (fits_low count (omega arith)) (le-leb count most_words few))
 
 pub bulk_reads : (len : ℕ) (left : Bytes) → len ≤ most_word_bytes → bulk_at (bulk_head len ++ left) ≡ word_at len left
 bulk_reads len left short =
     ap (λ bs. bulk_at (36 ∷ bs)) (append_assoc (decimal len) crlf left)
-    ∙ ap (λ front. front_then front (λ n rest. word_at (how_many n) rest)) (header_reads Length is_length 36 len left refl (omega arith) (le-leb len most_word_bytes short))
+    ∙ ap (λ front. front_then front (λ n rest. word_at (how_many n) rest)) (header_only Length is_length 36 (pos len) left refl (fits_low len (omega arith)) (le-leb len most_word_bytes short))
 
 -- the bytes of a word are not all there
 pub word_unfinished : (len : ℕ) (part : Bytes) → length part < len → word_at len part ≡ Partial
@@ -76,10 +41,6 @@ word_ends word left =
 pub bulk_by_head : (word left : Bytes) → bulk_text word ++ left ≡ bulk_head (length word) ++ (word ++ 13 ∷ 10 ∷ left)
 bulk_by_head word left = append_assoc (bulk_head (length word) ++ word) crlf left ∙ append_assoc (bulk_head (length word)) word (crlf ++ left)
 
-bulk_whole : (word left : Bytes) → length word ≤ most_word_bytes → bulk_at (bulk_text word ++ left) ≡ Whole word left
-bulk_whole word left short =
-    ap bulk_at (bulk_by_head word left) ∙ bulk_reads (length word) (word ++ 13 ∷ 10 ∷ left) short ∙ word_ends word (13 ∷ 10 ∷ left)
-
 abbrev AreShort : List Bytes → Type 0
 AreShort words = AllByRecursion (λ word. length word ≤ most_word_bytes) words
 
@@ -94,7 +55,7 @@ bulks_behind (word ∷ words) n left short =
     let size : suc (length words) + n ≡ suc (length words + n) = omega arith in
     ap (λ m. bulks_at m (flat_map bulk_text (word ∷ words) ++ left)) size
     ∙ ap (bulks_at (suc (length words + n))) (append_assoc (bulk_text word) (flat_map bulk_text words) left)
-    ∙ ap (λ front. front_then front (behind (length words + n))) (bulk_whole word (flat_map bulk_text words ++ left) short.0)
+    ∙ ap (λ front. front_then front (behind (length words + n))) (bulk_only word (flat_map bulk_text words ++ left) short.0)
     ∙ ap (λ front. front_then front (λ words' rest'. Whole (word ∷ words') rest')) (bulks_behind words n left short.1)
     ∙ one_more (bulks_at n left)
   where

@@ -3,19 +3,19 @@ use Rattle.std.proofs.Common.{◌≡◌, ℕ, suc, ◌+◌, ◌-◌, ◌<◌, �
 use Rattle.std.specs.Prelude.{FitsSigned, Ok, unwrap_or}
 use Rattle.std.specs.Int.{w64}
 use Rattle.std.specs.Fmt.{signed_decimal}
-use Rattle.std.proofs.lemmas.List.{take_at, get_or-take, take-append-drop, length-take-le, drop_more, append-nil}
+use Rattle.std.proofs.lemmas.List.{get_or-take, take-append-drop, length-take-le, drop_more, append-nil}
 use Rattle.std.proofs.lemmas.List.Folds.{list_any-append}
 use Rattle.std.proofs.lemmas.Bool.{or_from, eqb-true, eqb-false, lt-ltb, le-ltb}
 use Rattle.nr_model.specs.declared.fault.Fault.{Fault}
-use Rattle.nr_model.specs.declared.fault.Fault.TheVariants.{LineEnd}
 use Rattle.nr_model.specs.Bytes.{Bytes}
 use Rattle.nr_model.specs.Numbers.{int_value}
-use Rattle.nr_model.specs.Requests.{Whole, Faulty, Partial, line_at, number_or, ends_with_cr, without_last}
+use Rattle.nr_model.specs.Requests.{Whole, Faulty, Partial, line_at, without_last}
 use Rattle.nr_model.specs.Requests.Laws.{Extends}
 use Rattle.nr_model.proofs.Fronts.{is_lf, line_of_open, line_of_line, line_extends}
 use Rattle.nr_model.proofs.IntegerTexts.{text_of_value}
+use Rattle.nr_model.proofs.Spellings.{cr_ends, last_gone}
 use Rattle.memchr.specs.Find.{Nowhere, Passes, IsFirstByte, is_byte}
-use Rattle.nr_resp.specs.Lines.{has_lf, begins, IsLineFront, IsFirstLf, IsTooLong, Ends, said, Says}
+use Rattle.nr_resp.specs.Lines.{has_lf, begins, IsLineFront, IsFirstLf, IsTooLong, Ends, Says}
 
 ends_not : (b : Bool) → (b ≡ true → ⊥) → b ≡ false
 ends_not true h = absurd (h refl)
@@ -32,24 +32,6 @@ no_lf_before bytes n le none =
 
 pub no_lf_at_all : (bytes : Bytes) → Nowhere (Passes (is_byte 10) bytes) 0 (length bytes) → has_lf bytes ≡ false
 no_lf_at_all bytes none = no_lf_by_place bytes (λ k lt is. none k (omega arith) lt is)
-
-pub ends_cr : (xs : Bytes) → ends_with_cr (xs ++ 13 ∷ []) ≡ true
-ends_cr [] = refl
-ends_cr (x ∷ []) = refl
-ends_cr (x ∷ y ∷ xs) = ends_cr (y ∷ xs)
-
-pub cr_ends : (xs : Bytes) → ends_with_cr xs ≡ true → (front : Bytes) × (xs ≡ front ++ 13 ∷ [])
-cr_ends [] e = cc
-cr_ends (x ∷ []) e = ([], ap (λ c. c ∷ []) (eqb-true x 13 e))
-cr_ends (x ∷ y ∷ xs) e = let found = cr_ends (y ∷ xs) e in (x ∷ found.0, ap (λ cs. x ∷ cs) found.1)
-
-pub last_gone : (xs : Bytes) (c : ℕ) → without_last (xs ++ c ∷ []) ≡ xs
-last_gone xs c = take_at xs (c ∷ []) _ (omega (arith, length-append xs (c ∷ [])))
-
-pub said_of : (fault : Fault) (fits : ℤ → Bool) (mark : ℕ) (text left : Bytes) → said fault fits (mark ∷ (text ++ 13 ∷ [])) left ≡ number_or fault fits (int_value text) left
-said_of fault fits mark text left =
-    ap (λ b. cond b (number_or fault fits (int_value (drop 1 (without_last (mark ∷ (text ++ 13 ∷ []))))) left) (Faulty LineEnd)) (ends_cr (mark ∷ text))
-    ∙ ap (λ line. number_or fault fits (int_value (drop 1 line)) left) (last_gone (mark ∷ text) 13)
 
 -- a whole header line that says a number is its mark, the number's text and CR
 pub text_said : (fits : ℤ → Bool) (mark : ℕ) (bytes : Bytes) (n : ℕ) → eqb mark 13 ≡ false → (says : Says fits (mark ∷ bytes) n)

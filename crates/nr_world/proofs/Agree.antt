@@ -23,6 +23,7 @@ use Rattle.nr_world.specs.Seats.{Seat, fresh_seat, fed_seat, closed_seat, emptie
 use Rattle.nr_world.specs.Numbered.{is_seated, seat_at, at_seat}
 use Rattle.nr_world.specs.Lives.{Live, live_outcome, live_effect, live_after, live_by}
 use Rattle.nr_world.specs.Agreed.{seat_in, live_in}
+use Rattle.nr_world.specs.Standing.{has_ended}
 use Rattle.nr_world.proofs.Numbered.{of_serial, seated_below, seated_is}
 use Rattle.nr_world.proofs.Serials.{serials, length-serials, seat_of_serial, serials_push, serials_changed, serials_collected}
 
@@ -39,6 +40,16 @@ seat_is world c here =
     let seated : is_seated c (live_in world).seats ≡ true = seated_where world c ∙ here in
     let below : c.serial < world.opened = omega (arith, seated_below c (live_in world).seats seated, seats_are world) in
     seat_of_serial (seat_in world) 0 world.opened c.serial (fresh_seat c) below ∙ ap (seat_in world) (sym (seated_is c (live_in world).seats seated))
+
+-- what has ended
+where_ended : (here a b : Bool) → (here ≡ true → a ≡ b) → (not here || a) ≡ (not here || b)
+where_ended true a b h = h refl
+where_ended false a b h = refl
+
+pub ended_agrees : (world : World) (c : Connection) → (not (is_seated c (live_in world).seats) || (seat_at c (live_in world).seats).ended) ≡ has_ended world c
+ended_agrees world c =
+    ap (λ (here : Bool). not here || (seat_at c (live_in world).seats).ended) (seated_where world c)
+    ∙ where_ended (exists world c) (seat_at c (live_in world).seats).ended (seat_in world c).ended (λ here. ap (λ (seat : Seat). seat.ended) (seat_is world c here))
 
 collected_is : (world : World) → collected_seats (live_in world).seats ≡ collected world
 collected_is world = serials_collected (seat_in world) (waiting_for world) (connections_of world) (λ c. refl) (λ c. refl)

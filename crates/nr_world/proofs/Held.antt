@@ -1,6 +1,6 @@
 -- A world that holds what its steps led to, and one step more.
 use Rattle.std.proofs.Common.{◌≡◌, ◌+◌, ◌<◌, ◌^◌, List, [], ◌∷◌, ◌++◌, refl, ap, sym, ◌∙◌, subst}
-use Rattle.std.specs.Prelude.{map, fold}
+use Rattle.std.specs.Prelude.{map, fold, not, ◌||◌}
 use Rattle.nr_model.specs.Bytes.{Bytes}
 use Rattle.nr_model.specs.Items.{Connection}
 use Rattle.nr_model.specs.Worlds.{Setup, Step, Outcome, Taken, World, fresh, outcome, after_step, world_after, taken_from, connections_of, waiting_for}
@@ -9,8 +9,9 @@ use Rattle.nr_world.specs.Seats.{Seat}
 use Rattle.nr_world.specs.Lives.{Live, live_outcome, live_after}
 use Rattle.nr_world.specs.Agreed.{live_in, seat_in}
 use Rattle.nr_world.specs.Ready.{bytes_of, bytes_in, IsReady}
-use Rattle.nr_world.specs.Standing.{Standing, steps_of, world_of, IsHeld, IsKept}
-use Rattle.nr_world.proofs.Agree.{outcomes_agree, steps_agree}
+use Rattle.nr_world.specs.Standing.{Standing, steps_of, world_of, IsHeld, IsKept, has_ended}
+use Rattle.nr_world.specs.Numbered.{is_seated, seat_at}
+use Rattle.nr_world.proofs.Agree.{outcomes_agree, steps_agree, ended_agrees}
 use Rattle.nr_world.proofs.Bounds.{ready, few_closed}
 
 -- what came of each step, and of one more
@@ -57,6 +58,12 @@ held_next setup past more live next step copied came h added same e f =
     subst (λ (p : List Taken). IsHeld setup p next)
     (sym (added ∙ ap (λ (s : Step). past ++ record { step = s; outcome = came } ∷ []) same))
     (held_step setup past live next step came h e f)
+
+-- whether a connection takes no more bytes
+pub held_ended : (setup : Setup) (past : List Taken) (live : Live) (c : Connection) → IsHeld setup past live
+    → (not (is_seated c live.seats) || (seat_at c live.seats).ended) ≡ has_ended (world_after setup (steps_of past)) c
+held_ended setup past live c h =
+    ap (λ (l : Live). not (is_seated c l.seats) || (seat_at c l.seats).ended) h.held ∙ ended_agrees (world_after setup (steps_of past)) c
 
 -- at first
 pub held_new : (setup : Setup) (live : Live) → live ≡ live_in fresh → IsHeld setup [] live

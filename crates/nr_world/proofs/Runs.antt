@@ -88,8 +88,9 @@ answered_account : (v : Standing) (world : World) (c : Connection) → v.handed 
     → answered v c ≡ account_of world c
 answered_account v world c handed waits absent = (λ i. handed_to c (handed i) ++ waits_for c (waits i)) ∙ ap (λ (b : Bytes). handed_to c world.handed ++ b) (waits_are world c absent)
 
-is_answered : (setup : Setup) (steps : List Step) (v : Standing) → v.setup ≡ setup → steps_of v.past ≡ steps → IsKept v → IsAnswered v.setup (steps_of v.past) v
-is_answered setup steps v same all kept =
+-- a world that is held was answered
+pub kept_is_answered : (v : Standing) → IsKept v → IsAnswered v.setup (steps_of v.past) v
+kept_is_answered v kept =
     let x = each_is_explained.explained v.setup (steps_of v.past) in
     let world = world_of v in
     let account : (c : Connection) → answered v c ≡ account_of world c = λ c. answered_account v world c kept.handed kept.waits (λ d none. (x.absent d none).waits) in
@@ -107,7 +108,7 @@ pub run_answered : (setup : Setup) (steps : List CodeStep) (i : ℕ) (v : Standi
 run_answered setup steps i v beyond same all kept =
     let taken = steps_end v.past steps i beyond all in
     subst (λ (s : Setup). IsAnswered s (map step_seen steps) v) same
-    (subst (λ (s : List Step). IsAnswered v.setup s v) taken (is_answered setup (map step_seen steps) v same taken kept))
+    (subst (λ (s : List Step). IsAnswered v.setup s v) taken (kept_is_answered v kept))
 
 -- no bytes are left past the last step
 pub none_left : (steps : List CodeStep) (i : ℕ) → length steps ≤ i → bytes_in (map step_seen (drop i steps)) ≡ 0

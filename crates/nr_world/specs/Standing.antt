@@ -1,10 +1,10 @@
 -- What contracts see of a world.
-use Rattle.std.specs.Prelude.{◌≡◌, ℕ, zero, suc, Bool, List, [], map, refl}
+use Rattle.std.specs.Prelude.{◌≡◌, ℕ, zero, suc, Bool, not, ◌||◌, List, [], map, refl}
 use Rattle.std.specs.Coded.{Coded, code_by, coded×, coded_ℕ, coded_bool, coded_list}
 use Rattle.nr_model.specs.Bytes.{Bytes}
 use Rattle.nr_model.specs.Keyspace.{Keyspace, coded_keyspace, coded_bytes}
 use Rattle.nr_model.specs.Items.{Connection}
-use Rattle.nr_model.specs.Worlds.{Setup, Step, Open, Feed, Apply, Look, Collect, Close, Reason, NoSuch, Ended, TooMany, Nothing, Outcome, Opened, Done, Idle, Taken, Handed, World, fresh, world_after, taken_from, connections_of, waiting_for}
+use Rattle.nr_model.specs.Worlds.{Setup, Step, Open, Feed, Apply, Look, Collect, Close, Reason, NoSuch, Ended, TooMany, Nothing, Outcome, Opened, Done, Idle, Taken, Handed, World, fresh, world_after, taken_from, connections_of, waiting_for, exists, is_closed, asked_by}
 use Rattle.nr_model.specs.Explained.{state_of}
 use Rattle.nr_world.specs.Lives.{Live}
 use Rattle.nr_world.specs.Agreed.{live_in}
@@ -25,6 +25,10 @@ steps_of past = map (λ taken. taken.step) past
 -- the world that the steps led to
 abbrev pub world_of : Standing → World
 world_of v = world_after v.setup (steps_of v.past)
+
+-- whether a connection takes no more bytes: it was never opened, has ended or was closed
+abbrev pub has_ended : World → Connection → Bool
+has_ended world c = not (exists world c) || ((asked_by world c).ended || is_closed world c)
 
 -- it is held: what came of each step, what was handed out, what waits, and the keyspace
 pub record IsKept (v : Standing) : Type 0 where

@@ -1,5 +1,5 @@
 // A run of steps.
-ghost use Rattle.std.specs.Prelude.{◌≡◌, ◌<◌, ◌^◌, IfOk, IsTrue, map};
+ghost use Rattle.std.specs.Prelude.{◌≡◌, ◌<◌, ◌^◌, ◌↔◌, IfOk, IsTrue, map};
 ghost use Rattle.nr_world.specs.Seen.{step_seen};
 ghost use Rattle.nr_world.specs.Ready.{bytes_of, bytes_in};
 ghost use Rattle.nr_world.specs.Answered.{IsAnswered};
@@ -12,12 +12,12 @@ use std::alloc::Global;
 use std::hash::RandomState;
 
 /// Takes steps one after the other from nothing: the clients are answered as by one sequential Redis.
-pub fn run(alloc: Global, keys: RandomState, setup: Setup, steps: &[Step]) -> Result<World, Memory>
+pub fn run(alloc: Global, keys: RandomState, setup: &Setup, steps: &[Step]) -> Result<World, Memory>
     requires fits { bytes_in (map step_seen steps.now) < 2 ^ 63 }
-    ensures setup { IfOk result (λ world. world.setup ≡ setup) }
-    ensures answered { IfOk result (λ world. IsAnswered setup (map step_seen steps.now) world) }
+    ensures setup { IfOk result (λ world. world.setup ≡ setup.now) }
+    ensures answered { IfOk result (λ world. IsAnswered setup.now (map step_seen steps.now) world) }
 {
-    let mut world = World::new(alloc, keys, setup)?;
+    let mut world = World::new(alloc, keys, *setup)?;
     for step in steps {
         world.step(step)?;
     }
@@ -27,9 +27,9 @@ pub fn run(alloc: Global, keys: RandomState, setup: Setup, steps: &[Step]) -> Re
 /// The most bytes that steps of a run feed.
 const MOST_BYTES: u64 = 9_223_372_036_854_775_807;
 
-/// Whether steps can be run: they feed fewer than 2^63 bytes.
+/// Whether steps can be run: they feed fewer than 2^63 bytes. Linear in the steps.
 pub fn fits(steps: &[Step]) -> bool
-    ensures { IsTrue result → bytes_in (map step_seen steps.now) < 2 ^ 63 }
+    ensures { IsTrue result ↔ bytes_in (map step_seen steps.now) < 2 ^ 63 }
 {
     let mut left = MOST_BYTES;
     for step in steps {

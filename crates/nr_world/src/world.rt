@@ -1,14 +1,16 @@
 // The world of one node.
 ghost use Rattle.std.specs.Prelude.{◌≡◌, ◌<◌, ◌+◌, ◌^◌, ◌++◌, ◌∷◌, [], true, false, IfOk, OnOk, OnErr, IsErr, map};
 ghost use Rattle.nr_model.specs.Worlds.{outcome};
+ghost use Rattle.nr_entry.specs.Jobs.{connection_of};
 ghost use Rattle.nr_world.specs.Seen.{step_seen, outcome_seen, taken_seen, handed_seen};
 ghost use Rattle.nr_world.specs.Ready.{bytes_of, bytes_in};
-ghost use Rattle.nr_world.specs.Standing.{steps_of, world_of, IsKept};
+ghost use Rattle.nr_world.specs.Standing.{steps_of, world_of, has_ended, IsKept};
 
 use crate::server::Server;
 use crate::setup::Setup;
 use crate::step::{Handed, Outcome, Step, Taken};
 use nr_blob::Memory;
+use nr_entry::ConnId;
 use std::alloc::Global;
 use std::hash::RandomState;
 use std::marker::Model;
@@ -89,6 +91,13 @@ impl World {
         ensures { map taken_seen result.now ≡ self.now.past }
     {
         &self.taken
+    }
+
+    /// Whether a connection takes no more bytes: they asked for its end, it was closed, or it was never opened.
+    pub fn has_ended(&self, conn: ConnId) -> bool
+        ensures { self.now.failed ≡ false → result ≡ has_ended (world_of self.now) (connection_of conn) }
+    {
+        !self.server.connections.contains(conn) || self.server.connections.has_ended(conn)
     }
 
     /// The bytes that were handed out, in order.

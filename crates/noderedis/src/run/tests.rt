@@ -42,12 +42,13 @@ impl Read for Pieces<'_> {
     }
 }
 
-// Takes so many bytes a call, and fails once so many calls were made.
+// Takes so many bytes a call, and fails once so many calls were made. Its flush may fail.
 #[derive(Drop)]
 struct Narrow {
     taken: Vec<u8>,
     most: usize,
     calls: usize,
+    flushes: bool,
 }
 
 impl Write for Narrow {
@@ -62,6 +63,9 @@ impl Write for Narrow {
     }
 
     fn flush(&mut self) -> io::Result<()> {
+        if !self.flushes {
+            return Err(io::Error::from(ErrorKind::Other));
+        }
         Ok(())
     }
 }
@@ -80,6 +84,7 @@ fn wide(alloc: Global) -> Narrow {
         taken: Vec::new(alloc),
         most: NEVER,
         calls: NEVER,
+        flushes: true,
     }
 }
 
@@ -131,9 +136,10 @@ fn ends_at_a_fault(rt: HostRuntime) -> Result<(), Fail> {
     Ok(())
 }
 
+// Byte by byte: each call of the row fails once, and so does the one that asks for its end.
 #[test]
 fn says_that_a_read_failed(rt: HostRuntime) -> Result<(), Fail> {
-    for calls in 0..SET_AND_GET.len() {
+    for calls in 0..SET_AND_GET.len() + 1 {
         let mut writer = wide(rt.alloc());
         let mut reader = whole(SET_AND_GET);
         reader.first = 1;
@@ -146,6 +152,7 @@ fn says_that_a_read_failed(rt: HostRuntime) -> Result<(), Fail> {
     Ok(())
 }
 
+// Byte by byte: each call fails once, and past the last none does.
 #[test]
 fn says_that_a_write_failed(rt: HostRuntime) -> Result<(), Fail> {
     for calls in 0..OK_AND_VALUE.len() {
@@ -154,9 +161,24 @@ fn says_that_a_write_failed(rt: HostRuntime) -> Result<(), Fail> {
         writer.calls = calls;
         let result = served(&rt, &mut whole(SET_AND_GET), &mut writer)?;
         assert_eq!(rt; result, Err(Fault::Write));
-        assert_eq!(rt; writer.taken.len(), calls);
-        assert!(rt; OK_AND_VALUE.starts_with(writer.taken.as_slice()));
+        assert_eq!(rt; writer.taken.as_slice(), &OK_AND_VALUE[..calls]);
     }
+    let mut writer = wide(rt.alloc());
+    writer.most = 1;
+    writer.calls = OK_AND_VALUE.len();
+    let result = served(&rt, &mut whole(SET_AND_GET), &mut writer)?;
+    assert_eq!(rt; result, Ok(()));
+    assert_eq!(rt; writer.taken.as_slice(), OK_AND_VALUE);
+    Ok(())
+}
+
+#[test]
+fn says_that_a_flush_failed(rt: HostRuntime) -> Result<(), Fail> {
+    let mut writer = wide(rt.alloc());
+    writer.flushes = false;
+    let result = served(&rt, &mut whole(SET_AND_GET), &mut writer)?;
+    assert_eq!(rt; result, Err(Fault::Write));
+    assert_eq!(rt; writer.taken.as_slice(), OK_AND_VALUE);
     Ok(())
 }
 

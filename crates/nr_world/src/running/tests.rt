@@ -20,7 +20,7 @@ fn ran(rt: &HostRuntime, steps: &[Step]) -> Result<World, Memory> {
     if !fits(steps) {
         return Err(Memory);
     }
-    run(alloc, keys, setup, steps)
+    run(alloc, keys, &setup, steps)
 }
 
 // The bytes that a run of these steps hands out, one behind the other.

@@ -12,7 +12,7 @@ loop-goes_on-init g c = starting c.args.world.now _ _ c.requires.fresh
 pub returns-in_err-count : goal.returns-in_err-count
 returns-in_err-count g c =
     let end = not_served c.loop-goes_on.world _ _ _ _ _ _ _ _ [] c.loop-goes_on.invariant (none_read _ _ c.in_err-count.ensures.bytes) in
-    (end.0, end.1, failed c.from_residual.result _ c.from_residual.ensures.0)
+    (end.0, (end.1, end.2), failed c.from_residual.result _ c.from_residual.ensures.0)
 
 pub returns-then-count-eq0 : goal.returns-then-count-eq0
 returns-then-count-eq0 g c =
@@ -28,13 +28,13 @@ serve-requires-clause-goes_on g c = has_not _ (sym c.loop-goes_on-test.true ∙ 
 pub returns-in_err-goes_on : goal.returns-in_err-goes_on
 returns-in_err-goes_on g c =
     let end = not_served c.loop-goes_on.world _ _ _ _ _ _ _ _ (take c.in_ok-count.count c.read_piece.new.buffer) c.loop-goes_on.invariant c.in_ok-count.ensures.bytes.0 in
-    (end.0, end.1, failed c.from_residual-in_err-goes_on.result _ c.from_residual-in_err-goes_on.ensures.0)
+    (end.0, (end.1, end.2), failed c.from_residual-in_err-goes_on.result _ c.from_residual-in_err-goes_on.ensures.0)
 
 pub returns-in_err-written : goal.returns-in_err-written
 returns-in_err-written g c =
     let end = not_written c.loop-goes_on.world c.serve.new.world _ _ _ _ _ _ _ _ _ (take c.in_ok-count.count c.read_piece.new.buffer) c.loop-goes_on.invariant c.in_ok-count.ensures.bytes.0
     c.in_ok-goes_on.ensures.settled c.in_ok-goes_on.ensures.fed c.in_ok-goes_on.ensures.handed c.in_err-written.ensures.some in
-    (end.0, end.1, failed c.from_residual-in_err-written.result _ c.from_residual-in_err-written.ensures.0)
+    (end.0, (end.1, end.2), failed c.from_residual-in_err-written.result _ c.from_residual-in_err-written.ensures.0)
 
 pub loop-goes_on-preserved : goal.loop-goes_on-preserved
 loop-goes_on-preserved g c =

@@ -9,7 +9,7 @@ use Rattle.noderedis.proofs.serving.feed.Goals as goal
 pub returns-clause-is_open : goal.returns-clause-is_open
 returns-clause-is_open c =
     fed_open c.args.world.now c.step.new.self c.args.moment c.in_ok-bytes.bytes.items (outcome_seen c.in_ok-step.field-0) c.requires.is_open c.in_ok-step.ensures.setup
-    c.in_ok-step.ensures.past c.in_ok-step.ensures.kept.handed c.requires.goes_on
+    c.in_ok-step.ensures.past c.in_ok-step.ensures.kept c.requires.goes_on
 
 pub returns-clause-fed : goal.returns-clause-fed
 returns-clause-fed c =

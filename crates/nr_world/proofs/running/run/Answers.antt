@@ -15,4 +15,4 @@ loop-step-preserved c = record {
 
 pub returns-clause-answered : goal.returns-clause-answered
 returns-clause-answered c =
-    run_answered c.args.setup c.args.steps.now c.loop-step.step-index c.loop-step.world c.loop-step-test.false c.loop-step.invariant.setup c.loop-step.invariant.steps c.loop-step.invariant.kept
+    run_answered c.args.setup.now c.args.steps.now c.loop-step.step-index c.loop-step.world c.loop-step-test.false c.loop-step.invariant.setup c.loop-step.invariant.steps c.loop-step.invariant.kept
