@@ -9,7 +9,7 @@ use Rattle.nr_model.specs.Bytes.{Bytes}
 use Rattle.nr_model.specs.Worlds.{Setup, Step, World, Handed, asked_by, handed_to, world_after, fresh}
 use Rattle.nr_model.specs.Explained.{state_of}
 use Rattle.nr_model.proofs.WorldsHanded.{handed_to-append}
-use Rattle.nr_world.specs.Standing.{Standing, steps_of, world_of}
+use Rattle.nr_world.specs.WorldState.{WorldState, steps_of, world_of}
 use Rattle.nr_world.specs.Answered.{IsAnswered}
 use Rattle.nr_world.proofs.Runs.{kept_is_answered}
 use Rattle.noderedis.specs.Written.{AppendsSome}
@@ -17,20 +17,20 @@ use Rattle.noderedis.specs.Runs.{first, alone, fed_bytes, emitted_bytes, IsBegun
 use Rattle.noderedis.specs.Serving.{IsOpen, IsSettled, IsFresh}
 use Rattle.noderedis.proofs.Written.{some_none, some_all, some_behind}
 
-pub record IsRunning (v : Standing) (count written : ℕ) (goes_on : Bool) (input left before after : Option Bytes) : Type 0 where
+pub record IsRunning (v : WorldState) (count written : ℕ) (goes_on : Bool) (input left before after : Option Bytes) : Type 0 where
   pub settled : IsSettled v
   pub counted : length (fed_bytes (world_of v)) ≡ count
   pub handed : length v.handed ≡ written
-  pub told : goes_on ≡ not (asked_by (world_of v) first).ended
+  pub delivered : goes_on ≡ not (asked_by (world_of v) first).ended
   pub taken : Consumes input left (fed_bytes (world_of v))
   pub sent : Appends before after (handed_to first v.handed)
 
 -- what a run owes at each end
 abbrev pub Answered : Option Bytes → Option Bytes → Option Bytes → Option Bytes → Type 0
-Answered input left before after = (steps : List Step) × (world : Standing) × IsBegun steps world input left before after
+Answered input left before after = (steps : List Step) × (world : WorldState) × IsBegun steps world input left before after
 
 -- a world of the run's setup
-begun_by : (v : Standing) (input left before after : Option Bytes) → IsOpen v
+begun_by : (v : WorldState) (input left before after : Option Bytes) → IsOpen v
     → (more : Bytes) → Consumes input left (fed_bytes (world_of v) ++ more) → AppendsSome before after (emitted_bytes (world_of v)) → IsBegun (steps_of v.past) v input left before after
 begun_by v input left before after is_open more fed written =
     let this : world_of v ≡ world_after alone (steps_of v.past) = ap (λ s. world_after s (steps_of v.past)) is_open.setup in
@@ -40,18 +40,18 @@ begun_by v input left before after is_open more fed written =
       written = subst (λ (w : World). AppendsSome before after (emitted_bytes w)) this written;
     }
 
-answered_by : (v : Standing) (input left before after : Option Bytes) → IsOpen v
+answered_by : (v : WorldState) (input left before after : Option Bytes) → IsOpen v
     → (more : Bytes) → Consumes input left (fed_bytes (world_of v) ++ more) → AppendsSome before after (emitted_bytes (world_of v)) → Answered input left before after
 answered_by v input left before after is_open more fed written = (steps_of v.past, v, begun_by v input left before after is_open more fed written)
 
 -- before the first piece
-pub starting : (v : Standing) (a b : Option Bytes) → IsFresh v → IsRunning v 0 0 true a a b b
+pub starting : (v : WorldState) (a b : Option Bytes) → IsFresh v → IsRunning v 0 0 true a a b b
 starting v a b new =
     record {
       settled = new.settled;
       counted = ap length new.fed;
       handed = ap length new.handed;
-      told = ap not (sym new.goes_on);
+      delivered = ap not (sym new.goes_on);
       taken = subst (Consumes a a) (sym new.fed) (Consumes-nil a);
       sent = subst (Appends b b) (ap (handed_to first) (sym new.handed)) (Appends-nil b);
     }
@@ -60,20 +60,20 @@ starting v a b new =
 pub none_read : (a b : Option Bytes) → Keeps a b → Consumes a b []
 none_read a b kept = Consumes-kept a a b [] (Consumes-nil a) kept
 
-pub at_end : (v : Standing) (n m : ℕ) (t : Bool) (input left before after next : Option Bytes) → IsRunning v n m t input left before after
+pub at_end : (v : WorldState) (n m : ℕ) (t : Bool) (input left before after next : Option Bytes) → IsRunning v n m t input left before after
     → Consumes left next [] → IsRunning v n m t input next before after
 at_end v n m t input left before after next run read =
     record {
       settled = run.settled;
       counted = run.counted;
       handed = run.handed;
-      told = run.told;
+      delivered = run.delivered;
       taken = subst (Consumes input next) (append-nil (fed_bytes (world_of v))) (Consumes-trans input left next (fed_bytes (world_of v)) [] run.taken read);
       sent = run.sent;
     }
 
 -- no step was taken
-none_taken : Standing
+none_taken : WorldState
 none_taken = record { setup = alone; past = []; handed = []; waits = []; keyspace = (state_of fresh).keyspace; failed = true }
 
 pub not_begun : (a b : Option Bytes) → Answered a a b b
@@ -89,14 +89,14 @@ not_begun a b = (
 )
 
 -- a piece was read, and not yet served
-pub not_served : (v : Standing) (n m : ℕ) (t : Bool) (input left before after next : Option Bytes) (piece : Bytes) → IsRunning v n m t input left before after
+pub not_served : (v : WorldState) (n m : ℕ) (t : Bool) (input left before after next : Option Bytes) (piece : Bytes) → IsRunning v n m t input left before after
     → Consumes left next piece → Answered input next before after
 not_served v n m t input left before after next piece run read =
     answered_by v input next before after run.settled.is_open piece (Consumes-trans input left next (fed_bytes (world_of v)) piece run.taken read)
     (some_all before after (emitted_bytes (world_of v)) (subst (Appends before after) run.settled.handed run.sent))
 
 -- a piece was served: what was handed out since
-fresh_bytes : (v w : Standing) (m : ℕ) → length v.handed ≡ m → (more : List Handed) × (w.handed ≡ v.handed ++ more)
+fresh_bytes : (v w : WorldState) (m : ℕ) → length v.handed ≡ m → (more : List Handed) × (w.handed ≡ v.handed ++ more)
     → handed_to first v.handed ++ handed_to first (drop m w.handed) ≡ handed_to first w.handed
 fresh_bytes v w m count grown =
     let cut : drop m w.handed ≡ grown.0 = (λ i. drop (sym count i) (grown.1 i)) ∙ drop-append_seam v.handed grown.0 in
@@ -105,7 +105,7 @@ fresh_bytes v w m count grown =
     ∙ ap (handed_to first) (sym grown.1)
 
 -- and not all of it was written
-pub not_written : (v w : Standing) (n m : ℕ) (t : Bool) (input left before after next last : Option Bytes) (piece : Bytes) → IsRunning v n m t input left before after
+pub not_written : (v w : WorldState) (n m : ℕ) (t : Bool) (input left before after next last : Option Bytes) (piece : Bytes) → IsRunning v n m t input left before after
     → Consumes left next piece → IsSettled w → fed_bytes (world_of w) ≡ fed_bytes (world_of v) ++ piece → (more : List Handed) × (w.handed ≡ v.handed ++ more)
     → AppendsSome after last (handed_to first (drop m w.handed)) → Answered input next before last
 not_written v w n m t input left before after next last piece run read settled fed grown some =
@@ -115,23 +115,23 @@ not_written v w n m t input left before after next last piece run read settled f
     (fresh_bytes v w m run.handed grown ∙ settled.handed))
 
 -- or it was
-pub one_piece : (v w : Standing) (n m count written : ℕ) (t more : Bool) (input left before after next last : Option Bytes) (piece : Bytes) → IsRunning v n m t input left before after
+pub one_piece : (v w : WorldState) (n m count written : ℕ) (t more : Bool) (input left before after next last : Option Bytes) (piece : Bytes) → IsRunning v n m t input left before after
     → Consumes left next piece → IsSettled w → fed_bytes (world_of w) ≡ fed_bytes (world_of v) ++ piece → (more : List Handed) × (w.handed ≡ v.handed ++ more)
     → Appends after last (handed_to first (drop m w.handed)) → written ≡ length w.handed → more ≡ not (asked_by (world_of w) first).ended → n + length piece ≡ count
     → IsRunning w count written more input next before last
-one_piece v w n m count written t more input left before after next last piece run read settled fed grown all is told counted =
+one_piece v w n m count written t more input left before after next last piece run read settled fed grown all is delivered counted =
     record {
       settled = settled;
       counted = ap length fed ∙ length-append (fed_bytes (world_of v)) piece ∙ ap (λ (k : ℕ). k + length piece) run.counted ∙ counted;
       handed = sym is;
-      told = told;
+      delivered = delivered;
       taken = subst (Consumes input next) (sym fed) (Consumes-trans input left next (fed_bytes (world_of v)) piece run.taken read);
       sent = subst (Appends before last) (fresh_bytes v w m run.handed grown) (Appends-trans before after last (handed_to first v.handed) (handed_to first (drop m w.handed)) run.sent all);
     }
 
 -- the run is over
-pub over : (v : Standing) (n m : ℕ) (t : Bool) (input left before after : Option Bytes) → IsRunning v n m t input left before after → IsOver (world_of v) left
-    → (steps : List Step) × ((world : Standing) × IsBegun steps world input left before after) × IsWhole (world_after alone steps) input left before after
+pub over : (v : WorldState) (n m : ℕ) (t : Bool) (input left before after : Option Bytes) → IsRunning v n m t input left before after → IsOver (world_of v) left
+    → (steps : List Step) × ((world : WorldState) × IsBegun steps world input left before after) × IsWhole (world_after alone steps) input left before after
 over v n m t input left before after run ends =
     let this : world_of v ≡ world_after alone (steps_of v.past) = ap (λ s. world_after s (steps_of v.past)) run.settled.is_open.setup in
     let written = subst (Appends before after) run.settled.handed run.sent in

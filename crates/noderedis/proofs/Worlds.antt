@@ -14,7 +14,7 @@ use Rattle.nr_model.proofs.WorldsExplained.{each_is_explained}
 use Rattle.nr_model.proofs.WorldsGrow.{fed_to-append, own_bytes}
 use Rattle.nr_world.specs.Ready.{bytes_in, bytes_of}
 use Rattle.nr_world.specs.Setups.{IsAllowed}
-use Rattle.nr_world.specs.Standing.{Standing, steps_of, world_of, has_ended, IsKept}
+use Rattle.nr_world.specs.WorldState.{WorldState, steps_of, world_of, has_ended, IsKept}
 use Rattle.nr_world.specs.Settled.{IsSettled as IsAtRest}
 use Rattle.noderedis.specs.Runs.{first, alone, fed_bytes, emitted_bytes}
 use Rattle.noderedis.specs.Serving.{IsOpen, IsSettled, IsFresh}
@@ -35,7 +35,7 @@ alone_allowed =
     }
 
 -- one step more
-pub one_more : (v w : Standing) (taken : Taken) → w.setup ≡ v.setup → w.past ≡ v.past ++ taken ∷ [] → world_of w ≡ after_step v.setup (world_of v) taken.step
+pub one_more : (v w : WorldState) (taken : Taken) → w.setup ≡ v.setup → w.past ≡ v.past ++ taken ∷ [] → world_of w ≡ after_step v.setup (world_of v) taken.step
 one_more v w taken same more =
     (λ i. world_after (same i) (steps_of (more i)))
     ∙ ap (world_after v.setup) (map-append (λ (t : Taken). t.step) v.past (taken ∷ []))
@@ -46,7 +46,7 @@ bytes_in-append : (xs ys : List Step) → bytes_in (xs ++ ys) ≡ bytes_in xs + 
 bytes_in-append [] ys = omega arith
 bytes_in-append (x ∷ xs) ys = let more : bytes_in (xs ++ ys) ≡ bytes_in xs + bytes_in ys = bytes_in-append xs ys in omega arith
 
-pub bytes_more : (v w : Standing) (taken : Taken) → w.past ≡ v.past ++ taken ∷ [] → bytes_in (steps_of w.past) ≡ bytes_in (steps_of v.past) + bytes_of taken.step
+pub bytes_more : (v w : WorldState) (taken : Taken) → w.past ≡ v.past ++ taken ∷ [] → bytes_in (steps_of w.past) ≡ bytes_in (steps_of v.past) + bytes_of taken.step
 bytes_more v w taken more =
     ap (λ (past : List Taken). bytes_in (steps_of past)) more
     ∙ ap bytes_in (map-append (λ (t : Taken). t.step) v.past (taken ∷ []))
@@ -63,14 +63,14 @@ pub feed_outcome : (setup : Setup) (world : World) (time : ℕ) (bytes : Bytes) 
 feed_outcome setup world time bytes one none = fed_or_ended world.opened world.closed (asked_by world first).ended one none
 
 -- a feed of a connection that goes on
-fed_world : (v w : Standing) (time : ℕ) (bytes : Bytes) (o : Outcome) → IsOpen v → w.setup ≡ v.setup → w.past ≡ v.past ++ record { step = Feed first time bytes; outcome = o } ∷ []
+fed_world : (v w : WorldState) (time : ℕ) (bytes : Bytes) (o : Outcome) → IsOpen v → w.setup ≡ v.setup → w.past ≡ v.past ++ record { step = Feed first time bytes; outcome = o } ∷ []
     → (asked_by (world_of v) first).ended ≡ false → world_of w ≡ fed (world_of v) first time bytes
 fed_world v w time bytes o is_open same more on =
     one_more v w (record { step = Feed first time bytes; outcome = o }) same more
     ∙ ap (λ (done : Outcome). effect_by done (world_of v) (Feed first time bytes))
     (feed_outcome v.setup (world_of v) time bytes is_open.opened is_open.closed ∙ ap (λ (e : Bool). cond e (Idle Ended) Done) on)
 
-pub fed_more : (v w : Standing) (time : ℕ) (bytes : Bytes) (o : Outcome) → IsOpen v → w.setup ≡ v.setup → w.past ≡ v.past ++ record { step = Feed first time bytes; outcome = o } ∷ []
+pub fed_more : (v w : WorldState) (time : ℕ) (bytes : Bytes) (o : Outcome) → IsOpen v → w.setup ≡ v.setup → w.past ≡ v.past ++ record { step = Feed first time bytes; outcome = o } ∷ []
     → (asked_by (world_of v) first).ended ≡ false → fed_bytes (world_of w) ≡ fed_bytes (world_of v) ++ bytes
 fed_more v w time bytes o is_open same more on =
     let feeding : Feeding = record { connection = first; moment = moment time; bytes = bytes } in
@@ -78,12 +78,12 @@ fed_more v w time bytes o is_open same more on =
     ∙ fed_to-append first (world_of v).fed (feeding ∷ [])
     ∙ ap (λ (l : Bytes). fed_bytes (world_of v) ++ l) (own_bytes first feeding refl)
 
-pub fed_handed : (v w : Standing) (time : ℕ) (bytes : Bytes) (o : Outcome) → IsOpen v → w.setup ≡ v.setup → w.past ≡ v.past ++ record { step = Feed first time bytes; outcome = o } ∷ []
+pub fed_handed : (v w : WorldState) (time : ℕ) (bytes : Bytes) (o : Outcome) → IsOpen v → w.setup ≡ v.setup → w.past ≡ v.past ++ record { step = Feed first time bytes; outcome = o } ∷ []
     → IsKept w → (asked_by (world_of v) first).ended ≡ false → w.handed ≡ v.handed
 fed_handed v w time bytes o is_open same more kept on =
     kept.handed ∙ ap (λ (x : World). x.handed) (fed_world v w time bytes o is_open same more on) ∙ sym is_open.kept.handed
 
-pub fed_open : (v w : Standing) (time : ℕ) (bytes : Bytes) (o : Outcome) → IsOpen v → w.setup ≡ v.setup → w.past ≡ v.past ++ record { step = Feed first time bytes; outcome = o } ∷ []
+pub fed_open : (v w : WorldState) (time : ℕ) (bytes : Bytes) (o : Outcome) → IsOpen v → w.setup ≡ v.setup → w.past ≡ v.past ++ record { step = Feed first time bytes; outcome = o } ∷ []
     → IsKept w → (asked_by (world_of v) first).ended ≡ false → IsOpen w
 fed_open v w time bytes o is_open same more kept on =
     let moved = fed_world v w time bytes o is_open same more on in
@@ -99,7 +99,7 @@ fed_open v w time bytes o is_open same more kept on =
     }
 
 -- where nothing waits, all that was emitted was handed out
-pub all_handed : (v : Standing) → v.handed ≡ (world_of v).handed → (world_of v).closed ≡ [] → waiting_for (world_of v) first ≡ [] → handed_to first v.handed ≡ emitted_bytes (world_of v)
+pub all_handed : (v : WorldState) → v.handed ≡ (world_of v).handed → (world_of v).closed ≡ [] → waiting_for (world_of v) first ≡ [] → handed_to first v.handed ≡ emitted_bytes (world_of v)
 all_handed v kept none waits =
     let unclosed : is_closed (world_of v) first ≡ false = ap (λ (closed : List Closing). list_any (λ (k : Closing). same_connection k.connection first) closed) none in
     ap (handed_to first) kept
@@ -108,7 +108,7 @@ all_handed v kept none waits =
     ∙ (each_is_explained.explained v.setup (steps_of v.past)).accounts.whole first unclosed
 
 -- a world that came to rest
-pub settles : (v w : Standing) → IsOpen v → w.setup ≡ v.setup → IsAtRest v w → IsSettled w
+pub settles : (v w : WorldState) → IsOpen v → w.setup ≡ v.setup → IsAtRest v w → IsSettled w
 settles v w is_open same rest =
     let closed = rest.closed ∙ is_open.closed in
     record {
@@ -129,14 +129,14 @@ unended : (opened : ℕ) (closed : List Closing) (ended : Bool) → opened ≡ 1
     → not (not (0 == 0 && nat_lt 0 opened) || (ended || list_any (λ (k : Closing). same_connection k.connection first) closed)) ≡ not ended
 unended opened closed ended one none = rw (one, none) (elim ended as (λ e. not (e || false) ≡ not e) [ true ↦ refl | false ↦ refl ])
 
-pub goes_on_is : (v : Standing) → IsOpen v → not (has_ended (world_of v) first) ≡ not (asked_by (world_of v) first).ended
+pub goes_on_is : (v : WorldState) → IsOpen v → not (has_ended (world_of v) first) ≡ not (asked_by (world_of v) first).ended
 goes_on_is v is_open = unended (world_of v).opened (world_of v).closed (asked_by (world_of v) first).ended is_open.opened is_open.closed
 
 -- the world of one connection that was just opened
 opened_once : World
 opened_once = world_after alone (Open 0 0 ∷ [])
 
-pub once_open : (v w : Standing) (o : Outcome) → v.setup ≡ alone → v.past ≡ [] → w.setup ≡ v.setup → w.past ≡ v.past ++ record { step = Open 0 0; outcome = o } ∷ []
+pub once_open : (v w : WorldState) (o : Outcome) → v.setup ≡ alone → v.past ≡ [] → w.setup ≡ v.setup → w.past ≡ v.past ++ record { step = Open 0 0; outcome = o } ∷ []
     → IsKept w → IsFresh w
 unfolding opened_once framing_of frames_within past_from
 once_open v w o one none same more kept =

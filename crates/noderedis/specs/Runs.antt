@@ -7,7 +7,7 @@ use Rattle.nr_model.specs.Sequential.{emitted_for}
 use Rattle.nr_model.specs.Worlds.{Setup, Step, World, handed_to, fed_to, asked_by, own_jobs, sequence_of, world_after}
 use Rattle.nr_model.specs.Explains.{asked_jobs, jobs_executed}
 use Rattle.nr_world.specs.Seen.{handed_seen}
-use Rattle.nr_world.specs.Standing.{Standing}
+use Rattle.nr_world.specs.WorldState.{WorldState}
 use Rattle.nr_world.specs.Answered.{IsAnswered}
 use Rattle.nr_world.specs.declared.step.Handed.{Handed}
 use Rattle.noderedis.specs.Written.{AppendsSome}
@@ -34,7 +34,7 @@ emitted_bytes world = emitted_for first (sequence_of world)
 
 -- What holds of each run that took these steps and came to this world, also of one that failed. The reader's known bytes were the input, and some
 -- are left; the writer's were those before.
-pub record IsBegun (steps : List Step) (world : Standing) (input left before after : Option Bytes) : Type 0 where
+pub record IsBegun (steps : List Step) (world : WorldState) (input left before after : Option Bytes) : Type 0 where
   -- as the contract of a world's `run` says: all that was executed, in order, explains the world, and one sequential Redis along it answers
   pub answered : IsAnswered alone steps world
   -- the connection was fed a beginning of what was read
@@ -59,4 +59,4 @@ pub record IsWhole (world : World) (input left before after : Option Bytes) : Ty
 -- There are steps of the world of one connection that the run took; and the whole holds where it didn't fail.
 abbrev pub IsServed : {E : Type 0} → Result (Unit {0}) E → Option Bytes → Option Bytes → Option Bytes → Option Bytes → Type 0
 IsServed result input left before after =
-    (steps : List Step) × ((world : Standing) × IsBegun steps world input left before after) × OnOk result (IsWhole (world_after alone steps) input left before after)
+    (steps : List Step) × ((world : WorldState) × IsBegun steps world input left before after) × OnOk result (IsWhole (world_after alone steps) input left before after)

@@ -1,4 +1,4 @@
-// Bytes in and out.
+// Reading a piece and writing bytes whole, over any reader and writer. Called by `run`; what each call took or gave stands in its contract.
 ghost use Rattle.std.specs.Prelude.{◌≡◌, ◌≤◌, IfOk, OnOk, length};
 ghost use Rattle.std.specs.Io.KnownBytes.{Appends, Keeps, ReadConsumes, WriteAppends};
 ghost use Rattle.noderedis.specs.Written.{AppendsSome};

@@ -1,4 +1,4 @@
-// Why a run failed.
+// Why a run failed, with the line that the program prints for it and its exit status.
 ghost use Rattle.std.specs.Prelude.{◌≡◌};
 ghost use Rattle.noderedis.specs.Faults.{line_of, status_of};
 

@@ -1,4 +1,4 @@
-// The moments at which bytes come.
+// The clock: the moments at which bytes come, in milliseconds. A clock that fails gives none.
 use std::rt::Clock;
 use std::time::SystemTime;
 

@@ -1,7 +1,7 @@
-// One connection of a world.
+// One connection of a world: it is opened, fed a piece at a time, and settled behind each. Touches the world alone.
 ghost use Rattle.std.specs.Prelude.{◌≡◌, ◌<◌, ◌+◌, ◌^◌, ◌++◌, [], List, not, true, false, IfOk, OnOk, length};
 ghost use Rattle.nr_model.specs.Worlds.{asked_by, Handed as HandedBytes};
-ghost use Rattle.nr_world.specs.Standing.{world_of};
+ghost use Rattle.nr_world.specs.WorldState.{world_of};
 ghost use Rattle.noderedis.specs.Runs.{first, fed_bytes, alone as one_connection};
 ghost use Rattle.noderedis.specs.Serving.{IsOpen, IsSettled, IsFresh};
 

@@ -1,4 +1,4 @@
-// The words of a call.
+// The words of the command line, read by `clap`: which task they name.
 use clap::{Command, Error};
 use std::alloc::Global;
 use std::convert::AsStr;
@@ -26,28 +26,4 @@ pub fn words<'a, S: AsStr>(alloc: Global, words: &'a [S]) -> Result<Task, Error>
         .subcommand(run)?;
     command.try_get_matches_from(words)?;
     Ok(Task::Run)
-}
-
-#[cfg(test)]
-mod tests {
-    use super::*;
-    use std::test::Fail;
-
-    #[test]
-    fn reads_words(rt: HostRuntime) -> Result<(), Fail> {
-        let alloc = rt.alloc();
-        assert!(rt; matches!(words(alloc, &["noderedis", "run"]), Ok(Task::Run)));
-        let refused: [&[&str]; 3] = [
-            &["noderedis"],
-            &["noderedis", "walk"],
-            &["noderedis", "run", "on"],
-        ];
-        for given in refused {
-            match words(alloc, given) {
-                Ok(_) => assert!(rt; false),
-                Err(error) => assert_eq!(rt; error.exit_code(), 2),
-            }
-        }
-        Ok(())
-    }
 }

@@ -1,4 +1,4 @@
-// Owned bytes.
+// Owned bytes: the words of requests, the names of keys, strings and texts. They are seen as a list of bytes, and compared in byte order.
 ghost use Rattle.std.specs.Prelude.{◌≡◌, ◌↔◌, [], length, Some, IsTrue, IfOk, bytes_eq};
 ghost use Rattle.std.specs.Cmp.{partial_equiv_from_equiv};
 ghost use Rattle.std.specs.Cmp.Lexicographic.{slice_cmp, nat_list_eq_equiv, nat_list_cmp_total, texts_ties, texts_po};
@@ -126,6 +126,3 @@ impl Hash for Blob {
         self.bytes.hash(state);
     }
 }
-
-#[cfg(test)]
-mod tests;

@@ -1,4 +1,4 @@
-// Integers as texts.
+// Integers as texts, both ways: the words of commands, the headers of requests and replies.
 ghost use Rattle.std.specs.Prelude.{◌≡◌, ◌++◌, IsTrue, OnOk, OnErr};
 ghost use Rattle.std.specs.Fmt.{signed_decimal};
 ghost use Rattle.nr_model.specs.Numbers.{int_value};
@@ -35,6 +35,3 @@ pub fn int_text(n: i64, out: &mut Vec<u8>) -> Result<(), Memory>
     out.extend_from_slice(Buffer::new().format(n).as_bytes())?;
     Ok(())
 }
-
-#[cfg(test)]
-mod tests;

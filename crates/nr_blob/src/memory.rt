@@ -34,27 +34,3 @@ impl<T: Drop> From<AllocFailed<T>> for Memory {
         Memory
     }
 }
-
-#[cfg(test)]
-mod tests {
-    use super::*;
-    use std::alloc::Global;
-    use std::test::Fail;
-
-    fn pushed(alloc: Global) -> Result<Vec<u8>, Memory> {
-        let mut bytes = Vec::with_capacity(alloc, 0)?;
-        bytes.push(7)?;
-        Ok(bytes)
-    }
-
-    #[test]
-    fn stands_for_std_s_refusals(rt: HostRuntime) -> Result<(), Fail> {
-        assert_eq!(rt; pushed(rt.alloc())?.as_slice(), [7].as_slice());
-        assert_eq!(rt; Memory::from(AllocError), Memory);
-        assert_eq!(rt;
-            format!(in rt.alloc(); "{Memory}")?.as_str(),
-            "out of memory"
-        );
-        Ok(())
-    }
-}

@@ -1,9 +1,9 @@
-//! The table of commands: names, counts of words and classes.
+//! The table of commands: names and counts of words.
 #![tactic(auto)]
 
-pub use command::{Class, Cmd, CommandId, Keys, Server, Strings};
+pub use command::{Cmd, copy_words};
 pub use reading::{CmdError, check};
-pub use table::{arity_ok, class, lookup, name};
+pub use table::{arity_ok, lookup, name};
 
 mod command;
 mod reading;

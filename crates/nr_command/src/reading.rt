@@ -1,8 +1,9 @@
 // From a request to its command.
 ghost use Rattle.nr_command.specs.Check.{Checks};
 
-use crate::command::{Cmd, CommandId};
+use crate::command::Cmd;
 use crate::table::{arity_ok, lookup};
+use nr_model::command::Operation;
 use nr_resp::Frame;
 
 /// Why a request is no command. It hands the request back.
@@ -11,7 +12,7 @@ pub enum CmdError {
     /// No command has its name.
     Unknown(Frame),
     /// The command takes more words, or fewer.
-    Arity(CommandId, Frame),
+    Arity(Operation, Frame),
 }
 
 /// The command of a request: its name is looked up, and then its words are counted.
@@ -21,17 +22,14 @@ pub fn check(frame: Frame) -> Result<Cmd, CmdError>
     let Some(name) = frame.words.first() else {
         return Err(CmdError::Unknown(frame));
     };
-    let Some(id) = lookup(name.bytes()) else {
+    let Some(command) = lookup(name.bytes()) else {
         return Err(CmdError::Unknown(frame));
     };
-    if !arity_ok(id, frame.words.len()) {
-        return Err(CmdError::Arity(id, frame));
+    if !arity_ok(command, frame.words.len()) {
+        return Err(CmdError::Arity(command, frame));
     }
     Ok(Cmd {
-        id,
+        command,
         words: frame.words,
     })
 }
-
-#[cfg(test)]
-mod tests;

@@ -1,26 +1,35 @@
-// The one table of commands.
+// The one table of commands that are served: a macro holds each row once, and look-ups, names and counts of words are read from it.
 ghost use Rattle.std.specs.Prelude.{◌≡◌, option_map};
-ghost use Rattle.nr_model.specs.Commands.{row_of, served, server_rows, key_rows, string_rows};
+ghost use Rattle.nr_model.specs.Commands as table;
+ghost use Rattle.nr_model.specs.Commands.{named, served, operation_row};
 ghost use Rattle.nr_model.specs.Commands.Shape as shape;
-ghost use Rattle.nr_command.specs.Table.{row_of_id, server_row, keys_row, strings_row, class_seen};
+ghost use Rattle.nr_model.specs.declared.command.Command.TheVariants.{Perform};
 
-use crate::command::{Class, CommandId, Keys, Server, Strings};
+use nr_model::command::{
+    Change, KeysChange, Look, Operation, ServerChange, ServerLook, StringsChange, StringsLook,
+};
 
-// The rows of a section, by the length of the name: the command, its name in lower case, how many words it takes, and its class.
+// The rows of a section, by the length of the name: the command, its name in lower case, and how many words it takes.
 macro_rules! rows {
-    (Server => $with:ident!($($arguments:tt)*)) => {
-        $with!(Server, $($arguments)*; 4: { Ping, "ping", at_least 1, Look })
+    (ServerLook => $with:ident!($($arguments:tt)*)) => {
+        $with!(ServerLook, $($arguments)*; 4: { Ping, "ping", at_least 1; Echo, "echo", exactly 2 })
     };
-    (Keys => $with:ident!($($arguments:tt)*)) => {
-        $with!(Keys, $($arguments)*; 3: { Del, "del", at_least 2, Change })
+    (ServerChange => $with:ident!($($arguments:tt)*)) => {
+        $with!(ServerChange, $($arguments)*; 6: { Select, "select", exactly 2 })
     };
-    (Strings => $with:ident!($($arguments:tt)*)) => {
-        $with!(Strings, $($arguments)*; 3: { Get, "get", exactly 2, Look; Set, "set", at_least 3, Change })
+    (KeysChange => $with:ident!($($arguments:tt)*)) => {
+        $with!(KeysChange, $($arguments)*; 3: { Del, "del", at_least 2 })
+    };
+    (StringsLook => $with:ident!($($arguments:tt)*)) => {
+        $with!(StringsLook, $($arguments)*; 3: { Get, "get", exactly 2 })
+    };
+    (StringsChange => $with:ident!($($arguments:tt)*)) => {
+        $with!(StringsChange, $($arguments)*; 3: { Set, "set", at_least 3 })
     };
 }
 
 macro_rules! find {
-    ($section:ident, $word:ident; $($len:literal: { $($id:ident, $name:literal, $test:ident $count:literal, $class:ident);* }),*) => {
+    ($section:ident, $word:ident; $($len:literal: { $($id:ident, $name:literal, $test:ident $count:literal);* }),*) => {
         match $word.len() {
             $($len => {
                 $(if $word.eq_ignore_ascii_case($name.as_bytes()) {
@@ -34,17 +43,9 @@ macro_rules! find {
 }
 
 macro_rules! name {
-    ($section:ident, $command:ident; $($len:literal: { $($id:ident, $name:literal, $test:ident $count:literal, $class:ident);* }),*) => {
+    ($section:ident, $command:ident; $($len:literal: { $($id:ident, $name:literal, $test:ident $count:literal);* }),*) => {
         match $command {
             $($($section::$id => $name,)*)*
-        }
-    };
-}
-
-macro_rules! class {
-    ($section:ident, $command:ident; $($len:literal: { $($id:ident, $name:literal, $test:ident $count:literal, $class:ident);* }),*) => {
-        match $command {
-            $($($section::$id => Class::$class,)*)*
         }
     };
 }
@@ -59,7 +60,7 @@ macro_rules! is_count {
 }
 
 macro_rules! arity_ok {
-    ($section:ident, $command:ident, $words:ident; $($len:literal: { $($id:ident, $name:literal, $test:ident $count:literal, $class:ident);* }),*) => {
+    ($section:ident, $command:ident, $words:ident; $($len:literal: { $($id:ident, $name:literal, $test:ident $count:literal);* }),*) => {
         match $command {
             $($($section::$id => is_count!($test $count, $words),)*)*
         }
@@ -67,65 +68,74 @@ macro_rules! arity_ok {
 }
 
 /// The command of a name, whatever the case of its ASCII letters. A section's names are compared by their length first.
-pub fn lookup(word: &[u8]) -> Option<CommandId>
-    ensures { option_map row_of_id result ≡ row_of served word.now }
+pub fn lookup(word: &[u8]) -> Option<Operation>
+    ensures { option_map Perform result ≡ named served word.now }
 {
-    if let Some(command) = server_lookup(word) {
-        return Some(CommandId::Server(command));
+    if let Some(command) = server_look(word) {
+        return Some(Operation::Look(Look::Server(command)));
     }
-    if let Some(command) = keys_lookup(word) {
-        return Some(CommandId::Keys(command));
+    if let Some(command) = keys_change(word) {
+        return Some(Operation::Change(Change::Keys(command)));
     }
-    strings_lookup(word).map(CommandId::Strings)
+    if let Some(command) = strings_look(word) {
+        return Some(Operation::Look(Look::Strings(command)));
+    }
+    if let Some(command) = strings_change(word) {
+        return Some(Operation::Change(Change::Strings(command)));
+    }
+    None
 }
 
-fn server_lookup(word: &[u8]) -> Option<Server>
-    ensures { option_map server_row result ≡ row_of server_rows word.now }
+fn server_look(word: &[u8]) -> Option<ServerLook>
+    ensures { option_map table.server_look result ≡ named table.server_looks_served word.now }
 {
-    rows!(Server => find!(word))
+    rows!(ServerLook => find!(word))
 }
 
-fn keys_lookup(word: &[u8]) -> Option<Keys>
-    ensures { option_map keys_row result ≡ row_of key_rows word.now }
+fn keys_change(word: &[u8]) -> Option<KeysChange>
+    ensures { option_map table.keys_change result ≡ named table.keys_changes_served word.now }
 {
-    rows!(Keys => find!(word))
+    rows!(KeysChange => find!(word))
 }
 
-fn strings_lookup(word: &[u8]) -> Option<Strings>
-    ensures { option_map strings_row result ≡ row_of string_rows word.now }
+fn strings_look(word: &[u8]) -> Option<StringsLook>
+    ensures { option_map table.strings_look result ≡ named table.strings_looks_served word.now }
 {
-    rows!(Strings => find!(word))
+    rows!(StringsLook => find!(word))
+}
+
+fn strings_change(word: &[u8]) -> Option<StringsChange>
+    ensures { option_map table.strings_change result ≡ named table.strings_changes_served word.now }
+{
+    rows!(StringsChange => find!(word))
 }
 
 /// A command's name, in lower case.
-pub fn name(id: CommandId) -> &'static str
-    ensures { result.now ≡ (row_of_id id).name }
+pub fn name(command: Operation) -> &'static str
+    ensures { result.now ≡ (operation_row command).name }
 {
-    match id {
-        CommandId::Server(command) => rows!(Server => name!(command)),
-        CommandId::Keys(command) => rows!(Keys => name!(command)),
-        CommandId::Strings(command) => rows!(Strings => name!(command)),
-    }
-}
-
-/// What a command may do.
-pub fn class(id: CommandId) -> Class
-    ensures { class_seen result ≡ (row_of_id id).class }
-{
-    match id {
-        CommandId::Server(command) => rows!(Server => class!(command)),
-        CommandId::Keys(command) => rows!(Keys => class!(command)),
-        CommandId::Strings(command) => rows!(Strings => class!(command)),
+    match command {
+        Operation::Look(Look::Server(command)) => rows!(ServerLook => name!(command)),
+        Operation::Look(Look::Strings(command)) => rows!(StringsLook => name!(command)),
+        Operation::Change(Change::Server(command)) => rows!(ServerChange => name!(command)),
+        Operation::Change(Change::Keys(command)) => rows!(KeysChange => name!(command)),
+        Operation::Change(Change::Strings(command)) => rows!(StringsChange => name!(command)),
     }
 }
 
 /// Whether a command takes so many words, its name counted.
-pub fn arity_ok(id: CommandId, words: usize) -> bool
-    ensures { result ≡ shape.arity_ok (row_of_id id).arity words }
+pub fn arity_ok(command: Operation, words: usize) -> bool
+    ensures { result ≡ shape.arity_ok (operation_row command).arity words }
 {
-    match id {
-        CommandId::Server(command) => rows!(Server => arity_ok!(command, words)),
-        CommandId::Keys(command) => rows!(Keys => arity_ok!(command, words)),
-        CommandId::Strings(command) => rows!(Strings => arity_ok!(command, words)),
+    match command {
+        Operation::Look(Look::Server(command)) => rows!(ServerLook => arity_ok!(command, words)),
+        Operation::Look(Look::Strings(command)) => rows!(StringsLook => arity_ok!(command, words)),
+        Operation::Change(Change::Server(command)) => {
+            rows!(ServerChange => arity_ok!(command, words))
+        }
+        Operation::Change(Change::Keys(command)) => rows!(KeysChange => arity_ok!(command, words)),
+        Operation::Change(Change::Strings(command)) => {
+            rows!(StringsChange => arity_ok!(command, words))
+        }
     }
 }

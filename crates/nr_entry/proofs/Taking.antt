@@ -1,12 +1,13 @@
 -- What was taken and what is left, as items.
 use Rattle.std.proofs.Common.{◌≡◌, ℕ, zero, suc, ◌≤◌, Bool, true, false, not, cond, List, [], ◌∷◌, ◌++◌, length, take, refl, sym, ap, ◌∙◌, arith}
-use Rattle.std.specs.Prelude.{◌&&◌}
+use Rattle.std.specs.Prelude.{◌&&◌, ◌==◌}
+use Rattle.std.specs.List.{list_all}
 use Rattle.std.proofs.lemmas.List.{length-take}
 use Rattle.nr_model.specs.Items.{Item, is_update}
 use Rattle.nr_model.specs.Entries.{Jobs, leading, not_leading, left_after, leads_as_update, has_read_of, most_entry_jobs, entry_jobs}
 use Rattle.nr_entry.specs.declared.job.Job.{Job}
 use Rattle.nr_entry.specs.Jobs.{item_of, items_of}
-use Rattle.nr_entry.specs.Entry.{are_updates}
+use Rattle.nr_entry.specs.Entry.{are_updates, are_of}
 use Rattle.nr_entry.specs.Choice.{marked, unmarked, leading_marks}
 use Rattle.nr_entry.proofs.Marks.{marked_leading, unmarked_left, map-marked, map-unmarked, take_all_leading, left_by_all, length-leading_marks}
 
@@ -59,16 +60,34 @@ both : (a b : Bool) → (a && b) ≡ true → (a ≡ true) × (b ≡ true)
 both true b e = (refl, e)
 both false b e = absurd (cc e)
 
-front_updates : (room : ℕ) (jobs : Jobs) → are_updates jobs ≡ true → are_updates (take room jobs) ≡ true
-front_updates zero [] all = refl
-front_updates zero (x ∷ jobs) all = refl
-front_updates (suc room) [] all = refl
-front_updates (suc room) (x ∷ jobs) all =
-    let parts = both (is_update x.deed) (are_updates jobs) all in
-    ap (λ (b : Bool). b && are_updates (take room jobs)) parts.0 ∙ front_updates room jobs parts.1
+front_all : (test : Item → Bool) (room : ℕ) (jobs : Jobs) → list_all test jobs ≡ true → list_all test (take room jobs) ≡ true
+front_all test zero [] all = refl
+front_all test zero (x ∷ jobs) all = refl
+front_all test (suc room) [] all = refl
+front_all test (suc room) (x ∷ jobs) all =
+    let parts = both (test x) (list_all test jobs) all in
+    ap (λ (b : Bool). b && list_all test (take room jobs)) parts.0 ∙ front_all test room jobs parts.1
+
+leading_all : (test : Item → Bool) (leads : Jobs → Item → Bool) (before jobs : Jobs) → list_all test jobs ≡ true → list_all test (leading leads before jobs) ≡ true
+leading_all test leads before [] all = refl
+leading_all test leads before (x ∷ jobs) all =
+    let parts = both (test x) (list_all test jobs) all in
+    let more = leading_all test leads (before ++ x ∷ []) jobs parts.1 in
+    either_all (leads before x) (leading leads (before ++ x ∷ []) jobs) parts.0 more
+  where
+    either_all : (b : Bool) (more : Jobs) → test x ≡ true → list_all test more ≡ true → list_all test (cond b (x ∷ more) more) ≡ true
+    either_all true more first rest = ap (λ (b : Bool). b && list_all test more) first ∙ rest
+    either_all false more first rest = rest
 
 pub entry_updates : (waiting taken : List Job) → items_of taken ≡ entry_jobs (items_of waiting) → are_updates (items_of taken) ≡ true
-entry_updates waiting taken is = ap are_updates is ∙ front_updates most_entry_jobs (leading leads_as_update [] (items_of waiting)) (leading_updates [] (items_of waiting))
+entry_updates waiting taken is =
+    ap are_updates is ∙ front_all (λ job. is_update job.deed) most_entry_jobs (leading leads_as_update [] (items_of waiting)) (leading_updates [] (items_of waiting))
+
+-- and of the node that all are of
+pub entry_own : (node : ℕ) (waiting taken : List Job) → items_of taken ≡ entry_jobs (items_of waiting) → are_of node (items_of waiting) ≡ true → are_of node (items_of taken) ≡ true
+entry_own node waiting taken is all =
+    let test : Item → Bool = λ job. job.connection.node == node in
+    ap (are_of node) is ∙ front_all test most_entry_jobs (leading leads_as_update [] (items_of waiting)) (leading_all test leads_as_update [] (items_of waiting) all)
 
 pub entry_length : (waiting taken : List Job) → items_of taken ≡ entry_jobs (items_of waiting) → length taken ≤ most_entry_jobs
 entry_length waiting taken is = omega (arith, how_many taken, ap length is, length-take most_entry_jobs (leading leads_as_update [] (items_of waiting)))

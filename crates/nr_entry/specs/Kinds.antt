@@ -1,30 +1,33 @@
 -- What a job asks for, as a deed of the definitions.
-use Rattle.std.specs.Prelude.{Bool, true, not, Some, None, map}
-use Rattle.nr_model.specs.Items.{Deed, Say, Act, Run, Abort, End, is_look}
+use Rattle.std.specs.Prelude.{Some, None, map}
+use Rattle.nr_model.specs.Items.{Deed, Say, Act, Run, Abort, End}
 use Rattle.nr_resp.specs.Seen.{reply_of}
-use Rattle.nr_command.specs.Check.{call_of}
-use Rattle.nr_command.specs.Table.{row_of_id}
+use Rattle.nr_command.specs.Check.{call, call_of}
+use Rattle.nr_model.specs.declared.command.Command.TheVariants.{Perform}
+use Rattle.nr_model.specs.declared.command.Operation.TheVariants as operations
 use Rattle.nr_entry.specs.declared.job.JobKind.{JobKind}
-use Rattle.nr_entry.specs.declared.job.JobKind.TheVariants.{Change, Exec, Look, Local, Close}
+use Rattle.nr_entry.specs.declared.job.JobKind.TheVariants as kinds
+use Rattle.nr_entry.specs.declared.job.Update.{Update}
+use Rattle.nr_entry.specs.declared.job.Update.TheVariants.{Change, Exec, Close}
+use Rattle.nr_entry.specs.declared.job.Read.{Read}
+use Rattle.nr_entry.specs.declared.job.Read.TheVariants.{Look, Local}
 use Rattle.nr_entry.specs.declared.job.Transaction.{Transaction}
 use Rattle.nr_entry.specs.declared.job.Transaction.TheVariants.{Queued, Spoiled}
-
--- a look is a command of that class, and a change is none
-abbrev pub kind_agrees : JobKind → Bool
-kind_agrees (Change cmd) = not (is_look (row_of_id cmd.id).class)
-kind_agrees (Look cmd) = is_look (row_of_id cmd.id).class
-kind_agrees (Exec transaction) = true
-kind_agrees (Local reply) = true
-kind_agrees (Close reply) = true
 
 abbrev pub transaction_deed : Transaction → Deed
 transaction_deed (Queued commands) = Run (map call_of commands.items)
 transaction_deed Spoiled = Abort
 
+abbrev pub update_deed : Update → Deed
+update_deed (Change command words) = Act (call (Perform (operations.Change command)) words.items)
+update_deed (Exec transaction) = transaction_deed transaction
+update_deed (Close None) = End None
+update_deed (Close (Some reply)) = End (Some (reply_of reply))
+
+abbrev pub read_deed : Read → Deed
+read_deed (Look command words) = Act (call (Perform (operations.Look command)) words.items)
+read_deed (Local reply) = Say (reply_of reply)
+
 abbrev pub deed_of : JobKind → Deed
-deed_of (Change cmd) = Act (call_of cmd)
-deed_of (Exec transaction) = transaction_deed transaction
-deed_of (Look cmd) = Act (call_of cmd)
-deed_of (Local reply) = Say (reply_of reply)
-deed_of (Close None) = End None
-deed_of (Close (Some reply)) = End (Some (reply_of reply))
+deed_of (kinds.Update update) = update_deed update
+deed_of (kinds.Read read) = read_deed read

@@ -2,3 +2,4 @@ pub mod Kinds
 pub mod Jobs
 pub mod Choice
 pub mod Entry
+pub mod Shares

@@ -1,9 +1,9 @@
 // Which of the waiting jobs are taken: each connection's jobs stay in order.
-ghost use Rattle.std.specs.Prelude.{◌≡◌, ◌≤◌, IfOk, OnOk, OnErr, IsTrue, [], length};
+ghost use Rattle.std.specs.Prelude.{◌≡◌, ◌≤◌, ℕ, IfOk, OnOk, OnErr, IsTrue, [], length};
 ghost use Rattle.nr_model.specs.Entries.{entry_jobs, left_by_entry, read_jobs, left_by_reads, most_entry_jobs};
 ghost use Rattle.nr_entry.specs.Jobs.{items_of};
 ghost use Rattle.nr_entry.specs.Choice.{leading_marks, leads_among, marked, unmarked};
-ghost use Rattle.nr_entry.specs.Entry.{are_updates};
+ghost use Rattle.nr_entry.specs.Entry.{are_updates, are_of};
 
 use crate::entry::MOST_JOBS;
 use crate::job::Job;
@@ -20,6 +20,7 @@ pub fn take_updates(alloc: Global, waiting: &mut Vec<Job>) -> Result<Vec<Job>, M
     ensures err { OnErr result (waiting.new.items ≡ waiting.old.items) }
     ensures updates { IfOk result (λ taken. IsTrue (are_updates (items_of taken.items))) }
     ensures most { IfOk result (λ taken. length taken.items ≤ most_entry_jobs) }
+    ensures own { (node : ℕ) → IsTrue (are_of node (items_of waiting.old.items)) → IfOk result (λ taken. IsTrue (are_of node (items_of taken.items))) }
 {
     let marks = mark_leading(alloc, waiting, true, MOST_JOBS)?;
     take_marked(alloc, waiting, &marks)
@@ -83,6 +84,3 @@ fn take_marked(alloc: Global, waiting: &mut Vec<Job>, marks: &[bool]) -> Result<
     }
     Ok(taken)
 }
-
-#[cfg(test)]
-mod tests;

@@ -1,4 +1,4 @@
-// A connection's name.
+// A connection's name: the node that serves it and its number there, never used again.
 
 /// A connection: the node that serves it, and its number among that node's connections, from 0. It is never used again.
 #[derive(Clone, Copy, Debug, PartialEq, Eq, PartialOrd, Ord, Hash)]

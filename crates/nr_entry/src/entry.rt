@@ -1,7 +1,7 @@
-// An entry of the operation log.
+// An entry of the operation log: updates of one node, at one moment.
 ghost use Rattle.std.specs.Prelude.{◌≡◌, ◌<◌, ◌≤◌, IsTrue, length};
 ghost use Rattle.nr_model.specs.Entries.{entry_moment, most_entry_jobs};
-ghost use Rattle.nr_entry.specs.Entry.{are_updates};
+ghost use Rattle.nr_entry.specs.Entry.{are_updates, are_of};
 ghost use Rattle.nr_entry.specs.Jobs.{items_of};
 
 use crate::job::Job;
@@ -21,6 +21,7 @@ pub struct Entry {
     pub ghost some: { 0 < length jobs.items },
     pub ghost most: { length jobs.items ≤ most_entry_jobs },
     pub ghost updates: { IsTrue (are_updates (items_of jobs.items)) },
+    pub ghost own: { IsTrue (are_of node (items_of jobs.items)) },
     pub ghost latest: { moment ≡ entry_moment (items_of jobs.items) },
 }
 
@@ -30,6 +31,7 @@ impl Entry {
         requires some { 0 < length jobs.items }
         requires most { length jobs.items ≤ most_entry_jobs }
         requires updates { IsTrue (are_updates (items_of jobs.items)) }
+        requires own { IsTrue (are_of node (items_of jobs.items)) }
         ensures node { result.node ≡ node }
         ensures jobs { result.jobs.items ≡ jobs.items }
     {

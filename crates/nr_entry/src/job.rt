@@ -1,10 +1,11 @@
-// What a connection asks of the server.
-ghost use Rattle.std.specs.Prelude.{◌≡◌, IfOk, IsTrue};
-ghost use Rattle.nr_entry.specs.Kinds.{kind_agrees};
+// What a connection asks of the server: updates, which go through the log, and reads, which take no entry. The type says which.
+ghost use Rattle.std.specs.Prelude.{◌≡◌, ◌≤◌, IfOk};
+ghost use Rattle.nr_model.specs.Keyspace.{last_moment};
 
 use crate::conn::ConnId;
-use nr_blob::Memory;
-use nr_command::Cmd;
+use nr_blob::{Blob, Memory};
+use nr_command::{Cmd, copy_words};
+use nr_model::command::{Change, Look};
 use nr_resp::Reply;
 
 /// The commands of a transaction.
@@ -16,19 +17,31 @@ pub enum Transaction {
     Spoiled,
 }
 
-/// What a job asks for. Changes, transactions and closes are updates, which take a place in the log; looks and local replies are reads.
+/// An update: it takes a place in the log.
 #[derive(Debug, Drop)]
-pub enum JobKind {
-    /// A command that is no look.
-    Change(Cmd),
+pub enum Update {
+    /// A command that may change the keyspace, with all words of its request.
+    Change { command: Change, words: Vec<Blob> },
     /// EXEC.
     Exec(Transaction),
-    /// A command of the class look.
-    Look(Cmd),
-    /// A reply that needs no state.
-    Local(Reply),
     /// The connection's end, with a last reply or none.
     Close(Option<Reply>),
+}
+
+/// A read: it takes no place in the log.
+#[derive(Debug, Drop)]
+pub enum Read {
+    /// A command that only looks, with all words of its request.
+    Look { command: Look, words: Vec<Blob> },
+    /// A reply that needs no state.
+    Local(Reply),
+}
+
+/// What a job asks for.
+#[derive(Debug, Drop)]
+pub enum JobKind {
+    Update(Update),
+    Read(Read),
 }
 
 /// A job of a connection.
@@ -40,8 +53,7 @@ pub struct Job {
     /// The moment at which its request was complete, in milliseconds, at most 2^53.
     pub moment: u64,
     pub kind: JobKind,
-    /// A look is a command of that class, and a change is none.
-    pub ghost agrees: { IsTrue (kind_agrees kind) },
+    pub ghost in_time: { moment ≤ last_moment },
 }
 
 impl Transaction {
@@ -64,21 +76,52 @@ impl Transaction {
     }
 }
 
+impl Update {
+    ghost use Rattle.nr_entry.specs.Kinds.{update_deed};
+
+    /// The same once more.
+    pub fn copy(&self) -> Result<Update, Memory>
+        ensures { IfOk result (λ copied. update_deed copied ≡ update_deed self.now) }
+    {
+        match self {
+            Update::Change { command, words } => Ok(Update::Change {
+                command: *command,
+                words: copy_words(words)?,
+            }),
+            Update::Exec(transaction) => Ok(Update::Exec(transaction.copy()?)),
+            Update::Close(None) => Ok(Update::Close(None)),
+            Update::Close(Some(reply)) => Ok(Update::Close(Some(reply.copy()?))),
+        }
+    }
+}
+
+impl Read {
+    ghost use Rattle.nr_entry.specs.Kinds.{read_deed};
+
+    /// The same once more.
+    pub fn copy(&self) -> Result<Read, Memory>
+        ensures { IfOk result (λ copied. read_deed copied ≡ read_deed self.now) }
+    {
+        match self {
+            Read::Look { command, words } => Ok(Read::Look {
+                command: *command,
+                words: copy_words(words)?,
+            }),
+            Read::Local(reply) => Ok(Read::Local(reply.copy()?)),
+        }
+    }
+}
+
 impl JobKind {
-    ghost use Rattle.nr_entry.specs.Kinds.{deed_of, kind_agrees};
+    ghost use Rattle.nr_entry.specs.Kinds.{deed_of};
 
     /// The same once more.
     pub fn copy(&self) -> Result<JobKind, Memory>
-        ensures deed { IfOk result (λ copied. deed_of copied ≡ deed_of self.now) }
-        ensures agrees { IfOk result (λ copied. kind_agrees copied ≡ kind_agrees self.now) }
+        ensures { IfOk result (λ copied. deed_of copied ≡ deed_of self.now) }
     {
         match self {
-            JobKind::Change(cmd) => Ok(JobKind::Change(cmd.copy()?)),
-            JobKind::Exec(transaction) => Ok(JobKind::Exec(transaction.copy()?)),
-            JobKind::Look(cmd) => Ok(JobKind::Look(cmd.copy()?)),
-            JobKind::Local(reply) => Ok(JobKind::Local(reply.copy()?)),
-            JobKind::Close(None) => Ok(JobKind::Close(None)),
-            JobKind::Close(Some(reply)) => Ok(JobKind::Close(Some(reply.copy()?))),
+            JobKind::Update(update) => Ok(JobKind::Update(update.copy()?)),
+            JobKind::Read(read) => Ok(JobKind::Read(read.copy()?)),
         }
     }
 }
@@ -105,11 +148,8 @@ impl Job {
         ensures { result ≡ is_update (deed_of self.now.kind) }
     {
         match self.kind {
-            JobKind::Change(_) | JobKind::Exec(_) | JobKind::Close(_) => true,
-            JobKind::Look(_) | JobKind::Local(_) => false,
+            JobKind::Update(_) => true,
+            JobKind::Read(_) => false,
         }
     }
 }
-
-#[cfg(test)]
-mod tests;

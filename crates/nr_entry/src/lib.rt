@@ -1,12 +1,16 @@
-//! Jobs of connections, and the entries of the operation log that they are put into.
+//! Jobs of connections, the entries of the operation log that they are put into, and what workers hand to a replica.
 #![tactic(auto)]
 
+pub use batch::{Answer, Batch, Outcome, Refusal};
 pub use choice::{take_reads, take_updates};
 pub use conn::ConnId;
 pub use entry::{Entry, MOST_JOBS};
-pub use job::{Job, JobKind, Transaction};
+pub use job::{Job, JobKind, Read, Transaction, Update};
+pub use shares::Shares;
 
+mod batch;
 mod choice;
 mod conn;
 mod entry;
 mod job;
+mod shares;

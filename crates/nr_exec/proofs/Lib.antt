@@ -1,3 +1,4 @@
-pub mod Operations
-pub mod Swept
 pub mod Removals
+pub mod Selected
+pub mod Swept
+pub mod Touching

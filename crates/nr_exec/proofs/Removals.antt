@@ -1,51 +1,67 @@
 -- Removals one after the other.
-use Rattle.std.proofs.Common.{◌≡◌, ℕ, Bool, true, false, cond, List, [], ◌∷◌, ◌++◌, refl, ap, sym, ◌∙◌, append_assoc, append-nil, get_or, drop, length, ◌<◌, ◌+◌, drop-cons, add-one, suc, length-append, ◌≤◌, ◌-◌, arith}
+use Rattle.std.proofs.Common.{◌≡◌, ℕ, ◌+◌, ◌<◌, ◌≤◌, Bool, true, false, cond, List, [], ◌∷◌, ◌++◌, length, drop, get_or, suc, refl, ap, sym, ◌∙◌, subst, append-nil, drop-cons, add-one, length-append, arith}
 use Rattle.std.proofs.lemmas.List.{drop_all}
 use Rattle.std.specs.FinMap as map
 use Rattle.nr_model.specs.Bytes.{Bytes}
 use Rattle.nr_model.specs.Keyspace.{Key, Keyspace}
 use Rattle.nr_model.specs.Commands.Keys.{Removal, remove_one, remove_all}
 use Rattle.nr_keyspace.specs.Joined.{key_of}
+use Rattle.nr_exec.specs.Touched.{Told, Touches}
+use Rattle.nr_exec.specs.Removed.{Removes}
+use Rattle.nr_exec.proofs.Touching.{touches_none, touches_more}
 
--- with these removed before
-abbrev pub behind : List Key → Removal → Removal
-behind before removal = record { keyspace = removal.keyspace; removed = before ++ removal.removed }
+-- The first of the names were taken out: so many, and whoever keeps account was told of them.
+pub record Along (start keyspace : Keyspace) (told told' : Told) (count : ℕ) (database : ℕ) (names : List Bytes) (i : ℕ) : Type 0 where
+  pub removed : List Key
+  pub counted : count ≡ length removed
+  pub few : count ≤ i
+  pub touched : Touches told told' removed
+  pub further : remove_all (record { keyspace = keyspace; removed = removed }) database (drop i names) ≡ remove_all (record { keyspace = start; removed = [] }) database names
 
-one_behind : (before : List Key) (removal : Removal) (key : Key) (b : Bool)
-    → cond b (record { keyspace = map.remove removal.keyspace key; removed = (before ++ removal.removed) ++ key ∷ [] }) (behind before removal)
-    ≡ behind before (cond b (record { keyspace = map.remove removal.keyspace key; removed = removal.removed ++ key ∷ [] }) removal)
-one_behind before removal key true = ap (λ removed. record { keyspace = map.remove removal.keyspace key; removed = removed }) (append_assoc before removal.removed (key ∷ []))
-one_behind before removal key false = refl
+pub none_yet : (start : Keyspace) (told : Told) (database : ℕ) (names : List Bytes) → Along start start told told 0 database names 0
+none_yet start told database names = record { removed = []; counted = refl; few = omega arith; touched = touches_none told; further = refl }
 
--- what was removed before stays in front
-pub all_behind : (before : List Key) (removal : Removal) (database : ℕ) (names : List Bytes) → remove_all (behind before removal) database names ≡ behind before (remove_all removal database names)
-all_behind before removal database [] = refl
-all_behind before removal database (name ∷ names) =
-    ap (λ r. remove_all r database names) (one_behind before removal (key_of database name) (map.contains_key removal.keyspace (key_of database name)))
-    ∙ all_behind before (remove_one removal (key_of database name)) database names
+by_flag : (b : Bool) (key : Key) (keyspace : Keyspace) (before : List Key)
+    → ◌≡◌ {A = Removal} (cond b (record { keyspace = map.remove keyspace key; removed = before ++ key ∷ [] }) (record { keyspace = keyspace; removed = before }))
+    (record { keyspace = cond b (map.remove keyspace key) keyspace; removed = before ++ cond b (key ∷ []) [] })
+by_flag true key keyspace before = refl
+by_flag false key keyspace before = ap {B = Removal} (λ (ks : List Key). record { keyspace = keyspace; removed = ks }) (sym (append-nil before))
 
--- from the keyspace at the start to that at the end, with the keys that were touched before it
-pub removed_all : (start end : Keyspace) (before after : List Key) (database : ℕ) (names : List Bytes)
-    → record { keyspace = end; removed = after } ≡ remove_all (record { keyspace = start; removed = before }) database names
-    → record { keyspace = end; removed = after } ≡ behind before (remove_all (record { keyspace = start; removed = [] }) database names)
-removed_all start end before after database names is =
-    is
-    ∙ ap (λ b. remove_all (record { keyspace = start; removed = b }) database names) (sym (append-nil before))
-    ∙ all_behind before (record { keyspace = start; removed = [] }) database names
+abbrev pub counted_on : Bool → ℕ → ℕ
+counted_on true n = n + 1
+counted_on false n = n
+
+grown : (b : Bool) (key : Key) (before : List Key) (count : ℕ) → count ≡ length before → counted_on b count ≡ length (before ++ cond b (key ∷ []) [])
+grown true key before count e = omega (arith, e, length-append before (key ∷ []))
+grown false key before count e = e ∙ ap length (sym (append-nil before))
+
+still_few : (b : Bool) (count i : ℕ) → count ≤ i → counted_on b count ≤ i + 1
+still_few true count i h = omega arith
+still_few false count i h = omega arith
 
 -- one name further
-pub one_further : (old new : Removal) (database : ℕ) (names : List Bytes) (i : ℕ) (name : Bytes) (whole : Removal) → i < length names → name ≡ get_or names i name
-    → new ≡ remove_one old (key_of database name) → remove_all old database (drop i names) ≡ whole → remove_all new database (drop (i + 1) names) ≡ whole
-one_further old new database names i name whole below at one is =
+pub one_further : (start old new : Keyspace) (told told' told'' : Told) (count : ℕ) (database : ℕ) (names : List Bytes) (i : ℕ) (name : Bytes) (removed : Bool)
+    → i < length names → name ≡ get_or names i name → Along start old told told' count database names i → Removes removed old new told' told'' (key_of database name)
+    → Along start new told told'' (counted_on removed count) database names (i + 1)
+one_further start old new told told' told'' count database names i name removed below at so_far step =
+    let key = key_of database name in
     let cut : drop i names ≡ name ∷ drop (i + 1) names = rw add-one (drop-cons names i name below ∙ ap (λ x. x ∷ drop (suc i) names) (sym at)) in
-    ap (λ r. remove_all r database (drop (i + 1) names)) one ∙ sym (ap (remove_all old database) cut) ∙ is
+    let stepped : remove_one (record { keyspace = old; removed = so_far.removed }) key ≡ record { keyspace = new; removed = so_far.removed ++ cond removed (key ∷ []) [] } =
+    ap {B = Removal} (λ b. cond b (record { keyspace = map.remove old key; removed = so_far.removed ++ key ∷ [] }) (record { keyspace = old; removed = so_far.removed })) (sym step.was_there)
+    ∙ by_flag removed key old so_far.removed
+    ∙ ap {B = Removal} (λ (k : Keyspace). record { keyspace = k; removed = so_far.removed ++ cond removed (key ∷ []) [] }) (sym step.keyspace) in record {
+      removed = so_far.removed ++ cond removed (key ∷ []) [];
+      counted = grown removed key so_far.removed count so_far.counted;
+      few = still_few removed count i so_far.few;
+      touched = touches_more told told' told'' so_far.removed (cond removed (key ∷ []) []) so_far.touched step.touched;
+      further =
+          ap (λ (r : Removal). remove_all r database (drop (i + 1) names)) (sym stepped)
+          ∙ ap (remove_all (record { keyspace = old; removed = so_far.removed }) database) (sym cut)
+          ∙ so_far.further;
+    }
 
 -- past the last name
-pub no_further : (removal whole : Removal) (database : ℕ) (names : List Bytes) (i : ℕ) → length names ≤ i → remove_all removal database (drop i names) ≡ whole → removal ≡ whole
-no_further removal whole database names i past is = sym (ap (remove_all removal database) (drop_all i names past)) ∙ is
-
--- the keys behind those before are counted by the lengths
-pub counted : (before more after : List Key) (n m : ℕ) → after ≡ before ++ more → n ≡ length before → m ≡ length after → (n ≤ m) × (m - n ≡ length more)
-counted before more after n m is old new =
-    let whole : m ≡ length before + length more = new ∙ ap length is ∙ length-append before more in
-    (omega arith, omega arith)
+pub no_further : (start keyspace : Keyspace) (told told' : Told) (count : ℕ) (database : ℕ) (names : List Bytes) (i : ℕ) → length names ≤ i → (along : Along start keyspace told told' count database names i)
+    → record { keyspace = keyspace; removed = along.removed } ≡ remove_all (record { keyspace = start; removed = [] }) database names
+no_further start keyspace told told' count database names i past along =
+    sym (ap (remove_all (record { keyspace = keyspace; removed = along.removed }) database) (drop_all i names past)) ∙ along.further

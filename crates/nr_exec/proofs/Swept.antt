@@ -3,8 +3,8 @@ use Rattle.std.proofs.Common.{◌≡◌, ℕ, Bool, true, false, cond, refl, ap,
 use Rattle.std.specs.Prelude.{Option, Some, None}
 use Rattle.std.specs.FinMap as map
 use Rattle.std.specs.Ordering.{eq_by_cmp}
-use Rattle.nr_model.specs.Keyspace.{Key, key_cmp, Stored, Keyspace, live, is_live_at}
-use Rattle.nr_model.proofs.Live.{key_total, only_live, get-live}
+use Rattle.nr_model.specs.Keyspace.{Key, key_cmp, Stored, Keyspace, live, is_live_at, only_live}
+use Rattle.nr_model.proofs.Live.{key_total, get-live}
 use Rattle.nr_keyspace.proofs.Orders.{key_exact}
 
 live_if : (now : ℕ) (stored : Stored) (b : Bool) → is_live_at now stored.deadline ≡ b → only_live now (cond b (Some stored) None) ≡ cond b (Some stored) None

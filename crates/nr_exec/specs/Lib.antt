@@ -1,2 +1,3 @@
-pub mod Operations
 pub mod Touched
+pub mod Done
+pub mod Removed

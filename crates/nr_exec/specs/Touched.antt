@@ -1,15 +1,18 @@
--- Touched keys as those of the definitions.
-use Rattle.std.specs.Prelude.{List, map}
-use Rattle.nr_model.specs.Keyspace as model
-use Rattle.nr_model.specs.Commands.Keys.{Removal}
-use Rattle.nr_exec.specs.declared.key.Key.{Key}
+-- Touched keys, as a set.
+use Rattle.std.specs.Prelude.{◌≡◌, List, [], ◌∷◌, Option, Some, None, fold}
+use Rattle.std.specs.FinSet as set
+use Rattle.nr_model.specs.Keyspace.{Key, key_cmp}
 
-abbrev pub key_seen : Key → model.Key
-key_seen key = record { database = key.database; name = key.name }
+-- the keys that somebody was told of, where they are kept account of
+abbrev pub Told : Type 0
+Told = Option (set.FinSet key_cmp)
 
-abbrev pub keys_seen : List Key → List model.Key
-keys_seen keys = map key_seen keys
+abbrev pub with_keys : set.FinSet key_cmp → List Key → set.FinSet key_cmp
+with_keys told [] = told
+with_keys told (key ∷ keys) = with_keys (set.insert told key) keys
 
--- a keyspace, with touched keys as those that were removed
-abbrev pub removal_seen : model.Keyspace → List Key → Removal
-removal_seen keyspace keys = record { keyspace = keyspace; removed = keys_seen keys }
+-- whoever keeps account was told of these keys, and of no others
+abbrev pub Touches : Told → Told → List Key → Type 0
+Touches None after keys = Unit {0}
+Touches (Some before) None keys = ⊥
+Touches (Some before) (Some after) keys = after ≡ with_keys before keys

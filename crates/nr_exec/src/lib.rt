@@ -1,12 +1,12 @@
 //! Commands on the keyspace.
 #![tactic(auto)]
 
-pub use exec::{look, run};
-pub use key::Key;
+pub use exec::{change, look};
+pub use touched::{Nobody, Touched};
 
 mod exec;
-mod key;
 mod keys;
 mod replies;
 mod server;
 mod strings;
+mod touched;

@@ -1,4 +1,4 @@
-// Replies that several commands share.
+// The error replies that several commands share.
 ghost use Rattle.std.specs.Prelude.{◌≡◌, IfOk};
 ghost use Rattle.nr_model.specs.Replies as model;
 ghost use Rattle.nr_model.specs.Commands.Texts.{syntax_error};

@@ -1,22 +1,21 @@
-// Strings.
-ghost use Rattle.std.specs.Prelude.{◌≡◌, ◌∷◌, ◌++◌, [], true, false, IfOk, OnOk};
+// The commands of the section on strings. They touch the keyspace, and tell of each key that they changed.
+ghost use Rattle.std.specs.Prelude.{◌≡◌, ◌∷◌, [], ℕ, None, IfOk, OnOk};
 ghost use Rattle.std.specs.FinMap as map;
 ghost use Rattle.nr_model.specs.Keyspace as model;
-ghost use Rattle.nr_keyspace.specs.Joined.{key_of};
-ghost use Rattle.nr_model.specs.Items.{is_look};
 ghost use Rattle.nr_model.specs.Keyspace.{live};
+ghost use Rattle.nr_model.specs.Commands.Shape.{staying};
 ghost use Rattle.nr_model.specs.Commands.Strings as strings;
+ghost use Rattle.nr_keyspace.specs.Joined.{key_of};
 ghost use Rattle.nr_keyspace.specs.Values.{value_of};
-ghost use Rattle.nr_command.specs.Table.{strings_row};
 ghost use Rattle.nr_resp.specs.Seen.{reply_of};
-ghost use Rattle.nr_exec.specs.Operations.{strings_operation};
-ghost use Rattle.nr_exec.specs.Touched.{keys_seen};
+ghost use Rattle.nr_exec.specs.Done.{IsDone};
+ghost use Rattle.nr_exec.specs.Touched.{Touches};
 
-use crate::key::Key;
 use crate::replies;
+use crate::touched::Touched;
 use nr_blob::{Blob, Memory};
-use nr_command::Strings;
 use nr_keyspace::{Db, Keyspace, Value};
+use nr_model::command::{StringsChange, StringsLook};
 use nr_resp::Reply;
 use std::alloc::Global;
 
@@ -26,36 +25,29 @@ pub(crate) fn look(
     keyspace: &Keyspace,
     now: u64,
     database: Db,
-    command: Strings,
+    command: StringsLook,
     arguments: &[Blob],
 ) -> Result<Reply, Memory>
-    requires { is_look (strings_row command).class ≡ true }
-    ensures { IfOk result (λ reply. reply_of reply ≡ (strings.perform (strings_operation command) now (live keyspace.now now) database arguments.now).reply) }
+    ensures { IfOk result (λ reply. reply_of reply ≡ strings.look command now (live keyspace.now now) database arguments.now) }
 {
     match command {
-        Strings::Get => get(alloc, keyspace, now, database, arguments),
-        Strings::Set => unreachable!(),
+        StringsLook::Get => get(alloc, keyspace, now, database, arguments),
     }
 }
 
 /// A command that may change a keyspace whose keys are all live. The arguments are the words behind the name.
-pub(crate) fn change(
+pub(crate) fn change<T: Touched>(
     alloc: Global,
     keyspace: &mut Keyspace,
-    now: u64,
     database: Db,
-    command: Strings,
+    command: StringsChange,
     arguments: &[Blob],
-    touched: &mut Vec<Key>,
+    touched: &mut T,
 ) -> Result<Reply, Memory>
-    requires { is_look (strings_row command).class ≡ false }
-    ensures reply { IfOk result (λ reply. reply_of reply ≡ (strings.perform (strings_operation command) now keyspace.old database arguments.now).reply) }
-    ensures keyspace { OnOk result (keyspace.new ≡ (strings.perform (strings_operation command) now keyspace.old database arguments.now).keyspace) }
-    ensures touched { OnOk result (keys_seen touched.new.items ≡ keys_seen touched.old.items ++ (strings.perform (strings_operation command) now keyspace.old database arguments.now).touched) }
+    ensures { (now : ℕ) → IfOk result (λ reply. IsDone (reply_of reply) keyspace.new database (T.told touched.old) (T.told touched.new) (staying database (strings.change command now keyspace.old database arguments.now))) }
 {
     match command {
-        Strings::Get => unreachable!(),
-        Strings::Set => set(alloc, keyspace, database, arguments, touched),
+        StringsChange::Set => set(alloc, keyspace, database, arguments, touched),
     }
 }
 
@@ -67,7 +59,7 @@ fn get(
     database: Db,
     arguments: &[Blob],
 ) -> Result<Reply, Memory>
-    ensures { IfOk result (λ reply. reply_of reply ≡ (strings.get (live keyspace.now now) database arguments.now).reply) }
+    ensures { IfOk result (λ reply. reply_of reply ≡ strings.get (live keyspace.now now) database arguments.now) }
 {
     let Some((name, _)) = arguments.split_first() else {
         return replies::syntax(alloc);
@@ -88,16 +80,14 @@ fn value_reply(value: &Value) -> Result<Reply, Memory>
 }
 
 // SET key value
-fn set(
+fn set<T: Touched>(
     alloc: Global,
     keyspace: &mut Keyspace,
     database: Db,
     arguments: &[Blob],
-    touched: &mut Vec<Key>,
+    touched: &mut T,
 ) -> Result<Reply, Memory>
-    ensures reply { IfOk result (λ reply. reply_of reply ≡ (strings.set keyspace.old database arguments.now).reply) }
-    ensures keyspace { OnOk result (keyspace.new ≡ (strings.set keyspace.old database arguments.now).keyspace) }
-    ensures touched { OnOk result (keys_seen touched.new.items ≡ keys_seen touched.old.items ++ (strings.set keyspace.old database arguments.now).touched) }
+    ensures { IfOk result (λ reply. IsDone (reply_of reply) keyspace.new database (T.told touched.old) (T.told touched.new) (staying database (strings.set keyspace.old database arguments.now))) }
 {
     let [name, text] = arguments else {
         return replies::syntax(alloc);
@@ -106,22 +96,18 @@ fn set(
     Ok(Reply::Simple("OK"))
 }
 
-// The key holds the text, whatever it held, and has no deadline.
-fn store(
+// The key holds the text, whatever it held, and has no deadline. Its name and the text are copied once.
+fn store<T: Touched>(
     keyspace: &mut Keyspace,
     database: Db,
     name: &Blob,
     text: &Blob,
-    touched: &mut Vec<Key>,
+    touched: &mut T,
 ) -> Result<(), Memory>
     ensures keyspace { OnOk result (keyspace.new ≡ map.insert keyspace.old (key_of database name.now) (record { value = model.Text text.now; deadline = None })) }
-    ensures touched { OnOk result (keys_seen touched.new.items ≡ keys_seen touched.old.items ++ key_of database name.now ∷ []) }
+    ensures touched { OnOk result (Touches (T.told touched.old) (T.told touched.new) (key_of database name.now ∷ [])) }
 {
     let value = Value::String(text.copy()?);
     keyspace.put(database, name.copy()?, value, None)?;
-    touched.push(Key {
-        database,
-        name: name.copy()?,
-    })?;
-    Ok(())
+    touched.touch(database, name.bytes())
 }

@@ -5,8 +5,7 @@ use Rattle.std.specs.Map.{lookup, KeepsOthers}
 use Rattle.std.specs.FinMap as map
 use Rattle.std.specs.FinSet as set
 use Rattle.nr_model.specs.Bytes.{Bytes}
-use Rattle.nr_model.specs.Keyspace.{Stored, is_live_at}
-use Rattle.nr_model.proofs.Live.{only_live}
+use Rattle.nr_model.specs.Keyspace.{Stored, is_live_at, only_live}
 use Rattle.nr_keyspace.specs.Deadlines.{due_cmp, without_deadline, IsReplaced}
 use Rattle.nr_keyspace.specs.Stores.{Store, IsIndexed, redated, bytes_of, store_of, stored_of, deadline_of}
 use Rattle.nr_keyspace.specs.Values.{value_of}

@@ -13,8 +13,7 @@ use Rattle.std.specs.FinSet as set
 use Rattle.std.proofs.lemmas.Map.Lookups.{exact_bytes}
 use Rattle.std.proofs.lemmas.Map.Keys.{IsDistinct-tail, sorted_head, sorted_tail}
 use Rattle.nr_model.specs.Bytes.{Bytes}
-use Rattle.nr_model.specs.Keyspace.{byte_cmp, Stored}
-use Rattle.nr_model.proofs.Live.{only_live}
+use Rattle.nr_model.specs.Keyspace.{byte_cmp, Stored, only_live}
 use Rattle.nr_keyspace.specs.Deadlines.{Due, due_cmp, dues_of, has_deadline}
 use Rattle.nr_keyspace.specs.Names.{live_store}
 use Rattle.nr_keyspace.specs.Stores.{Store, IsIndexed, stored_of, bytes_of, store_of, deadline_of}

@@ -8,8 +8,7 @@ use Rattle.std.specs.FinMap as map
 use Rattle.std.specs.FinSet as set
 use Rattle.std.proofs.lemmas.Map.Lookups.{exact_bytes, exact_signed}
 use Rattle.nr_model.specs.Bytes.{Bytes}
-use Rattle.nr_model.specs.Keyspace.{byte_cmp, Stored, is_live_at}
-use Rattle.nr_model.proofs.Live.{only_live}
+use Rattle.nr_model.specs.Keyspace.{byte_cmp, Stored, is_live_at, only_live}
 use Rattle.nr_keyspace.specs.Deadlines.{due_cmp, has_deadline, without_deadline, IsReplaced}
 use Rattle.nr_keyspace.specs.Stores.{Store, IsIndexed, deadline_of}
 use Rattle.nr_keyspace.proofs.Orders.{due_total}

@@ -10,8 +10,8 @@ use Rattle.std.specs.List.{SwappedAt}
 use Rattle.std.specs.FinMap as map
 use Rattle.std.proofs.lemmas.List.{get_or_default, get_or_past, set-get_or}
 use Rattle.nr_model.specs.Bytes.{Bytes}
-use Rattle.nr_model.specs.Keyspace.{Key, Keyspace, key_cmp, byte_cmp, Stored, live}
-use Rattle.nr_model.proofs.Live.{key_total, get-live, only_live}
+use Rattle.nr_model.specs.Keyspace.{Key, Keyspace, key_cmp, byte_cmp, Stored, live, only_live}
+use Rattle.nr_model.proofs.Live.{key_total, get-live}
 use Rattle.nr_keyspace.specs.Stores.{Store, redated}
 use Rattle.nr_keyspace.specs.Joined.{key_of, with_entries, joined_from, joined, store_at, IsSwept, other_of, exchanged}
 use Rattle.nr_keyspace.proofs.Orders.{key_exact}

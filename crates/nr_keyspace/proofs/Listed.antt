@@ -10,8 +10,7 @@ use Rattle.std.specs.FinMap as map
 use Rattle.std.proofs.lemmas.Map.Keys.{IsDistinct-tail}
 use Rattle.std.proofs.lemmas.Map.Lookups.{exact_bytes, btree_set_from_contains}
 use Rattle.nr_model.specs.Bytes.{Bytes}
-use Rattle.nr_model.specs.Keyspace.{byte_cmp, Stored, is_live_at}
-use Rattle.nr_model.proofs.Live.{only_live}
+use Rattle.nr_model.specs.Keyspace.{byte_cmp, Stored, is_live_at, only_live}
 use Rattle.nr_keyspace.specs.Names.{live_store}
 use Rattle.nr_keyspace.specs.Stores.{Store, stored_of, bytes_of, store_of}
 use Rattle.nr_keyspace.specs.declared.database.Entry.{Entry}

@@ -2,8 +2,7 @@
 use Rattle.std.specs.Prelude.{◌≡◌, ℕ, suc, List, [], ◌∷◌, slice_index_or, ◌==◌, if◌then◌else◌}
 use Rattle.std.specs.FinMap as map
 use Rattle.nr_model.specs.Bytes.{Bytes}
-use Rattle.nr_model.specs.Keyspace.{Key, Keyspace, Stored}
-use Rattle.nr_model.proofs.Live.{only_live}
+use Rattle.nr_model.specs.Keyspace.{Key, Keyspace, Stored, only_live}
 use Rattle.nr_keyspace.specs.Stores.{Store}
 
 abbrev pub key_of : ℕ → Bytes → Key

@@ -1,10 +1,9 @@
-// The keys of one database.
+// The keys of one database: a hashed map beside an ordered index of their deadlines, kept in step.
 ghost use Rattle.std.specs.Prelude.{◌≡◌, Some, IfOk, OnOk, OnErr, OnSome, IfNone, is_some};
 ghost use Rattle.std.specs.Option.{option_map};
 ghost use Rattle.std.specs.FinMap as map;
 ghost use Rattle.nr_model.specs.Bytes.{Bytes};
-ghost use Rattle.nr_model.specs.Keyspace.{Stored};
-ghost use Rattle.nr_model.proofs.Live.{only_live};
+ghost use Rattle.nr_model.specs.Keyspace.{Stored, only_live};
 ghost use Rattle.nr_keyspace.specs.Values.{value_of};
 ghost use Rattle.nr_keyspace.specs.Names.{live_store};
 ghost use Rattle.nr_keyspace.specs.Stores.{stored_of, deadline_of, bytes_of, store_of, redated};

@@ -1,4 +1,4 @@
-// Which database.
+// Which of the sixteen databases: a number that can't be out of range.
 ghost use Rattle.std.specs.Prelude.{◌≡◌, ◌<◌, ◌↔◌, IsSome, IfSome};
 ghost use Rattle.nr_model.specs.Keyspace.{how_many_databases};
 

@@ -1,4 +1,4 @@
-// The deadlines of one database, in order.
+// The deadlines of one database, in order, so that a sweep looks at expired keys alone.
 ghost use Rattle.std.specs.Prelude.{◌≡◌, ℤ, true, false, pos, int_lt, IsTrue, IfSome, IfNone, IfOk, OnOk, OnErr, ◌<◌, ◌+◌};
 ghost use Rattle.std.specs.FinMap as map;
 ghost use Rattle.std.specs.FinSet as set;

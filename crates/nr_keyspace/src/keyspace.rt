@@ -1,4 +1,4 @@
-// All databases.
+// All sixteen databases, seen as one finite map from (database, name) to value and deadline.
 ghost use Rattle.std.specs.Prelude.{◌≡◌, ℕ, length, IfOk, OnOk, OnErr, OnSome, IfNone, is_some};
 ghost use Rattle.std.specs.Option.{option_map};
 ghost use Rattle.std.specs.FinMap as map;
@@ -166,6 +166,3 @@ impl Keyspace {
         sweep_each(&mut self.databases, now);
     }
 }
-
-#[cfg(test)]
-mod tests;

@@ -1,4 +1,4 @@
-// Moments and deadlines.
+// When a key with a deadline can be seen.
 ghost use Rattle.std.specs.Prelude.{◌≡◌};
 ghost use Rattle.nr_model.specs.Keyspace.{is_live_at};
 

@@ -2,90 +2,103 @@
 use Rattle.std.proofs.Common.{rules, ◌≡◌, ℕ, Bool, true, max, cond, List, [], ◌∷◌, ◌++◌, map, refl, ap, sym, ◌∙◌, Some, None}
 use Rattle.std.specs.Ordering.{ord_max, nat_cmp}
 use Rattle.nr_model.specs.Keyspace.{Keyspace}
-use Rattle.nr_model.specs.Items.{Connection, is_update}
+use Rattle.nr_model.specs.Items.{Connection, Item, is_update}
 use Rattle.nr_model.specs.Replies.{Reply, array}
-use Rattle.nr_model.specs.Sequential.{Progress, one_reply}
+use Rattle.nr_model.specs.Sequential.{Progress}
 use Rattle.nr_model.specs.Sequential.Events.{Emission}
-use Rattle.nr_model.specs.States.{State, done_by, stepped, emitted_in}
-use Rattle.nr_command.specs.declared.command.Cmd.{Cmd}
+use Rattle.nr_model.specs.States.{State, beginning, done_by, stepped, emitted_in}
+use Rattle.nr_model.specs.declared.command.Operation.TheVariants as operations
 use Rattle.nr_entry.specs.Jobs.{connection_of}
-use Rattle.nr_entry.specs.Kinds.{deed_of}
+use Rattle.nr_entry.specs.Kinds.{deed_of, update_deed, read_deed}
 use Rattle.nr_entry.specs.declared.job.Job.{Job}
 use Rattle.nr_entry.specs.declared.job.JobKind.{JobKind}
-use Rattle.nr_entry.specs.declared.job.JobKind.TheVariants.{Change, Exec, Look, Local, Close}
+use Rattle.nr_entry.specs.declared.job.JobKind.TheVariants as kinds
+use Rattle.nr_entry.specs.declared.job.Update.{Update}
+use Rattle.nr_entry.specs.declared.job.Update.TheVariants.{Change, Exec, Close}
+use Rattle.nr_entry.specs.declared.job.Read.{Read}
+use Rattle.nr_entry.specs.declared.job.Read.TheVariants.{Look, Local}
 use Rattle.nr_entry.specs.declared.job.Transaction.TheVariants.{Queued, Spoiled}
-use Rattle.nr_machine.specs.Machines.{Standing, starting, with_command, with_commands}
-use Rattle.nr_machine.specs.Progressed.{job_progress}
+use Rattle.nr_machine.specs.Machines.{MachineState, Ran, ran, starting, answering}
+use Rattle.nr_machine.specs.Progressed.{after_update, after_read, after_job}
 use Rattle.nr_machine.specs.Emitted.{item_at}
 use Rattle.nr_machine.proofs.Acted.{acted_is, all_acted_is}
 
--- a job's deed does what the job does
-pub done_is : (c : Connection) (now : ℕ) (kind : JobKind) (p : Progress) → done_by c now (deed_of kind) p ≡ job_progress now kind p
-done_is c now (Change cmd) p = acted_is [] c now p cmd
-done_is c now (Exec (Queued commands)) p = ap (λ (q : Progress). one_reply (array q.replies) q) (all_acted_is [] c now p commands.items)
-done_is c now (Exec Spoiled) p = refl
-done_is c now (Look cmd) p = acted_is [] c now p cmd
-done_is c now (Local reply) p = refl
-done_is c now (Close None) p = refl
-done_is c now (Close (Some reply)) p = refl
+-- a job's deed does what the job does, and sends no message
+update_is : (c : Connection) (now : ℕ) (update : Update) (p : Progress) → (ran (done_by c now (update_deed update) p) ≡ after_update now update (ran p)) × ((done_by c now (update_deed update) p).messages ≡ p.messages)
+update_is c now (Change command words) p = acted_is [] c now p (operations.Change command) words.items
+update_is c now (Exec (Queued commands)) p =
+    let all = all_acted_is [] c now p commands.items in
+    (ap (λ (r : Ran). answering (array r.replies) r) all.0, all.1)
+update_is c now (Exec Spoiled) p = (refl, refl)
+update_is c now (Close None) p = (refl, refl)
+update_is c now (Close (Some reply)) p = (refl, refl)
 
--- commands send no message, and no job does
-with_commands-messages : (now : ℕ) (p : Progress) (commands : List Cmd) → (with_commands now p commands).messages ≡ p.messages
-with_commands-messages now p [] = refl
-with_commands-messages now p (cmd ∷ commands) = with_commands-messages now (with_command now p cmd) commands
+read_is : (c : Connection) (now : ℕ) (read : Read) (p : Progress) → (ran (done_by c now (read_deed read) p) ≡ after_read now read (ran p)) × ((done_by c now (read_deed read) p).messages ≡ p.messages)
+read_is c now (Look command words) p = acted_is [] c now p (operations.Look command) words.items
+read_is c now (Local reply) p = (refl, refl)
 
-job_progress-messages : (now : ℕ) (kind : JobKind) (p : Progress) → (job_progress now kind p).messages ≡ p.messages
-job_progress-messages now (Change cmd) p = refl
-job_progress-messages now (Exec (Queued commands)) p = with_commands-messages now p commands.items
-job_progress-messages now (Exec Spoiled) p = refl
-job_progress-messages now (Look cmd) p = refl
-job_progress-messages now (Local reply) p = refl
-job_progress-messages now (Close None) p = refl
-job_progress-messages now (Close (Some reply)) p = refl
+pub done_is : (c : Connection) (now : ℕ) (kind : JobKind) (p : Progress) → (ran (done_by c now (deed_of kind) p) ≡ after_job now kind (ran p)) × ((done_by c now (deed_of kind) p).messages ≡ p.messages)
+done_is c now (kinds.Update update) p = update_is c now update p
+done_is c now (kinds.Read read) p = read_is c now read p
 
 -- a reply to a connection
 abbrev to : Connection → Reply → Emission
 to c reply = record { connection = c; reply = reply }
 
-emitted_is : (state : State) (job : Job) (moment : ℕ) (replies : List Reply) → replies ≡ (job_progress (max moment state.logged) job.kind (starting state.keyspace)).replies
+emitted_is : (state : State) (job : Job) (moment : ℕ) (replies : List Reply) → replies ≡ (after_job (max moment state.logged) job.kind (starting state.keyspace)).replies
     → emitted_in state (item_at job moment) ≡ map (to (connection_of job.conn)) replies
 emitted_is state job moment replies same =
     let c = connection_of job.conn in
-    let now = max moment state.logged in
-    let p = job_progress now job.kind (starting state.keyspace) in
-    ap (λ (q : Progress). q.messages ++ map (to c) q.replies) (done_is c now job.kind (starting state.keyspace))
-    ∙ ap (λ (messages : List Emission). messages ++ map (to c) p.replies) (job_progress-messages now job.kind (starting state.keyspace))
+    let is = done_is c (max moment state.logged) job.kind (beginning state) in
+    let p = done_by c (max moment state.logged) (deed_of job.kind) (beginning state) in
+    ap (λ (messages : List Emission). messages ++ map (to c) p.replies) is.1
+    ∙ ap (λ (r : Ran). map (to c) r.replies) is.0
     ∙ ap (map (to c)) (sym same)
 
 stepped_is : (state : State) (job : Job) (moment : ℕ) → is_update (deed_of job.kind) ≡ true
-    → stepped state (item_at job moment) ≡ record { keyspace = (job_progress (max moment state.logged) job.kind (starting state.keyspace)).keyspace; logged = max moment state.logged }
+    → stepped state (item_at job moment) ≡ record { keyspace = (after_job (max moment state.logged) job.kind (starting state.keyspace)).keyspace; logged = max moment state.logged }
 stepped_is state job moment updates =
     let now = max moment state.logged in
-    let left : Progress → Bool → State = λ p update. record { keyspace = p.keyspace; logged = cond update now state.logged } in
-    ap (λ (p : Progress). left p (is_update (deed_of job.kind))) (done_is (connection_of job.conn) now job.kind (starting state.keyspace))
-    ∙ ap (left (job_progress now job.kind (starting state.keyspace))) updates
+    let left : Ran → Bool → State = λ r update. record { keyspace = r.keyspace; logged = cond update now state.logged } in
+    ap (λ (r : Ran). left r (is_update (deed_of job.kind))) (done_is (connection_of job.conn) now job.kind (beginning state)).0
+    ∙ ap (left (after_job now job.kind (starting state.keyspace))) updates
 
 max_is : (a b : ℕ) → ord_max nat_cmp a b ≡ max a b
 max_is a b = search rules
 
 -- a job emits its replies to its connection
-pub emitted_by : (old inside : Standing) (job : Job) (moment now : ℕ) (replies : List Reply) → inside ≡ old → now ≡ ord_max nat_cmp moment inside.state.logged
-    → replies ≡ (job_progress now job.kind (starting inside.state.keyspace)).replies
+pub emitted_by : (old inside : MachineState) (job : Job) (moment now : ℕ) (replies : List Reply) → inside ≡ old → now ≡ ord_max nat_cmp moment inside.state.logged
+    → replies ≡ (after_job now job.kind (starting inside.state.keyspace)).replies
     → emitted_in old.state (item_at job moment) ≡ map (to (connection_of job.conn)) replies
 emitted_by old inside job moment now replies same later is =
     let latest : now ≡ max moment inside.state.logged = later ∙ max_is moment inside.state.logged in
-    ap (λ (s : Standing). emitted_in s.state (item_at job moment)) (sym same)
-    ∙ emitted_is inside.state job moment replies (is ∙ ap (λ (n : ℕ). (job_progress n job.kind (starting inside.state.keyspace)).replies) latest)
+    ap (λ (s : MachineState). emitted_in s.state (item_at job moment)) (sym same)
+    ∙ emitted_is inside.state job moment replies (is ∙ ap (λ (n : ℕ). (after_job n job.kind (starting inside.state.keyspace)).replies) latest)
+
+-- so does a read
+pub emitted_by_read : (old inside : MachineState) (c : Connection) (number moment now : ℕ) (read : Read) (reply : Reply) → inside ≡ old → now ≡ ord_max nat_cmp moment inside.state.logged
+    → reply ∷ [] ≡ (after_read now read (starting inside.state.keyspace)).replies
+    → emitted_in old.state (record { connection = c; number = number; moment = moment; deed = read_deed read }) ≡ to c reply ∷ []
+emitted_by_read old inside c number moment now read reply same later is =
+    let item : Item = record { connection = c; number = number; moment = moment; deed = read_deed read } in
+    let state = inside.state in
+    let latest : now ≡ max moment state.logged = later ∙ max_is moment state.logged in
+    let does = read_is c (max moment state.logged) read (beginning state) in
+    let p = done_by c (max moment state.logged) (read_deed read) (beginning state) in
+    ap (λ (s : MachineState). emitted_in s.state item) (sym same)
+    ∙ ap (λ (messages : List Emission). messages ++ map (to c) p.replies) does.1
+    ∙ ap (λ (r : Ran). map (to c) r.replies) does.0
+    ∙ ap (map (to c)) (sym (is ∙ ap (λ (n : ℕ). (after_read n read (starting state.keyspace)).replies) latest))
 
 -- an update leaves its keyspace, and its moment where that is later
-pub applied_by : (old inside : Standing) (job : Job) (moment now : ℕ) (new : Keyspace) → inside ≡ old → now ≡ ord_max nat_cmp moment inside.state.logged
-    → new ≡ (job_progress now job.kind (starting inside.state.keyspace)).keyspace → is_update (deed_of job.kind) ≡ true
-    → ◌≡◌ {A = Standing} (record { state = record { keyspace = new; logged = now }; failed = inside.failed }) (record { state = stepped old.state (item_at job moment); failed = old.failed })
+pub applied_by : (old inside : MachineState) (job : Job) (moment now : ℕ) (new : Keyspace) → inside ≡ old → now ≡ ord_max nat_cmp moment inside.state.logged
+    → new ≡ (after_job now job.kind (starting inside.state.keyspace)).keyspace → is_update (deed_of job.kind) ≡ true
+    → ◌≡◌ {A = MachineState} (record { state = record { keyspace = new; logged = now }; failed = inside.failed }) (record { state = stepped old.state (item_at job moment); failed = old.failed })
 applied_by old inside job moment now new same later is updates =
     let latest : now ≡ max moment inside.state.logged = later ∙ max_is moment inside.state.logged in
     let step : ◌≡◌ {A = State} (record { keyspace = new; logged = now }) (stepped inside.state (item_at job moment)) =
     ap (λ (k : Keyspace). let s : State = record { keyspace = k; logged = now } in s) is
-    ∙ ap (λ (n : ℕ). let s : State = record { keyspace = (job_progress n job.kind (starting inside.state.keyspace)).keyspace; logged = n } in s) latest
+    ∙ ap (λ (n : ℕ). let s : State = record { keyspace = (after_job n job.kind (starting inside.state.keyspace)).keyspace; logged = n } in s) latest
     ∙ sym (stepped_is inside.state job moment updates) in
-    ap (λ (s : State). let v : Standing = record { state = s; failed = inside.failed } in v) step
-    ∙ ap (λ (s : Standing). let v : Standing = record { state = stepped s.state (item_at job moment); failed = s.failed } in v) same
+    ap (λ (s : State). let v : MachineState = record { state = s; failed = inside.failed } in v) step
+    ∙ ap (λ (s : MachineState). let v : MachineState = record { state = stepped s.state (item_at job moment); failed = s.failed } in v) same

@@ -1,39 +1,58 @@
 -- What contracts see of a machine, and commands one after the other.
-use Rattle.std.specs.Prelude.{ℕ, Bool, List, [], map, fold, refl}
+use Rattle.std.specs.Prelude.{ℕ, Bool, List, [], ◌∷◌, ◌++◌, drop, fold, map, refl}
 use Rattle.std.specs.Coded.{Coded, code_by, coded×, coded_ℕ, coded_bool}
+use Rattle.nr_model.specs.Bytes.{Bytes}
+use Rattle.nr_model.specs.Replies.{Reply}
 use Rattle.nr_model.specs.Keyspace.{Keyspace, live, coded_keyspace}
-use Rattle.nr_model.specs.Sequential.{Progress, with_done}
+use Rattle.nr_model.specs.Commands.{look, change}
+use Rattle.nr_model.specs.declared.command.Operation.{Operation}
+use Rattle.nr_model.specs.declared.command.Operation.TheVariants.{Look, Change}
+use Rattle.nr_model.specs.Sequential.{Progress}
 use Rattle.nr_model.specs.States.{State}
 use Rattle.nr_resp.specs.Seen.{reply_of}
-use Rattle.nr_resp.specs.declared.reply.Reply.{Reply}
-use Rattle.nr_command.specs.Table.{row_of_id}
+use Rattle.nr_resp.specs.declared.reply.Reply as reply
 use Rattle.nr_command.specs.declared.command.Cmd.{Cmd}
-use Rattle.nr_exec.specs.Operations.{performed}
-use Rattle.nr_exec.specs.Touched.{keys_seen}
-use Rattle.nr_exec.specs.declared.key.Key.{Key}
 
 -- the state, and whether memory ran out: then the state is open
-pub record Standing : Type 0 where
+pub record MachineState : Type 0 where
   pub state : State
   pub failed : Bool
 
-abbrev pub standing_code : Coded Standing
+abbrev pub standing_code : Coded MachineState
 standing_code =
     code_by (Keyspace × (ℕ × Bool)) (coded× coded_keyspace (coded× coded_ℕ coded_bool)) (λ s. (s.state.keyspace, (s.state.logged, s.failed)))
     (λ p. record { state = record { keyspace = p.0; logged = p.1.0 }; failed = p.1.1 }) (λ _. refl)
 
--- progress before any command
-abbrev pub starting : Keyspace → Progress
-starting keyspace = record { keyspace = keyspace; database = 0; touched = []; messages = []; replies = [] }
+-- what commands of one job left: the keyspace, the connection's database, and the replies
+pub record Ran : Type 0 where
+  pub keyspace : Keyspace
+  pub database : ℕ
+  pub replies : List Reply
 
--- progress, as the code has it
-abbrev pub progress_seen : Keyspace → ℕ → List Key → List Reply → Progress
-progress_seen keyspace database touched replies =
-    record { keyspace = keyspace; database = database; touched = keys_seen touched; messages = []; replies = map reply_of replies }
+abbrev pub ran : Progress → Ran
+ran p = record { keyspace = p.keyspace; database = p.database; replies = p.replies }
+
+-- as the code has it
+abbrev pub ran_of : Keyspace → ℕ → List reply.Reply → Ran
+ran_of keyspace database replies = record { keyspace = keyspace; database = database; replies = map reply_of replies }
+
+-- before any command
+abbrev pub starting : Keyspace → Ran
+starting keyspace = record { keyspace = keyspace; database = 0; replies = [] }
 
 -- one command further
-abbrev pub with_command : ℕ → Progress → Cmd → Progress
-with_command now p cmd = with_done (row_of_id cmd.id).class (performed cmd now (live p.keyspace now) p.database) p
+abbrev pub with_operation : ℕ → Ran → Operation → List Bytes → Ran
+with_operation now r (Look command) words = record r { replies = r.replies ++ look command now (live r.keyspace now) r.database (drop 1 words) ∷ [] }
+with_operation now r (Change command) words =
+    let done = change command now (live r.keyspace now) r.database (drop 1 words) in
+    record { keyspace = done.keyspace; database = done.database; replies = r.replies ++ done.reply ∷ [] }
 
-abbrev pub with_commands : ℕ → Progress → List Cmd → Progress
-with_commands now p commands = fold (with_command now) p commands
+abbrev pub with_command : ℕ → Ran → Cmd → Ran
+with_command now r cmd = with_operation now r cmd.command cmd.words.items
+
+abbrev pub with_commands : ℕ → Ran → List Cmd → Ran
+with_commands now r commands = fold (with_command now) r commands
+
+-- one reply in the place of all
+abbrev pub answering : Reply → Ran → Ran
+answering reply r = record r { replies = reply ∷ [] }

@@ -1,17 +1,15 @@
-// What a job's kind is answered.
-ghost use Rattle.std.specs.Prelude.{◌≡◌, map, [], ◌∷◌, true, false, OnOk, IfOk, option_to_list};
-ghost use Rattle.nr_model.specs.Items.{is_update};
+// What an update or a read is answered. They touch the keyspace; nothing is emitted here.
+ghost use Rattle.std.specs.Prelude.{◌≡◌, map, [], ◌∷◌, OnOk, IfOk, option_to_list};
 ghost use Rattle.nr_model.specs.Replies as model;
 ghost use Rattle.nr_model.specs.Sequential.{exec_abort};
 ghost use Rattle.nr_resp.specs.Seen.{reply_of};
-ghost use Rattle.nr_entry.specs.Kinds.{deed_of};
 ghost use Rattle.nr_machine.specs.Machines.{starting};
-ghost use Rattle.nr_machine.specs.Progressed.{transaction_progress, job_progress};
+ghost use Rattle.nr_machine.specs.Progressed.{after_transaction, after_update, after_read, after_job};
 
-use crate::progress::{act, act_all};
+use crate::progress::act_all;
 use nr_blob::{Blob, Memory};
-use nr_entry::{JobKind, Transaction};
-use nr_exec::look;
+use nr_entry::{JobKind, Read, Transaction, Update};
+use nr_exec::{Nobody, change, look};
 use nr_keyspace::{Db, Keyspace};
 use nr_resp::Reply;
 use std::alloc::Global;
@@ -23,15 +21,40 @@ pub(crate) fn answered(
     now: u64,
     kind: &JobKind,
 ) -> Result<Option<Reply>, Memory>
-    ensures replies { IfOk result (λ reply. map reply_of (option_to_list reply) ≡ (job_progress now kind.now (starting keyspace.old)).replies) }
-    ensures keyspace { OnOk result (keyspace.new ≡ (job_progress now kind.now (starting keyspace.old)).keyspace) }
+    ensures replies { IfOk result (λ reply. map reply_of (option_to_list reply) ≡ (after_job now kind.now (starting keyspace.old)).replies) }
+    ensures keyspace { OnOk result (keyspace.new ≡ (after_job now kind.now (starting keyspace.old)).keyspace) }
 {
     match kind {
-        JobKind::Change(cmd) | JobKind::Look(cmd) => Ok(Some(act(alloc, keyspace, now, cmd)?)),
-        JobKind::Exec(transaction) => Ok(Some(executed(alloc, keyspace, now, transaction)?)),
-        JobKind::Local(reply) => Ok(Some(reply.copy()?)),
-        JobKind::Close(None) => Ok(None),
-        JobKind::Close(Some(reply)) => Ok(Some(reply.copy()?)),
+        JobKind::Update(update) => updated(alloc, keyspace, now, update),
+        JobKind::Read(read) => Ok(Some(looked(alloc, keyspace, now, read)?)),
+    }
+}
+
+fn updated(
+    alloc: Global,
+    keyspace: &mut Keyspace,
+    now: u64,
+    update: &Update,
+) -> Result<Option<Reply>, Memory>
+    ensures replies { IfOk result (λ reply. map reply_of (option_to_list reply) ≡ (after_update now update.now (starting keyspace.old)).replies) }
+    ensures keyspace { OnOk result (keyspace.new ≡ (after_update now update.now (starting keyspace.old)).keyspace) }
+{
+    match update {
+        Update::Change { command, words } => {
+            let mut database = Db::FIRST;
+            Ok(Some(change(
+                alloc,
+                keyspace,
+                now,
+                &mut database,
+                *command,
+                words,
+                &mut Nobody,
+            )?))
+        }
+        Update::Exec(transaction) => Ok(Some(executed(alloc, keyspace, now, transaction)?)),
+        Update::Close(None) => Ok(None),
+        Update::Close(Some(reply)) => Ok(Some(reply.copy()?)),
     }
 }
 
@@ -42,8 +65,8 @@ fn executed(
     now: u64,
     transaction: &Transaction,
 ) -> Result<Reply, Memory>
-    ensures reply { IfOk result (λ reply. reply_of reply ∷ [] ≡ (transaction_progress now transaction.now (starting keyspace.old)).replies) }
-    ensures keyspace { OnOk result (keyspace.new ≡ (transaction_progress now transaction.now (starting keyspace.old)).keyspace) }
+    ensures reply { IfOk result (λ reply. reply_of reply ∷ [] ≡ (after_transaction now transaction.now (starting keyspace.old)).replies) }
+    ensures keyspace { OnOk result (keyspace.new ≡ (after_transaction now transaction.now (starting keyspace.old)).keyspace) }
 {
     match transaction {
         Transaction::Queued(commands) => {
@@ -66,14 +89,12 @@ pub(crate) fn looked(
     alloc: Global,
     keyspace: &Keyspace,
     now: u64,
-    kind: &JobKind,
+    read: &Read,
 ) -> Result<Reply, Memory>
-    requires { is_update (deed_of kind.now) ≡ false }
-    ensures { IfOk result (λ reply. reply_of reply ∷ [] ≡ (job_progress now kind.now (starting keyspace.now)).replies) }
+    ensures { IfOk result (λ reply. reply_of reply ∷ [] ≡ (after_read now read.now (starting keyspace.now)).replies) }
 {
-    match kind {
-        JobKind::Change(cmd) | JobKind::Look(cmd) => look(alloc, keyspace, now, Db::FIRST, cmd),
-        JobKind::Local(reply) => reply.copy(),
-        JobKind::Exec(_) | JobKind::Close(_) => unreachable!(),
+    match read {
+        Read::Look { command, words } => look(alloc, keyspace, now, Db::FIRST, *command, words),
+        Read::Local(reply) => reply.copy(),
     }
 }

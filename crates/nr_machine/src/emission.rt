@@ -1,4 +1,4 @@
-// What the machine emits.
+// What the machine emits: replies to connections, in order.
 ghost use Rattle.std.specs.Prelude.{◌≡◌, ◌++◌, ◌∷◌, [], OnOk, OnErr};
 ghost use Rattle.nr_resp.specs.Seen.{reply_of};
 ghost use Rattle.nr_entry.specs.Jobs.{connection_of};

@@ -1,16 +1,16 @@
-// The machine.
+// The machine: it applies the updates of entries, looks for reads, and emits. It knows commands by `change` and `look` alone.
 ghost use Rattle.std.specs.Prelude.{◌≡◌, ◌++◌, ℕ, true, false, take, OnOk, OnErr, IfOk, IsErr};
 ghost use Rattle.nr_model.specs.Entries.{entry_items};
 ghost use Rattle.nr_model.specs.Items.{is_update};
 ghost use Rattle.nr_model.specs.States.{opening, stepped, emitted_in, after_all, emitted_all};
-ghost use Rattle.nr_entry.specs.Jobs.{items_of};
-ghost use Rattle.nr_entry.specs.Kinds.{deed_of};
+ghost use Rattle.nr_entry.specs.Jobs.{connection_of, items_of};
+ghost use Rattle.nr_entry.specs.Kinds.{deed_of, read_deed};
 ghost use Rattle.nr_machine.specs.Emitted.{emissions_seen, item_at};
 
 use crate::answers::{answered, looked};
 use crate::emission::{Emissions, emit};
 use nr_blob::Memory;
-use nr_entry::{Entry, Job};
+use nr_entry::{ConnId, Entry, Job, Read};
 use nr_keyspace::Keyspace;
 use std::alloc::Global;
 use std::cmp;
@@ -27,9 +27,9 @@ pub struct Machine {
 }
 
 impl Model for Machine {
-    ghost use Rattle.nr_machine.specs.Machines.{Standing, standing_code};
+    ghost use Rattle.nr_machine.specs.Machines.{MachineState, standing_code};
 
-    ghost Value = { Standing };
+    ghost Value = { MachineState };
 
     ghost coded = { standing_code };
 
@@ -109,17 +109,18 @@ impl Machine {
         Ok(())
     }
 
-    /// A read, at a moment or that of the updates so far, whichever is later: a command that only looks, or a reply that
-    /// needs no state. What it emits is put behind what was emitted so far.
+    /// A read of a connection, at a moment or that of the updates so far, whichever is later: a command that only looks, or a reply
+    /// that needs no state. What it emits is put behind what was emitted so far.
     pub fn look(
         &self,
         alloc: Global,
         now: u64,
-        job: &Job,
+        conn: ConnId,
+        read: &Read,
         out: &mut Emissions,
     ) -> Result<(), Memory>
-        requires { is_update (deed_of job.now.kind) ≡ false }
-        ensures emitted { OnOk result (emissions_seen out.new.items ≡ emissions_seen out.old.items ++ emitted_in self.now.state (item_at job.now now)) }
+        ensures emitted { (number : ℕ) → OnOk result (emissions_seen out.new.items ≡ emissions_seen out.old.items
+            ++ emitted_in self.now.state (record { connection = connection_of conn; number = number; moment = now; deed = read_deed read.now })) }
         ensures unchanged { OnErr result (emissions_seen out.new.items ≡ emissions_seen out.old.items) }
         ensures repeats { self.now.failed ≡ true → IsErr result }
     {
@@ -127,11 +128,8 @@ impl Machine {
             return Err(Memory);
         }
         let now = cmp::max(now, self.logged);
-        let reply = looked(alloc, &self.keyspace, now, &job.kind)?;
-        emit(out, job.conn, reply)?;
+        let reply = looked(alloc, &self.keyspace, now, read)?;
+        emit(out, conn, reply)?;
         Ok(())
     }
 }
-
-#[cfg(test)]
-mod tests;

@@ -1,33 +1,17 @@
 // Commands one after the other, at one moment.
-ghost use Rattle.std.specs.Prelude.{◌≡◌, map, [], OnOk, IfOk};
+ghost use Rattle.std.specs.Prelude.{◌≡◌, ◌++◌, ◌∷◌, [], map, OnOk, IfOk};
+ghost use Rattle.nr_model.specs.Commands as commands;
 ghost use Rattle.nr_model.specs.Keyspace.{live};
-ghost use Rattle.nr_model.specs.Sequential.{kept};
 ghost use Rattle.nr_resp.specs.Seen.{reply_of};
-ghost use Rattle.nr_command.specs.Table.{row_of_id};
-ghost use Rattle.nr_exec.specs.Operations.{performed};
-ghost use Rattle.nr_machine.specs.Machines.{starting, progress_seen, with_command, with_commands};
+ghost use Rattle.nr_machine.specs.Machines.{starting, ran_of, with_command, with_commands};
 
 use nr_blob::Memory;
 use nr_command::Cmd;
-use nr_exec::{Key, run};
+use nr_exec::{Nobody, change, look};
 use nr_keyspace::{Db, Keyspace};
+use nr_model::command::Operation;
 use nr_resp::Reply;
 use std::alloc::Global;
-
-/// One command, and its reply.
-pub(crate) fn act(
-    alloc: Global,
-    keyspace: &mut Keyspace,
-    now: u64,
-    cmd: &Cmd,
-) -> Result<Reply, Memory>
-    ensures reply { IfOk result (λ reply. reply_of reply ≡ (performed cmd.now now (live keyspace.old now) 0).reply) }
-    ensures keyspace { OnOk result (keyspace.new ≡ kept (row_of_id cmd.now.id).class keyspace.old (performed cmd.now now (live keyspace.old now) 0).keyspace) }
-{
-    let mut database = Db::FIRST;
-    let mut touched = Vec::new(alloc);
-    run(alloc, keyspace, now, &mut database, cmd, &mut touched)
-}
 
 /// The commands of a transaction, and their replies.
 pub(crate) fn act_all(
@@ -40,18 +24,9 @@ pub(crate) fn act_all(
     ensures keyspace { OnOk result (keyspace.new ≡ (with_commands now (starting keyspace.old) commands.now).keyspace) }
 {
     let mut database = Db::FIRST;
-    let mut touched = Vec::new(alloc);
     let mut replies = Vec::new(alloc);
     for cmd in commands {
-        act_next(
-            alloc,
-            keyspace,
-            now,
-            &mut database,
-            cmd,
-            &mut touched,
-            &mut replies,
-        )?;
+        act_next(alloc, keyspace, now, &mut database, cmd, &mut replies)?;
     }
     Ok(replies)
 }
@@ -63,12 +38,22 @@ fn act_next(
     now: u64,
     database: &mut Db,
     cmd: &Cmd,
-    touched: &mut Vec<Key>,
     replies: &mut Vec<Reply>,
 ) -> Result<(), Memory>
-    ensures { OnOk result (progress_seen keyspace.new database.new touched.new.items replies.new.items ≡ with_command now (progress_seen keyspace.old database.old touched.old.items replies.old.items) cmd.now) }
+    ensures { OnOk result (ran_of keyspace.new database.new replies.new.items ≡ with_command now (ran_of keyspace.old database.old replies.old.items) cmd.now) }
 {
-    let reply = run(alloc, keyspace, now, database, cmd, touched)?;
+    let reply = match cmd.command {
+        Operation::Look(command) => look(alloc, keyspace, now, *database, command, &cmd.words)?,
+        Operation::Change(command) => change(
+            alloc,
+            keyspace,
+            now,
+            database,
+            command,
+            &cmd.words,
+            &mut Nobody,
+        )?,
+    };
     replies.push(reply)?;
     Ok(())
 }

@@ -5,37 +5,25 @@ use Rattle.std.specs.Prelude.{◌&&◌, ◌||◌, not, map, max, reverse, flat_m
 use Rattle.std.specs.List.{list_all}
 use Rattle.nr_model.specs.Bytes.{Bytes}
 use Rattle.nr_model.specs.Replies.{Reply, array}
-use Rattle.nr_model.specs.Keyspace.{Key, Keyspace, live}
-use Rattle.nr_model.specs.Commands.{Command, Perform, OfSession, OfServer, OfKeys, OfStrings, perform}
-use Rattle.nr_model.specs.Commands.Server.{Ping, Select}
-use Rattle.nr_model.specs.Commands.Keys.{Del}
-use Rattle.nr_model.specs.Commands.Strings.{Get, Set}
+use Rattle.nr_model.specs.Keyspace.{Key, Keyspace}
+use Rattle.nr_model.specs.declared.command.Command.{Command}
+use Rattle.nr_model.specs.declared.command.Command.TheVariants.{Perform, Session}
+use Rattle.nr_model.specs.declared.command.Operation.TheVariants.{Look, Change}
+use Rattle.nr_model.specs.declared.command.Change.TheVariants as changes
 use Rattle.nr_model.specs.Items.{Connection, same_connection, Call, arguments, Deed, Say, Act, Run, Abort, End, Item, Sequence, is_update}
 use Rattle.nr_model.specs.Sequential.Events.{Emission, Event, Past, keyspace_after, database_of, logged_moment, now_of}
 use Rattle.nr_model.specs.Sequential.Watches.{is_spoiled, forgets, watched_keys, command_watches}
 use Rattle.nr_model.specs.Sequential.{Progress, acted, acted_all, one_reply, run_calls, progress_of, start, database_left, event_of, past_from}
 use Rattle.nr_model.specs.States.{State, opening, stepped, emitted_in, after_all, emitted_all, beginning, now_in, done_by, progress_in, needs_keyspace_alone, is_plain_call, is_plain_deed, ArePlain, IsSequential}
 
--- an operation on the keyspace leaves the database
-get_database : (keyspace : Keyspace) (database : ℕ) (words : List Bytes) → (perform (OfStrings Get) 0 keyspace database words).database ≡ database
-get_database keyspace database [] = refl
-get_database keyspace database (name ∷ words) = refl
-
-set_database : (keyspace : Keyspace) (database : ℕ) (words : List Bytes) → (perform (OfStrings Set) 0 keyspace database words).database ≡ database
-set_database keyspace database [] = refl
-set_database keyspace database (name ∷ []) = refl
-set_database keyspace database (name ∷ text ∷ []) = refl
-set_database keyspace database (name ∷ text ∷ option ∷ words) = refl
-
 -- a command that needs the keyspace alone reads no past, and leaves the database
 plain_act : (past : Past) (c : Connection) (now : ℕ) (command : Command) (call : Call) (p : Progress) → needs_keyspace_alone command ≡ true
     → (acted past c now command call p ≡ acted [] c now command call p) × ((acted [] c now command call p).database ≡ p.database)
-plain_act past c now (Perform (OfServer Ping)) call p h = (refl, refl)
-plain_act past c now (Perform (OfServer Select)) call p h = absurd (cc)
-plain_act past c now (Perform (OfKeys Del)) call p h = (refl, refl)
-plain_act past c now (Perform (OfStrings Get)) call p h = (refl, get_database (live p.keyspace now) p.database (arguments call))
-plain_act past c now (Perform (OfStrings Set)) call p h = (refl, set_database (live p.keyspace now) p.database (arguments call))
-plain_act past c now (OfSession command) call p h = absurd (cc)
+plain_act past c now (Perform (Look command)) call p h = (refl, refl)
+plain_act past c now (Perform (Change (changes.Server command))) call p h = absurd (cc)
+plain_act past c now (Perform (Change (changes.Keys command))) call p h = (refl, refl)
+plain_act past c now (Perform (Change (changes.Strings command))) call p h = (refl, refl)
+plain_act past c now (Session command) call p h = absurd (cc)
 
 and_true : (a b : Bool) → (a && b) ≡ true → (a ≡ true) × (b ≡ true)
 and_true true b h = (refl, h)
@@ -46,8 +34,8 @@ plain_acts : (past : Past) (c : Connection) (now : ℕ) (calls : List Call) (p :
 plain_acts past c now [] p h = (refl, refl)
 plain_acts past c now (call ∷ calls) p h =
     let both = and_true (is_plain_call call) (list_all is_plain_call calls) h in
-    let one = plain_act past c now call.row.command call p both.0 in
-    let more = plain_acts past c now calls (acted [] c now call.row.command call p) both.1 in
+    let one = plain_act past c now call.command call p both.0 in
+    let more = plain_acts past c now calls (acted [] c now call.command call p) both.1 in
     (ap (acted_all past c now calls) one.0 ∙ more.0, more.1 ∙ one.1)
 
 -- what a past and a state have in common
@@ -64,7 +52,7 @@ started past state c a = λ i. record { keyspace = a.keyspace i; database = a.da
 same_deed : (past : Past) (c : Connection) (now : ℕ) (deed : Deed) (p : Progress) → ((t : List Key) → is_spoiled c now t past ≡ false) → is_plain_deed deed ≡ true
     → (progress_of past c now deed p ≡ done_by c now deed p) × ((done_by c now deed p).database ≡ p.database)
 same_deed past c now (Say reply) p unwatched h = (refl, refl)
-same_deed past c now (Act call) p unwatched h = plain_act past c now call.row.command call p h
+same_deed past c now (Act call) p unwatched h = plain_act past c now call.command call p h
 same_deed past c now (Run calls) p unwatched h =
     let both = plain_acts past c now calls p h in
     (rw (unwatched [], run_calls) (ap (λ (q : Progress). one_reply (array q.replies) q) both.0), both.1)
@@ -73,12 +61,13 @@ same_deed past c now (End None) p unwatched h = (refl, refl)
 same_deed past c now (End (Some reply)) p unwatched h = (refl, refl)
 
 watches_nothing : (event : Event) (command : Command) (database : ℕ) (names : List Bytes) → needs_keyspace_alone command ≡ true → command_watches command database names ≡ []
-watches_nothing event (Perform operation) database names h = refl
-watches_nothing event (OfSession command) database names h = absurd (cc)
+watches_nothing event (Perform (Look command)) database names h = refl
+watches_nothing event (Perform (Change command)) database names h = refl
+watches_nothing event (Session command) database names h = absurd (cc)
 
 nothing_watched : (event : Event) (deed : Deed) → is_plain_deed deed ≡ true → watched_keys event deed ≡ []
 nothing_watched event (Say reply) h = refl
-nothing_watched event (Act call) h = watches_nothing event call.row.command event.database (arguments call) h
+nothing_watched event (Act call) h = watches_nothing event call.command event.database (arguments call) h
 nothing_watched event (Run calls) h = refl
 nothing_watched event Abort h = refl
 nothing_watched event (End reply) h = refl

@@ -2,11 +2,8 @@ pub mod IntegerTexts
 pub mod Fronts
 pub mod Cuts
 pub mod Spellings
-pub mod PlainFrames
-pub mod PlainNumbers
+pub mod Words
 pub mod Matching
-pub mod Reading
-pub mod Writing
 pub mod Live
 pub mod Agreement
 pub mod ServedDeeds

@@ -7,15 +7,10 @@ use Rattle.std.specs.Ordering.{is_eq}
 use Rattle.std.proofs.lemmas.Cmp.{on_total, then_total}
 use Rattle.std.specs.Cmp.{nat_cmp_total}
 use Rattle.std.specs.Cmp.Lexicographic.{nat_list_cmp_total}
-use Rattle.nr_model.specs.Keyspace.{Key, key_cmp, Stored, Keyspace, live, is_live_at, is_stored_live}
+use Rattle.nr_model.specs.Keyspace.{Key, key_cmp, Stored, Keyspace, live, only_live, is_stored_live}
 
 pub key_total : IsTotalOrder key_cmp
 key_total = then_total (on_total (λ (k : Key). k.database) nat_cmp_total) (on_total (λ (k : Key). k.name) nat_list_cmp_total)
-
--- what is live of what a key holds
-abbrev pub only_live : ℕ → Option Stored → Option Stored
-only_live now None = None
-only_live now (Some stored) = cond (is_live_at now stored.deadline) (Some stored) None
 
 only_live-cond : (now : ℕ) (stored : Option Stored) → cond (is_stored_live now stored) stored None ≡ only_live now stored
 only_live-cond now None = refl

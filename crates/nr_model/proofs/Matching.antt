@@ -1,7 +1,7 @@
 -- The test of a pattern's parts is the relation of the same name.
-use Rattle.std.proofs.Common.{◌≡◌, ◌↔◌, ℕ, Bool, true, not, eqb, List, [], ◌∷◌, ◌++◌, refl, sym, ap, subst, ◌∙◌, inl, inr}
+use Rattle.std.proofs.Common.{◌≡◌, ℕ, Bool, true, not, eqb, List, [], ◌∷◌, ◌++◌, refl, sym, ap, subst, ◌∙◌, inl, inr}
 use Rattle.std.proofs.lemmas.Bool.{false≢true, and_parts, and_from, or_cases, or_left, or_right, eqb-true, eq-eqb, not-true, not_from_false}
-use Rattle.nr_model.specs.Patterns.{Part, Star, AnyByte, Byte, Class, NotClass, in_class, PartsMatch, some_rest, one_byte, parts_match, parts, Matches}
+use Rattle.nr_model.specs.Patterns.{Part, Star, AnyByte, Byte, Class, NotClass, in_class, PartsMatch, some_rest, one_byte, parts_match}
 
 -- some rest passes
 record PassesAt (test : List ℕ → Bool) (text : List ℕ) : Type 0 where
@@ -76,9 +76,3 @@ parts_match-from_relation (Class marks ∷ others) text h =
     one_byte_from (in_class marks) (parts_match others) text h.0 h.1 h.3.0 h.2 h.3.1 h.3.2 (parts_match-from_relation others h.1 h.4)
 parts_match-from_relation (NotClass marks ∷ others) text h =
     one_byte_from (λ c. not (in_class marks c)) (parts_match others) text h.0 h.1 h.3.0 h.2 h.3.1 (not_from_false (in_class marks h.3.0) h.3.2) (parts_match-from_relation others h.1 h.4)
-
--- an answer of the test decides the relation
-pub decides : (b : Bool) (ps : List Part) (pattern_text text : List ℕ) → b ≡ parts_match ps text → ps ≡ parts pattern_text → (b ≡ true) ↔ Matches pattern_text text
-decides b ps pattern_text text e read =
-    let same : b ≡ parts_match (parts pattern_text) text = e ∙ ap (λ (qs : List Part). parts_match qs text) read in
-    (λ h. PartsMatch-from_test (parts pattern_text) text (sym same ∙ h), λ m. same ∙ parts_match-from_relation (parts pattern_text) text m)

@@ -1,12 +1,14 @@
 -- What requests ask for where only the commands on the keyspace are served.
 use Rattle.std.proofs.Common.{◌≡◌, Bool, true, false, cond, List, [], ◌∷◌, ◌++◌, refl, ap, sym, ◌∙◌, subst}
-use Rattle.std.specs.Prelude.{map, length, find, bytes_eq, Option, Some, None}
-use Rattle.std.specs.List.{AllByRecursion}
+use Rattle.std.specs.Prelude.{◌&&◌, map, length, find, bytes_eq, Option, Some, None}
+use Rattle.std.specs.List.{AllByRecursion, list_all}
 use Rattle.std.specs.Str.{str_to_ascii_lowercase}
 use Rattle.nr_model.specs.Bytes.{Bytes}
 use Rattle.nr_model.specs.Requests.{Frame}
 use Rattle.nr_model.specs.declared.fault.Fault.{Fault}
-use Rattle.nr_model.specs.Commands.{Row, served, row_of}
+use Rattle.nr_model.specs.declared.command.Command.{Command}
+use Rattle.nr_model.specs.declared.command.Command.TheVariants.{Perform, Session}
+use Rattle.nr_model.specs.Commands.{served, row_of, named}
 use Rattle.nr_model.specs.Commands.Shape.{arity_ok}
 use Rattle.nr_model.specs.Items.{Call, Deed, Act, is_end}
 use Rattle.nr_model.specs.Modes.{plain, Answer, asks, answer, by_itself, found, first_word, reading_answer, Conversation, conversation, first_deed, last_deed, WrongArity, Known}
@@ -16,9 +18,13 @@ use Rattle.nr_model.specs.Served.{served_deed, ServedLaw}
 abbrev IsPlainAnswer : Answer → Type 0
 IsPlainAnswer a = (a ≡ asks a.deed plain) × (is_end a.deed ≡ false)
 
--- a row's command is done by itself
-abbrev IsDone : Row → Type 0
-IsDone row = (call : Call) → by_itself row.command call plain ≡ asks (Act call) plain
+-- a command is done by itself
+abbrev is_performed : Command → Bool
+is_performed (Perform operation) = true
+is_performed (Session command) = false
+
+abbrev IsDone : Command → Type 0
+IsDone command = (call : Call) → by_itself command call plain ≡ asks (Act call) plain
 
 has_one : {A : Type 0} (P : A → Type 0) (b : Bool) (y : A) (others : Option A) → P y → ((x : A) → others ≡ Some x → P x) → (x : A) → cond b (Some y) others ≡ Some x → P x
 has_one P true y others here there x e = subst P (cc) here
@@ -28,22 +34,36 @@ pub find_has : {A : Type 0} (P : A → Type 0) (test : A → Bool) (xs : List A)
 find_has P test [] all x e = absurd (cc)
 find_has P test (y ∷ ys) all x e = has_one P (test y) y (find test ys) all.0 (find_has P test ys all.1) x e
 
+-- each that is performed on the keyspace is
+performed : (command : Command) → is_performed command ≡ true → IsDone command
+performed (Perform operation) e = λ call. refl
+performed (Session command) e = absurd (cc)
+
+pub and_true : (a b : Bool) → (a && b) ≡ true → (a ≡ true) × (b ≡ true)
+and_true true b e = (refl, e)
+and_true false b e = absurd (cc)
+
+pub All-where : (P : Command → Type 0) (test : Command → Bool) (commands : List Command) → ((command : Command) → test command ≡ true → P command) → list_all test commands ≡ true → AllByRecursion P commands
+All-where P test [] each all = tt
+All-where P test (command ∷ commands) each all =
+    let both = and_true (test command) (list_all test commands) all in (each command both.0, All-where P test commands each both.1)
+
 all_done : AllByRecursion IsDone served
-all_done = ((λ call. refl), ((λ call. refl), ((λ call. refl), ((λ call. refl), tt))))
+all_done = All-where IsDone is_performed served performed refl
 
--- by how the words are counted, and by what row was found
-counted_answer : (row : Row) (frame : Frame) → IsDone row → (b : Bool) → IsPlainAnswer (reading_answer (cond b (Known (record { row = row; words = frame })) (WrongArity row)) plain)
-counted_answer row frame done true =
-    let call : Call = record { row = row; words = frame } in
+-- by how the words are counted, and by what command was found
+counted_answer : (command : Command) (frame : Frame) → IsDone command → (b : Bool) → IsPlainAnswer (reading_answer (cond b (Known (record { command = command; words = frame })) (WrongArity command)) plain)
+counted_answer command frame done true =
+    let call : Call = record { command = command; words = frame } in
     subst (λ (a : Answer). IsPlainAnswer a) (sym (done call)) (refl, refl)
-counted_answer row frame done false = (refl, refl)
+counted_answer command frame done false = (refl, refl)
 
-found_answer : (name : Bytes) (frame : Frame) (o : Option Row) → ((row : Row) → o ≡ Some row → IsDone row) → IsPlainAnswer (reading_answer (found name frame o) plain)
+found_answer : (name : Bytes) (frame : Frame) (o : Option Command) → ((command : Command) → o ≡ Some command → IsDone command) → IsPlainAnswer (reading_answer (found name frame o) plain)
 found_answer name frame None done = (refl, refl)
-found_answer name frame (Some row) done = counted_answer row frame (done row refl) (arity_ok row.arity (length frame))
+found_answer name frame (Some command) done = counted_answer command frame (done command refl) (arity_ok (row_of command).arity (length frame))
 
 plain_answer : (frame : Frame) → IsPlainAnswer (answer served plain frame)
-plain_answer frame = found_answer (first_word frame) frame (row_of served (first_word frame)) (find_has IsDone (λ (r : Row). bytes_eq r.name (str_to_ascii_lowercase (first_word frame))) served all_done)
+plain_answer frame = found_answer (first_word frame) frame (named served (first_word frame)) (find_has IsDone (λ (command : Command). bytes_eq (row_of command).name (str_to_ascii_lowercase (first_word frame))) served all_done)
 
 first_goes_on : (deed : Deed) (more : Conversation) → is_end deed ≡ false
     → first_deed (asks deed plain) more ≡ record { deeds = deed ∷ more.deeds; mode = more.mode; ended = more.ended }

@@ -7,7 +7,9 @@ use Rattle.std.proofs.lemmas.List.{map-append}
 use Rattle.std.proofs.lemmas.List.Elements.{filter-append}
 use Rattle.nr_model.specs.Bytes.{Bytes}
 use Rattle.nr_model.specs.Replies.{Reply, reply_text}
-use Rattle.nr_model.specs.Commands.{Command, Perform, OfSession}
+use Rattle.nr_model.specs.declared.command.Command.{Command}
+use Rattle.nr_model.specs.declared.command.Command.TheVariants.{Perform, Session}
+use Rattle.nr_model.specs.declared.command.Operation.TheVariants.{Look, Change}
 use Rattle.nr_model.specs.Items.{Connection, same_connection, Call, Deed, Say, Act, Run, Abort, End, Item, Sequence}
 use Rattle.nr_model.specs.Sequential.Events.{Emission}
 use Rattle.nr_model.specs.Sequential.{Progress, acted, acted_all, bytes_for, emitted_for}
@@ -55,20 +57,21 @@ emitted_for-more c items more plain both =
 
 -- plain deeds send no messages
 act_sends_none : (c : Connection) (now : ℕ) (command : Command) (call : Call) (p : Progress) → needs_keyspace_alone command ≡ true → (acted [] c now command call p).messages ≡ p.messages
-act_sends_none c now (Perform operation) call p h = refl
-act_sends_none c now (OfSession command) call p h = absurd (cc)
+act_sends_none c now (Perform (Look command)) call p h = refl
+act_sends_none c now (Perform (Change command)) call p h = refl
+act_sends_none c now (Session command) call p h = absurd (cc)
 
 -- nor do the commands of a transaction
 acts_send_none : (c : Connection) (now : ℕ) (calls : List Call) (p : Progress) → list_all is_plain_call calls ≡ true → (acted_all [] c now calls p).messages ≡ p.messages
 acts_send_none c now [] p h = refl
 acts_send_none c now (call ∷ calls) p h =
     let both = and_parts (is_plain_call call) (list_all is_plain_call calls) h in
-    acts_send_none c now calls (acted [] c now call.row.command call p) both.1 ∙ act_sends_none c now call.row.command call p both.0
+    acts_send_none c now calls (acted [] c now call.command call p) both.1 ∙ act_sends_none c now call.command call p both.0
 
 -- by the deed
 sends_none : (c : Connection) (now : ℕ) (deed : Deed) (p : Progress) → is_plain_deed deed ≡ true → (done_by c now deed p).messages ≡ p.messages
 sends_none c now (Say reply) p h = refl
-sends_none c now (Act call) p h = act_sends_none c now call.row.command call p h
+sends_none c now (Act call) p h = act_sends_none c now call.command call p h
 sends_none c now (Run calls) p h = acts_send_none c now calls p h
 sends_none c now Abort p h = refl
 sends_none c now (End None) p h = refl

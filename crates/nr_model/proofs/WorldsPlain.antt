@@ -7,7 +7,9 @@ use Rattle.nr_model.specs.Bytes.{Bytes}
 use Rattle.nr_model.specs.Keyspace.{moment}
 use Rattle.nr_model.specs.Requests.{Frame, framing_of}
 use Rattle.nr_model.specs.declared.fault.Fault.{Fault}
-use Rattle.nr_model.specs.Commands.{Row, served, row_of}
+use Rattle.nr_model.specs.declared.command.Command.{Command}
+use Rattle.nr_model.specs.declared.command.Command.TheVariants.{Perform, Session}
+use Rattle.nr_model.specs.Commands.{served, row_of, named}
 use Rattle.nr_model.specs.Commands.Shape.{arity_ok}
 use Rattle.nr_model.specs.Items.{Connection, same_connection, Call, Deed, Act, End, Item, Sequence, is_update}
 use Rattle.nr_model.specs.Modes.{plain, Answer, asks, by_itself, found, first_word, reading_answer, last_deed, Conversation, WrongArity, Known, deeds_by}
@@ -15,7 +17,7 @@ use Rattle.nr_model.specs.Served.{served_deed}
 use Rattle.nr_model.specs.States.{needs_keyspace_alone, is_plain_deed, ArePlain}
 use Rattle.nr_model.specs.Entries.{Jobs, entry_jobs, entry_moment, read_jobs}
 use Rattle.nr_model.specs.Worlds.{Executed, Entry, Reads, executed_items, World, fresh, jobs_from, with_fed, new_jobs, asked_by, close_job, own_jobs, close_number, fed_to}
-use Rattle.nr_model.proofs.ServedDeeds.{find_has, served_is_plain}
+use Rattle.nr_model.proofs.ServedDeeds.{All-where, find_has, served_is_plain}
 use Rattle.nr_model.proofs.WorldsLists.{All-append, All-drop, All-filter}
 use Rattle.nr_model.proofs.WorldsTaken.{All-entry, All-left_by_entry, All-reads, All-left_by_reads, entry_updates, look_reads}
 use Rattle.nr_model.proofs.WorldsSteps.{Keeps}
@@ -24,30 +26,35 @@ use Rattle.nr_model.proofs.WorldsSteps.{Keeps}
 abbrev IsPlain : Deed → Type 0
 IsPlain deed = is_plain_deed deed ≡ true
 
--- a row's command is done by itself, and needs the keyspace alone
-abbrev IsAlone : Row → Type 0
-IsAlone row = ((call : Call) → by_itself row.command call plain ≡ asks (Act call) plain) × (needs_keyspace_alone row.command ≡ true)
+-- a command is done by itself, and needs the keyspace alone
+abbrev IsAlone : Command → Type 0
+IsAlone command = ((call : Call) → by_itself command call plain ≡ asks (Act call) plain) × (needs_keyspace_alone command ≡ true)
 
--- each row that is served
+-- each that needs the keyspace alone is
+alone : (command : Command) → needs_keyspace_alone command ≡ true → IsAlone command
+alone (Perform operation) e = ((λ call. refl), e)
+alone (Session command) e = absurd (cc)
+
+-- each that is served
 all_alone : AllByRecursion IsAlone served
-all_alone = (((λ call. refl), refl), (((λ call. refl), refl), (((λ call. refl), refl), (((λ call. refl), refl), tt))))
+all_alone = All-where IsAlone needs_keyspace_alone served alone refl
 
 -- by how the words are counted
-counted_plain : (row : Row) (frame : Frame) → IsAlone row → (b : Bool) → IsPlain (reading_answer (cond b (Known (record { row = row; words = frame })) (WrongArity row)) plain).deed
-counted_plain row frame alone true =
-    let call : Call = record { row = row; words = frame } in
+counted_plain : (command : Command) (frame : Frame) → IsAlone command → (b : Bool) → IsPlain (reading_answer (cond b (Known (record { command = command; words = frame })) (WrongArity command)) plain).deed
+counted_plain command frame alone true =
+    let call : Call = record { command = command; words = frame } in
     ap (λ (a : Answer). is_plain_deed a.deed) (alone.0 call) ∙ alone.1
-counted_plain row frame alone false = refl
+counted_plain command frame alone false = refl
 
--- by what row was found
-found_plain : (name : Bytes) (frame : Frame) (o : Option Row) → ((row : Row) → o ≡ Some row → IsAlone row) → IsPlain (reading_answer (found name frame o) plain).deed
+-- by what command was found
+found_plain : (name : Bytes) (frame : Frame) (o : Option Command) → ((command : Command) → o ≡ Some command → IsAlone command) → IsPlain (reading_answer (found name frame o) plain).deed
 found_plain name frame None alone = refl
-found_plain name frame (Some row) alone = counted_plain row frame (alone row refl) (arity_ok row.arity (length frame))
+found_plain name frame (Some command) alone = counted_plain command frame (alone command refl) (arity_ok (row_of command).arity (length frame))
 
 -- what a request asks for
 pub served_deed_plain : (frame : Frame) → is_plain_deed (served_deed frame) ≡ true
 served_deed_plain frame =
-    found_plain (first_word frame) frame (row_of served (first_word frame)) (find_has IsAlone (λ (r : Row). bytes_eq r.name (str_to_ascii_lowercase (first_word frame))) served all_alone)
+    found_plain (first_word frame) frame (named served (first_word frame)) (find_has IsAlone (λ (command : Command). bytes_eq (row_of command).name (str_to_ascii_lowercase (first_word frame))) served all_alone)
 
 -- what requests ask for
 each_plain : (frames : List Frame) → AllByRecursion IsPlain (map served_deed frames)

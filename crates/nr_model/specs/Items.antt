@@ -1,11 +1,11 @@
 -- Items: what a connection asked for, at its place in the sequence of all that was executed.
-use Rattle.std.specs.Prelude.{ℕ, Bool, true, false, ◌&&◌, ◌==◌, List, drop, Option}
+use Rattle.std.specs.Prelude.{ℕ, Bool, true, false, not, ◌&&◌, ◌==◌, List, drop, Option}
 use Rattle.std.specs.declared.cmp.Ordering.{Ordering}
 use Rattle.std.specs.Ordering.{nat_cmp, ordering_then}
 use Rattle.nr_model.specs.Bytes.{Bytes}
 use Rattle.nr_model.specs.Replies.{Reply}
-use Rattle.nr_model.specs.Commands.{Row}
-use Rattle.nr_model.specs.Commands.Shape.{Class, Look, Change, InSession}
+use Rattle.nr_model.specs.declared.command.Command.{Command}
+use Rattle.nr_model.specs.Commands.{is_look}
 
 -- a connection: the node that serves it, and its number among that node's connections, never used again
 pub record Connection : Type 0 where
@@ -18,9 +18,9 @@ connection_cmp a b = ordering_then (nat_cmp a.node b.node) (nat_cmp a.serial b.s
 abbrev pub same_connection : Connection → Connection → Bool
 same_connection a b = a.node == b.node && a.serial == b.serial
 
--- a request whose name was found and whose words are as many as its row asks for
+-- a request whose name was found and whose words are as many as its command asks for
 pub record Call : Type 0 where
-  pub row : Row
+  pub command : Command
   pub words : List Bytes
 
 -- the words behind the name
@@ -46,15 +46,10 @@ pub record Item : Type 0 where
 abbrev pub Sequence : Type 0
 Sequence = List Item
 
-abbrev pub is_look : Class → Bool
-is_look Look = true
-is_look Change = false
-is_look InSession = false
-
 -- Updates are logged: commands that are no look, transactions, ends. Replies that need no state and looks are reads, which take no entry.
 abbrev pub is_update : Deed → Bool
 is_update (Say reply) = false
-is_update (Act call) = elim (is_look call.row.class) [ true ↦ false | false ↦ true ]
+is_update (Act call) = not (is_look call.command)
 is_update (Run calls) = true
 is_update Abort = true
 is_update (End reply) = true

@@ -1,6 +1,6 @@
 -- Values, keys with their deadlines, and what of them is live at a moment.
-use Rattle.std.specs.Prelude.{◌≡◌, ℕ, ◌^◌, Bool, true, List, Option, Some, None, ℤ, pos, int_lt, min, refl, ◌⊎◌}
-use Rattle.std.proofs.Common.{inl, inr}
+use Rattle.std.specs.Prelude.{◌≡◌, ℕ, ◌^◌, Bool, true, List, Option, Some, None, ℤ, pos, int_lt, min, refl, ◌⊎◌, if◌then◌else◌}
+use mathlib.Core.Logic.{inl, inr}
 use Rattle.std.specs.declared.cmp.Ordering.{Ordering}
 use Rattle.std.specs.Ordering.{nat_cmp, ordering_then}
 use Rattle.std.specs.Cmp.Lexicographic.{slice_cmp}
@@ -56,6 +56,11 @@ is_live_at now (Some deadline) = int_lt (pos now) deadline
 abbrev pub is_stored_live : ℕ → Option Stored → Bool
 is_stored_live now None = true
 is_stored_live now (Some stored) = is_live_at now stored.deadline
+
+-- what is live of what a key holds
+abbrev pub only_live : ℕ → Option Stored → Option Stored
+only_live now None = None
+only_live now (Some stored) = if is_live_at now stored.deadline then Some stored else None
 
 -- the keys that are live at a moment, with their values and deadlines
 abbrev pub live : Keyspace → ℕ → Keyspace

@@ -3,7 +3,6 @@ pub mod Numbers
 pub mod Requests
 pub mod Replies
 pub mod Patterns
-pub mod Plain
 pub mod Keyspace
 pub mod Commands
 pub mod Items

@@ -4,9 +4,14 @@ use Rattle.nr_model.specs.Bytes.{Bytes}
 use Rattle.nr_model.specs.Requests.{Frame, Framing, framing_of, fault_text}
 use Rattle.nr_model.specs.declared.fault.Fault.{Fault}
 use Rattle.nr_model.specs.Replies.{Reply, Simple, Error, Bulk, array}
-use Rattle.nr_model.specs.Commands.{Row, Command, Perform, OfSession, OfServer, row_of}
-use Rattle.nr_model.specs.Commands.Server.{Ping}
-use Rattle.nr_model.specs.Commands.Session.{Kind, Multi, Exec, Discard, Watch, Quit, Subscribe, Unsubscribe}
+use Rattle.nr_model.specs.declared.command.Command.{Command}
+use Rattle.nr_model.specs.declared.command.Command.TheVariants.{Perform, Session}
+use Rattle.nr_model.specs.declared.command.Operation.TheVariants.{Look}
+use Rattle.nr_model.specs.declared.command.Look.TheVariants as looks
+use Rattle.nr_model.specs.declared.command.ServerLook.TheVariants.{Ping}
+use Rattle.nr_model.specs.declared.command.Kind.{Kind}
+use Rattle.nr_model.specs.declared.command.Session.TheVariants.{Multi, Exec, Discard, Watch, Quit, Subscribe, Unsubscribe}
+use Rattle.nr_model.specs.Commands.{row_of, named}
 use Rattle.nr_model.specs.Commands.Shape.{arity_ok}
 use Rattle.nr_model.specs.Commands.Texts.{ok, wrong_arity, unknown_command}
 use Rattle.nr_model.specs.Names.{Held, holding_none, how_many_held, after_subscribe, after_unsubscribe}
@@ -46,23 +51,23 @@ with_queued mode t call = record mode { transaction = Some (record { queued = t.
 -- A request is first looked up, then its words are counted, and then the mode decides.
 pub data Reading : Type 0 where
   Unknown : Bytes → Reading
-  WrongArity : Row → Reading
+  WrongArity : Command → Reading
   Known : Call → Reading
 
-abbrev pub counted : Row → Frame → Reading
-counted row frame = if arity_ok row.arity (length frame) then Known (record { row = row; words = frame }) else WrongArity row
+abbrev pub counted : Command → Frame → Reading
+counted command frame = if arity_ok (row_of command).arity (length frame) then Known (record { command = command; words = frame }) else WrongArity command
 
-abbrev pub found : Bytes → Frame → Option Row → Reading
+abbrev pub found : Bytes → Frame → Option Command → Reading
 found name frame None = Unknown name
-found name frame (Some row) = counted row frame
+found name frame (Some command) = counted command frame
 
 -- a request's name; a frame has at least one word
 abbrev pub first_word : Frame → Bytes
 first_word [] = []
 first_word (name ∷ words) = name
 
-abbrev pub reading : List Row → Frame → Reading
-reading table frame = found (first_word frame) frame (row_of table (first_word frame))
+abbrev pub reading : List Command → Frame → Reading
+reading table frame = found (first_word frame) frame (named table (first_word frame))
 
 -- what a request asks for, and the mode behind it
 pub record Answer : Type 0 where
@@ -102,48 +107,48 @@ not_in_transaction name = codes "ERR " ++ name ++ codes " is not allowed inside 
 
 -- a connection with subscriptions: the four subscribing commands, PING and QUIT alone
 abbrev pub when_subscribed : Command → Call → Mode → Answer
-when_subscribed (Perform (OfServer Ping)) call mode = says (subscribed_ping (arguments call)) mode
-when_subscribed (OfSession Quit) call mode = quits mode
-when_subscribed (OfSession (Subscribe kind)) call mode = subscribes kind call mode
-when_subscribed (OfSession (Unsubscribe kind)) call mode = unsubscribes kind call mode
-when_subscribed _ call mode = denies (not_while_subscribed call.row.name) mode
+when_subscribed (Perform (Look (looks.Server Ping))) call mode = says (subscribed_ping (arguments call)) mode
+when_subscribed (Session Quit) call mode = quits mode
+when_subscribed (Session (Subscribe kind)) call mode = subscribes kind call mode
+when_subscribed (Session (Unsubscribe kind)) call mode = unsubscribes kind call mode
+when_subscribed _ call mode = denies (not_while_subscribed (row_of call.command).name) mode
 
 -- a connection in a transaction: what isn't refused or ends it is queued
 abbrev pub in_transaction : Command → Call → Transaction → Mode → Answer
-in_transaction (OfSession Multi) call t mode = denies (codes "ERR MULTI calls can not be nested") mode
-in_transaction (OfSession Watch) call t mode = denies (codes "ERR WATCH inside MULTI is not allowed") mode
-in_transaction (OfSession Exec) call t mode = asks (if t.spoiled then Abort else Run t.queued) (closed mode)
-in_transaction (OfSession Discard) call t mode = asks (Act call) (closed mode)
-in_transaction (OfSession Quit) call t mode = quits mode
-in_transaction (OfSession (Subscribe kind)) call t mode = denies (not_in_transaction call.row.name) (spoiled mode)
-in_transaction (OfSession (Unsubscribe kind)) call t mode = denies (not_in_transaction call.row.name) (spoiled mode)
+in_transaction (Session Multi) call t mode = denies (codes "ERR MULTI calls can not be nested") mode
+in_transaction (Session Watch) call t mode = denies (codes "ERR WATCH inside MULTI is not allowed") mode
+in_transaction (Session Exec) call t mode = asks (if t.spoiled then Abort else Run t.queued) (closed mode)
+in_transaction (Session Discard) call t mode = asks (Act call) (closed mode)
+in_transaction (Session Quit) call t mode = quits mode
+in_transaction (Session (Subscribe kind)) call t mode = denies (not_in_transaction (row_of call.command).name) (spoiled mode)
+in_transaction (Session (Unsubscribe kind)) call t mode = denies (not_in_transaction (row_of call.command).name) (spoiled mode)
 in_transaction _ call t mode = says (Simple (codes "QUEUED")) (with_queued mode t call)
 
 -- a connection with neither
 abbrev pub by_itself : Command → Call → Mode → Answer
-by_itself (OfSession Multi) call mode = says ok (record mode { transaction = Some (record { queued = []; spoiled = false }) })
-by_itself (OfSession Exec) call mode = denies (codes "ERR EXEC without MULTI") mode
-by_itself (OfSession Discard) call mode = denies (codes "ERR DISCARD without MULTI") mode
-by_itself (OfSession Quit) call mode = quits mode
-by_itself (OfSession (Subscribe kind)) call mode = subscribes kind call mode
-by_itself (OfSession (Unsubscribe kind)) call mode = unsubscribes kind call mode
+by_itself (Session Multi) call mode = says ok (record mode { transaction = Some (record { queued = []; spoiled = false }) })
+by_itself (Session Exec) call mode = denies (codes "ERR EXEC without MULTI") mode
+by_itself (Session Discard) call mode = denies (codes "ERR DISCARD without MULTI") mode
+by_itself (Session Quit) call mode = quits mode
+by_itself (Session (Subscribe kind)) call mode = subscribes kind call mode
+by_itself (Session (Unsubscribe kind)) call mode = unsubscribes kind call mode
 by_itself _ call mode = asks (Act call) mode
 
 abbrev pub unsubscribed_answer : Option Transaction → Call → Mode → Answer
-unsubscribed_answer None call mode = by_itself call.row.command call mode
-unsubscribed_answer (Some t) call mode = in_transaction call.row.command call t mode
+unsubscribed_answer None call mode = by_itself call.command call mode
+unsubscribed_answer (Some t) call mode = in_transaction call.command call t mode
 
 abbrev pub known_answer : Call → Mode → Answer
 known_answer call mode =
-    if is_subscribed mode then when_subscribed call.row.command call mode else unsubscribed_answer mode.transaction call mode
+    if is_subscribed mode then when_subscribed call.command call mode else unsubscribed_answer mode.transaction call mode
 
 abbrev pub reading_answer : Reading → Mode → Answer
 reading_answer (Unknown name) mode = denies (unknown_command name) (spoiled mode)
-reading_answer (WrongArity row) mode = denies (wrong_arity row.name) (spoiled mode)
+reading_answer (WrongArity command) mode = denies (wrong_arity (row_of command).name) (spoiled mode)
 reading_answer (Known call) mode = known_answer call mode
 
 -- what a request asks for in a mode, where these names are served
-abbrev pub answer : List Row → Mode → Frame → Answer
+abbrev pub answer : List Command → Mode → Frame → Answer
 answer table mode frame = reading_answer (reading table frame) mode
 
 -- What requests ask for one after the other, and what they leave: the mode, and whether the connection ended
@@ -163,14 +168,14 @@ last_deed None mode = record { deeds = []; mode = mode; ended = false }
 last_deed (Some fault) mode = record { deeds = End (Some (Error (fault_text fault))) ∷ []; mode = mode; ended = true }
 
 -- nothing follows an end
-abbrev pub conversation : List Row → Mode → List Frame → Option Fault → Conversation
+abbrev pub conversation : List Command → Mode → List Frame → Option Fault → Conversation
 conversation table mode [] fault = last_deed fault mode
 conversation table mode (frame ∷ frames) fault =
     let a = answer table mode frame in first_deed a (conversation table a.mode frames fault)
 
-abbrev pub framed_conversation : List Row → Mode → Framing → Conversation
+abbrev pub framed_conversation : List Command → Mode → Framing → Conversation
 framed_conversation table mode framing = conversation table mode framing.frames framing.fault
 
 -- the deeds of all the bytes that a connection sent, where these names are served
-abbrev pub deeds_by : List Row → Bytes → List Deed
+abbrev pub deeds_by : List Command → Bytes → List Deed
 deeds_by table bytes = (framed_conversation table plain (framing_of bytes)).deeds

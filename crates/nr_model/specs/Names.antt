@@ -4,7 +4,8 @@ use Rattle.std.specs.declared.cmp.Ordering.{Ordering}
 use Rattle.std.specs.declared.cmp.Ordering.TheVariants.{Less, Equal, Greater}
 use Rattle.nr_model.specs.Bytes.{Bytes}
 use Rattle.nr_model.specs.Keyspace.{byte_cmp}
-use Rattle.nr_model.specs.Commands.Session.{Kind, Channels, Patterns}
+use Rattle.nr_model.specs.declared.command.Kind.{Kind}
+use Rattle.nr_model.specs.declared.command.Kind.TheVariants.{Channels, Patterns}
 
 -- an item at its place in an ordered list, unless one that ties with it is there
 abbrev pub put : {A : Type 0} → (A → A → Ordering) → A → List A → List A

@@ -8,7 +8,6 @@ use Rattle.nr_model.specs.declared.fault.Fault.TheVariants.{Count, Length, Dolla
 use Rattle.nr_model.specs.Bytes.{Bytes, crlf, on_one_line}
 use Rattle.nr_model.specs.Numbers.{int_value}
 pub mod Laws
-pub mod Seen
 
 -- the words of a request, its name first
 abbrev pub Frame : Type 0

@@ -3,6 +3,7 @@ pub mod Integers
 pub mod Requests
 pub mod Replies
 pub mod Patterns
+pub mod Commands
 pub mod Modes
 pub mod Sequential
 pub mod Worlds

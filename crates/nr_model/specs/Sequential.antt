@@ -9,9 +9,12 @@ pub mod Watches
 use Rattle.nr_model.specs.Bytes.{Bytes}
 use Rattle.nr_model.specs.Replies.{Reply, Int, Error, NullArray, array, reply_text}
 use Rattle.nr_model.specs.Keyspace.{Key, Keyspace, live}
-use Rattle.nr_model.specs.Commands.{Command, Perform, OfSession, perform}
-use Rattle.nr_model.specs.Commands.Session.{Multi, Exec, Discard, Watch, Unwatch, Quit, Subscribe, Unsubscribe, Publish, Pubsub}
-use Rattle.nr_model.specs.Commands.Shape.{Class, Look, Change, InSession, Done}
+use Rattle.nr_model.specs.declared.command.Command.{Command}
+use Rattle.nr_model.specs.declared.command.Command.TheVariants.{Perform, Session}
+use Rattle.nr_model.specs.declared.command.Operation.TheVariants.{Look, Change}
+use Rattle.nr_model.specs.declared.command.Session.TheVariants.{Multi, Exec, Discard, Watch, Unwatch, Quit, Subscribe, Unsubscribe, Publish, Pubsub}
+use Rattle.nr_model.specs.Commands.{look, change}
+use Rattle.nr_model.specs.Commands.Shape.{Done}
 use Rattle.nr_model.specs.Commands.Texts.{ok}
 use Rattle.nr_model.specs.Items.{Connection, same_connection, Call, arguments, Deed, Say, Act, Run, Abort, End, Item, Sequence}
 use Rattle.nr_model.specs.Sequential.Events.{Emission, Event, Past, keyspace_after, database_of, now_of}
@@ -29,16 +32,10 @@ pub record Progress : Type 0 where
 abbrev pub with_replies : List Reply → Progress → Progress
 with_replies replies p = record p { replies = p.replies ++ replies }
 
--- a look leaves the keyspace as it is, keys past their deadline too
-abbrev pub kept : Class → Keyspace → Keyspace → Keyspace
-kept Look before after = before
-kept Change before after = after
-kept InSession before after = after
-
-abbrev pub with_done : Class → Done → Progress → Progress
-with_done class done p =
+abbrev pub with_done : Done → Progress → Progress
+with_done done p =
     record {
-      keyspace = kept class p.keyspace done.keyspace;
+      keyspace = done.keyspace;
       database = done.database;
       touched = p.touched ++ done.touched;
       messages = p.messages;
@@ -53,24 +50,24 @@ published past (channel ∷ message ∷ words) p =
 published past (channel ∷ []) p = p
 published past [] p = p
 
--- One command at a moment. WATCH, UNWATCH and DISCARD answer OK: what they change is read back from the past.
+-- One command at a moment. A look leaves the keyspace as it is, keys past their deadline too; another finds the live keyspace. WATCH, UNWATCH and DISCARD answer OK: what they change is read back from the past.
 abbrev pub acted : Past → Connection → ℕ → Command → Call → Progress → Progress
-acted past c now (Perform operation) call p =
-    with_done call.row.class (perform operation now (live p.keyspace now) p.database (arguments call)) p
-acted past c now (OfSession (Subscribe kind)) call p = with_replies (subscribe_replies past c kind (arguments call)) p
-acted past c now (OfSession (Unsubscribe kind)) call p = with_replies (unsubscribe_replies past c kind (arguments call)) p
-acted past c now (OfSession Publish) call p = published past (arguments call) p
-acted past c now (OfSession Pubsub) call p = with_replies (pubsub_reply past (arguments call) ∷ []) p
-acted past c now (OfSession Multi) call p = with_replies (ok ∷ []) p
-acted past c now (OfSession Exec) call p = with_replies (ok ∷ []) p
-acted past c now (OfSession Discard) call p = with_replies (ok ∷ []) p
-acted past c now (OfSession Watch) call p = with_replies (ok ∷ []) p
-acted past c now (OfSession Unwatch) call p = with_replies (ok ∷ []) p
-acted past c now (OfSession Quit) call p = with_replies (ok ∷ []) p
+acted past c now (Perform (Look command)) call p = with_replies (look command now (live p.keyspace now) p.database (arguments call) ∷ []) p
+acted past c now (Perform (Change command)) call p = with_done (change command now (live p.keyspace now) p.database (arguments call)) p
+acted past c now (Session (Subscribe kind)) call p = with_replies (subscribe_replies past c kind (arguments call)) p
+acted past c now (Session (Unsubscribe kind)) call p = with_replies (unsubscribe_replies past c kind (arguments call)) p
+acted past c now (Session Publish) call p = published past (arguments call) p
+acted past c now (Session Pubsub) call p = with_replies (pubsub_reply past (arguments call) ∷ []) p
+acted past c now (Session Multi) call p = with_replies (ok ∷ []) p
+acted past c now (Session Exec) call p = with_replies (ok ∷ []) p
+acted past c now (Session Discard) call p = with_replies (ok ∷ []) p
+acted past c now (Session Watch) call p = with_replies (ok ∷ []) p
+acted past c now (Session Unwatch) call p = with_replies (ok ∷ []) p
+acted past c now (Session Quit) call p = with_replies (ok ∷ []) p
 
 -- the commands of a transaction, at one moment
 abbrev pub acted_all : Past → Connection → ℕ → List Call → Progress → Progress
-acted_all past c now calls p = fold (λ q call. acted past c now call.row.command call q) p calls
+acted_all past c now calls p = fold (λ q call. acted past c now call.command call q) p calls
 
 abbrev pub start : Past → Connection → Progress
 start past c =
@@ -97,7 +94,7 @@ exec_abort = codes "EXECABORT Transaction discarded because of previous errors."
 -- what an item's deed leaves
 abbrev pub progress_of : Past → Connection → ℕ → Deed → Progress → Progress
 progress_of past c now (Say reply) p = one_reply reply p
-progress_of past c now (Act call) p = acted past c now call.row.command call p
+progress_of past c now (Act call) p = acted past c now call.command call p
 progress_of past c now (Run calls) p = run_calls past c now calls p
 progress_of past c now Abort p = one_reply (Error exec_abort) p
 progress_of past c now (End reply) p = last_reply reply p

@@ -5,8 +5,10 @@ use Rattle.std.specs.List.{list_all, AllByRecursion}
 use Rattle.std.specs.FinMap as finmap
 use Rattle.nr_model.specs.Replies.{Error, array}
 use Rattle.nr_model.specs.Keyspace.{Keyspace}
-use Rattle.nr_model.specs.Commands.{Command, Perform, OfSession, OfServer, OfKeys, OfStrings}
-use Rattle.nr_model.specs.Commands.Server.{Ping, Select}
+use Rattle.nr_model.specs.declared.command.Command.{Command}
+use Rattle.nr_model.specs.declared.command.Command.TheVariants.{Perform, Session}
+use Rattle.nr_model.specs.declared.command.Operation.TheVariants.{Look, Change}
+use Rattle.nr_model.specs.declared.command.Change.TheVariants as changes
 use Rattle.nr_model.specs.Items.{Call, Deed, Say, Act, Run, Abort, End, Item, Sequence, is_update, Connection}
 use Rattle.nr_model.specs.Sequential.Events.{Emission}
 use Rattle.nr_model.specs.Sequential.{Progress, acted, acted_all, one_reply, last_reply, exec_abort, redis, emit}
@@ -34,7 +36,7 @@ ran c now calls p = let q = acted_all [] c now calls p in one_reply (array q.rep
 -- what a deed leaves
 abbrev pub done_by : Connection → ℕ → Deed → Progress → Progress
 done_by c now (Say reply) p = one_reply reply p
-done_by c now (Act call) p = acted [] c now call.row.command call p
+done_by c now (Act call) p = acted [] c now call.command call p
 done_by c now (Run calls) p = ran c now calls p
 done_by c now Abort p = one_reply (Error exec_abort) p
 done_by c now (End reply) p = last_reply reply p
@@ -67,14 +69,14 @@ emitted_all state (item ∷ items) = emitted_in state item ++ emitted_all (stepp
 
 -- a command needs the keyspace alone, and leaves its connection's database
 abbrev pub needs_keyspace_alone : Command → Bool
-needs_keyspace_alone (Perform (OfServer Ping)) = true
-needs_keyspace_alone (Perform (OfServer Select)) = false
-needs_keyspace_alone (Perform (OfKeys command)) = true
-needs_keyspace_alone (Perform (OfStrings command)) = true
-needs_keyspace_alone (OfSession command) = false
+needs_keyspace_alone (Perform (Look command)) = true
+needs_keyspace_alone (Perform (Change (changes.Server command))) = false
+needs_keyspace_alone (Perform (Change (changes.Keys command))) = true
+needs_keyspace_alone (Perform (Change (changes.Strings command))) = true
+needs_keyspace_alone (Session command) = false
 
 abbrev pub is_plain_call : Call → Bool
-is_plain_call call = needs_keyspace_alone call.row.command
+is_plain_call call = needs_keyspace_alone call.command
 
 abbrev pub is_plain_deed : Deed → Bool
 is_plain_deed (Say reply) = true

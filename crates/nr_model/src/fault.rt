@@ -1,4 +1,4 @@
-// The faults of a stream of requests.
+// The faults of a stream of requests, as the definitions and the reader both name them.
 
 /// Why bytes are no RESP2 request. A fault gets one error reply and ends its connection.
 #[derive(Clone, Copy, Debug, PartialEq, Eq)]

@@ -1,4 +1,4 @@
-// The sequential Redis as a machine.
+// Laws: the sequential Redis as a machine that goes from state to state, and the modes of plain connections.
 
 ghost use Rattle.nr_model.specs.Served.{ServedLaw};
 ghost use Rattle.nr_model.specs.States.{IsSequential};

@@ -1,4 +1,4 @@
-// Whole numbers and their texts.
+// Laws and worked rows: whole numbers and their texts.
 ghost use Rattle.std.specs.Prelude.{◌≡◌, ℤ, Some};
 ghost use Rattle.nr_model.specs.Bytes.{Bytes};
 ghost use Rattle.nr_model.specs.Numbers.{IsIntText, int_value};

@@ -1,4 +1,4 @@
-// The worlds of one node.
+// The law of the worlds of one node.
 
 ghost use Rattle.nr_model.specs.Explained.{WorldLaw};
 

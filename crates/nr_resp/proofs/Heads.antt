@@ -11,8 +11,8 @@ use Rattle.nr_model.specs.Requests.{Front, Whole, Faulty, Partial, front_then, m
 use Rattle.nr_model.specs.Requests.Laws.{framing_by}
 use Rattle.nr_model.proofs.Cuts.{step_law}
 use Rattle.nr_model.proofs.Spellings.{header_only, fits_low, bulk_only}
-use Rattle.nr_model.proofs.PlainFrames.{with_front}
-use Rattle.nr_resp.specs.Unfinished.{array_head, bulk_head, array_front, LacksWords}
+use Rattle.nr_model.proofs.Words.{with_front}
+use Rattle.nr_resp.specs.PartialRequest.{array_head, bulk_head, array_front, LacksWords}
 
 array_reads : (count : ℕ) (left : Bytes) → count ≤ most_words → request_at (array_head count ++ left) ≡ bulks_at count left
 array_reads count left few =

@@ -1,6 +1,6 @@
 -- What each stage of an unfinished request does with the next bytes.
 use Rattle.std.proofs.Common.{◌≡◌, ℕ, ◌+◌, ◌-◌, ◌<◌, ◌≤◌, ◌≢◌, Bool, true, false, ◌&&◌, cond, eqb, List, [], ◌∷◌, ◌++◌, length, take, drop, get_or, Some, None, ℤ, pos, negsuc, inl, inr, refl, sym, ap, ◌∙◌, subst, arith, append_assoc, length-append}
-use Rattle.std.specs.Prelude.{FitsSigned, ◌≤ℤ◌}
+use Rattle.std.specs.Prelude.{FitsSigned, ◌≤ℤ◌, Result, Ok, Err, OnErr}
 use Rattle.std.specs.Int.{w64}
 use Rattle.std.specs.Fmt.{signed_decimal}
 use Rattle.std.specs.List.{list_any, AllByRecursion}
@@ -16,10 +16,11 @@ use Rattle.nr_model.proofs.Cuts.{step_law}
 use Rattle.nr_model.proofs.Spellings.{each_is_found}
 use Rattle.nr_resp.specs.declared.reader.FeedError.{FeedError}
 use Rattle.nr_resp.specs.declared.reader.FeedError.TheVariants as errors
-use Rattle.nr_resp.specs.declared.reader.unfinished.Stage.{Stage}
-use Rattle.nr_resp.specs.declared.reader.unfinished.Stage.TheVariants.{Line, Header, Body, Ending}
+use Rattle.nr_resp.specs.declared.reader.partial.Stage.{Stage}
+use Rattle.nr_resp.specs.declared.reader.partial.Stage.TheVariants.{Line, Header, Body, Ending}
 use Rattle.nr_resp.specs.Lines.{begins, may_begin, most_line, long_line, IsLineFront, IsFirstLf, IsTooLong, Says, Misses, HasQuotes, said}
-use Rattle.nr_resp.specs.Unfinished.{array_head, bulk_head, array_front, bytes_at, Fits, Reads, Breaks}
+use Rattle.nr_resp.specs.Stream.{Reads, RanOut}
+use Rattle.nr_resp.specs.PartialRequest.{array_head, bulk_head, array_front, bytes_at, Fits, Breaks}
 use Rattle.nr_resp.proofs.Lines.{text_said, line_too_long, line_unfinished, line_whole, now_long, now_whole, split_at_lf, begins_line}
 use Rattle.nr_resp.proofs.Heads.{bulk_reads, word_unfinished, word_ends, bulk_by_head, framing_partial, framing_faulty, partial_behind, faulty_behind}
 
@@ -408,8 +409,44 @@ at_fault before after frames frames' frames'' fault reads breaks kept =
     let same : framing_of before ≡ with_frames reads.added (broken fault) = reads.same ∙ ap (with_frames reads.added) breaks in
     (ap (λ f. f.fault) same, kept ∙ reads.pushed ∙ ap (λ fs. frames ++ fs) (sym (append-nil reads.added) ∙ sym (ap (λ f. f.frames) same)))
 
-pub at_memory : (before after : Bytes) (frames frames' frames'' : List Frame) → Reads before after frames frames' → frames'' ≡ frames' → (n : ℕ) × (frames'' ≡ frames ++ take n (framing_of before).frames)
-at_memory before after frames frames' frames'' reads kept =
-    let front : take (length reads.added) (framing_of before).frames ≡ reads.added =
-    ap (λ f. take (length reads.added) f.frames) reads.same ∙ take_at reads.added (framing_of after).frames (length reads.added) refl in
-    (length reads.added, kept ∙ reads.pushed ∙ ap (λ fs. frames ++ fs) (sym front))
+pub at_memory : (before after held : Bytes) (frames frames' frames'' : List Frame) → Reads before after frames frames' → frames'' ≡ frames' → ((left : Bytes) × (held ++ left ≡ after)) → RanOut before held frames frames''
+at_memory before after held frames frames' frames'' reads kept begun = (
+  begun.0,
+  record { added = reads.added; pushed = kept ∙ reads.pushed; same = reads.same ∙ ap (λ bs. with_frames reads.added (framing_of bs)) (sym begun.1) },
+)
+
+-- what an error leaves is a front of the request
+pub on_err : {T E : Type 0} (r : Result T E) (P : Type 0) → P → OnErr r P
+on_err (Ok x) P p = tt
+on_err (Err e) P p = p
+
+abbrev Begun : Bytes → Bytes → Type 0
+Begun held all = (left : Bytes) × (held ++ left ≡ all)
+
+pub same_part : (stage : Stage) (words : List Bytes) (part part' piece : Bytes) → part' ≡ part → Begun (bytes_at stage words part') (bytes_at stage words part ++ piece)
+same_part stage words part part' piece e = (piece, ap (λ p. bytes_at stage words p ++ piece) e)
+
+pub line_lost : (stage : Stage) (words : List Bytes) (part all : Bytes) → stage ≡ Line → part ≡ [] → Begun (bytes_at stage words part) all
+line_lost stage words part all e none = (all, ap (λ s. bytes_at s words part ++ all) e ∙ ap (λ p. p ++ all) none)
+
+part_lost : (front rest piece : Bytes) → (front ++ []) ++ (rest ++ piece) ≡ (front ++ rest) ++ piece
+part_lost front rest piece = ap (λ f. f ++ (rest ++ piece)) (append-nil front) ∙ sym (append_assoc front rest piece)
+
+pub header_lost : (stage : Stage) (count : ℕ) (words : List Bytes) (part part' piece : Bytes) → stage ≡ Header count → part' ≡ [] → Begun (bytes_at stage words part') (bytes_at stage words part ++ piece)
+header_lost stage count words part part' piece e none = (
+  part ++ piece,
+  ap (λ p. bytes_at stage words p ++ (part ++ piece)) none
+      ∙ ap (λ s. bytes_at s words [] ++ (part ++ piece)) e
+      ∙ part_lost (array_front count words) part piece
+      ∙ ap (λ s. bytes_at s words part ++ piece) (sym e),
+)
+
+pub ending_lost : (stage : Stage) (count : ℕ) (words words' : List Bytes) (part part' piece : Bytes) → stage ≡ Ending count → words' ≡ words → part' ≡ [] → Begun (bytes_at (Header count) words' part') (bytes_at stage words part ++ piece)
+ending_lost stage count words words' part part' piece e same none =
+    let body = bulk_head (length part) ++ (part ++ 13 ∷ []) in (
+      body ++ piece,
+      ap (λ p. bytes_at (Header count) words' p ++ (body ++ piece)) none
+          ∙ ap (λ (ws : List Bytes). bytes_at (Header count) ws [] ++ (body ++ piece)) same
+          ∙ part_lost (array_front count words) body piece
+          ∙ ap (λ s. bytes_at s words part ++ piece) (sym e),
+    )

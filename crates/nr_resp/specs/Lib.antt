@@ -2,4 +2,4 @@ pub mod Frames
 pub mod Lines
 pub mod Seen
 pub mod Stream
-pub mod Unfinished
+pub mod PartialRequest

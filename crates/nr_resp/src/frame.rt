@@ -1,4 +1,4 @@
-// A request.
+// A request: its words, as the reader hands them on.
 use nr_blob::Blob;
 
 /// One request: its words, the name first. It has at least one.

@@ -1,17 +1,17 @@
-// Requests, from bytes in any pieces.
-ghost use Rattle.std.specs.Prelude.{◌≡◌, ℕ, [], ◌++◌, None, Some, Err, OnOk, OnErr, IfErr, take};
+// The reader of one connection, which callers see: requests from bytes in any pieces, and what closes it.
+ghost use Rattle.std.specs.Prelude.{◌≡◌, [], ◌++◌, None, Some, Err, OnOk, OnErr, IfErr};
 ghost use Rattle.nr_model.specs.Requests.{framing_of};
 ghost use Rattle.nr_model.specs.declared.fault.Fault.{Fault};
 ghost use Rattle.nr_resp.specs.Frames.{frames_seen};
 
 use crate::frame::Frame;
 use nr_model::fault::Fault;
+use partial::PartialRequest;
 use std::alloc::{AllocError, AllocFailed, Global};
 use std::marker::Model;
-use unfinished::Unfinished;
 
 mod lines;
-mod unfinished;
+mod partial;
 
 /// Why a reader is closed.
 #[derive(Clone, Copy, Debug, PartialEq, Eq)]
@@ -47,7 +47,7 @@ impl<T: Drop> From<AllocFailed<T>> for FeedError {
 /// Reads the requests of one connection. It keeps what has come of the next one.
 #[derive(Drop)]
 pub struct Reader {
-    next: Unfinished,
+    next: PartialRequest,
     closed: Option<FeedError>,
 }
 
@@ -57,7 +57,7 @@ impl Model for Reader {
     ghost Value = { Stream };
 
     ghost use Rattle.std.specs.Prelude.{◌≡◌, None};
-    ghost use Rattle.nr_resp.specs.Unfinished.{bytes_of, IsHeld};
+    ghost use Rattle.nr_resp.specs.PartialRequest.{bytes_of, IsHeld};
 
     ghost view = { λ reader. record { rest = bytes_of reader.next; closed = reader.closed } };
 
@@ -65,14 +65,14 @@ impl Model for Reader {
 }
 
 impl Reader {
-    ghost use Rattle.nr_resp.specs.Stream.{open_at};
+    ghost use Rattle.nr_resp.specs.Stream.{open_at, RanOut};
     ghost use Rattle.nr_resp.specs.declared.reader.FeedError.{FeedError};
 
     pub fn new(alloc: Global) -> Self
         ensures { result ≡ open_at [] }
     {
         Reader {
-            next: Unfinished::new(alloc),
+            next: PartialRequest::new(alloc),
             closed: None,
         }
     }
@@ -83,7 +83,7 @@ impl Reader {
     ///
     /// # Errors
     ///
-    /// A fault as soon as the bytes so far decide it, or the refusal of memory.
+    /// A fault as soon as the bytes so far decide it, or the refusal of memory: the requests before the one that it failed in were added.
     pub fn feed(&mut self, piece: &[u8], frames: &mut Vec<Frame>) -> Result<(), FeedError>
         ensures ok { OnOk result ((self.old.closed ≡ None) × (self.new ≡ open_at (framing_of (self.old.rest ++ piece.now)).rest)) }
         ensures frames { OnOk result (frames_seen frames.new.items ≡ frames_seen frames.old.items ++ (framing_of (self.old.rest ++ piece.now)).frames) }
@@ -93,8 +93,9 @@ impl Reader {
         ensures fault { (fault : Fault) → self.old.closed ≡ None → result ≡ Err (FeedError.Fault fault) →
             ((framing_of (self.old.rest ++ piece.now)).fault ≡ Some fault)
             × (frames_seen frames.new.items ≡ frames_seen frames.old.items ++ (framing_of (self.old.rest ++ piece.now)).frames) }
+        // The requests before the one that it failed in were added, and the rest is a front of that one.
         ensures memory { self.old.closed ≡ None → result ≡ Err FeedError.Memory →
-            (n : ℕ) × (frames_seen frames.new.items ≡ frames_seen frames.old.items ++ take n (framing_of (self.old.rest ++ piece.now)).frames) }
+            RanOut (self.old.rest ++ piece.now) self.new.rest (frames_seen frames.old.items) (frames_seen frames.new.items) }
 
         ensures closes { IfErr result (λ error. self.new.closed ≡ Some error) }
         ensures closed { (error : FeedError) → self.old.closed ≡ Some error → (result ≡ Err error) × (self.new ≡ self.old) × (frames.new.items ≡ frames.old.items) }

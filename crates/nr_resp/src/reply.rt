@@ -1,4 +1,4 @@
-// A reply, and its bytes.
+// A reply, written as the RESP2 specification spells it, straight into its connection's buffer.
 ghost use Rattle.std.specs.Prelude.{◌≡◌, ◌++◌, ◌∷◌, ◌^◌, ◌<◌, ℕ, List, OnOk, OnErr, IfOk, decimal, map, length};
 ghost use Rattle.nr_model.specs.Replies.{line, reply_text};
 ghost use Rattle.std.specs.Fmt.{signed_decimal};
@@ -127,6 +127,3 @@ fn append_bulk(text: &[u8], out: &mut Vec<u8>) -> Result<(), Memory>
     append_number(b'$', text.len() as i64, out)?;
     append_text(text, out)
 }
-
-#[cfg(test)]
-mod tests;

@@ -1,10 +1,10 @@
 -- What a piece asks for, by the fault that it ends with.
 use Rattle.std.proofs.Common.{◌≡◌, ℕ, zero, suc, ◌+◌, ◌≤◌, ◌<◌, true, false, List, [], ◌∷◌, ◌++◌, length, take, refl, ap, sym, ◌∙◌, subst, append_assoc, arith, length-append}
 use Rattle.std.specs.Prelude.{map, None, Some}
-use Rattle.std.proofs.lemmas.List.{length-map}
+use Rattle.std.proofs.lemmas.List.{length-map, take_at}
 use Rattle.nr_model.specs.Bytes.{Bytes}
 use Rattle.nr_model.specs.declared.fault.Fault.{Fault}
-use Rattle.nr_model.specs.Requests.{fault_text}
+use Rattle.nr_model.specs.Requests.{Frame, framing_of, fault_text}
 use Rattle.nr_model.specs.Replies.{Error}
 use Rattle.nr_model.specs.Items.{Connection, Item, Deed, End}
 use Rattle.nr_model.specs.Modes.{plain, last_deed}
@@ -12,7 +12,9 @@ use Rattle.nr_model.specs.Served.{served_deed}
 use Rattle.nr_model.specs.Worlds.{jobs_from}
 use Rattle.nr_model.proofs.ServedDeeds.{served_is_plain}
 use Rattle.nr_model.proofs.Counts.{frames_le_bytes, frames_and_rest_le_bytes}
-use Rattle.nr_session.specs.Standing.{framed, asked, request_jobs, IsFrontOf}
+use Rattle.nr_resp.specs.Stream.{RanOut}
+use Rattle.nr_session.proofs.Fronts.{adds_all}
+use Rattle.nr_session.specs.SessionState.{framed, asked, request_jobs, IsFrontOf, AddsFront}
 
 append_nil : {A : Type 0} (xs : List A) → xs ++ [] ≡ xs
 append_nil [] = refl
@@ -59,11 +61,11 @@ jobs_take c number moment (suc n) [] = refl
 jobs_take c number moment (suc n) (f ∷ fs) = ap (λ js. record { connection = c; number = number; moment = moment; deed = served_deed f } ∷ js) (jobs_take c (number + 1) moment n fs)
 
 -- a front of a front is a front
-pub front_of_front : {A : Type 0} (m n : ℕ) (xs : List A) → (k : ℕ) × (take m (take n xs) ≡ take k xs)
-front_of_front zero n xs = (0, refl)
-front_of_front (suc m) zero xs = (0, refl)
-front_of_front (suc m) (suc n) [] = (0, refl)
-front_of_front (suc m) (suc n) (x ∷ xs) = let more = front_of_front m n xs in (suc more.0, ap (λ ys. x ∷ ys) more.1)
+take_within : {A : Type 0} (m n : ℕ) (xs : List A) → m ≤ length (take n xs) → take m (take n xs) ≡ take m xs
+take_within zero n xs h = refl
+take_within (suc m) zero xs h = absurd (omega arith)
+take_within (suc m) (suc n) [] h = absurd (omega arith)
+take_within (suc m) (suc n) (x ∷ xs) h = ap (λ ys. x ∷ ys) (take_within m n xs (omega arith))
 
 take_whole : {A : Type 0} (xs : List A) → xs ≡ take (length xs) xs
 take_whole [] = refl
@@ -80,19 +82,38 @@ length-take-le-any (suc n) (x ∷ xs) = omega (arith, length-take-le-any n xs)
 pub front_few : (rest piece : Bytes) (frames : List (List Bytes)) → IsFrontOf frames (framed rest piece).frames → length frames ≤ length rest + length piece
 front_few rest piece frames f = omega (arith, few_frames rest piece, ap length f.1, length-take-le-any f.0 (framed rest piece).frames)
 
--- jobs of a front, or of a front of it, are a front of all jobs
-pub jobs_front : (c : Connection) (number moment : ℕ) (old now : List Item) (some all : List (List Bytes)) → IsFrontOf some all
-    → ((n : ℕ) × (now ≡ old ++ take n (request_jobs c number moment some))) → (n : ℕ) × (now ≡ old ++ take n (request_jobs c number moment all))
-jobs_front c number moment old now some all f h =
-    let inner = front_of_front h.0 f.0 (request_jobs c number moment all) in (
-      inner.0,
-      h.1 ∙ ap (λ frames. old ++ take h.0 (request_jobs c number moment frames)) f.1
-          ∙ ap (λ js. old ++ take h.0 js) (jobs_take c number moment f.0 all) ∙ ap (λ js. old ++ js) inner.1,
-    )
+-- the jobs that were added for a front of the frames are the first of those for all
+pub of_all : (c : Connection) (number number' moment : ℕ) (old now : List Item) (some all : List (List Bytes)) → IsFrontOf some all
+    → AddsFront old now number number' (request_jobs c number moment some) → AddsFront old now number number' (request_jobs c number moment all)
+of_all c number number' moment old now some all f h =
+    let jobs = request_jobs c number moment all in
+    let cut : request_jobs c number moment some ≡ take f.0 jobs = ap (request_jobs c number moment) f.1 ∙ jobs_take c number moment f.0 all in
+    let within : h.count ≤ length (take f.0 jobs) = omega (arith, h.few, ap length cut) in record {
+      count = h.count;
+      few = omega (arith, within, length-take-le-any f.0 jobs);
+      added = h.added ∙ ap (λ js. old ++ take h.count js) cut ∙ ap (λ js. old ++ js) (take_within h.count f.0 jobs within);
+      numbered = h.numbered;
+    }
 
-pub jobs_whole : (c : Connection) (number moment : ℕ) (old now : List Item) (some : List (List Bytes)) → now ≡ old ++ request_jobs c number moment some
-    → (n : ℕ) × (now ≡ old ++ take n (request_jobs c number moment some))
-jobs_whole c number moment old now some e = (length (request_jobs c number moment some), e ∙ ap (λ js. old ++ js) (take_whole _))
+length-jobs : (c : Connection) (number moment : ℕ) (ds : List Deed) → length (jobs_from c number moment ds) ≡ length ds
+length-jobs c number moment [] = refl
+length-jobs c number moment (d ∷ ds) = ap suc (length-jobs c (number + 1) moment ds)
+
+-- so they are where those of all these frames were added
+pub all_added : (c : Connection) (number number' moment count : ℕ) (old now : List Item) (some all : List (List Bytes)) → IsFrontOf some all → now ≡ old ++ request_jobs c number moment some → number' ≡ number + count
+    → length some ≡ count → AddsFront old now number number' (request_jobs c number moment all)
+all_added c number number' moment count old now some all f added numbered counted =
+    of_all c number number' moment old now some all f
+    (adds_all old now (request_jobs c number moment some) number number' added
+    (numbered ∙ omega (arith, counted, length-jobs c number moment (map served_deed some), length-map some served_deed)))
+
+-- the frames before a refusal are the first of all
+pub ran_out_front : (bytes held : Bytes) (frames frames' : List Frame) → frames ≡ [] → RanOut bytes held frames frames' → IsFrontOf frames' (framing_of bytes).frames
+ran_out_front bytes held frames frames' none ran = (
+  length ran.1.added,
+  ran.1.pushed ∙ ap (λ fs. fs ++ ran.1.added) none
+      ∙ sym (ap (λ f. take (length ran.1.added) f.frames) ran.1.same ∙ take_at ran.1.added (framing_of (held ++ ran.0)).frames (length ran.1.added) refl),
+)
 
 -- the jobs of requests, and behind them a fault's
 pub fault_jobs : (c : Connection) (next moment len : ℕ) (old mid new : List Item) (frames : List (List Bytes)) (ds : List Deed) (last close : Deed)

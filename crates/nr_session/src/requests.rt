@@ -6,13 +6,16 @@ ghost use Rattle.nr_model.specs.Commands.Texts.{unknown_command, wrong_arity};
 ghost use Rattle.nr_model.specs.Modes.{first_word};
 ghost use Rattle.nr_model.specs.Requests.{fault_text, fault_reason};
 ghost use Rattle.nr_model.specs.Served.{served_deed};
-ghost use Rattle.nr_command.specs.Table.{row_of_id};
-ghost use Rattle.nr_entry.specs.Kinds.{deed_of, kind_agrees};
+ghost use Rattle.nr_model.specs.Commands.{operation_row};
+ghost use Rattle.nr_model.specs.Items.{Say, Act};
+ghost use Rattle.nr_command.specs.Check.{call_of};
+ghost use Rattle.nr_entry.specs.Kinds.{deed_of};
 ghost use Rattle.nr_resp.specs.Seen.{reply_of};
 
 use nr_blob::{Blob, Memory};
-use nr_command::{Class, CmdError, CommandId, check, class, name};
-use nr_entry::JobKind;
+use nr_command::{Cmd, CmdError, check, name};
+use nr_entry::{JobKind, Read, Update};
+use nr_model::command::Operation;
 use nr_model::fault::Fault;
 use nr_resp::{Frame, Reply};
 use std::alloc::Global;
@@ -22,17 +25,30 @@ const MOST_QUOTED_BYTES: usize = 128;
 
 /// What a request asks for.
 pub fn kind_of(alloc: Global, frame: Frame) -> Result<JobKind, Memory>
-    ensures deed { IfOk result (λ kind. deed_of kind ≡ served_deed frame.words.items) }
-    ensures agrees { IfOk result (λ kind. kind_agrees kind ≡ true) }
+    ensures { IfOk result (λ kind. deed_of kind ≡ served_deed frame.words.items) }
 {
     match check(frame) {
-        Ok(cmd) => Ok(match class(cmd.id) {
-            Class::Look => JobKind::Look(cmd),
-            Class::Change | Class::Session => JobKind::Change(cmd),
-        }),
-        Err(CmdError::Unknown(frame)) => Ok(JobKind::Local(unknown(alloc, &frame)?)),
-        Err(CmdError::Arity(id, _)) => Ok(JobKind::Local(wrong_count(alloc, id)?)),
+        Ok(cmd) => Ok(performed(cmd)),
+        Err(CmdError::Unknown(frame)) => Ok(said(unknown(alloc, &frame)?)),
+        Err(CmdError::Arity(command, _)) => Ok(said(wrong_count(alloc, command)?)),
     }
+}
+
+// A command by itself. Whether it looks or may change is decided here, once.
+fn performed(cmd: Cmd) -> JobKind
+    ensures { deed_of result ≡ Act (call_of cmd) }
+{
+    let words = cmd.words;
+    match cmd.command {
+        Operation::Look(command) => JobKind::Read(Read::Look { command, words }),
+        Operation::Change(command) => JobKind::Update(Update::Change { command, words }),
+    }
+}
+
+fn said(reply: Reply) -> JobKind
+    ensures { deed_of result ≡ Say (reply_of reply) }
+{
+    JobKind::Read(Read::Local(reply))
 }
 
 fn unknown(alloc: Global, frame: &Frame) -> Result<Reply, Memory>
@@ -46,11 +62,11 @@ fn unknown(alloc: Global, frame: &Frame) -> Result<Reply, Memory>
     Ok(Reply::Error(Blob::from(text)))
 }
 
-fn wrong_count(alloc: Global, id: CommandId) -> Result<Reply, Memory>
-    ensures { IfOk result (λ reply. reply_of reply ≡ replies.Error (wrong_arity (row_of_id id).name)) }
+fn wrong_count(alloc: Global, command: Operation) -> Result<Reply, Memory>
+    ensures { IfOk result (λ reply. reply_of reply ≡ replies.Error (wrong_arity (operation_row command).name)) }
 {
     let mut text = Vec::from_slice(alloc, b"ERR wrong number of arguments for '")?;
-    text.extend_from_slice(name(id).as_bytes())?;
+    text.extend_from_slice(name(command).as_bytes())?;
     text.extend_from_slice(b"' command")?;
     Ok(Reply::Error(Blob::from(text)))
 }

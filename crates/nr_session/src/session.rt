@@ -1,28 +1,21 @@
-// The session of a connection.
-ghost use Rattle.std.specs.Prelude.{◌≡◌, ◌↔◌, ℕ, ◌+◌, ◌<◌, ◌≤◌, ◌^◌, ◌++◌, [], true, false, None, Some, Err, OnOk, OnErr, IfOk, IfSome, IsNone, is_ok, unwrap_or, if◌then◌else◌, length, take};
+// The session of a connection: bytes in, jobs out. It owns the reader and the number of the next job, and touches nothing else.
+ghost use Rattle.std.specs.Prelude.{◌≡◌, ◌↔◌, ◌+◌, ◌<◌, ◌≤◌, ◌^◌, ◌++◌, [], true, false, None, Some, Err, OnOk, OnErr, IfOk, IfSome, IsNone, is_ok, unwrap_or, if◌then◌else◌, length};
 ghost use Rattle.nr_model.specs.Items.{End};
+ghost use Rattle.nr_model.specs.Keyspace.{last_moment};
 ghost use Rattle.nr_model.specs.Worlds.{jobs_from};
 ghost use Rattle.nr_resp.specs.Frames.{frames_seen};
 ghost use Rattle.nr_resp.specs.Stream.{open_at};
 ghost use Rattle.nr_entry.specs.Jobs.{connection_of, item_of, items_of};
-ghost use Rattle.nr_session.specs.Standing.{framed, asked, request_jobs, IsFrontOf};
+ghost use Rattle.nr_session.specs.SessionState.{framed, asked, request_jobs, IsFrontOf, AddsFront};
 
 use crate::jobs::{push_close, push_jobs};
 use crate::requests::fault_reply;
 use nr_blob::Memory;
-use nr_entry::{ConnId, Job, JobKind};
+use nr_entry::{ConnId, Job, JobKind, Update};
 use nr_model::fault::Fault;
 use nr_resp::{FeedError, Frame, Reader};
 use std::alloc::Global;
 use std::marker::Model;
-
-/// What a piece of bytes led to.
-#[derive(Drop)]
-struct Progress {
-    /// The number of the next job.
-    next: u64,
-    ended: bool,
-}
 
 // Reads a piece: its frames and the fault that they end with, or the frames before a refusal.
 fn read(reader: &mut Reader, piece: &[u8], frames: &mut Vec<Frame>) -> Result<Option<Fault>, Memory>
@@ -40,42 +33,37 @@ fn read(reader: &mut Reader, piece: &[u8], frames: &mut Vec<Frame>) -> Result<Op
     }
 }
 
-// Reads a piece, and adds the jobs that it asks for.
+// Reads a piece, and adds the jobs that it asks for, numbered on. Says whether they end the connection.
 fn feed_requests(
     alloc: Global,
     conn: ConnId,
     reader: &mut Reader,
-    next: u64,
+    next: &mut u64,
     moment: u64,
     piece: &[u8],
     jobs: &mut Vec<Job>,
-) -> Result<Progress, Memory>
+) -> Result<bool, Memory>
     requires is_open { reader.old.closed ≡ None }
-    requires fits { next + (length reader.old.rest + length piece.now) + 1 < 2 ^ 64 }
+    requires fits { next.old + (length reader.old.rest + length piece.now) + 1 < 2 ^ 64 }
+    requires in_time { moment ≤ last_moment }
     ensures jobs { OnOk result (items_of jobs.new.items ≡ items_of jobs.old.items
-        ++ jobs_from (connection_of conn) next moment (asked reader.old.rest piece.now).deeds) }
-    ensures next { IfOk result (λ progress. progress.next ≡ next + length (asked reader.old.rest piece.now).deeds) }
-    ensures ended { IfOk result (λ progress. progress.ended ≡ (asked reader.old.rest piece.now).ended) }
-    ensures rest { IfOk result (λ progress. progress.ended ≡ false → reader.new ≡ open_at (framed reader.old.rest piece.now).rest) }
-    ensures numbers { IfOk result (λ progress. progress.ended ≡ false → progress.next + length reader.new.rest ≤ next + (length reader.old.rest + length piece.now)) }
-    ensures err { OnErr result ((n : ℕ) × (items_of jobs.new.items ≡ items_of jobs.old.items
-        ++ take n (request_jobs (connection_of conn) next moment (framed reader.old.rest piece.now).frames))) }
+        ++ jobs_from (connection_of conn) next.old moment (asked reader.old.rest piece.now).deeds) }
+    ensures next { OnOk result (next.new ≡ next.old + length (asked reader.old.rest piece.now).deeds) }
+    ensures ended { IfOk result (λ ended. ended ≡ (asked reader.old.rest piece.now).ended) }
+    ensures rest { IfOk result (λ ended. ended ≡ false → reader.new ≡ open_at (framed reader.old.rest piece.now).rest) }
+    ensures numbers { IfOk result (λ ended. ended ≡ false → next.new + length reader.new.rest ≤ next.old + (length reader.old.rest + length piece.now)) }
+    ensures err { OnErr result (AddsFront (items_of jobs.old.items) (items_of jobs.new.items) next.old next.new
+        (request_jobs (connection_of conn) next.old moment (framed reader.old.rest piece.now).frames)) }
 {
     let mut frames = Vec::new(alloc);
     let fed = read(reader, piece, &mut frames);
-    let number = next + frames.len() as u64;
     push_jobs(alloc, conn, next, moment, &mut frames, jobs)?;
     match fed? {
-        None => Ok(Progress {
-            next: number,
-            ended: false,
-        }),
+        None => Ok(false),
         Some(fault) => {
-            push_close(conn, number, moment, Some(fault_reply(alloc, fault)?), jobs)?;
-            Ok(Progress {
-                next: number + 1,
-                ended: true,
-            })
+            push_close(conn, *next, moment, Some(fault_reply(alloc, fault)?), jobs)?;
+            *next += 1;
+            Ok(true)
         }
     }
 }
@@ -103,9 +91,9 @@ pub struct Session {
 impl Model for Session {
     ghost use Rattle.std.specs.Prelude.{◌≡◌, false, None};
     ghost use Rattle.nr_entry.specs.Jobs.{connection_of};
-    ghost use Rattle.nr_session.specs.Standing.{Standing};
+    ghost use Rattle.nr_session.specs.SessionState.{SessionState};
 
-    ghost Value = { Standing };
+    ghost Value = { SessionState };
 
     ghost view = { λ s. record { connection = connection_of s.conn; rest = s.reader.rest; next = s.next; ended = s.ended; gave_end = s.gave_end } };
 
@@ -133,11 +121,12 @@ impl Session {
         self.ended
     }
 
-    /// Takes bytes, and adds the jobs that they ask for, numbered on, each at the moment. A fault's error is the reply of a close.
+    /// Takes bytes, and adds the jobs that they ask for, numbered on, each at the moment, in milliseconds, at most 2^53. A fault's error is the reply of a close.
     ///
     /// # Errors
     ///
-    /// `Ended`, and nothing changes; or `Memory`, and the session has ended: the jobs of the requests before are there.
+    /// `Ended`, and nothing changes; or `Memory`, and the session has ended: the jobs of the requests before are there,
+    /// and the next number stands behind them.
     pub fn feed(
         &mut self,
         bytes: &[u8],
@@ -145,6 +134,7 @@ impl Session {
         jobs: &mut Vec<Job>,
     ) -> Result<(), SessionError>
         requires fits { self.old.ended ≡ false → self.old.next + (length self.old.rest + length bytes.now) + 1 < 2 ^ 64 }
+        requires in_time { moment ≤ last_moment }
         ensures jobs { OnOk result (items_of jobs.new.items ≡ items_of jobs.old.items
             ++ jobs_from self.old.connection self.old.next moment (asked self.old.rest bytes.now).deeds) }
         ensures next { OnOk result (self.new.next ≡ self.old.next + length (asked self.old.rest bytes.now).deeds) }
@@ -156,8 +146,8 @@ impl Session {
 
         ensures ended { (result ≡ Err SessionError.Ended) ↔ (self.old.ended ≡ true) }
         ensures unchanged { result ≡ Err SessionError.Ended → (self.new ≡ self.old) × (jobs.new.items ≡ jobs.old.items) }
-        ensures memory { result ≡ Err SessionError.Memory → (self.new.ended ≡ true) × ((n : ℕ) × (items_of jobs.new.items ≡ items_of jobs.old.items
-            ++ take n (request_jobs self.old.connection self.old.next moment (framed self.old.rest bytes.now).frames))) }
+        ensures memory { result ≡ Err SessionError.Memory → (self.new.ended ≡ true) × AddsFront (items_of jobs.old.items) (items_of jobs.new.items) self.old.next self.new.next
+            (request_jobs self.old.connection self.old.next moment (framed self.old.rest bytes.now).frames) }
     {
         if self.ended {
             return Err(SessionError::Ended);
@@ -166,15 +156,14 @@ impl Session {
             self.alloc,
             self.conn,
             &mut self.reader,
-            self.next,
+            &mut self.next,
             moment,
             bytes,
             jobs,
         ) {
-            Ok(progress) => {
-                self.next = progress.next;
-                self.ended = progress.ended;
-                self.gave_end = progress.ended;
+            Ok(ended) => {
+                self.ended = ended;
+                self.gave_end = ended;
                 Ok(())
             }
             Err(_) => {
@@ -187,6 +176,7 @@ impl Session {
     /// Ends the session. The close has no reply, and the number of the first job that was dropped, else the next; there is none
     /// exactly where the session gave an end and nothing was dropped.
     pub fn close(&mut self, moment: u64, dropped: Option<u64>) -> Option<Job>
+        requires in_time { moment ≤ last_moment }
         ensures none { IsNone result ↔ ((self.old.gave_end ≡ true) × (dropped ≡ None)) }
         ensures job { IfSome result (λ job. item_of job ≡ record { connection = self.old.connection; number = unwrap_or dropped self.old.next; moment = moment; deed = End None }) }
         ensures ended { self.new ≡ record self.old { ended = true } }
@@ -199,10 +189,7 @@ impl Session {
             conn: self.conn,
             number: dropped.unwrap_or(self.next),
             moment,
-            kind: JobKind::Close(None),
+            kind: JobKind::Update(Update::Close(None)),
         })
     }
 }
-
-#[cfg(test)]
-mod tests;

@@ -1,9 +1,9 @@
--- A server that holds a world's seats takes each step as the world does.
+-- A server that holds a world's clients takes each step as the world does.
 use Rattle.std.proofs.Common.{◌≡◌, ℕ, ◌+◌, ◌-◌, ◌<◌, ◌≤◌, Bool, true, false, cond, ltb, leb, List, [], ◌∷◌, ◌++◌, length, drop, inl, inr, subst, refl, ap, sym, ◌∙◌, arith, length-append}
 use Rattle.std.specs.Prelude.{map, filter, not, ◌&&◌, ◌||◌, ◌==◌, if◌then◌else◌, Option, Some, None, option_to_list, is_none, unwrap_or, nat_le}
 use Rattle.std.proofs.lemmas.Bool.{cases_Bool}
 use Rattle.std.proofs.Math.Dec.{eqb-suc-zero}
-use Rattle.nr_world.proofs.Told.{same_either}
+use Rattle.nr_world.proofs.Delivered.{same_either}
 use Rattle.nr_model.specs.Commands.{served}
 use Rattle.std.proofs.lemmas.Bool.Decides.{nat_tests}
 use Rattle.std.proofs.lemmas.List.Folds.{list_any-append}
@@ -18,41 +18,41 @@ use Rattle.nr_model.specs.Worlds.{Setup, Step, Open, Feed, Apply, Look, Collect,
 use Rattle.nr_model.specs.Explained.{IsExplained, IsAbsent, IsFed, Runs, state_of, rest_of, framed_next, asked_next}
 use Rattle.nr_model.specs.Requests.{framing_of}
 use Rattle.nr_model.proofs.WorldsLists.{same_is, same_self}
-use Rattle.nr_session.specs.Standing.{asked}
-use Rattle.nr_world.specs.Seats.{Seat, fresh_seat, fed_seat, closed_seat, emptied, heard, told, end_of, first_number, collected_seats}
-use Rattle.nr_world.specs.Numbered.{is_seated, seat_at, at_seat}
-use Rattle.nr_world.specs.Lives.{Live, live_outcome, live_effect, live_after, live_by}
-use Rattle.nr_world.specs.Agreed.{seat_in, live_in}
-use Rattle.nr_world.specs.Standing.{has_ended}
-use Rattle.nr_world.proofs.Numbered.{of_serial, seated_below, seated_is}
-use Rattle.nr_world.proofs.Serials.{serials, length-serials, seat_of_serial, serials_push, serials_changed, serials_collected}
+use Rattle.nr_session.specs.SessionState.{asked}
+use Rattle.nr_world.specs.Clients.{Client, fresh_client, fed_client, closed_client, emptied, replied, delivered, end_of, first_number, collected_clients}
+use Rattle.nr_world.specs.Numbered.{is_client, client_at, at_client}
+use Rattle.nr_world.specs.ServerState.{ServerState, server_outcome, server_effect, server_after, server_by}
+use Rattle.nr_world.specs.Agreed.{client_in, server_in}
+use Rattle.nr_world.specs.WorldState.{has_ended}
+use Rattle.nr_world.proofs.Numbered.{of_serial, client_below, client_is}
+use Rattle.nr_world.proofs.Serials.{serials, length-serials, client_of_serial, serials_push, serials_changed, serials_collected}
 
--- as many seats as connections were opened
-pub seats_are : (world : World) → length (live_in world).seats ≡ world.opened
-seats_are world = length-serials (seat_in world) 0 world.opened
+-- as many clients as connections were opened
+pub clients_are : (world : World) → length (server_in world).clients ≡ world.opened
+clients_are world = length-serials (client_in world) 0 world.opened
 
-pub seated_where : (world : World) (c : Connection) → is_seated c (live_in world).seats ≡ exists world c
-seated_where world c = ap (λ n. c.node == 0 && ltb c.serial n) (seats_are world)
+pub client_where : (world : World) (c : Connection) → is_client c (server_in world).clients ≡ exists world c
+client_where world c = ap (λ n. c.node == 0 && ltb c.serial n) (clients_are world)
 
--- the seat of a connection that exists
-pub seat_is : (world : World) (c : Connection) → exists world c ≡ true → seat_at c (live_in world).seats ≡ seat_in world c
-seat_is world c here =
-    let seated : is_seated c (live_in world).seats ≡ true = seated_where world c ∙ here in
-    let below : c.serial < world.opened = omega (arith, seated_below c (live_in world).seats seated, seats_are world) in
-    seat_of_serial (seat_in world) 0 world.opened c.serial (fresh_seat c) below ∙ ap (seat_in world) (sym (seated_is c (live_in world).seats seated))
+-- the client of a connection that exists
+pub client_held : (world : World) (c : Connection) → exists world c ≡ true → client_at c (server_in world).clients ≡ client_in world c
+client_held world c here =
+    let is_there : is_client c (server_in world).clients ≡ true = client_where world c ∙ here in
+    let below : c.serial < world.opened = omega (arith, client_below c (server_in world).clients is_there, clients_are world) in
+    client_of_serial (client_in world) 0 world.opened c.serial (fresh_client c) below ∙ ap (client_in world) (sym (client_is c (server_in world).clients is_there))
 
 -- what has ended
 where_ended : (here a b : Bool) → (here ≡ true → a ≡ b) → (not here || a) ≡ (not here || b)
 where_ended true a b h = h refl
 where_ended false a b h = refl
 
-pub ended_agrees : (world : World) (c : Connection) → (not (is_seated c (live_in world).seats) || (seat_at c (live_in world).seats).ended) ≡ has_ended world c
+pub ended_agrees : (world : World) (c : Connection) → (not (is_client c (server_in world).clients) || (client_at c (server_in world).clients).ended) ≡ has_ended world c
 ended_agrees world c =
-    ap (λ (here : Bool). not here || (seat_at c (live_in world).seats).ended) (seated_where world c)
-    ∙ where_ended (exists world c) (seat_at c (live_in world).seats).ended (seat_in world c).ended (λ here. ap (λ (seat : Seat). seat.ended) (seat_is world c here))
+    ap (λ (here : Bool). not here || (client_at c (server_in world).clients).ended) (client_where world c)
+    ∙ where_ended (exists world c) (client_at c (server_in world).clients).ended (client_in world c).ended (λ here. ap (λ (client : Client). client.ended) (client_held world c here))
 
-collected_is : (world : World) → collected_seats (live_in world).seats ≡ collected world
-collected_is world = serials_collected (seat_in world) (waiting_for world) (connections_of world) (λ c. refl) (λ c. refl)
+collected_is : (world : World) → collected_clients (server_in world).clients ≡ collected world
+collected_is world = serials_collected (client_in world) (waiting_for world) (connections_of world) (λ c. refl) (λ c. refl)
 
 -- room for one more
 room : (most opened closed : ℕ) → closed ≤ opened → leb most (opened - closed) ≡ leb (most + closed) opened
@@ -64,26 +64,26 @@ where_exists true a b h = ap (λ (x : Bool). idle_where x Ended Done) (h refl)
 where_exists false a b h = refl
 
 -- the outcomes agree
-pub outcomes_agree : (setup : Setup) (world : World) (step : Step) → length world.closed ≤ world.opened → live_outcome setup (live_in world) step ≡ outcome setup world step
+pub outcomes_agree : (setup : Setup) (world : World) (step : Step) → length world.closed ≤ world.opened → server_outcome setup (server_in world) step ≡ outcome setup world step
 outcomes_agree setup world (Open node worker) h =
-    ap (λ (b : Bool). idle_where (not (node == 0 && worker == 0)) NoSuch (idle_where b TooMany (Opened (of_serial (length (live_in world).seats))))) (room setup.connections world.opened (length world.closed) h)
-    ∙ ap (λ n. idle_where (not (node == 0 && worker == 0)) NoSuch (idle_where (nat_le (setup.connections + length world.closed) world.opened) TooMany (Opened (of_serial n)))) (seats_are world)
+    ap (λ (b : Bool). idle_where (not (node == 0 && worker == 0)) NoSuch (idle_where b TooMany (Opened (of_serial (length (server_in world).clients))))) (room setup.connections world.opened (length world.closed) h)
+    ∙ ap (λ n. idle_where (not (node == 0 && worker == 0)) NoSuch (idle_where (nat_le (setup.connections + length world.closed) world.opened) TooMany (Opened (of_serial n)))) (clients_are world)
 outcomes_agree setup world (Feed c time bytes) h =
-    ap (λ (b : Bool). idle_where (not b) NoSuch (idle_where (seat_at c (live_in world).seats).ended Ended Done)) (seated_where world c)
-    ∙ where_exists (exists world c) _ _ (λ here. ap (λ (s : Seat). s.ended) (seat_is world c here))
+    ap (λ (b : Bool). idle_where (not b) NoSuch (idle_where (client_at c (server_in world).clients).ended Ended Done)) (client_where world c)
+    ∙ where_exists (exists world c) _ _ (λ here. ap (λ (s : Client). s.ended) (client_held world c here))
 outcomes_agree setup world (Apply node) h = refl
 outcomes_agree setup world (Look node) h = refl
 outcomes_agree setup world (Collect node worker) h =
     ap (λ (handed : List Handed). idle_where (not (node == 0 && worker == 0)) NoSuch (idle_where (length handed == 0) Nothing Done)) (collected_is world)
 outcomes_agree setup world (Close c time) h =
-    ap (λ (b : Bool). idle_where (not b) NoSuch (idle_where (seat_at c (live_in world).seats).closed Ended Done)) (seated_where world c)
-    ∙ where_exists (exists world c) _ _ (λ here. ap (λ (s : Seat). s.closed) (seat_is world c here))
+    ap (λ (b : Bool). idle_where (not b) NoSuch (idle_where (client_at c (server_in world).clients).closed Ended Done)) (client_where world c)
+    ∙ where_exists (exists world c) _ _ (λ here. ap (λ (s : Client). s.closed) (client_held world c here))
 
--- the seats of a step that changes each seat by itself
-changed_seats : (world after : World) (change : Seat → Seat) → after.opened ≡ world.opened → ((c : Connection) → change (seat_in world c) ≡ seat_in after c)
-    → map change (live_in world).seats ≡ (live_in after).seats
-changed_seats world after change same h =
-    serials_changed (seat_in world) (seat_in after) change 0 world.opened (λ i within. h (of_serial (0 + i))) ∙ ap (λ n. map (seat_in after) (serials 0 n)) (sym same)
+-- the clients of a step that changes each client by itself
+changed_clients : (world after : World) (change : Client → Client) → after.opened ≡ world.opened → ((c : Connection) → change (client_in world c) ≡ client_in after c)
+    → map change (server_in world).clients ≡ (server_in after).clients
+changed_clients world after change same h =
+    serials_changed (client_in world) (client_in after) change 0 world.opened (λ i within. h (of_serial (0 + i))) ∙ ap (λ n. map (client_in after) (serials 0 n)) (sym same)
 
 -- nothing waits for a closed connection
 shut_waits : (world : World) (c : Connection) → is_closed world c ≡ true → waiting_for world c ≡ []
@@ -95,46 +95,46 @@ run_output : (world after : World) (items : List Item) (c : Connection) → Runs
 run_output world after items c runs same true is = shut_waits world c is ∙ sym (shut_waits after c (same ∙ is))
 run_output world after items c runs same false is = sym (runs.waits c is)
 
-heard_output : (seat : Seat) (bytes : Bytes) (closed : Bool) → seat.closed ≡ closed → heard bytes seat ≡ record seat { output = cond closed seat.output (seat.output ++ bytes) }
-heard_output seat bytes true e = ap (λ b. cond b seat (record seat { output = seat.output ++ bytes })) e
-heard_output seat bytes false e = ap (λ b. cond b seat (record seat { output = seat.output ++ bytes })) e
+replied_output : (client : Client) (bytes : Bytes) (closed : Bool) → client.closed ≡ closed → replied bytes client ≡ record client { output = cond closed client.output (client.output ++ bytes) }
+replied_output client bytes true e = ap (λ b. cond b client (record client { output = client.output ++ bytes })) e
+replied_output client bytes false e = ap (λ b. cond b client (record client { output = client.output ++ bytes })) e
 
-told_seat : (world after : World) (items : List Item) (c : Connection) → Runs world items after → is_closed after c ≡ is_closed world c
-    → told (emitted_all (state_of world) items) (seat_in world c) ≡ record (seat_in world c) { output = waiting_for after c }
-told_seat world after items c runs same =
-    heard_output (seat_in world c) (bytes_for c (emitted_all (state_of world) items)) (is_closed world c) refl
-    ∙ ap (λ (bytes : Bytes). record (seat_in world c) { output = bytes }) (run_output world after items c runs same (is_closed world c) refl)
+delivered_client : (world after : World) (items : List Item) (c : Connection) → Runs world items after → is_closed after c ≡ is_closed world c
+    → delivered (emitted_all (state_of world) items) (client_in world c) ≡ record (client_in world c) { output = waiting_for after c }
+delivered_client world after items c runs same =
+    replied_output (client_in world c) (bytes_for c (emitted_all (state_of world) items)) (is_closed world c) refl
+    ∙ ap (λ (bytes : Bytes). record (client_in world c) { output = bytes }) (run_output world after items c runs same (is_closed world c) refl)
 
-abbrev live_by_parts : State → List Seat → ℕ → Jobs → List Handed → Live
-live_by_parts state seats count waiting handed = record { state = state; seats = seats; open_connections = count; waiting = waiting; handed = handed }
+abbrev live_by_parts : State → List Client → ℕ → Jobs → List Handed → ServerState
+live_by_parts state clients count waiting handed = record { state = state; clients = clients; open_connections = count; waiting = waiting; handed = handed }
 
-live_same : (state state' : State) (seats seats' : List Seat) (count count' : ℕ) (waiting waiting' : Jobs) (handed handed' : List Handed) → state ≡ state' → seats ≡ seats' → count ≡ count' → waiting ≡ waiting' → handed ≡ handed'
-    → live_by_parts state seats count waiting handed ≡ live_by_parts state' seats' count' waiting' handed'
-live_same state state' seats seats' count count' waiting waiting' handed handed' a b d e f = λ i. live_by_parts (a i) (b i) (d i) (e i) (f i)
+live_same : (state state' : State) (clients clients' : List Client) (count count' : ℕ) (waiting waiting' : Jobs) (handed handed' : List Handed) → state ≡ state' → clients ≡ clients' → count ≡ count' → waiting ≡ waiting' → handed ≡ handed'
+    → live_by_parts state clients count waiting handed ≡ live_by_parts state' clients' count' waiting' handed'
+live_same state state' clients clients' count count' waiting waiting' handed handed' a b d e f = λ i. live_by_parts (a i) (b i) (d i) (e i) (f i)
 
-apply_agrees : (world : World) (node : ℕ) → IsExplained world → live_effect (live_in world) (Apply node) ≡ live_in (effect world (Apply node))
+apply_agrees : (world : World) (node : ℕ) → IsExplained world → server_effect (server_in world) (Apply node) ≡ server_in (effect world (Apply node))
 apply_agrees world node x =
     let runs = x.moved.applied node in
     live_same _ _ _ _ _ _ _ _ _ _ (sym runs.state)
-    (changed_seats world (effect world (Apply node)) (told (emitted_all (state_of world) (entry_items (entry_jobs world.waiting)))) refl (λ c. told_seat world (effect world (Apply node)) (entry_items (entry_jobs world.waiting)) c runs refl))
+    (changed_clients world (effect world (Apply node)) (delivered (emitted_all (state_of world) (entry_items (entry_jobs world.waiting)))) refl (λ c. delivered_client world (effect world (Apply node)) (entry_items (entry_jobs world.waiting)) c runs refl))
     refl refl refl
 
-look_agrees : (world : World) (node : ℕ) → IsExplained world → live_effect (live_in world) (Look node) ≡ live_in (effect world (Look node))
+look_agrees : (world : World) (node : ℕ) → IsExplained world → server_effect (server_in world) (Look node) ≡ server_in (effect world (Look node))
 look_agrees world node x =
     let runs = x.moved.looked node in
     live_same _ _ _ _ _ _ _ _ _ _ (sym runs.state)
-    (changed_seats world (effect world (Look node)) (told (emitted_all (state_of world) (read_jobs world.waiting))) refl (λ c. told_seat world (effect world (Look node)) (read_jobs world.waiting) c runs refl))
+    (changed_clients world (effect world (Look node)) (delivered (emitted_all (state_of world) (read_jobs world.waiting))) refl (λ c. delivered_client world (effect world (Look node)) (read_jobs world.waiting) c runs refl))
     refl refl refl
 
-collect_agrees : (world : World) (node worker : ℕ) → IsExplained world → live_effect (live_in world) (Collect node worker) ≡ live_in (effect world (Collect node worker))
+collect_agrees : (world : World) (node worker : ℕ) → IsExplained world → server_effect (server_in world) (Collect node worker) ≡ server_in (effect world (Collect node worker))
 collect_agrees world node worker x =
     live_same _ _ _ _ _ _ _ _ _ _ refl
-    (changed_seats world (effect world (Collect node worker)) emptied refl (λ c. ap (λ (bytes : Bytes). record (seat_in world c) { output = bytes }) (sym (x.moved.collected node worker c))))
+    (changed_clients world (effect world (Collect node worker)) emptied refl (λ c. ap (λ (bytes : Bytes). record (client_in world c) { output = bytes }) (sym (x.moved.collected node worker c))))
     refl refl (ap (λ (handed : List Handed). world.handed ++ handed) (collected_is world))
 
 -- a connection that was never opened
-absent_seat : (world : World) (c : Connection) → IsAbsent world c → seat_in world c ≡ fresh_seat c
-absent_seat world c a =
+absent_client : (world : World) (c : Connection) → IsAbsent world c → client_in world c ≡ fresh_client c
+absent_client world c a =
     ap (λ (k : Conversation). record { connection = c; rest = cond (k.ended || is_closed world c) [] (rest_of world c); next = length k.deeds; ended = k.ended || is_closed world c; gave_end = k.ended; output = waiting_for world c; closed = is_closed world c }) a.asked
     ∙ ap (λ (b : Bool). record { connection = c; rest = cond b [] (rest_of world c); next = 0; ended = b; gave_end = false; output = waiting_for world c; closed = b }) a.unclosed
     ∙ ap (λ (rest : Bytes). record { connection = c; rest = rest; next = 0; ended = false; gave_end = false; output = waiting_for world c; closed = false }) a.rest
@@ -143,13 +143,13 @@ absent_seat world c a =
 unopened : (opened : ℕ) → (0 == 0 && ltb opened opened) ≡ false
 unopened opened = grind (arith, nat_tests)
 
-open_agrees : (world : World) (node worker : ℕ) → IsExplained world → length world.closed ≤ world.opened → live_effect (live_in world) (Open node worker) ≡ live_in (effect world (Open node worker))
+open_agrees : (world : World) (node worker : ℕ) → IsExplained world → length world.closed ≤ world.opened → server_effect (server_in world) (Open node worker) ≡ server_in (effect world (Open node worker))
 open_agrees world node worker x h =
     let next = of_serial world.opened in
-    let fresh_one : fresh_seat (of_serial (length (live_in world).seats)) ≡ seat_in world (of_serial (0 + world.opened)) =
-    ap (λ n. fresh_seat (of_serial n)) (seats_are world) ∙ sym (absent_seat world next (x.absent next (unopened world.opened))) ∙ ap (λ n. seat_in world (of_serial n)) (omega arith) in
+    let fresh_one : fresh_client (of_serial (length (server_in world).clients)) ≡ client_in world (of_serial (0 + world.opened)) =
+    ap (λ n. fresh_client (of_serial n)) (clients_are world) ∙ sym (absent_client world next (x.absent next (unopened world.opened))) ∙ ap (λ n. client_in world (of_serial n)) (omega arith) in
     live_same _ _ _ _ _ _ _ _ _ _ refl
-    (ap (λ (s : Seat). (live_in world).seats ++ s ∷ []) fresh_one ∙ sym (serials_push (seat_in world) 0 world.opened))
+    (ap (λ (s : Client). (server_in world).clients ++ s ∷ []) fresh_one ∙ sym (serials_push (client_in world) 0 world.opened))
     (omega arith) refl refl
 
 or_false : (b : Bool) → (b || false) ≡ b
@@ -160,46 +160,46 @@ or_true : (b : Bool) → (b || true) ≡ true
 or_true true = refl
 or_true false = refl
 
--- a seat by its bytes, what waits, and whether it was closed
-abbrev seat_by : Connection → Bytes → Bytes → Bool → Seat
-seat_by c text output closed =
+-- a client by its bytes, what waits, and whether it was closed
+abbrev client_by : Connection → Bytes → Bytes → Bool → Client
+client_by c text output closed =
     let k = framed_conversation served plain (framing_of text) in
     record { connection = c; rest = cond (k.ended || closed) [] (framing_of text).rest; next = length k.deeds; ended = k.ended || closed; gave_end = k.ended; output = output; closed = closed }
 
 -- one connection changes
-one_changed : (world after : World) (c : Connection) (change : Seat → Seat) → change (seat_in world c) ≡ seat_in after c → ((d : Connection) → same_connection c d ≡ false → seat_in world d ≡ seat_in after d)
-    → (d : Connection) → at_seat c change (seat_in world d) ≡ seat_in after d
+one_changed : (world after : World) (c : Connection) (change : Client → Client) → change (client_in world c) ≡ client_in after c → ((d : Connection) → same_connection c d ≡ false → client_in world d ≡ client_in after d)
+    → (d : Connection) → at_client c change (client_in world d) ≡ client_in after d
 one_changed world after c change own others d =
     elim (cases_Bool (same_connection d c)) [
-      | inl e ↦ ap (λ b. cond b (change (seat_in world d)) (seat_in world d)) e
-          ∙ subst (λ (k : Connection). change (seat_in world k) ≡ seat_in after k) (sym (same_is d c e)) own
-      | inr e ↦ ap (λ b. cond b (change (seat_in world d)) (seat_in world d)) e ∙ others d (same_either c d ∙ e)
+      | inl e ↦ ap (λ b. cond b (change (client_in world d)) (client_in world d)) e
+          ∙ subst (λ (k : Connection). change (client_in world k) ≡ client_in after k) (sym (same_is d c e)) own
+      | inr e ↦ ap (λ b. cond b (change (client_in world d)) (client_in world d)) e ∙ others d (same_either c d ∙ e)
     ]
 
 fed_own : (world : World) (c : Connection) (time : ℕ) (bytes : Bytes) → IsFed world c time bytes → (asked_by world c).ended ≡ false → is_closed world c ≡ false
-    → fed_seat bytes (seat_in world c) ≡ seat_in (fed world c time bytes) c
+    → fed_client bytes (client_in world c) ≡ client_in (fed world c time bytes) c
 fed_own world c time bytes f on unclosed =
     let going : ((asked_by world c).ended || is_closed world c) ≡ false = ap (λ b. b || is_closed world c) on ∙ unclosed in
     let after = fed world c time bytes in
     let ends : asked_next world c bytes ≡ asked_next world c bytes = refl in
     let ended : (asked_next world c bytes).ended ≡ ((asked_by after c).ended || is_closed after c) =
     sym (or_false (asked_next world c bytes).ended) ∙ ap (λ b. b || false) (sym f.ended) ∙ ap (λ b. (asked_by after c).ended || b) (sym unclosed) in
-    ap (λ (b : Bool). fed_seat bytes (record (seat_in world c) { rest = cond b [] (rest_of world c) })) going
+    ap (λ (b : Bool). fed_client bytes (record (client_in world c) { rest = cond b [] (rest_of world c) })) going
     ∙ ap (λ (b : Bool). record { connection = c; rest = cond b [] (framed_next world c bytes).rest; next = length (asked_by world c).deeds + length (asked_next world c bytes).deeds; ended = b; gave_end = (asked_next world c bytes).ended; output = waiting_for world c; closed = is_closed world c }) ended
     ∙ (λ i. record { connection = c; rest = cond ((asked_by after c).ended || is_closed after c) [] (sym f.rest i); next = sym f.next i; ended = (asked_by after c).ended || is_closed after c; gave_end = sym f.ended i; output = waiting_for world c; closed = is_closed world c })
 
 feed_agrees : (world : World) (c : Connection) (time : ℕ) (bytes : Bytes) → IsExplained world → exists world c ≡ true → (asked_by world c).ended ≡ false → is_closed world c ≡ false
-    → live_effect (live_in world) (Feed c time bytes) ≡ live_in (effect world (Feed c time bytes))
+    → server_effect (server_in world) (Feed c time bytes) ≡ server_in (effect world (Feed c time bytes))
 feed_agrees world c time bytes x here on unclosed =
     let f = x.moved.fed c time bytes on in
     let going : ((asked_by world c).ended || is_closed world c) ≡ false = ap (λ b. b || is_closed world c) on ∙ unclosed in
-    let seat = seat_is world c here in
+    let client = client_held world c here in
     live_same _ _ _ _ _ _ _ _ _ _ refl
-    (changed_seats world (fed world c time bytes) (at_seat c (fed_seat bytes)) refl
-    (one_changed world (fed world c time bytes) c (fed_seat bytes) (fed_own world c time bytes f on unclosed)
-    (λ d other. ap (λ (text : Bytes). seat_by d text (waiting_for world d) (is_closed world d)) (sym (x.moved.unfed c d time bytes other)))))
+    (changed_clients world (fed world c time bytes) (at_client c (fed_client bytes)) refl
+    (one_changed world (fed world c time bytes) c (fed_client bytes) (fed_own world c time bytes f on unclosed)
+    (λ d other. ap (λ (text : Bytes). client_by d text (waiting_for world d) (is_closed world d)) (sym (x.moved.unfed c d time bytes other)))))
     refl
-    (ap (λ (s : Seat). world.waiting ++ jobs_from c s.next (moment time) (asked s.rest bytes).deeds) seat
+    (ap (λ (s : Client). world.waiting ++ jobs_from c s.next (moment time) (asked s.rest bytes).deeds) client
     ∙ ap (λ (b : Bool). world.waiting ++ jobs_from c (length (asked_by world c).deeds) (moment time) (asked (cond b [] (rest_of world c)) bytes).deeds) going
     ∙ ap (λ (jobs : Jobs). world.waiting ++ jobs) (sym f.jobs))
     refl
@@ -214,7 +214,7 @@ end_same gave next time c (job ∷ jobs) =
 closed_where : (world : World) (c d : Connection) (time : ℕ) → is_closed (closed world c time) d ≡ (is_closed world d || (same_connection c d || false))
 closed_where world c d time = list_any-append (λ (k : Closing). same_connection k.connection d) world.closed (record { connection = c; job = close_job world c time } ∷ [])
 
-closed_own : (world : World) (c : Connection) (time : ℕ) → IsExplained world → closed_seat (seat_in world c) ≡ seat_in (closed world c time) c
+closed_own : (world : World) (c : Connection) (time : ℕ) → IsExplained world → closed_client (client_in world c) ≡ client_in (closed world c time) c
 closed_own world c time x =
     let after = closed world c time in
     let shut : is_closed after c ≡ true = closed_where world c c time ∙ ap (λ b. is_closed world c || (b || false)) (same_self c) ∙ or_true (is_closed world c) in
@@ -229,26 +229,26 @@ closed_own world c time x =
       closed = sym shut i;
     }
 
-closed_other : (world : World) (c d : Connection) (time : ℕ) → IsExplained world → same_connection c d ≡ false → seat_in world d ≡ seat_in (closed world c time) d
+closed_other : (world : World) (c d : Connection) (time : ℕ) → IsExplained world → same_connection c d ≡ false → client_in world d ≡ client_in (closed world c time) d
 closed_other world c d time x other =
     let after = closed world c time in
     let same : is_closed after d ≡ is_closed world d = closed_where world c d time ∙ ap (λ b. is_closed world d || (b || false)) other ∙ or_false (is_closed world d) in
-    λ i. seat_by d (fed_to d world.fed) (sym (x.moved.unclosed c d time other) i) (sym same i)
+    λ i. client_by d (fed_to d world.fed) (sym (x.moved.unclosed c d time other) i) (sym same i)
 
-close_agrees : (world : World) (c : Connection) (time : ℕ) → IsExplained world → exists world c ≡ true → live_effect (live_in world) (Close c time) ≡ live_in (effect world (Close c time))
+close_agrees : (world : World) (c : Connection) (time : ℕ) → IsExplained world → exists world c ≡ true → server_effect (server_in world) (Close c time) ≡ server_in (effect world (Close c time))
 close_agrees world c time x here =
     let kept = filter (λ (job : Item). not (same_connection job.connection c)) world.waiting in
     let dropped = own_jobs c world.waiting in
     live_same _ _ _ _ _ _ _ _ _ _ refl
-    (changed_seats world (closed world c time) (at_seat c closed_seat) refl (one_changed world (closed world c time) c closed_seat (closed_own world c time x) (λ d other. closed_other world c d time x other)))
+    (changed_clients world (closed world c time) (at_client c closed_client) refl (one_changed world (closed world c time) c closed_client (closed_own world c time x) (λ d other. closed_other world c d time x other)))
     (omega (arith, length-append world.closed (record { connection = c; job = close_job world c time } ∷ [])))
-    (ap (λ (s : Seat). kept ++ option_to_list (end_of (first_number dropped) (moment time) s)) (seat_is world c here)
+    (ap (λ (s : Client). kept ++ option_to_list (end_of (first_number dropped) (moment time) s)) (client_held world c here)
     ∙ ap (λ (job : Option Item). kept ++ option_to_list job) (end_same (asked_by world c).ended (length (asked_by world c).deeds) (moment time) c dropped))
     refl
 
 -- a step that isn't enabled changes nothing
-unless : (holds : Bool) (reason : Reason) (otherwise : Outcome) (world : World) (step : Step) → (holds ≡ false → live_by otherwise (live_in world) step ≡ live_in (effect_by otherwise world step))
-    → live_by (idle_where holds reason otherwise) (live_in world) step ≡ live_in (effect_by (idle_where holds reason otherwise) world step)
+unless : (holds : Bool) (reason : Reason) (otherwise : Outcome) (world : World) (step : Step) → (holds ≡ false → server_by otherwise (server_in world) step ≡ server_in (effect_by otherwise world step))
+    → server_by (idle_where holds reason otherwise) (server_in world) step ≡ server_in (effect_by (idle_where holds reason otherwise) world step)
 unless true reason otherwise world step q = refl
 unless false reason otherwise world step q = q refl
 
@@ -261,7 +261,7 @@ not_not true e = refl
 not_not false e = absurd (cc)
 
 by_outcome : (setup : Setup) (world : World) (step : Step) → IsExplained world → length world.closed ≤ world.opened
-    → live_by (outcome setup world step) (live_in world) step ≡ live_in (after_step setup world step)
+    → server_by (outcome setup world step) (server_in world) step ≡ server_in (after_step setup world step)
 by_outcome setup world (Open node worker) x h =
     unless (not (node == 0 && worker == 0)) NoSuch _ world (Open node worker) (λ here.
     unless (nat_le (setup.connections + length world.closed) world.opened) TooMany _ world (Open node worker) (λ space. open_agrees world node worker x h))
@@ -280,5 +280,5 @@ by_outcome setup world (Close c time) x h =
 
 -- the server is where the world is, one step further
 pub steps_agree : (setup : Setup) (world : World) (step : Step) → IsExplained world → length world.closed ≤ world.opened
-    → live_after setup (live_in world) step ≡ live_in (after_step setup world step)
-steps_agree setup world step x few = ap (λ o. live_by o (live_in world) step) (outcomes_agree setup world step few) ∙ by_outcome setup world step x few
+    → server_after setup (server_in world) step ≡ server_in (after_step setup world step)
+steps_agree setup world step x few = ap (λ o. server_by o (server_in world) step) (outcomes_agree setup world step few) ∙ by_outcome setup world step x few

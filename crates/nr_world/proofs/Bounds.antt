@@ -6,23 +6,26 @@ use Rattle.std.proofs.lemmas.Bool.Decides.{nat_tests}
 use Rattle.std.proofs.lemmas.List.Folds.{list_any-append}
 use Rattle.nr_model.specs.Bytes.{Bytes}
 use Rattle.nr_model.specs.declared.fault.Fault.{Fault}
-use Rattle.nr_model.specs.Items.{Connection, same_connection}
+use Rattle.nr_model.specs.Items.{Connection, same_connection, Item}
+use Rattle.nr_model.specs.Entries.{Jobs}
 use Rattle.nr_model.specs.Served.{served_deed}
 use Rattle.std.proofs.lemmas.List.{length-map}
-use Rattle.nr_model.specs.Worlds.{Setup, Step, Open, Feed, Apply, Look, Collect, Close, Outcome, Opened, Done, Idle, Feeding, Closing, World, fresh, exists, is_closed, asked_by, fed_to, close_job, fed, closed, effect, effect_by, outcome, after_step, world_after}
+use Rattle.nr_model.specs.Worlds.{Setup, Step, Open, Feed, Apply, Look, Collect, Close, Outcome, Opened, Done, Idle, Feeding, Closing, World, fresh, exists, is_closed, own_jobs, asked_by, fed_to, close_job, fed, closed, effect, effect_by, outcome, after_step, world_after}
 use Rattle.nr_model.specs.Explained.{rest_of}
+use Rattle.nr_model.proofs.WorldsExplained.{each_is_explained}
+use Rattle.nr_entry.specs.Entry.{are_of}
 use Rattle.nr_model.proofs.WorldsLists.{same_self}
 use Rattle.nr_model.proofs.WorldsSteps.{Keeps, each_world}
 use Rattle.nr_model.proofs.WorldsAbsent.{AreUntouched, fresh_untouched, keeps_untouched}
 use Rattle.nr_session.proofs.Asked.{deeds_whole, ended_broken, few_frames_and_rest}
-use Rattle.nr_session.specs.Standing.{framed, asked}
+use Rattle.nr_session.specs.SessionState.{framed, asked}
 use Rattle.nr_model.specs.Keyspace.{moment}
-use Rattle.nr_world.specs.Seats.{Seat}
-use Rattle.nr_world.specs.Agreed.{live_in}
+use Rattle.nr_world.specs.Clients.{Client}
+use Rattle.nr_world.specs.Agreed.{server_in}
 use Rattle.nr_world.specs.Ready.{bytes_of, bytes_in, IsReady}
 use Rattle.nr_world.proofs.Numbered.{of_serial}
 use Rattle.nr_world.proofs.Serials.{count_of, count_push, count_less, count_some}
-use Rattle.nr_world.proofs.Agree.{seat_is, seated_where}
+use Rattle.nr_world.proofs.Agree.{client_held, client_where}
 
 -- the connections that aren't closed, and those that are, are all
 abbrev on : World → Connection → Bool
@@ -157,21 +160,39 @@ neither : (a b : Bool) → (a || b) ≡ false → (a ≡ false) × (b ≡ false)
 neither true b e = absurd (cc)
 neither false b e = (refl, e)
 
--- each step can be taken
-pub ready : (setup : Setup) (steps : List Step) (step : Step) → bytes_in steps + bytes_of step < 2 ^ 63 → IsReady (live_in (world_after setup steps)) step
-ready setup steps (Open node worker) h = tt
-ready setup steps (Feed c time bytes) h = λ seated going.
+-- the jobs that wait are of node 0
+tail_none : (b : Bool) (job : Item) (more : Jobs) → cond b (job ∷ more) more ≡ [] → more ≡ []
+tail_none true job more e = absurd (cc)
+tail_none false job more e = e
+
+own_nodes : (jobs : Jobs) → ((c : Connection) → (c.node == 0) ≡ false → own_jobs c jobs ≡ []) → are_of 0 jobs ≡ true
+own_nodes [] h = refl
+own_nodes (job ∷ jobs) h =
+    elim (cases_Bool (job.connection.node == 0)) [
+      | inl e ↦ ap (λ b. b && are_of 0 jobs) e ∙ own_nodes jobs (λ c other. tail_none (same_connection job.connection c) job (own_jobs c jobs) (h c other))
+      | inr e ↦ let none : job ∷ own_jobs job.connection jobs ≡ [] = sym (ap (λ b. cond b (job ∷ own_jobs job.connection jobs) (own_jobs job.connection jobs)) (same_self job.connection)) ∙ h job.connection e in absurd (cc)
+    ]
+
+waiting_own : (setup : Setup) (steps : List Step) → are_of 0 (world_after setup steps).waiting ≡ true
+waiting_own setup steps =
     let world = world_after setup steps in
-    let here : exists world c ≡ true = sym (seated_where world c) ∙ seated in
-    let seat = seat_is world c here in
-    let both = neither (asked_by world c).ended (is_closed world c) (sym (ap (λ (s : Seat). s.ended) seat) ∙ going) in
+    own_nodes world.waiting (λ c other. ((each_is_explained.explained setup steps).absent c (ap (λ b. b && ltb c.serial world.opened) other)).waiting)
+
+-- each step can be taken
+pub ready : (setup : Setup) (steps : List Step) (step : Step) → bytes_in steps + bytes_of step < 2 ^ 63 → IsReady (server_in (world_after setup steps)) step
+ready setup steps (Open node worker) h = tt
+ready setup steps (Feed c time bytes) h = λ is_there going.
+    let world = world_after setup steps in
+    let here : exists world c ≡ true = sym (client_where world c) ∙ is_there in
+    let client = client_held world c here in
+    let both = neither (asked_by world c).ended (is_closed world c) (sym (ap (λ (s : Client). s.ended) client) ∙ going) in
     let parts = parts_by (fed_to c world.fed) _ refl both.0 in
     let rest = rest_where ((asked_by world c).ended || is_closed world c) (rest_of world c) in
-    omega (arith, h, ap (λ (s : Seat). s.next) seat, ap (λ (s : Seat). length s.rest) seat, parts, rest, own_of_total c world.fed, all_total setup steps fresh, fresh_total)
-ready setup steps (Apply node) h = tt
+    omega (arith, h, ap (λ (s : Client). s.next) client, ap (λ (s : Client). length s.rest) client, parts, rest, own_of_total c world.fed, all_total setup steps fresh, fresh_total)
+ready setup steps (Apply node) h = waiting_own setup steps
 ready setup steps (Look node) h = tt
 ready setup steps (Collect node worker) h = tt
-ready setup steps (Close c time) h = λ seated still.
+ready setup steps (Close c time) h = λ is_there still.
     let world = world_after setup steps in
-    let here : exists world c ≡ true = sym (seated_where world c) ∙ seated in
-    some_on world c (counted setup steps) here (sym (ap (λ (s : Seat). s.closed) (seat_is world c here)) ∙ still)
+    let here : exists world c ≡ true = sym (client_where world c) ∙ is_there in
+    some_on world c (counted setup steps) here (sym (ap (λ (s : Client). s.closed) (client_held world c here)) ∙ still)

@@ -1,7 +1,7 @@
 pub mod Numbered
 pub mod Emptied
 pub mod Dropped
-pub mod Told
+pub mod Delivered
 pub mod Idle
 pub mod Looking
 pub mod Serials

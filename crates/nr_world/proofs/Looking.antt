@@ -1,46 +1,51 @@
 -- Reads leave the state as it is.
 use Rattle.std.proofs.Common.{◌≡◌, ℕ, zero, suc, ◌+◌, ◌<◌, ◌≤◌, Bool, true, false, cond, List, [], ◌∷◌, ◌++◌, length, drop, get_or, refl, ap, sym, ◌∙◌, append_assoc, append-nil, arith, add-one, drop-cons}
-use Rattle.std.specs.Prelude.{max, not}
+use Rattle.std.specs.Prelude.{max, not, Some, None}
 use Rattle.std.proofs.lemmas.List.{drop_all}
 use Rattle.nr_model.specs.Bytes.{Bytes}
 use Rattle.nr_model.specs.Keyspace.{Keyspace}
-use Rattle.nr_model.specs.Commands.{Command, Perform, OfSession}
-use Rattle.nr_model.specs.Commands.Session.{Multi, Exec, Discard, Watch, Unwatch, Quit, Subscribe, Unsubscribe, Publish, Pubsub}
-use Rattle.nr_model.specs.Commands.Shape.{Class, Look, Change, InSession}
-use Rattle.nr_model.specs.Items.{Connection, Call, arguments, Deed, Say, Act, Run, Abort, End, Item, Sequence, is_look, is_update}
+use Rattle.nr_model.specs.declared.command.Command.{Command}
+use Rattle.nr_model.specs.declared.command.Command.TheVariants.{Perform, Session}
+use Rattle.nr_model.specs.declared.command.Operation.TheVariants.{Look, Change}
+use Rattle.nr_model.specs.declared.command.Session.TheVariants.{Multi, Exec, Discard, Watch, Unwatch, Quit, Subscribe, Unsubscribe, Publish, Pubsub}
+use Rattle.nr_model.specs.Commands.{is_look}
+use Rattle.nr_model.specs.Items.{Connection, Call, arguments, Deed, Say, Act, Run, Abort, End, Item, Sequence, is_update}
 use Rattle.nr_model.specs.Sequential.Events.{Emission}
-use Rattle.nr_model.specs.Sequential.{Progress, kept, published, acted}
+use Rattle.nr_model.specs.Sequential.{Progress, published, acted}
 use Rattle.nr_model.specs.States.{State, stepped, emitted_in, emitted_all, after_all, done_by, beginning, now_in}
 use Rattle.nr_entry.specs.Jobs.{item_of, items_of}
 use Rattle.nr_entry.specs.declared.job.Job.{Job}
+use Rattle.nr_entry.specs.Kinds.{update_deed}
+use Rattle.nr_entry.specs.declared.job.Update.{Update}
+use Rattle.nr_entry.specs.declared.job.Update.TheVariants as updates
+use Rattle.nr_entry.specs.declared.job.Transaction.TheVariants.{Queued, Spoiled}
 use Rattle.nr_world.specs.Executing.{AreReads}
-
-look_kept : (class : Class) (before after : Keyspace) → elim (is_look class) [ true ↦ false | false ↦ true ] ≡ false → kept class before after ≡ before
-look_kept Look before after h = refl
-look_kept Change before after h = absurd (cc)
-look_kept InSession before after h = absurd (cc)
 
 published_kept : (words : List Bytes) (p : Progress) → (published [] words p).keyspace ≡ p.keyspace
 published_kept [] p = refl
 published_kept (channel ∷ []) p = refl
 published_kept (channel ∷ message ∷ words) p = refl
 
-acted_kept : (c : Connection) (now : ℕ) (command : Command) (call : Call) (p : Progress) → is_update (Act call) ≡ false → (acted [] c now command call p).keyspace ≡ p.keyspace
-acted_kept c now (Perform operation) call p h = look_kept call.row.class p.keyspace _ h
-acted_kept c now (OfSession (Subscribe kind)) call p h = refl
-acted_kept c now (OfSession (Unsubscribe kind)) call p h = refl
-acted_kept c now (OfSession Publish) call p h = published_kept (arguments call) p
-acted_kept c now (OfSession Pubsub) call p h = refl
-acted_kept c now (OfSession Multi) call p h = refl
-acted_kept c now (OfSession Exec) call p h = refl
-acted_kept c now (OfSession Discard) call p h = refl
-acted_kept c now (OfSession Watch) call p h = refl
-acted_kept c now (OfSession Unwatch) call p h = refl
-acted_kept c now (OfSession Quit) call p h = refl
+changes : true ≡ false → ⊥
+changes e = cc
+
+acted_kept : (c : Connection) (now : ℕ) (command : Command) (call : Call) (p : Progress) → not (is_look command) ≡ false → (acted [] c now command call p).keyspace ≡ p.keyspace
+acted_kept c now (Perform (Look command)) call p h = refl
+acted_kept c now (Perform (Change command)) call p h = absurd (changes h)
+acted_kept c now (Session (Subscribe kind)) call p h = refl
+acted_kept c now (Session (Unsubscribe kind)) call p h = refl
+acted_kept c now (Session Publish) call p h = published_kept (arguments call) p
+acted_kept c now (Session Pubsub) call p h = refl
+acted_kept c now (Session Multi) call p h = refl
+acted_kept c now (Session Exec) call p h = refl
+acted_kept c now (Session Discard) call p h = refl
+acted_kept c now (Session Watch) call p h = refl
+acted_kept c now (Session Unwatch) call p h = refl
+acted_kept c now (Session Quit) call p h = refl
 
 done_kept : (c : Connection) (now : ℕ) (deed : Deed) (p : Progress) → is_update deed ≡ false → (done_by c now deed p).keyspace ≡ p.keyspace
 done_kept c now (Say reply) p h = refl
-done_kept c now (Act call) p h = acted_kept c now call.row.command call p h
+done_kept c now (Act call) p h = acted_kept c now call.command call p h
 done_kept c now (Run calls) p h = absurd (cc)
 done_kept c now Abort p h = absurd (cc)
 done_kept c now (End reply) p h = absurd (cc)
@@ -88,3 +93,11 @@ reads_step state jobs i job so_far next all reads within is emitted before =
 pub reads_end : (state : State) (jobs : List Job) (i : ℕ) (so_far all : List Emission) → length jobs ≤ i → so_far ++ emitted_all state (items_of (drop i jobs)) ≡ all → so_far ≡ all
 reads_end state jobs i so_far all past before =
     sym (append-nil so_far) ∙ ap (λ (left : List Job). so_far ++ emitted_all state (items_of left)) (sym (drop_all i jobs past)) ∙ before
+
+-- no update is a read
+pub no_read : (update : Update) → is_update (update_deed update) ≡ false → ⊥
+no_read (updates.Change command words) h = changes h
+no_read (updates.Exec (Queued commands)) h = changes h
+no_read (updates.Exec Spoiled) h = changes h
+no_read (updates.Close None) h = changes h
+no_read (updates.Close (Some reply)) h = changes h

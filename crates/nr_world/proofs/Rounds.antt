@@ -12,7 +12,7 @@ use Rattle.nr_model.proofs.WorldsSteps.{each_world}
 use Rattle.nr_model.proofs.WorldsAsked.{AreAsked, fresh_asked, keeps_asked}
 use Rattle.nr_model.proofs.WorldsExplained.{each_is_explained}
 use Rattle.nr_world.specs.Ready.{bytes_of, bytes_in}
-use Rattle.nr_world.specs.Standing.{Standing, steps_of, world_of}
+use Rattle.nr_world.specs.WorldState.{WorldState, steps_of, world_of}
 use Rattle.nr_world.specs.Settled.{is_done, IsTaken, IsTowards, round_for, to_do, IsRound}
 
 -- the jobs that were taken, and those that are left, are all
@@ -78,30 +78,30 @@ goes true world next did step size h e d m = record { moves = subst (Moves world
 goes false world next did step size h e d m = record { moves = subst (Moves world) (sym e) m; done = λ t. (e, some_size size h); idle = λ f. absurd (cc) }
 
 -- an apply, a look and a collect are such steps
-goes_apply : (w v : Standing) (did : Bool) → IsTaken w (Apply 0) v did → world_of v ≡ after_step w.setup (world_of w) (Apply 0) → Goes (world_of w) (world_of v) did (Apply 0) (length (entry_jobs (world_of w).waiting))
+goes_apply : (w v : WorldState) (did : Bool) → IsTaken w (Apply 0) v did → world_of v ≡ after_step w.setup (world_of w) (Apply 0) → Goes (world_of w) (world_of v) did (Apply 0) (length (entry_jobs (world_of w).waiting))
 goes_apply w v did t e =
     goes (length (entry_jobs (world_of w).waiting) == 0) (world_of w) (world_of v) did (Apply 0) (length (entry_jobs (world_of w).waiting)) refl e t.came
     (record { opened = refl; fed = refl; closed = refl; handed = ([], sym (append-nil (world_of w).handed)) })
 
-goes_look : (w v : Standing) (did : Bool) → IsTaken w (Look 0) v did → world_of v ≡ after_step w.setup (world_of w) (Look 0) → Goes (world_of w) (world_of v) did (Look 0) (length (read_jobs (world_of w).waiting))
+goes_look : (w v : WorldState) (did : Bool) → IsTaken w (Look 0) v did → world_of v ≡ after_step w.setup (world_of w) (Look 0) → Goes (world_of w) (world_of v) did (Look 0) (length (read_jobs (world_of w).waiting))
 goes_look w v did t e =
     goes (length (read_jobs (world_of w).waiting) == 0) (world_of w) (world_of v) did (Look 0) (length (read_jobs (world_of w).waiting)) refl e t.came
     (record { opened = refl; fed = refl; closed = refl; handed = ([], sym (append-nil (world_of w).handed)) })
 
-goes_collect : (w v : Standing) (did : Bool) → IsTaken w (Collect 0 0) v did → world_of v ≡ after_step w.setup (world_of w) (Collect 0 0) → Goes (world_of w) (world_of v) did (Collect 0 0) (length (collected (world_of w)))
+goes_collect : (w v : WorldState) (did : Bool) → IsTaken w (Collect 0 0) v did → world_of v ≡ after_step w.setup (world_of w) (Collect 0 0) → Goes (world_of w) (world_of v) did (Collect 0 0) (length (collected (world_of w)))
 goes_collect w v did t e =
     goes (length (collected (world_of w)) == 0) (world_of w) (world_of v) did (Collect 0 0) (length (collected (world_of w))) refl e t.came
     (record { opened = refl; fed = refl; closed = refl; handed = (collected (world_of w), refl) })
 
 -- the world that a step led to
-world_next : (v w : Standing) (step : Step) (did : Bool) → IsTaken v step w did → world_of w ≡ after_step v.setup (world_of v) step
+world_next : (v w : WorldState) (step : Step) (did : Bool) → IsTaken v step w did → world_of w ≡ after_step v.setup (world_of v) step
 world_next v w step did t = (λ i. world_after (t.setup i) (t.steps i)) ∙ each_is_explained.one_more v.setup (steps_of v.past) step
 
 bytes_more : (steps : List Step) (step : Step) → bytes_in (steps ++ step ∷ []) ≡ bytes_in steps + bytes_of step
 bytes_more [] step = omega arith
 bytes_more (first ∷ steps) step = omega (arith, bytes_more steps step)
 
-step_towards : (v w : Standing) (step : Step) (did : Bool) → IsTaken v step w did → Moves (world_of v) (world_of w) → bytes_of step ≡ 0 → IsTowards v w
+step_towards : (v w : WorldState) (step : Step) (did : Bool) → IsTaken v step w did → Moves (world_of v) (world_of w) → bytes_of step ≡ 0 → IsTowards v w
 step_towards v w step did t m none = record {
   setup = t.setup;
   opened = m.opened;
@@ -112,7 +112,7 @@ step_towards v w step did t m none = record {
 }
 
 -- one behind the other
-pub towards_more : (u v w : Standing) → IsTowards u v → IsTowards v w → IsTowards u w
+pub towards_more : (u v w : WorldState) → IsTowards u v → IsTowards v w → IsTowards u w
 towards_more u v w first more = record {
   setup = more.setup ∙ first.setup;
   opened = more.opened ∙ first.opened;
@@ -140,7 +140,7 @@ nothing_waits world x none c =
     ]
 
 -- all that was asked was executed where no jobs wait
-all_executed : (v : Standing) → (world_of v).waiting ≡ [] → (c : Connection) → own_jobs c (jobs_executed (world_of v)) ≡ asked_jobs (world_of v) c
+all_executed : (v : WorldState) → (world_of v).waiting ≡ [] → (c : Connection) → own_jobs c (jobs_executed (world_of v)) ≡ asked_jobs (world_of v) c
 all_executed v none c =
     sym (append-nil (own_jobs c (jobs_executed (world_of v)))) ∙ ap (λ jobs. own_jobs c (jobs_executed (world_of v)) ++ own_jobs c jobs) (sym none)
     ∙ (each_world AreAsked fresh_asked keeps_asked v.setup (steps_of v.past) c).own
@@ -241,7 +241,7 @@ none_left : (w0 w1 w2 w3 : World) → length (entry_jobs w0.waiting) ≡ 0 → l
 none_left w0 w1 w2 w3 u r e f g =
     ap (λ (w : World). w.waiting) (g ∙ f ∙ e) ∙ none_leads w0.waiting u (ap (λ (w : World). length (read_jobs w.waiting)) (sym e) ∙ r)
 
-pub round_taken : (v0 v1 v2 v3 : Standing) (a b c done : Bool) → IsTaken v0 (Apply 0) v1 a → IsTaken v1 (Look 0) v2 b → IsTaken v2 (Collect 0 0) v3 c → done ≡ ((a || b) || c) → IsRound v0 v3 done
+pub round_taken : (v0 v1 v2 v3 : WorldState) (a b c done : Bool) → IsTaken v0 (Apply 0) v1 a → IsTaken v1 (Look 0) v2 b → IsTaken v2 (Collect 0 0) v3 c → done ≡ ((a || b) || c) → IsRound v0 v3 done
 round_taken v0 v1 v2 v3 a b c done p q r is =
     let apply = goes_apply v0 v1 a p (world_next v0 v1 (Apply 0) a p) in
     let look = goes_look v1 v2 b q (world_next v1 v2 (Look 0) b q) in
@@ -291,10 +291,10 @@ third_done true b c e f = absurd (cc)
 third_done false true c e f = absurd (cc)
 
 -- bytes that fit go on fitting
-pub fits_step : (old new : Standing) (step : Step) (did : Bool) → IsTaken old step new did → bytes_of step ≡ 0 → bytes_in (steps_of old.past) < 9223372036854775808 → bytes_in (steps_of new.past) + 0 < 9223372036854775808
+pub fits_step : (old new : WorldState) (step : Step) (did : Bool) → IsTaken old step new did → bytes_of step ≡ 0 → bytes_in (steps_of old.past) < 9223372036854775808 → bytes_in (steps_of new.past) + 0 < 9223372036854775808
 fits_step old new step did t none fits = omega (arith, ap bytes_in t.steps, bytes_more (steps_of old.past) step, none, fits)
 
-pub fits_steps : (old new last : Standing) (step next : Step) (did done : Bool) → IsTaken old step new did → IsTaken new next last done → bytes_of step ≡ 0 → bytes_of next ≡ 0 → bytes_in (steps_of old.past) < 9223372036854775808
+pub fits_steps : (old new last : WorldState) (step next : Step) (did done : Bool) → IsTaken old step new did → IsTaken new next last done → bytes_of step ≡ 0 → bytes_of next ≡ 0 → bytes_in (steps_of old.past) < 9223372036854775808
     → bytes_in (steps_of last.past) + 0 < 9223372036854775808
 fits_steps old new last step next did done t u none nil fits =
     omega (arith, ap bytes_in t.steps, bytes_more (steps_of old.past) step, none, ap bytes_in u.steps, bytes_more (steps_of new.past) next, nil, fits)

@@ -13,10 +13,10 @@ use Rattle.nr_model.proofs.WorldsExplained.{each_is_explained}
 use Rattle.nr_world.specs.Seen.{step_seen}
 use Rattle.nr_world.specs.declared.step.Step.{Step as CodeStep}
 use Rattle.nr_world.specs.Ready.{bytes_of, bytes_in}
-use Rattle.nr_world.specs.Standing.{Standing, steps_of, world_of, IsKept}
+use Rattle.nr_world.specs.WorldState.{WorldState, steps_of, world_of, IsKept}
 use Rattle.nr_world.specs.Answered.{waits_for, answered, IsAnswered}
 use Rattle.nr_world.proofs.Numbered.{of_serial}
-use Rattle.nr_world.proofs.Serials.{length-serials, seat_of_serial}
+use Rattle.nr_world.proofs.Serials.{length-serials, client_of_serial}
 use Rattle.nr_world.proofs.Held.{steps_more}
 
 bytes_apart : (steps : List Step) (step : Step) (more : List Step) → bytes_in (steps ++ step ∷ more) ≡ bytes_in steps + bytes_of step + bytes_in more
@@ -74,7 +74,7 @@ waits_are world c absent =
       | inl e ↦ elim (cases_Bool (ltb c.serial world.opened)) [
         | inl below ↦ let within : c.serial < world.opened = grind (arith, nat_tests) in
             ap (λ b. cond b (get_or waits c.serial []) []) e
-            ∙ seat_of_serial (waiting_for world) 0 world.opened c.serial [] within
+            ∙ client_of_serial (waiting_for world) 0 world.opened c.serial [] within
             ∙ ap (waiting_for world) (sym (at_node c e))
         | inr above ↦ let beyond : length waits ≤ c.serial = omega (arith, length-serials (waiting_for world) 0 world.opened, above_means c.serial world.opened above) in
             ap (λ b. cond b (get_or waits c.serial []) []) e
@@ -84,12 +84,12 @@ waits_are world c absent =
       | inr e ↦ ap (λ b. cond b (get_or waits c.serial []) []) e ∙ sym (absent c (ap (λ b. b && ltb c.serial world.opened) e))
     ]
 
-answered_account : (v : Standing) (world : World) (c : Connection) → v.handed ≡ world.handed → v.waits ≡ map (waiting_for world) (connections_of world) → ((d : Connection) → exists world d ≡ false → waiting_for world d ≡ [])
+answered_account : (v : WorldState) (world : World) (c : Connection) → v.handed ≡ world.handed → v.waits ≡ map (waiting_for world) (connections_of world) → ((d : Connection) → exists world d ≡ false → waiting_for world d ≡ [])
     → answered v c ≡ account_of world c
 answered_account v world c handed waits absent = (λ i. handed_to c (handed i) ++ waits_for c (waits i)) ∙ ap (λ (b : Bytes). handed_to c world.handed ++ b) (waits_are world c absent)
 
 -- a world that is held was answered
-pub kept_is_answered : (v : Standing) → IsKept v → IsAnswered v.setup (steps_of v.past) v
+pub kept_is_answered : (v : WorldState) → IsKept v → IsAnswered v.setup (steps_of v.past) v
 kept_is_answered v kept =
     let x = each_is_explained.explained v.setup (steps_of v.past) in
     let world = world_of v in
@@ -103,7 +103,7 @@ kept_is_answered v kept =
     }
 
 -- all steps were taken
-pub run_answered : (setup : Setup) (steps : List CodeStep) (i : ℕ) (v : Standing) → length steps ≤ i → v.setup ≡ setup → steps_of v.past ++ map step_seen (drop i steps) ≡ map step_seen steps → IsKept v
+pub run_answered : (setup : Setup) (steps : List CodeStep) (i : ℕ) (v : WorldState) → length steps ≤ i → v.setup ≡ setup → steps_of v.past ++ map step_seen (drop i steps) ≡ map step_seen steps → IsKept v
     → IsAnswered setup (map step_seen steps) v
 run_answered setup steps i v beyond same all kept =
     let taken = steps_end v.past steps i beyond all in

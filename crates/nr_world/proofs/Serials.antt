@@ -5,7 +5,7 @@ use Rattle.std.specs.List.{range_with_len}
 use Rattle.nr_model.specs.Items.{Connection}
 use Rattle.nr_model.specs.Worlds.{Handed, is_some_bytes}
 use Rattle.nr_model.specs.Bytes.{Bytes}
-use Rattle.nr_world.specs.Seats.{Seat, collected_seats}
+use Rattle.nr_world.specs.Clients.{Client, collected_clients}
 use Rattle.nr_world.proofs.Numbered.{of_serial}
 
 abbrev pub serials : ℕ → ℕ → List Connection
@@ -15,23 +15,23 @@ pub length-serials : {A : Type 0} (f : Connection → A) (from count : ℕ) → 
 length-serials f from zero = refl
 length-serials f from (suc count) = ap suc (length-serials f (from + 1) count)
 
--- the seat of a number
-pub seat_of_serial : {A : Type 0} (f : Connection → A) (from count i : ℕ) (absent : A) → i < count → get_or (map f (serials from count)) i absent ≡ f (of_serial (from + i))
-seat_of_serial f from zero i absent h = absurd (omega arith)
-seat_of_serial f from (suc count) zero absent h = ap (λ n. f (of_serial n)) (omega arith)
-seat_of_serial f from (suc count) (suc i) absent h = seat_of_serial f (from + 1) count i absent (omega arith) ∙ ap (λ n. f (of_serial n)) (omega arith)
+-- the client of a number
+pub client_of_serial : {A : Type 0} (f : Connection → A) (from count i : ℕ) (absent : A) → i < count → get_or (map f (serials from count)) i absent ≡ f (of_serial (from + i))
+client_of_serial f from zero i absent h = absurd (omega arith)
+client_of_serial f from (suc count) zero absent h = ap (λ n. f (of_serial n)) (omega arith)
+client_of_serial f from (suc count) (suc i) absent h = client_of_serial f (from + 1) count i absent (omega arith) ∙ ap (λ n. f (of_serial n)) (omega arith)
 
 -- one number more
-pub serials_push : (f : Connection → Seat) (from count : ℕ) → map f (serials from (count + 1)) ≡ map f (serials from count) ++ f (of_serial (from + count)) ∷ []
+pub serials_push : (f : Connection → Client) (from count : ℕ) → map f (serials from (count + 1)) ≡ map f (serials from count) ++ f (of_serial (from + count)) ∷ []
 serials_push f from zero = ap (λ n. f (of_serial n) ∷ []) (omega arith)
 serials_push f from (suc count) =
     let more : suc count + 1 ≡ suc (count + 1) = omega arith in
     let behind : from + 1 + count ≡ from + suc count = omega arith in
     ap (λ n. map f (serials from n)) more
-    ∙ ap (λ (seats : List Seat). f (of_serial from) ∷ seats) (serials_push f (from + 1) count ∙ ap (λ n. map f (serials (from + 1) count) ++ f (of_serial n) ∷ []) behind)
+    ∙ ap (λ (clients : List Client). f (of_serial from) ∷ clients) (serials_push f (from + 1) count ∙ ap (λ n. map f (serials (from + 1) count) ++ f (of_serial n) ∷ []) behind)
 
--- each seat changes as it is to
-pub serials_changed : (f g : Connection → Seat) (change : Seat → Seat) (from count : ℕ) → ((i : ℕ) → i < count → change (f (of_serial (from + i))) ≡ g (of_serial (from + i)))
+-- each client changes as it is to
+pub serials_changed : (f g : Connection → Client) (change : Client → Client) (from count : ℕ) → ((i : ℕ) → i < count → change (f (of_serial (from + i))) ≡ g (of_serial (from + i)))
     → map change (map f (serials from count)) ≡ map g (serials from count)
 serials_changed f g change from zero h = refl
 serials_changed f g change from (suc count) h =
@@ -49,13 +49,13 @@ either true bytes c cs = refl
 either false bytes c cs = refl
 
 -- what waits for those that anything waits for
-pub serials_collected : (f : Connection → Seat) (bytes : Connection → Bytes) (cs : List Connection) → ((c : Connection) → (f c).connection ≡ c) → ((c : Connection) → (f c).output ≡ bytes c)
-    → collected_seats (map f cs) ≡ map {A = Connection} {B = Handed} (λ c. record { connection = c; bytes = bytes c }) (filter (λ c. is_some_bytes (bytes c)) cs)
+pub serials_collected : (f : Connection → Client) (bytes : Connection → Bytes) (cs : List Connection) → ((c : Connection) → (f c).connection ≡ c) → ((c : Connection) → (f c).output ≡ bytes c)
+    → collected_clients (map f cs) ≡ map {A = Connection} {B = Handed} (λ c. record { connection = c; bytes = bytes c }) (filter (λ c. is_some_bytes (bytes c)) cs)
 serials_collected f bytes [] names outputs = refl
 serials_collected f bytes (c ∷ cs) names outputs =
     let more = serials_collected f bytes cs names outputs in
-    ap (λ (b : Bytes). cond (is_some_bytes b) (record { connection = (f c).connection; bytes = b } ∷ collected_seats (map f cs)) (collected_seats (map f cs))) (outputs c)
-    ∙ ap (λ (d : Connection). cond (is_some_bytes (bytes c)) (record { connection = d; bytes = bytes c } ∷ collected_seats (map f cs)) (collected_seats (map f cs))) (names c)
+    ap (λ (b : Bytes). cond (is_some_bytes b) (record { connection = (f c).connection; bytes = b } ∷ collected_clients (map f cs)) (collected_clients (map f cs))) (outputs c)
+    ∙ ap (λ (d : Connection). cond (is_some_bytes (bytes c)) (record { connection = d; bytes = bytes c } ∷ collected_clients (map f cs)) (collected_clients (map f cs))) (names c)
     ∙ ap (λ (hs : List Handed). cond (is_some_bytes (bytes c)) (record { connection = c; bytes = bytes c } ∷ hs) hs) more
     ∙ either (is_some_bytes (bytes c)) bytes c (filter (λ d. is_some_bytes (bytes d)) cs)
 

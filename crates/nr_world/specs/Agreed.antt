@@ -3,11 +3,11 @@ use Rattle.std.specs.Prelude.{◌-◌, ◌||◌, cond, [], length, map}
 use Rattle.nr_model.specs.Items.{Connection}
 use Rattle.nr_model.specs.Worlds.{World, asked_by, is_closed, waiting_for, connections_of}
 use Rattle.nr_model.specs.Explained.{state_of, rest_of}
-use Rattle.nr_world.specs.Seats.{Seat}
-use Rattle.nr_world.specs.Lives.{Live}
+use Rattle.nr_world.specs.Clients.{Client}
+use Rattle.nr_world.specs.ServerState.{ServerState}
 
-abbrev pub seat_in : World → Connection → Seat
-seat_in world c =
+abbrev pub client_in : World → Connection → Client
+client_in world c =
     record {
       connection = c;
       rest = cond ((asked_by world c).ended || is_closed world c) [] (rest_of world c);
@@ -18,11 +18,11 @@ seat_in world c =
       closed = is_closed world c;
     }
 
-abbrev pub live_in : World → Live
-live_in world =
+abbrev pub server_in : World → ServerState
+server_in world =
     record {
       state = state_of world;
-      seats = map (seat_in world) (connections_of world);
+      clients = map (client_in world) (connections_of world);
       open_connections = world.opened - length world.closed;
       waiting = world.waiting;
       handed = world.handed;

@@ -1,12 +1,12 @@
 pub mod Setups
 pub mod Seen
-pub mod Seats
+pub mod Clients
 pub mod Numbered
-pub mod Lives
+pub mod ServerState
 pub mod Served
 pub mod Executing
 pub mod Agreed
 pub mod Ready
-pub mod Standing
+pub mod WorldState
 pub mod Answered
 pub mod Settled

@@ -4,11 +4,11 @@ use Rattle.nr_model.specs.Items.{Connection}
 use Rattle.nr_model.specs.Worlds.{Step, Outcome, Opened, Done, Idle, outcome, Handed, World, waiting_for, own_jobs, collected}
 use Rattle.nr_model.specs.Explains.{jobs_executed, asked_jobs}
 use Rattle.nr_world.specs.Ready.{bytes_in}
-use Rattle.nr_world.specs.Standing.{Standing, steps_of, world_of, IsKept}
+use Rattle.nr_world.specs.WorldState.{WorldState, steps_of, world_of, IsKept}
 
 -- Nothing waits, what was opened, fed and closed is as before, more was handed out, and each connection's executed jobs are all that its bytes
 -- and its close ask for.
-pub record IsSettled (old new : Standing) : Type 0 where
+pub record IsSettled (old new : WorldState) : Type 0 where
   pub kept : IsKept new
   pub still : new.failed ≡ false
   pub nothing : (world_of new).waiting ≡ []
@@ -26,7 +26,7 @@ is_done Done = true
 is_done (Idle reason) = false
 
 -- a step was taken, and whether it was done
-pub record IsTaken (old : Standing) (step : Step) (new : Standing) (done : Bool) : Type 0 where
+pub record IsTaken (old : WorldState) (step : Step) (new : WorldState) (done : Bool) : Type 0 where
   pub setup : new.setup ≡ old.setup
   pub was : IsKept old
   pub kept : IsKept new
@@ -35,7 +35,7 @@ pub record IsTaken (old : Standing) (step : Step) (new : Standing) (done : Bool)
   pub came : done ≡ is_done (outcome old.setup (world_of old) step)
 
 -- jobs may have been executed, and bytes handed out
-pub record IsTowards (old new : Standing) : Type 0 where
+pub record IsTowards (old new : WorldState) : Type 0 where
   pub setup : new.setup ≡ old.setup
   pub opened : (world_of new).opened ≡ (world_of old).opened
   pub fed : (world_of new).fed ≡ (world_of old).fed
@@ -52,7 +52,7 @@ abbrev pub to_do : World → ℕ
 to_do world = length world.waiting + length world.waiting + round_for (collected world)
 
 -- A round was taken: less is to be done, or nothing was.
-pub record IsRound (old new : Standing) (done : Bool) : Type 0 where
+pub record IsRound (old new : WorldState) (done : Bool) : Type 0 where
   pub towards : IsTowards old new
   pub less : done ≡ true → to_do (world_of new) < to_do (world_of old)
   pub settled : done ≡ false → IsSettled old new

@@ -1,6 +1,6 @@
-// The bytes that wait are handed out.
+// Handing out: the bytes that wait for each connection, by serial.
 ghost use Rattle.std.specs.Prelude.{◌≡◌, ◌++◌, ◌∷◌, [], OnOk, map};
-ghost use Rattle.nr_world.specs.Seats.{Seat, emptied, collected_seats};
+ghost use Rattle.nr_world.specs.Clients.{Client, emptied, collected_clients};
 ghost use Rattle.nr_world.specs.Seen.{handed_seen};
 
 use crate::connection::Connection;
@@ -14,9 +14,9 @@ pub(crate) fn collect(
     connections: &mut [Connection],
     handed: &mut Vec<Handed>,
 ) -> Result<(), Memory>
-    ensures handed { OnOk result (map handed_seen handed.new.items ≡ map handed_seen handed.old.items ++ collected_seats connections.old) }
-    ensures seats { OnOk result (connections.new ≡ map emptied connections.old) }
-    ensures connections { map (λ (seat : Seat). seat.connection) connections.new ≡ map (λ (seat : Seat). seat.connection) connections.old }
+    ensures handed { OnOk result (map handed_seen handed.new.items ≡ map handed_seen handed.old.items ++ collected_clients connections.old) }
+    ensures clients { OnOk result (connections.new ≡ map emptied connections.old) }
+    ensures connections { map (λ (client : Client). client.connection) connections.new ≡ map (λ (client : Client). client.connection) connections.old }
 {
     for connection in connections.iter_mut() {
         hand_out(alloc, connection, handed)?;
@@ -30,8 +30,8 @@ fn hand_out(
     connection: &mut Connection,
     handed: &mut Vec<Handed>,
 ) -> Result<(), Memory>
-    ensures handed { OnOk result (map handed_seen handed.new.items ≡ map handed_seen handed.old.items ++ collected_seats (connection.old ∷ [])) }
-    ensures seat { OnOk result (connection.new ≡ emptied connection.old) }
+    ensures handed { OnOk result (map handed_seen handed.new.items ≡ map handed_seen handed.old.items ++ collected_clients (connection.old ∷ [])) }
+    ensures client { OnOk result (connection.new ≡ emptied connection.old) }
     ensures connection { connection.new.connection ≡ connection.old.connection }
 {
     let bytes = connection.take_output(alloc);

@@ -1,12 +1,13 @@
-// A connection.
-ghost use Rattle.std.specs.Prelude.{◌≡◌, ◌<◌, ◌+◌, ◌^◌, ◌++◌, [], false, OnOk, length};
+// A connection: its session, the bytes that wait for it, and whether it was closed.
+ghost use Rattle.std.specs.Prelude.{◌≡◌, ◌<◌, ◌≤◌, ◌+◌, ◌^◌, ◌++◌, [], false, OnOk, length};
 ghost use Rattle.std.specs.Option.{option_map};
 ghost use Rattle.nr_model.specs.Replies.{reply_text};
+ghost use Rattle.nr_model.specs.Keyspace.{last_moment};
 ghost use Rattle.nr_model.specs.Worlds.{jobs_from};
 ghost use Rattle.nr_resp.specs.Seen.{reply_of};
 ghost use Rattle.nr_entry.specs.Jobs.{connection_of, item_of, items_of};
-ghost use Rattle.nr_session.specs.Standing.{asked};
-ghost use Rattle.nr_world.specs.Seats.{fresh_seat, fed_seat, closed_seat, emptied, heard, end_of};
+ghost use Rattle.nr_session.specs.SessionState.{asked};
+ghost use Rattle.nr_world.specs.Clients.{fresh_client, fed_client, closed_client, emptied, replied, end_of};
 
 use nr_blob::Memory;
 use nr_entry::{ConnId, Job};
@@ -28,9 +29,9 @@ pub(crate) struct Connection {
 impl Model for Connection {
     ghost use Rattle.std.specs.Prelude.{◌≡◌, [], cond};
     ghost use Rattle.nr_entry.specs.Jobs.{connection_of};
-    ghost use Rattle.nr_world.specs.Seats.{Seat};
+    ghost use Rattle.nr_world.specs.Clients.{Client};
 
-    ghost Value = { Seat };
+    ghost Value = { Client };
 
     ghost view = { λ c. record { connection = connection_of c.conn; rest = cond c.session.ended [] c.session.rest; next = c.session.next; ended = c.session.ended; gave_end = c.session.gave_end; output = c.output.items; closed = c.is_closed } };
 
@@ -39,7 +40,7 @@ impl Model for Connection {
 
 impl Connection {
     pub(crate) fn new(alloc: Global, conn: ConnId) -> Connection
-        ensures { result ≡ fresh_seat (connection_of conn) }
+        ensures { result ≡ fresh_client (connection_of conn) }
     {
         Connection {
             conn,
@@ -77,7 +78,8 @@ impl Connection {
     ) -> Result<(), Memory>
         requires going { self.old.ended ≡ false }
         requires fits { self.old.next + (length self.old.rest + length bytes.now) + 1 < 2 ^ 64 }
-        ensures seat { OnOk result (self.new ≡ fed_seat bytes.now self.old) }
+        requires in_time { moment ≤ last_moment }
+        ensures client { OnOk result (self.new ≡ fed_client bytes.now self.old) }
         ensures jobs { OnOk result (items_of jobs.new.items ≡ items_of jobs.old.items ++ jobs_from self.old.connection self.old.next moment (asked self.old.rest bytes.now).deeds) }
         ensures connection { self.new.connection ≡ self.old.connection }
     {
@@ -89,7 +91,8 @@ impl Connection {
 
     /// Closes it: what waits for it is cut. Gives the job of its end, if it needs one.
     pub(crate) fn close(&mut self, moment: u64, dropped: Option<u64>) -> Option<Job>
-        ensures seat { self.new ≡ closed_seat self.old }
+        requires in_time { moment ≤ last_moment }
+        ensures client { self.new ≡ closed_client self.old }
         ensures job { option_map item_of result ≡ end_of dropped moment self.old }
     {
         self.output.clear();
@@ -98,8 +101,8 @@ impl Connection {
     }
 
     /// Writes a reply to what waits for it, unless it is closed.
-    pub(crate) fn hear(&mut self, reply: &Reply) -> Result<(), Memory>
-        ensures seat { OnOk result (self.new ≡ heard (reply_text (reply_of reply.now)) self.old) }
+    pub(crate) fn push_reply(&mut self, reply: &Reply) -> Result<(), Memory>
+        ensures client { OnOk result (self.new ≡ replied (reply_text (reply_of reply.now)) self.old) }
         ensures connection { self.new.connection ≡ self.old.connection }
     {
         if !self.is_closed {
@@ -111,7 +114,7 @@ impl Connection {
     /// Takes the bytes that wait for it.
     pub(crate) fn take_output(&mut self, alloc: Global) -> Vec<u8>
         ensures bytes { result.items ≡ self.old.output }
-        ensures seat { self.new ≡ emptied self.old }
+        ensures client { self.new ≡ emptied self.old }
     {
         mem::replace(&mut self.output, Vec::new(alloc))
     }

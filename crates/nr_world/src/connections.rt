@@ -1,15 +1,16 @@
-// All connections.
-ghost use Rattle.std.specs.Prelude.{◌≡◌, ◌<◌, ◌+◌, ◌^◌, ◌++◌, ◌∷◌, [], true, false, IfOk, OnOk, IfSome, IsSome, ◌↔◌, IsTrue, length, map};
+// All connections of node 0, by serial: each call changes one of them, or delivers to all that are meant.
+ghost use Rattle.std.specs.Prelude.{◌≡◌, ◌<◌, ◌≤◌, ◌+◌, ◌^◌, ◌++◌, ◌∷◌, [], true, false, IfOk, OnOk, IfSome, IsSome, ◌↔◌, IsTrue, length, map};
 ghost use Rattle.std.specs.Option.{option_map};
 ghost use Rattle.nr_model.specs.Replies.{reply_text};
+ghost use Rattle.nr_model.specs.Keyspace.{last_moment};
 ghost use Rattle.nr_model.specs.Worlds.{jobs_from};
 ghost use Rattle.nr_resp.specs.Seen.{reply_of};
 ghost use Rattle.nr_entry.specs.Jobs.{connection_of, item_of, items_of};
 ghost use Rattle.nr_machine.specs.Emitted.{emissions_seen};
-ghost use Rattle.nr_session.specs.Standing.{asked};
-ghost use Rattle.nr_world.specs.Seats.{fresh_seat, fed_seat, closed_seat, emptied, heard, end_of, told, collected_seats};
+ghost use Rattle.nr_session.specs.SessionState.{asked};
+ghost use Rattle.nr_world.specs.Clients.{fresh_client, fed_client, closed_client, emptied, replied, end_of, delivered, collected_clients};
 ghost use Rattle.nr_world.specs.Seen.{handed_seen};
-ghost use Rattle.nr_world.specs.Numbered.{is_seated, seat_at, at_seat};
+ghost use Rattle.nr_world.specs.Numbered.{is_client, client_at, at_client};
 
 use crate::collecting::collect;
 use crate::connection::Connection;
@@ -29,10 +30,10 @@ pub(crate) struct Connections {
 
 impl Model for Connections {
     ghost use Rattle.std.specs.Prelude.{List};
-    ghost use Rattle.nr_world.specs.Seats.{Seat};
+    ghost use Rattle.nr_world.specs.Clients.{Client};
     ghost use Rattle.nr_world.specs.Numbered.{IsNumbered};
 
-    ghost Value = { List Seat };
+    ghost Value = { List Client };
 
     ghost view = { λ c. c.list.items };
 
@@ -50,7 +51,7 @@ impl Connections {
 
     /// Whether there is such a connection.
     pub(crate) fn contains(&self, conn: ConnId) -> bool
-        ensures { result ≡ is_seated (connection_of conn) self.now }
+        ensures { result ≡ is_client (connection_of conn) self.now }
     {
         conn.node == 0 && (conn.serial as usize) < self.list.len()
     }
@@ -58,7 +59,7 @@ impl Connections {
     /// One connection more.
     pub(crate) fn add(&mut self, alloc: Global) -> Result<ConnId, Memory>
         ensures conn { IfOk result (λ conn. connection_of conn ≡ record { node = 0; serial = length self.old }) }
-        ensures seats { OnOk result (self.new ≡ self.old ++ fresh_seat (record { node = 0; serial = length self.old }) ∷ []) }
+        ensures clients { OnOk result (self.new ≡ self.old ++ fresh_client (record { node = 0; serial = length self.old }) ∷ []) }
     {
         let conn = ConnId {
             node: 0,
@@ -70,15 +71,15 @@ impl Connections {
 
     /// Whether a connection takes no more bytes.
     pub(crate) fn has_ended(&self, conn: ConnId) -> bool
-        requires { IsTrue (is_seated (connection_of conn) self.now) }
-        ensures { result ≡ (seat_at (connection_of conn) self.now).ended }
+        requires { IsTrue (is_client (connection_of conn) self.now) }
+        ensures { result ≡ (client_at (connection_of conn) self.now).ended }
     {
         self.list[conn.serial as usize].has_ended()
     }
 
     pub(crate) fn is_closed(&self, conn: ConnId) -> bool
-        requires { IsTrue (is_seated (connection_of conn) self.now) }
-        ensures { result ≡ (seat_at (connection_of conn) self.now).closed }
+        requires { IsTrue (is_client (connection_of conn) self.now) }
+        ensures { result ≡ (client_at (connection_of conn) self.now).closed }
     {
         self.list[conn.serial as usize].is_closed()
     }
@@ -91,48 +92,50 @@ impl Connections {
         bytes: &[u8],
         jobs: &mut Vec<Job>,
     ) -> Result<(), Memory>
-        requires seated { IsTrue (is_seated (connection_of conn) self.old) }
-        requires going { (seat_at (connection_of conn) self.old).ended ≡ false }
-        requires fits { (seat_at (connection_of conn) self.old).next + (length (seat_at (connection_of conn) self.old).rest + length bytes.now) + 1 < 2 ^ 64 }
-        ensures seats { OnOk result (self.new ≡ map (at_seat (connection_of conn) (fed_seat bytes.now)) self.old) }
-        ensures jobs { OnOk result (items_of jobs.new.items ≡ items_of jobs.old.items ++ jobs_from (connection_of conn) (seat_at (connection_of conn) self.old).next moment (asked (seat_at (connection_of conn) self.old).rest bytes.now).deeds) }
+        requires is_there { IsTrue (is_client (connection_of conn) self.old) }
+        requires going { (client_at (connection_of conn) self.old).ended ≡ false }
+        requires fits { (client_at (connection_of conn) self.old).next + (length (client_at (connection_of conn) self.old).rest + length bytes.now) + 1 < 2 ^ 64 }
+        requires in_time { moment ≤ last_moment }
+        ensures clients { OnOk result (self.new ≡ map (at_client (connection_of conn) (fed_client bytes.now)) self.old) }
+        ensures jobs { OnOk result (items_of jobs.new.items ≡ items_of jobs.old.items ++ jobs_from (connection_of conn) (client_at (connection_of conn) self.old).next moment (asked (client_at (connection_of conn) self.old).rest bytes.now).deeds) }
     {
         self.list[conn.serial as usize].feed(moment, bytes, jobs)
     }
 
     /// Closes a connection, and gives the job of its end, if it needs one.
     pub(crate) fn close(&mut self, conn: ConnId, moment: u64, dropped: Option<u64>) -> Option<Job>
-        requires seated { IsTrue (is_seated (connection_of conn) self.old) }
-        ensures seats { self.new ≡ map (at_seat (connection_of conn) closed_seat) self.old }
-        ensures job { option_map item_of result ≡ end_of dropped moment (seat_at (connection_of conn) self.old) }
+        requires in_time { moment ≤ last_moment }
+        requires is_there { IsTrue (is_client (connection_of conn) self.old) }
+        ensures clients { self.new ≡ map (at_client (connection_of conn) closed_client) self.old }
+        ensures job { option_map item_of result ≡ end_of dropped moment (client_at (connection_of conn) self.old) }
     {
         self.list[conn.serial as usize].close(moment, dropped)
     }
 
     /// Writes a reply to what waits for a connection, unless it is closed or there is none.
-    pub(crate) fn hear(&mut self, conn: ConnId, reply: &Reply) -> Result<(), Memory>
-        ensures { OnOk result (self.new ≡ map (at_seat (connection_of conn) (heard (reply_text (reply_of reply.now)))) self.old) }
+    pub(crate) fn push_reply(&mut self, conn: ConnId, reply: &Reply) -> Result<(), Memory>
+        ensures { OnOk result (self.new ≡ map (at_client (connection_of conn) (replied (reply_text (reply_of reply.now)))) self.old) }
     {
         if !self.contains(conn) {
             return Ok(());
         }
-        self.list[conn.serial as usize].hear(reply)
+        self.list[conn.serial as usize].push_reply(reply)
     }
 
     /// Hands out what waits for each connection, by serial. Linear in the connections.
     pub(crate) fn collect(&mut self, alloc: Global, handed: &mut Vec<Handed>) -> Result<(), Memory>
-        ensures handed { OnOk result (map handed_seen handed.new.items ≡ map handed_seen handed.old.items ++ collected_seats self.old) }
-        ensures seats { OnOk result (self.new ≡ map emptied self.old) }
+        ensures handed { OnOk result (map handed_seen handed.new.items ≡ map handed_seen handed.old.items ++ collected_clients self.old) }
+        ensures clients { OnOk result (self.new ≡ map emptied self.old) }
     {
         collect(alloc, &mut self.list, handed)
     }
 
     /// Writes what was emitted to what waits for the connections that are there and not closed, in order.
-    pub(crate) fn tell(&mut self, emissions: &[Emission]) -> Result<(), Memory>
-        ensures { OnOk result (self.new ≡ map (told (emissions_seen emissions.now)) self.old) }
+    pub(crate) fn deliver(&mut self, emissions: &[Emission]) -> Result<(), Memory>
+        ensures { OnOk result (self.new ≡ map (delivered (emissions_seen emissions.now)) self.old) }
     {
         for emission in emissions {
-            self.hear(emission.conn, &emission.reply)?;
+            self.push_reply(emission.conn, &emission.reply)?;
         }
         Ok(())
     }

@@ -1,4 +1,4 @@
-// A run of steps.
+// A run of any steps from nothing, and whether steps fit: the function that carries the headline.
 ghost use Rattle.std.specs.Prelude.{◌≡◌, ◌<◌, ◌^◌, ◌↔◌, IfOk, IsTrue, map};
 ghost use Rattle.nr_world.specs.Seen.{step_seen};
 ghost use Rattle.nr_world.specs.Ready.{bytes_of, bytes_in};
@@ -55,6 +55,3 @@ fn size(step: &Step) -> u64
         | Step::Close(_, _) => 0,
     }
 }
-
-#[cfg(test)]
-mod tests;

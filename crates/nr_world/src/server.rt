@@ -1,14 +1,15 @@
 // A server: what each step does to its parts.
-ghost use Rattle.std.specs.Prelude.{◌≡◌, ◌<◌, ◌+◌, ◌^◌, ◌++◌, true, false, IfOk, OnOk, IsTrue, length, min, option_to_list};
+ghost use Rattle.std.specs.Prelude.{◌≡◌, ◌<◌, ◌≤◌, ◌+◌, ◌^◌, ◌++◌, true, false, IfOk, OnOk, IsTrue, length, min, option_to_list};
 ghost use Rattle.std.specs.Option.{option_map};
-ghost use Rattle.nr_model.specs.Keyspace.{moment};
+ghost use Rattle.nr_model.specs.Keyspace.{moment, last_moment};
 ghost use Rattle.nr_model.specs.Worlds as worlds;
+ghost use Rattle.nr_entry.specs.Entry.{are_of};
 ghost use Rattle.nr_entry.specs.Jobs.{connection_of, item_of, items_of};
 ghost use Rattle.nr_world.specs.Seen.{step_seen, outcome_seen};
 ghost use Rattle.nr_world.specs.Ready.{IsReady};
-ghost use Rattle.nr_world.specs.Numbered.{is_seated, seat_at};
-ghost use Rattle.nr_world.specs.Lives.{live_outcome, live_after, beginning};
-ghost use Rattle.nr_world.specs.Served.{live_of};
+ghost use Rattle.nr_world.specs.Numbered.{is_client, client_at};
+ghost use Rattle.nr_world.specs.ServerState.{server_outcome, server_after, beginning};
+ghost use Rattle.nr_world.specs.Served.{server_of};
 
 use crate::connections::Connections;
 use crate::dropping::drop_own;
@@ -21,7 +22,7 @@ use nr_machine::Machine;
 use std::alloc::Global;
 use std::hash::RandomState;
 
-/// The last moment that is told apart, 2^53 milliseconds.
+/// The last moment that is delivered apart, 2^53 milliseconds.
 const LAST_MOMENT: u64 = 9_007_199_254_740_992;
 
 /// A machine, its connections, the jobs that wait in the order fed, and the bytes handed out.
@@ -37,14 +38,15 @@ pub(crate) struct Server {
 }
 
 fn capped(milliseconds: u64) -> u64
-    ensures { result ≡ moment milliseconds }
+    ensures value { result ≡ moment milliseconds }
+    ensures in_time { result ≤ last_moment }
 {
     milliseconds.min(LAST_MOMENT)
 }
 
 impl Server {
     pub(crate) fn new(alloc: Global, keys: RandomState) -> Result<Server, Memory>
-        ensures { IfOk result (λ server. live_of server ≡ beginning) }
+        ensures { IfOk result (λ server. server_of server ≡ beginning) }
     {
         Ok(Server {
             alloc,
@@ -63,8 +65,8 @@ impl Server {
         node: usize,
         worker: usize,
     ) -> Result<Outcome, Memory>
-        ensures outcome { IfOk result (λ outcome. outcome_seen outcome ≡ live_outcome setup (live_of self.old) (worlds.Open node worker)) }
-        ensures live { OnOk result (live_of self.new ≡ live_after setup (live_of self.old) (worlds.Open node worker)) }
+        ensures outcome { IfOk result (λ outcome. outcome_seen outcome ≡ server_outcome setup (server_of self.old) (worlds.Open node worker)) }
+        ensures server { OnOk result (server_of self.new ≡ server_after setup (server_of self.old) (worlds.Open node worker)) }
     {
         if node != 0 || worker != 0 {
             return Ok(Outcome::Idle(Reason::NoSuch));
@@ -84,10 +86,10 @@ impl Server {
         moment: u64,
         bytes: &[u8],
     ) -> Result<Outcome, Memory>
-        requires fits { IsTrue (is_seated (connection_of conn) self.old.connections) → (seat_at (connection_of conn) self.old.connections).ended ≡ false
-            → (seat_at (connection_of conn) self.old.connections).next + (length (seat_at (connection_of conn) self.old.connections).rest + length bytes.now) + 1 < 2 ^ 64 }
-        ensures outcome { (setup : worlds.Setup) → IfOk result (λ outcome. outcome_seen outcome ≡ live_outcome setup (live_of self.old) (worlds.Feed (connection_of conn) moment bytes.now)) }
-        ensures live { (setup : worlds.Setup) → OnOk result (live_of self.new ≡ live_after setup (live_of self.old) (worlds.Feed (connection_of conn) moment bytes.now)) }
+        requires fits { IsTrue (is_client (connection_of conn) self.old.connections) → (client_at (connection_of conn) self.old.connections).ended ≡ false
+            → (client_at (connection_of conn) self.old.connections).next + (length (client_at (connection_of conn) self.old.connections).rest + length bytes.now) + 1 < 2 ^ 64 }
+        ensures outcome { (setup : worlds.Setup) → IfOk result (λ outcome. outcome_seen outcome ≡ server_outcome setup (server_of self.old) (worlds.Feed (connection_of conn) moment bytes.now)) }
+        ensures server { (setup : worlds.Setup) → OnOk result (server_of self.new ≡ server_after setup (server_of self.old) (worlds.Feed (connection_of conn) moment bytes.now)) }
     {
         if !self.connections.contains(conn) {
             return Ok(Outcome::Idle(Reason::NoSuch));
@@ -102,9 +104,9 @@ impl Server {
 
     /// Closes a connection. Linear in the jobs that wait.
     pub(crate) fn close(&mut self, conn: ConnId, moment: u64) -> Result<Outcome, Memory>
-        requires open { IsTrue (is_seated (connection_of conn) self.old.connections) → (seat_at (connection_of conn) self.old.connections).closed ≡ false → 0 < self.old.open_connections }
-        ensures outcome { (setup : worlds.Setup) → IfOk result (λ outcome. outcome_seen outcome ≡ live_outcome setup (live_of self.old) (worlds.Close (connection_of conn) moment)) }
-        ensures live { (setup : worlds.Setup) → OnOk result (live_of self.new ≡ live_after setup (live_of self.old) (worlds.Close (connection_of conn) moment)) }
+        requires open { IsTrue (is_client (connection_of conn) self.old.connections) → (client_at (connection_of conn) self.old.connections).closed ≡ false → 0 < self.old.open_connections }
+        ensures outcome { (setup : worlds.Setup) → IfOk result (λ outcome. outcome_seen outcome ≡ server_outcome setup (server_of self.old) (worlds.Close (connection_of conn) moment)) }
+        ensures server { (setup : worlds.Setup) → OnOk result (server_of self.new ≡ server_after setup (server_of self.old) (worlds.Close (connection_of conn) moment)) }
     {
         if !self.connections.contains(conn) {
             return Ok(Outcome::Idle(Reason::NoSuch));
@@ -121,8 +123,9 @@ impl Server {
 
     /// Executes the updates that lead, at most 1,024. It takes n log n steps for n jobs that wait.
     pub(crate) fn apply(&mut self, node: usize) -> Result<Outcome, Memory>
-        ensures outcome { (setup : worlds.Setup) → IfOk result (λ outcome. outcome_seen outcome ≡ live_outcome setup (live_of self.old) (worlds.Apply node)) }
-        ensures live { (setup : worlds.Setup) → OnOk result (live_of self.new ≡ live_after setup (live_of self.old) (worlds.Apply node)) }
+        requires own { IsTrue (are_of 0 (items_of self.old.waiting.items)) }
+        ensures outcome { (setup : worlds.Setup) → IfOk result (λ outcome. outcome_seen outcome ≡ server_outcome setup (server_of self.old) (worlds.Apply node)) }
+        ensures server { (setup : worlds.Setup) → OnOk result (server_of self.new ≡ server_after setup (server_of self.old) (worlds.Apply node)) }
     {
         if node != 0 {
             return Ok(Outcome::Idle(Reason::NoSuch));
@@ -134,14 +137,14 @@ impl Server {
         let entry = Entry::new(node, jobs);
         let mut emissions = Vec::new(self.alloc);
         self.machine.apply(self.alloc, &entry, &mut emissions)?;
-        self.connections.tell(&emissions)?;
+        self.connections.deliver(&emissions)?;
         Ok(Outcome::Done)
     }
 
     /// Runs the reads that lead. It takes n log n steps for n jobs that wait.
     pub(crate) fn look(&mut self, node: usize) -> Result<Outcome, Memory>
-        ensures outcome { (setup : worlds.Setup) → IfOk result (λ outcome. outcome_seen outcome ≡ live_outcome setup (live_of self.old) (worlds.Look node)) }
-        ensures live { (setup : worlds.Setup) → OnOk result (live_of self.new ≡ live_after setup (live_of self.old) (worlds.Look node)) }
+        ensures outcome { (setup : worlds.Setup) → IfOk result (λ outcome. outcome_seen outcome ≡ server_outcome setup (server_of self.old) (worlds.Look node)) }
+        ensures server { (setup : worlds.Setup) → OnOk result (server_of self.new ≡ server_after setup (server_of self.old) (worlds.Look node)) }
     {
         if node != 0 {
             return Ok(Outcome::Idle(Reason::NoSuch));
@@ -152,14 +155,14 @@ impl Server {
         }
         let mut emissions = Vec::new(self.alloc);
         run_reads(self.alloc, &self.machine, &jobs, &mut emissions)?;
-        self.connections.tell(&emissions)?;
+        self.connections.deliver(&emissions)?;
         Ok(Outcome::Done)
     }
 
     /// Hands out the bytes that wait. Linear in the connections.
     pub(crate) fn collect(&mut self, node: usize, worker: usize) -> Result<Outcome, Memory>
-        ensures outcome { (setup : worlds.Setup) → IfOk result (λ outcome. outcome_seen outcome ≡ live_outcome setup (live_of self.old) (worlds.Collect node worker)) }
-        ensures live { (setup : worlds.Setup) → OnOk result (live_of self.new ≡ live_after setup (live_of self.old) (worlds.Collect node worker)) }
+        ensures outcome { (setup : worlds.Setup) → IfOk result (λ outcome. outcome_seen outcome ≡ server_outcome setup (server_of self.old) (worlds.Collect node worker)) }
+        ensures server { (setup : worlds.Setup) → OnOk result (server_of self.new ≡ server_after setup (server_of self.old) (worlds.Collect node worker)) }
     {
         if node != 0 || worker != 0 {
             return Ok(Outcome::Idle(Reason::NoSuch));
@@ -174,9 +177,9 @@ impl Server {
 
     /// Takes a step.
     pub(crate) fn step(&mut self, setup: Setup, step: &Step) -> Result<Outcome, Memory>
-        requires { IsReady (live_of self.old) (step_seen step.now) }
-        ensures outcome { IfOk result (λ outcome. outcome_seen outcome ≡ live_outcome setup (live_of self.old) (step_seen step.now)) }
-        ensures live { OnOk result (live_of self.new ≡ live_after setup (live_of self.old) (step_seen step.now)) }
+        requires { IsReady (server_of self.old) (step_seen step.now) }
+        ensures outcome { IfOk result (λ outcome. outcome_seen outcome ≡ server_outcome setup (server_of self.old) (step_seen step.now)) }
+        ensures server { OnOk result (server_of self.new ≡ server_after setup (server_of self.old) (step_seen step.now)) }
     {
         match step {
             Step::Open(node, worker) => self.open(setup, *node, *worker),

@@ -1,9 +1,9 @@
-// A world that comes to rest.
+// Rounds of an apply, a look and a collect, until nothing waits.
 ghost use Rattle.std.specs.Prelude.{◌≡◌, ◌<◌, ◌+◌, ◌^◌, true, IfOk, OnOk, OnErr, IsErr};
 ghost use Rattle.nr_model.specs.Worlds as worlds;
 ghost use Rattle.nr_world.specs.Seen.{step_seen};
 ghost use Rattle.nr_world.specs.Ready.{bytes_of, bytes_in};
-ghost use Rattle.nr_world.specs.Standing.{steps_of};
+ghost use Rattle.nr_world.specs.WorldState.{steps_of};
 ghost use Rattle.nr_world.specs.Settled.{IsSettled, IsTaken, IsRound};
 ghost use Rattle.nr_world.specs.declared.settling.Settled.TheVariants as settled;
 
@@ -75,6 +75,3 @@ impl World {
         }
     }
 }
-
-#[cfg(test)]
-mod tests;

@@ -1,4 +1,4 @@
-// How large a world is.
+// How large a world is, within the ranges that are allowed.
 ghost use Rattle.std.specs.Prelude.{◌≡◌, ◌↔◌, IsSome, IfSome};
 ghost use Rattle.nr_world.specs.Setups.{IsAllowed};
 

@@ -1,4 +1,4 @@
-// Steps of a world.
+// The steps that a world can take, and what comes of one.
 ghost use Rattle.std.specs.Prelude.{◌≡◌, IfOk};
 ghost use Rattle.nr_world.specs.Seen.{step_seen};
 

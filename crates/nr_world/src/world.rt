@@ -1,10 +1,10 @@
-// The world of one node.
+// The world of one node: a server, and the record of its steps, on which the contracts rest.
 ghost use Rattle.std.specs.Prelude.{◌≡◌, ◌<◌, ◌+◌, ◌^◌, ◌++◌, ◌∷◌, [], true, false, IfOk, OnOk, OnErr, IsErr, map};
 ghost use Rattle.nr_model.specs.Worlds.{outcome};
 ghost use Rattle.nr_entry.specs.Jobs.{connection_of};
 ghost use Rattle.nr_world.specs.Seen.{step_seen, outcome_seen, taken_seen, handed_seen};
 ghost use Rattle.nr_world.specs.Ready.{bytes_of, bytes_in};
-ghost use Rattle.nr_world.specs.Standing.{steps_of, world_of, has_ended, IsKept};
+ghost use Rattle.nr_world.specs.WorldState.{steps_of, world_of, has_ended, IsKept};
 
 use crate::server::Server;
 use crate::setup::Setup;
@@ -27,18 +27,18 @@ pub struct World {
 
 impl Model for World {
     ghost use Rattle.std.specs.Prelude.{◌≡◌, false, map};
-    ghost use Rattle.nr_world.specs.Seats.{Seat};
+    ghost use Rattle.nr_world.specs.Clients.{Client};
     ghost use Rattle.nr_world.specs.Seen.{taken_seen, handed_seen};
-    ghost use Rattle.nr_world.specs.Served.{live_of};
-    ghost use Rattle.nr_world.specs.Standing.{Standing, standing_code, IsHeld};
+    ghost use Rattle.nr_world.specs.Served.{server_of};
+    ghost use Rattle.nr_world.specs.WorldState.{WorldState, standing_code, IsHeld};
 
-    ghost Value = { Standing };
+    ghost Value = { WorldState };
 
     ghost coded = { standing_code };
 
-    ghost view = { λ w. record { setup = w.setup; past = map taken_seen w.taken.items; handed = map handed_seen w.server.handed.items; waits = map (λ (seat : Seat). seat.output) w.server.connections; keyspace = w.server.machine.state.keyspace; failed = w.has_failed } };
+    ghost view = { λ w. record { setup = w.setup; past = map taken_seen w.taken.items; handed = map handed_seen w.server.handed.items; waits = map (λ (client : Client). client.output) w.server.connections; keyspace = w.server.machine.state.keyspace; failed = w.has_failed } };
 
-    ghost invariant = { λ w. w.has_failed ≡ false → IsHeld w.setup (map taken_seen w.taken.items) (live_of w.server) };
+    ghost invariant = { λ w. w.has_failed ≡ false → IsHeld w.setup (map taken_seen w.taken.items) (server_of w.server) };
 }
 
 impl World {

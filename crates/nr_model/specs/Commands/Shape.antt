@@ -13,24 +13,27 @@ abbrev pub arity_ok : Arity → ℕ → Bool
 arity_ok (Exactly n) words = words == n
 arity_ok (AtLeast n) words = nat_le n words
 
--- A command reads the keyspace and leaves it as it is (look), may change it or what the server knows of a connection (change), or is
--- answered by the connection's own mode (session).
-pub data Class : Type 0 where
-  Look : Class
-  Change : Class
-  InSession : Class
+-- what a command does to the keyspace: its reply, the keyspace it leaves, and the keys that it touched
+pub record Effect : Type 0 where
+  pub reply : Reply
+  pub keyspace : Keyspace
+  pub touched : List Key
 
--- what a command leaves: its reply, the keyspace, the connection's database, and the keys that it touched
+-- and the database that its connection has then
 pub record Done : Type 0 where
   pub reply : Reply
   pub keyspace : Keyspace
   pub database : ℕ
   pub touched : List Key
 
+-- in the database that the connection had
+abbrev pub staying : ℕ → Effect → Done
+staying database effect = record { reply = effect.reply; keyspace = effect.keyspace; database = database; touched = effect.touched }
+
 -- a reply, with nothing changed
-abbrev pub unchanged : Keyspace → ℕ → Reply → Done
-unchanged keyspace database reply = record { reply = reply; keyspace = keyspace; database = database; touched = [] }
+abbrev pub unchanged : Keyspace → Reply → Effect
+unchanged keyspace reply = record { reply = reply; keyspace = keyspace; touched = [] }
 
 -- an error, with nothing changed
-abbrev pub refused : Keyspace → ℕ → Bytes → Done
-refused keyspace database text = unchanged keyspace database (Error text)
+abbrev pub refused : Keyspace → Bytes → Effect
+refused keyspace text = unchanged keyspace (Error text)

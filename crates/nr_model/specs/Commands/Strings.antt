@@ -4,12 +4,12 @@ use Rattle.std.specs.FinMap as map
 use Rattle.nr_model.specs.Bytes.{Bytes}
 use Rattle.nr_model.specs.Replies.{Reply, Bulk, NullBulk, Error}
 use Rattle.nr_model.specs.Keyspace.{Key, Keyspace, Stored, Value, Text, Items, Fields, Members, Scores}
-use Rattle.nr_model.specs.Commands.Shape.{Done, unchanged, refused}
+use Rattle.nr_model.specs.Commands.Shape.{Effect, refused}
+use Rattle.nr_model.specs.declared.command.StringsLook.{StringsLook}
+use Rattle.nr_model.specs.declared.command.StringsLook.TheVariants.{Get}
+use Rattle.nr_model.specs.declared.command.StringsChange.{StringsChange}
+use Rattle.nr_model.specs.declared.command.StringsChange.TheVariants.{Set}
 use Rattle.nr_model.specs.Commands.Texts.{ok, wrong_type, syntax_error}
-
-pub data Strings : Type 0 where
-  Get : Strings
-  Set : Strings
 
 -- GET key: its value, or the null bulk
 abbrev pub value_reply : Value → Reply
@@ -23,20 +23,23 @@ abbrev pub stored_reply : Option Stored → Reply
 stored_reply None = NullBulk
 stored_reply (Some stored) = value_reply stored.value
 
-abbrev pub get : Keyspace → ℕ → List Bytes → Done
-get keyspace database [] = refused keyspace database syntax_error
-get keyspace database (name ∷ words) = unchanged keyspace database (stored_reply (map.get keyspace (record { database = database; name = name })))
+abbrev pub get : Keyspace → ℕ → List Bytes → Reply
+get keyspace database [] = Error syntax_error
+get keyspace database (name ∷ words) = stored_reply (map.get keyspace (record { database = database; name = name }))
 
 -- SET key value: the key holds the string, whatever it held, and has no deadline
-abbrev pub set : Keyspace → ℕ → List Bytes → Done
-set keyspace database [] = refused keyspace database syntax_error
-set keyspace database (name ∷ []) = refused keyspace database syntax_error
+abbrev pub set : Keyspace → ℕ → List Bytes → Effect
+set keyspace database [] = refused keyspace syntax_error
+set keyspace database (name ∷ []) = refused keyspace syntax_error
 set keyspace database (name ∷ text ∷ []) =
     let key : Key = record { database = database; name = name } in
-    record { reply = ok; keyspace = map.insert keyspace key (record { value = Text text; deadline = None }); database = database; touched = key ∷ [] }
-set keyspace database (name ∷ text ∷ option ∷ words) = refused keyspace database syntax_error
+    record { reply = ok; keyspace = map.insert keyspace key (record { value = Text text; deadline = None }); touched = key ∷ [] }
+set keyspace database (name ∷ text ∷ option ∷ words) = refused keyspace syntax_error
 
--- the arguments are the words behind the name
-abbrev pub perform : Strings → ℕ → Keyspace → ℕ → List Bytes → Done
-perform Get now keyspace database arguments = get keyspace database arguments
-perform Set now keyspace database arguments = set keyspace database arguments
+-- a command that only looks; the arguments are the words behind the name
+abbrev pub look : StringsLook → ℕ → Keyspace → ℕ → List Bytes → Reply
+look Get now keyspace database arguments = get keyspace database arguments
+
+-- a command that may change the keyspace
+abbrev pub change : StringsChange → ℕ → Keyspace → ℕ → List Bytes → Effect
+change Set now keyspace database arguments = set keyspace database arguments

@@ -4,7 +4,7 @@ use Rattle.nr_model.specs.Bytes.{Bytes}
 use Rattle.nr_model.specs.Commands.Texts.{ok}
 use Rattle.nr_model.specs.Items.{Connection, Deed, Say, Act, Run, End, Item, Sequence}
 use Rattle.nr_model.specs.Sequential.{past_of, emitted_for}
-use Rattle.nr_model.specs.Commands.{set_row, ping_row, subscribe_row, psubscribe_row, unsubscribe_row, unwatch_row, publish_row}
+use Rattle.nr_model.specs.Rows.Commands as commands
 use Rattle.nr_model.specs.Rows.Modes.{call, watch_k, get_k, subscribe_news, queued}
 
 abbrev pub alice : Connection
@@ -17,19 +17,19 @@ abbrev pub item : Connection → ℕ → ℕ → Deed → Item
 item c number time deed = record { connection = c; number = number; moment = time; deed = deed }
 
 abbrev pub set_to : Bytes → Bytes → Deed
-set_to name text = Act (call set_row (codes "SET" ∷ name ∷ text ∷ []))
+set_to name text = Act (call commands.set (codes "SET" ∷ name ∷ text ∷ []))
 
 abbrev pub publish : Bytes → Deed
-publish text = Act (call publish_row (codes "PUBLISH" ∷ codes "news" ∷ text ∷ []))
+publish text = Act (call commands.publish (codes "PUBLISH" ∷ codes "news" ∷ text ∷ []))
 
 abbrev pub subscribe : List Bytes → Deed
-subscribe names = Act (call subscribe_row (codes "SUBSCRIBE" ∷ names))
+subscribe names = Act (call commands.subscribe (codes "SUBSCRIBE" ∷ names))
 
 abbrev pub psubscribe : List Bytes → Deed
-psubscribe names = Act (call psubscribe_row (codes "PSUBSCRIBE" ∷ names))
+psubscribe names = Act (call commands.psubscribe (codes "PSUBSCRIBE" ∷ names))
 
 abbrev pub unsubscribe : List Bytes → Deed
-unsubscribe names = Act (call unsubscribe_row (codes "UNSUBSCRIBE" ∷ names))
+unsubscribe names = Act (call commands.unsubscribe (codes "UNSUBSCRIBE" ∷ names))
 
 -- a subscriber gets what is published after it subscribed and before it unsubscribed
 abbrev pub in_turn : Sequence
@@ -90,9 +90,9 @@ watched c =
 abbrev pub forgotten : Sequence
 forgotten =
     item alice 0 100 (Act watch_k)
-    ∷ item alice 1 100 (Act (call unwatch_row (codes "UNWATCH" ∷ [])))
+    ∷ item alice 1 100 (Act (call commands.unwatch (codes "UNWATCH" ∷ [])))
     ∷ item bob 0 100 (set_to (codes "k") (codes "1"))
-    ∷ item alice 2 100 (Run (call ping_row (codes "PING" ∷ []) ∷ []))
+    ∷ item alice 2 100 (Run (call commands.ping (codes "PING" ∷ []) ∷ []))
     ∷ []
 
 -- a read between two writes

@@ -6,8 +6,11 @@ use Rattle.nr_model.specs.Bytes.{Bytes}
 use Rattle.nr_model.specs.Replies.{Reply, Int, Bulk, NullBulk, Error, array}
 use Rattle.nr_model.specs.Patterns.{matches}
 use Rattle.nr_model.specs.Keyspace.{byte_cmp}
-use Rattle.nr_model.specs.Commands.{Command, OfSession}
-use Rattle.nr_model.specs.Commands.Session.{Kind, Channels, Patterns, Subscribe, Unsubscribe}
+use Rattle.nr_model.specs.declared.command.Command.{Command}
+use Rattle.nr_model.specs.declared.command.Command.TheVariants.{Session}
+use Rattle.nr_model.specs.declared.command.Kind.{Kind}
+use Rattle.nr_model.specs.declared.command.Kind.TheVariants.{Channels, Patterns}
+use Rattle.nr_model.specs.declared.command.Session.TheVariants.{Subscribe, Unsubscribe}
 use Rattle.nr_model.specs.Commands.Texts.{syntax_error}
 use Rattle.nr_model.specs.Names.{in_order, Held, held, how_many_held, subscribed, unsubscribed}
 use Rattle.nr_model.specs.Items.{Connection, connection_cmp, same_connection, arguments, Deed, Say, Act, Run, Abort, End, Item}
@@ -32,13 +35,13 @@ when applies value = cond applies (Some value) None
 
 -- what a command says of a subscription to a name: begun, ended, or nothing
 abbrev pub command_says : Kind → Bytes → Command → List Bytes → Option Bool
-command_says kind name (OfSession (Subscribe k)) words = when (same_kind k kind && names words name) true
-command_says kind name (OfSession (Unsubscribe k)) words = when (same_kind k kind && names_or_all words name) false
+command_says kind name (Session (Subscribe k)) words = when (same_kind k kind && names words name) true
+command_says kind name (Session (Unsubscribe k)) words = when (same_kind k kind && names_or_all words name) false
 command_says kind name _ words = None
 
 -- what a deed of the connection says of it: an end ends all
 abbrev pub deed_says : Kind → Bytes → Deed → Option Bool
-deed_says kind name (Act call) = command_says kind name call.row.command (arguments call)
+deed_says kind name (Act call) = command_says kind name call.command (arguments call)
 deed_says kind name (End reply) = Some false
 deed_says kind name (Say reply) = None
 deed_says kind name (Run calls) = None
@@ -58,11 +61,11 @@ is_subscriber c kind name (event ∷ older) = said_or (item_says c kind name eve
 
 -- names that a command subscribes to
 abbrev pub command_names : Kind → Command → List Bytes → List Bytes
-command_names kind (OfSession (Subscribe k)) words = cond (same_kind k kind) words []
+command_names kind (Session (Subscribe k)) words = cond (same_kind k kind) words []
 command_names kind _ words = []
 
 abbrev pub deed_names : Kind → Deed → List Bytes
-deed_names kind (Act call) = command_names kind call.row.command (arguments call)
+deed_names kind (Act call) = command_names kind call.command (arguments call)
 deed_names kind (Say reply) = []
 deed_names kind (Run calls) = []
 deed_names kind Abort = []

@@ -4,8 +4,9 @@ use Rattle.std.specs.List.{list_any}
 use Rattle.std.specs.FinMap as finmap
 use Rattle.nr_model.specs.Bytes.{Bytes}
 use Rattle.nr_model.specs.Keyspace.{Key, Stored, is_live_at}
-use Rattle.nr_model.specs.Commands.{Command, OfSession}
-use Rattle.nr_model.specs.Commands.Session.{Watch, Unwatch, Discard}
+use Rattle.nr_model.specs.declared.command.Command.{Command}
+use Rattle.nr_model.specs.declared.command.Command.TheVariants.{Session}
+use Rattle.nr_model.specs.declared.command.Session.TheVariants.{Watch, Unwatch, Discard}
 use Rattle.nr_model.specs.Items.{Connection, same_connection, arguments, Deed, Say, Act, Run, Abort, End}
 use Rattle.nr_model.specs.Sequential.Events.{Event, Past}
 
@@ -14,24 +15,24 @@ same_key a b = a.database == b.database && bytes_eq a.name b.name
 
 -- a connection's deed forgets its watches: a transaction's run or refusal, its end, UNWATCH and DISCARD
 abbrev pub command_forgets : Command → Bool
-command_forgets (OfSession Unwatch) = true
-command_forgets (OfSession Discard) = true
+command_forgets (Session Unwatch) = true
+command_forgets (Session Discard) = true
 command_forgets _ = false
 
 abbrev pub forgets : Deed → Bool
 forgets (Run calls) = true
 forgets Abort = true
 forgets (End reply) = true
-forgets (Act call) = command_forgets call.row.command
+forgets (Act call) = command_forgets call.command
 forgets (Say reply) = false
 
 abbrev pub command_watches : Command → ℕ → List Bytes → List Key
-command_watches (OfSession Watch) database names = map (λ name. record { database = database; name = name }) names
+command_watches (Session Watch) database names = map (λ name. record { database = database; name = name }) names
 command_watches _ database names = []
 
 -- the keys that an event watches, in the database that its connection has then
 abbrev pub watched_keys : Event → Deed → List Key
-watched_keys event (Act call) = command_watches call.row.command event.database (arguments call)
+watched_keys event (Act call) = command_watches call.command event.database (arguments call)
 watched_keys event (Say reply) = []
 watched_keys event (Run calls) = []
 watched_keys event Abort = []

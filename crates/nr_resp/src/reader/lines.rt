@@ -1,4 +1,4 @@
-// The lines of requests.
+// The lines of requests: where one ends, the number that a header says, the words of an inline line.
 ghost use Rattle.std.specs.Prelude.{◌≡◌, ◌++◌, false, OnOk, IfOk, IfErr, MatchOption, MatchResult, true};
 ghost use Rattle.std.specs.List.{list_any};
 ghost use Rattle.nr_model.specs.Requests.{is_blank, is_count, is_length, is_quote, words_of, ends_with_cr, without_last, without_cr};

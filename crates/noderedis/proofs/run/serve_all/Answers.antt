@@ -23,7 +23,7 @@ returns-then-count-eq0 g c =
     (inl (read.1 c.if-count-eq0.true (omega (arith, c.requires.room))))
 
 pub serve-requires-clause-goes_on : goal.serve-requires-clause-goes_on
-serve-requires-clause-goes_on g c = has_not _ (sym c.loop-goes_on-test.true ∙ c.loop-goes_on.invariant.told)
+serve-requires-clause-goes_on g c = has_not _ (sym c.loop-goes_on-test.true ∙ c.loop-goes_on.invariant.delivered)
 
 pub returns-in_err-goes_on : goal.returns-in_err-goes_on
 returns-in_err-goes_on g c =
@@ -48,4 +48,4 @@ returns-else-fed-le-MOST_FED g c =
 
 pub returns-after-loop-goes_on : goal.returns-after-loop-goes_on
 returns-after-loop-goes_on g c =
-    over c.loop-goes_on.world _ _ _ _ _ _ _ c.loop-goes_on.invariant (inr (inl (has_ended _ (sym c.loop-goes_on-test.false ∙ c.loop-goes_on.invariant.told))))
+    over c.loop-goes_on.world _ _ _ _ _ _ _ c.loop-goes_on.invariant (inr (inl (has_ended _ (sym c.loop-goes_on-test.false ∙ c.loop-goes_on.invariant.delivered))))

@@ -1,6 +1,6 @@
 -- A feed that is done adds its bytes.
 use Rattle.std.proofs.Common.{ap, ◌∙◌, ◌++◌}
-use Rattle.nr_world.specs.Standing.{world_of}
+use Rattle.nr_world.specs.WorldState.{world_of}
 use Rattle.nr_world.specs.Seen.{outcome_seen}
 use Rattle.noderedis.specs.Runs.{fed_bytes}
 use Rattle.noderedis.proofs.Worlds.{fed_open, fed_more}

@@ -4,7 +4,7 @@ use Rattle.nr_model.specs.Entries.{leads_as_update}
 use Rattle.nr_entry.specs.declared.job.Job.{Job}
 use Rattle.nr_entry.specs.Jobs.{items_of}
 use Rattle.nr_entry.specs.Choice.{leading_marks}
-use Rattle.nr_entry.proofs.Taking.{one_mark_each, taken_lead, others_left, entry_updates, entry_length}
+use Rattle.nr_entry.proofs.Taking.{one_mark_each, taken_lead, others_left, entry_updates, entry_length, entry_own}
 use Rattle.nr_entry.proofs.choice.take_updates.Goals as goal
 
 pub take_marked-requires : goal.take_marked-requires
@@ -37,3 +37,7 @@ pub returns-clause-most : goal.returns-clause-most
 returns-clause-most c =
     let waiting = c.args.waiting.now.items in
     IfOk-weaker c.take_marked.result _ _ (λ taken is. entry_length waiting taken.items is) (returns-clause-taken c)
+
+pub returns-clause-own : goal.returns-clause-own
+returns-clause-own c = λ node all.
+    IfOk-weaker c.take_marked.result _ _ (λ taken is. entry_own node c.args.waiting.now.items taken.items is all) (returns-clause-taken c)

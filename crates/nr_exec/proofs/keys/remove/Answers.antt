@@ -4,7 +4,7 @@ use Rattle.nr_keyspace.specs.Joined.{key_of}
 use Rattle.nr_exec.proofs.Swept.{live_removed}
 use Rattle.nr_exec.proofs.keys.remove.Goals as goal
 
-pub returns-in_ok-push-clause-live : goal.returns-in_ok-push-clause-live
-returns-in_ok-push-clause-live c =
+pub returns-clause-live : goal.returns-clause-live
+returns-clause-live g c =
     let some : is_some c.remove.result ≡ true = search rules in
     live_removed c.remove.result c.args.keyspace.now c.remove.new.self c.args.now (key_of c.args.database c.bytes.result.now) some c.remove.ensures.removed c.requires

@@ -1,7 +1,7 @@
 use Rattle.std.proofs.Common.{◌≡◌, ◌++◌, drop}
 use Rattle.std.specs.Prelude.{map}
 use Rattle.nr_world.specs.Seen.{step_seen}
-use Rattle.nr_world.specs.Standing.{steps_of, IsKept}
+use Rattle.nr_world.specs.WorldState.{steps_of, IsKept}
 use Rattle.nr_world.proofs.running.run.Given as goal
 
 -- the steps so far, and those that are left, are all

@@ -1,7 +1,7 @@
 use Rattle.std.proofs.Common.{◌≡◌, cond, Some, None, ap, ◌∙◌, sym}
 use Rattle.std.specs.Option.{option_map}
 use Rattle.std.specs.FinMap as map
-use Rattle.nr_model.proofs.Live.{only_live}
+use Rattle.nr_model.specs.Keyspace.{only_live}
 use Rattle.nr_keyspace.specs.Stores.{stored_of, bytes_of}
 use Rattle.nr_keyspace.proofs.Named.{get-found}
 use Rattle.nr_keyspace.proofs.Indexed.{live_here}

@@ -2,8 +2,7 @@ use Rattle.std.proofs.Common.{◌≡◌, Some, None, ap, ◌∙◌, sym, not}
 use Rattle.std.specs.Option.{option_map}
 use Rattle.std.specs.Cmp.Lexicographic.{bytes_decides}
 use Rattle.std.specs.FinMap as map
-use Rattle.nr_model.specs.Keyspace.{Stored}
-use Rattle.nr_model.proofs.Live.{only_live}
+use Rattle.nr_model.specs.Keyspace.{Stored, only_live}
 use Rattle.nr_keyspace.specs.Stores.{stored_of, bytes_of}
 use Rattle.nr_keyspace.proofs.Named.{get-found, removed}
 use Rattle.nr_keyspace.proofs.Changes.{removed_indexed, shown}

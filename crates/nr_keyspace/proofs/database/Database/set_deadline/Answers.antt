@@ -3,7 +3,7 @@ use Rattle.std.specs.Option.{option_map}
 use Rattle.std.specs.FinMap as map
 use Rattle.std.specs.FinSet as set
 use Rattle.nr_model.specs.Bytes.{Bytes}
-use Rattle.nr_model.proofs.Live.{only_live}
+use Rattle.nr_model.specs.Keyspace.{only_live}
 use Rattle.nr_keyspace.specs.Deadlines.{has_deadline, IsReplaced}
 use Rattle.nr_keyspace.specs.Stores.{stored_of, deadline_of, bytes_of, redated}
 use Rattle.nr_keyspace.proofs.Named.{get-found, get-store}

@@ -1,6 +1,6 @@
 use Rattle.std.proofs.Common.{ap, ◌∙◌, sym, subst}
 use Rattle.std.specs.FinMap as map
-use Rattle.nr_model.proofs.Live.{only_live}
+use Rattle.nr_model.specs.Keyspace.{only_live}
 use Rattle.nr_keyspace.specs.Stores.{IsIndexed, bytes_of, store_of}
 use Rattle.nr_keyspace.proofs.Named.{removed}
 use Rattle.nr_keyspace.proofs.Indexed.{sweep_step, sweep_shrinks, all_live}

@@ -2,7 +2,7 @@ use Rattle.std.proofs.Common.{◌≡◌}
 use Rattle.std.specs.FinMap as map
 use Rattle.std.specs.FinSet as set
 use Rattle.nr_model.specs.Bytes.{Bytes}
-use Rattle.nr_model.proofs.Live.{only_live}
+use Rattle.nr_model.specs.Keyspace.{only_live}
 use Rattle.nr_keyspace.specs.Stores.{IsIndexed, bytes_of, store_of}
 use Rattle.nr_keyspace.proofs.database.Database.sweep.Given as goal
 

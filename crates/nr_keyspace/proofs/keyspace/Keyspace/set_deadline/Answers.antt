@@ -1,7 +1,7 @@
 use Rattle.std.proofs.Common.{◌≡◌, ◌<◌, length, set, Option, IfOk, is_some, ap, ◌∙◌, sym, subst, arith}
 use Rattle.std.specs.FinMap as map
 use Rattle.nr_model.specs.Keyspace as model
-use Rattle.nr_model.proofs.Live.{only_live}
+use Rattle.nr_model.specs.Keyspace.{only_live}
 use Rattle.nr_keyspace.specs.Stores.{redated}
 use Rattle.nr_keyspace.specs.Joined.{joined, key_of}
 use Rattle.nr_keyspace.proofs.Changes.{ok_then}

@@ -3,7 +3,7 @@ use Rattle.nr_model.specs.Entries.{entry_items}
 use Rattle.nr_entry.specs.Entry.{are_updates}
 use Rattle.nr_entry.specs.Jobs.{items_of}
 use Rattle.nr_entry.specs.declared.job.Job.{Job}
-use Rattle.nr_machine.specs.Machines.{Standing}
+use Rattle.nr_machine.specs.Machines.{MachineState}
 use Rattle.nr_machine.specs.Emitted.{items_at}
 use Rattle.nr_machine.proofs.Entries.{items_at-entry, updates_at, none_yet, so_far, on_err}
 use Rattle.nr_machine.proofs.machine.Machine.apply.Goals as goal
@@ -15,7 +15,7 @@ loop-job-init c =
     ap (λ (jobs : List Job). items_at jobs moment) c.deref-job-items.ensures.value ∙ items_at-entry c.args.entry.now.jobs.items moment c.args.entry.now.latest in
     record {
       failed = refl;
-      along = none_yet _ _ _ _ c.deref-job-items.result.now moment (ap (λ (s : Standing). s.state) c.self.view_is) all;
+      along = none_yet _ _ _ _ c.deref-job-items.result.now moment (ap (λ (s : MachineState). s.state) c.self.view_is) all;
     }
 
 pub apply_job-requires : goal.apply_job-requires

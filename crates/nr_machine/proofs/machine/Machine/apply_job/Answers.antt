@@ -4,7 +4,7 @@ use Rattle.std.proofs.lemmas.List.{append-nil}
 use Rattle.nr_model.specs.Sequential.Events as events
 use Rattle.nr_resp.specs.Seen.{reply_of}
 use Rattle.nr_resp.specs.declared.reply.Reply.{Reply}
-use Rattle.nr_machine.specs.Machines.{Standing}
+use Rattle.nr_machine.specs.Machines.{MachineState}
 use Rattle.nr_machine.specs.Emitted.{emissions_seen}
 use Rattle.nr_machine.specs.declared.emission.Emission.{Emission}
 use Rattle.nr_machine.proofs.Progressed.{emitted_by, applied_by}
@@ -12,7 +12,7 @@ use Rattle.nr_machine.proofs.machine.Machine.apply_job.Goals as goal
 use Rattle.nr_machine.proofs.machine.Machine.apply_job.Goals.{in-Some+in_ok-emit, in_default}
 
 -- the machine as its fields have it
-abbrev opened : goal.After-self-1 → Standing
+abbrev opened : goal.After-self-1 → MachineState
 opened c = record { state = record { keyspace = c.self.inside.keyspace; logged = c.self.inside.logged }; failed = c.self.inside.has_failed }
 
 pub returns-clause-applied : goal.returns-clause-applied

@@ -1,4 +1,4 @@
-use Rattle.nr_model.proofs.PlainFrames.{cr_by_suffix}
+use Rattle.nr_model.proofs.Words.{cr_by_suffix}
 use Rattle.nr_resp.proofs.reader.lines.before_cr.Goals as goal
 
 pub returns : goal.returns

@@ -1,6 +1,6 @@
 use Rattle.std.proofs.Common.{◌≡◌, ◌+◌, true, false, get_or, drop, refl, sym, ◌∙◌}
 use Rattle.nr_model.specs.Requests.{is_blank, words_of}
-use Rattle.nr_model.proofs.PlainFrames.{blank_behind, blank_alone, word_at_end, no_word_at_end, byte_apart, byte_joined, still_unparted, at_end, vec_some, vec_none}
+use Rattle.nr_model.proofs.Words.{blank_behind, blank_alone, word_at_end, no_word_at_end, byte_apart, byte_joined, still_unparted, at_end, vec_some, vec_none}
 use Rattle.nr_resp.proofs.reader.lines.words_of.Goals as goal
 use Rattle.nr_resp.proofs.reader.lines.words_of.Goals.{then-not-is_blank+in_ok-push, else-not-is_blank+then-not-is_empty+in_ok-push-2, else-not-is_blank+else-not-is_empty, then-not-is_empty-2+in_ok-push-3, else-not-is_empty-2}
 

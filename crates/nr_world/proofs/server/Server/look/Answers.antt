@@ -7,22 +7,22 @@ use Rattle.nr_entry.specs.declared.job.Job.{Job}
 use Rattle.nr_machine.specs.Emitted.{emissions_seen}
 use Rattle.nr_machine.specs.declared.emission.Emission.{Emission}
 use Rattle.nr_world.specs.Executing.{AreReads}
-use Rattle.nr_world.specs.Seats.{told}
-use Rattle.nr_world.specs.Served.{live_of}
+use Rattle.nr_world.specs.Clients.{delivered}
+use Rattle.nr_world.specs.Served.{server_of}
 use Rattle.nr_world.proofs.Idle.{look_idle, look_done, none_taken}
 use Rattle.nr_world.proofs.server.Server.look.Goals as goal
 
-pub returns-then-is_empty-clause-live : goal.returns-then-is_empty-clause-live
-returns-then-is_empty-clause-live c =
-    λ setup. look_idle setup (live_of c.args.self.now) c.args.node _ c.in_ok-jobs.ensures.left
+pub returns-then-is_empty-clause-server : goal.returns-then-is_empty-clause-server
+returns-then-is_empty-clause-server c =
+    λ setup. look_idle setup (server_of c.args.self.now) c.args.node _ c.in_ok-jobs.ensures.left
     (none_taken c.in_ok-jobs.jobs.items c.in_ok-jobs.jobs.len _ _ c.is_empty.ensures c.if-is_empty.true c.in_ok-jobs.jobs.ok.0 c.in_ok-jobs.ensures.taken)
 
 pub run_reads-requires : goal.run_reads-requires
 run_reads-requires c =
     subst AreReads (sym (ap items_of c.deref.ensures.value ∙ c.in_ok-jobs.ensures.taken)) (look_reads (items_of c.args.self.now.waiting.items))
 
-pub returns-clause-live : goal.returns-clause-live
-returns-clause-live c =
+pub returns-clause-server : goal.returns-clause-server
+returns-clause-server c =
     let state = c.args.self.now.machine.state in
     let emitted =
     ap emissions_seen c.deref-2.ensures.value
@@ -30,5 +30,5 @@ returns-clause-live c =
     ∙ ap (λ (es : List Emission). emissions_seen es ++ emitted_all state (items_of c.deref.result.now)) c.new-emissions.ensures.items
     ∙ ap (λ (jobs : List Job). emitted_all state (items_of jobs)) c.deref.ensures.value
     ∙ ap (emitted_all state) c.in_ok-jobs.ensures.taken in
-    λ setup. look_done setup (live_of c.args.self.now) c.args.node c.in_ok-jobs.jobs.items c.in_ok-jobs.jobs.len _ _ _ c.if-node-ne0.false c.is_empty.ensures c.if-is_empty.false c.in_ok-jobs.jobs.ok.0
-    c.in_ok-jobs.ensures.taken c.in_ok-jobs.ensures.left (c.in_ok-tell.ensures ∙ ap (λ es. map (told es) c.args.self.now.connections) emitted)
+    λ setup. look_done setup (server_of c.args.self.now) c.args.node c.in_ok-jobs.jobs.items c.in_ok-jobs.jobs.len _ _ _ c.if-node-ne0.false c.is_empty.ensures c.if-is_empty.false c.in_ok-jobs.jobs.ok.0
+    c.in_ok-jobs.ensures.taken c.in_ok-jobs.ensures.left (c.in_ok-deliver.ensures ∙ ap (λ es. map (delivered es) c.args.self.now.connections) emitted)

@@ -1,5 +1,5 @@
 use Rattle.std.proofs.Common.{◌≡◌, true}
-use Rattle.nr_world.specs.Standing.{world_of}
+use Rattle.nr_world.specs.WorldState.{world_of}
 use Rattle.nr_world.specs.Settled.{IsTowards, to_do}
 use Rattle.nr_world.proofs.world.World.take_rounds.Given as goal
 

@@ -1,0 +1,13 @@
+-- What a body did.
+use Rattle.std.specs.Prelude.{◌≡◌, ℕ}
+use Rattle.nr_model.specs.Replies.{Reply}
+use Rattle.nr_model.specs.Keyspace.{Keyspace}
+use Rattle.nr_model.specs.Commands.Shape.{Done}
+use Rattle.nr_exec.specs.Touched.{Told, Touches}
+
+-- the reply, the keyspace, the database and the keys told of are those of the definitions
+pub record IsDone (reply : Reply) (keyspace : Keyspace) (database : ℕ) (told told' : Told) (done : Done) : Type 0 where
+  pub replied : reply ≡ done.reply
+  pub left : keyspace ≡ done.keyspace
+  pub selected : database ≡ done.database
+  pub touched : Touches told told' done.touched

@@ -1,0 +1,3 @@
+pub mod Classes
+pub mod Singles
+pub mod Walks

@@ -1,0 +1,93 @@
+-- How a node stands to the log, and what its calls change of that.
+use Rattle.std.specs.Prelude.{◌≡◌, ℕ, suc, ◌+◌, ◌≤◌, ◌==◌, cond, List, [], ◌∷◌, ◌++◌, length, map, flat_map, slice_index_or, slice_set, Option, Some, None, option_to_list}
+use Rattle.nr_model.specs.Items.{Item}
+use Rattle.nr_model.specs.Entries.{entry_items}
+use Rattle.nr_model.specs.Explains.{IsBeginningOf}
+use Rattle.nr_entry.specs.Jobs.{item_of, items_of}
+use Rattle.nr_entry.specs.Shares.{shares_of}
+use Rattle.nr_entry.specs.declared.entry.Entry.{Entry}
+use Rattle.nr_entry.specs.declared.job.Job.{Job}
+use Rattle.nr_log_end.specs.declared.standing.Standing.{Standing}
+use Rattle.nr_log_end.specs.declared.standing.Turn.{Turn}
+use Rattle.nr_log_end.specs.declared.standing.Turn.TheVariants.{Applied, Ran}
+
+-- the entries that were passed, in order
+abbrev pub applied_of : List Turn → List Entry
+applied_of [] = []
+applied_of (Applied entry ∷ turns) = entry ∷ applied_of turns
+applied_of (Ran job ∷ turns) = applied_of turns
+
+-- the reads that were run, each with how many entries had been applied before it, from so many on
+abbrev pub ran_from : ℕ → List Turn → List (Job × ℕ)
+ran_from count [] = []
+ran_from count (Applied entry ∷ turns) = ran_from (suc count) turns
+ran_from count (Ran job ∷ turns) = (job, count) ∷ ran_from count turns
+
+abbrev pub ran_of : List Turn → List (Job × ℕ)
+ran_of history = ran_from 0 history
+
+-- the items of what was done: those of an entry at its moment, and each read at its place
+abbrev pub items_of_turn : Turn → List Item
+items_of_turn (Applied entry) = entry_items (items_of entry.jobs.items)
+items_of_turn (Ran job) = item_of job ∷ []
+
+abbrev pub record_of : List Turn → List Item
+record_of history = flat_map items_of_turn history
+
+-- the entries that the node knows: those that it passed, and the one that it holds
+abbrev pub known_of : Standing → List Entry
+known_of s = applied_of s.history ++ option_to_list s.held
+
+-- how many entries the node has passed
+abbrev pub passed_of : Standing → ℕ
+passed_of s = length (applied_of s.history)
+
+-- the entries of a node among these, with their numbers, the first one's being n
+abbrev pub own_from : ℕ → ℕ → List Entry → List (ℕ × Entry)
+own_from node n [] = []
+own_from node n (entry ∷ entries) = let more = own_from node (suc n) entries in cond (entry.node == node) ((n, entry) ∷ more) more
+
+abbrev pub own_entries : ℕ → List Entry → List (ℕ × Entry)
+own_entries node log = own_from node 0 log
+
+-- There is a log, which begins with what the node knows, and has as many entries as it has seen, or more. The node's reservations are its
+-- entries in that log, each under its number and no others.
+abbrev pub StandsInLog : Standing → Type 0
+StandsInLog s = (log : List Entry) × IsBeginningOf (known_of s) log × (s.seen ≤ length log) × (s.reservations ≡ own_entries s.node log)
+
+-- shares of an entry of this node, one for each node
+abbrev pub IsSharesFor : Standing → List (Option Entry) → Type 0
+IsSharesFor s shares = (entry : Entry) × (shares ≡ shares_of entry s.nodes) × (entry.node ≡ s.node)
+
+-- no share waits for its cell
+abbrev pub IsAllFilled : Standing → Type 0
+IsAllFilled s = (node : ℕ) → slice_index_or s.unfilled node None ≡ None
+
+-- a greater tail was met, or none, and nothing else changed
+abbrev pub LooksOn : Standing → Standing → Type 0
+LooksOn s t = (s.seen ≤ t.seen) × (t ≡ record s { seen = t.seen })
+
+-- the entry of shares, as a reservation of that number
+abbrev pub reservation : ℕ → List (Option Entry) → List (ℕ × Entry)
+reservation at [] = []
+reservation at (share ∷ shares) = map (λ entry. (at, entry)) (option_to_list share)
+
+-- the number `at` was reserved for the entry of these shares
+abbrev pub reserved_as : ℕ → List (Option Entry) → Standing → Standing
+reserved_as at shares s = record s { seen = at + 1; reservations = s.reservations ++ reservation at shares; at = at; unfilled = shares }
+
+-- the share of a node went into its cell
+abbrev pub filled_for : ℕ → Standing → Standing
+filled_for node s = record s { unfilled = slice_set s.unfilled node None }
+
+-- the entry was fetched
+abbrev pub fetched_with : Entry → Standing → Standing
+fetched_with entry s = record s { held = Some entry }
+
+-- the entry that was held is passed
+abbrev pub passed_on : Standing → Standing
+passed_on s = record s { history = s.history ++ map Applied (option_to_list s.held); held = None }
+
+-- the read was run behind all that was done before, and the tail met is `seen`
+abbrev pub noted_with : Job → ℕ → Standing → Standing
+noted_with job seen s = record s { history = s.history ++ Ran job ∷ []; seen = seen }

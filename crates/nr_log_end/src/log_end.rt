@@ -1,0 +1,65 @@
+// One node's end of the log.
+ghost use Rattle.std.specs.Prelude.{◌≡◌, ◌<◌, ◌≤◌, IfSome, IfNone, IsSome, None, slice_index_or};
+ghost use Rattle.std.specs.Arc.{arc_value};
+ghost use Rattle.nr_log_end.specs.Standings.{LooksOn, IsSharesFor, IsAllFilled, StandsInLog, reserved_as, filled_for, fetched_with, passed_on, noted_with};
+ghost use Rattle.nr_log_end.specs.Reserves.{IfTaken, IfFull, IfLost};
+
+use crate::reserve::Reserve;
+use crate::standing::Standing;
+use nr_entry::{Entry, Job, Shares};
+use std::alloc::Global;
+use std::sync::Arc;
+
+/// One node's end of the operation log. Entries have the numbers 0, 1, 2 and so on, in the order in which they were reserved, and each node
+/// fetches all of them in this order. No call waits or takes memory.
+pub trait LogEnd {
+    ghost use Rattle.nr_log_end.specs.declared.standing.Standing.{Standing};
+
+    /// What an end knew at one moment.
+    type Token;
+
+    ghost standing: { Self → Standing };
+
+    ghost kept_by: { Self.Token → Standing };
+
+    /// Tries once to reserve the next number for an entry of this node.
+    fn reserve(&mut self, shares: Shares) -> Reserve
+        requires shares { IsSharesFor (standing self.old) shares }
+        requires filled { IsAllFilled (standing self.old) }
+        ensures taken { IfTaken result (λ at. ((standing self.old).seen ≤ at) × (standing self.new ≡ reserved_as at shares (standing self.old))) }
+        ensures full { IfFull result (λ back. (back ≡ shares) × LooksOn (standing self.old) (standing self.new)) }
+        ensures lost { IfLost result (λ back. (back ≡ shares) × LooksOn (standing self.old) (standing self.new) × ((standing self.old).seen < (standing self.new).seen)) };
+
+    /// Puts a node's share of the entry that was reserved last into that node's cell.
+    fn fill(&mut self, at: u64, node: usize)
+        requires number { at ≡ (standing self.old).at }
+        requires share { IsSome (slice_index_or (standing self.old).unfilled node None) }
+        ensures { standing self.new ≡ filled_for node (standing self.old) };
+
+    /// The next entry, where its cell is filled.
+    fn fetch(&mut self) -> Option<Arc<Entry, Global>>
+        requires { (standing self.old).held ≡ None }
+        ensures some { IfSome result (λ entry. standing self.new ≡ fetched_with (arc_value entry) (standing self.old)) }
+        ensures none { IfNone result (standing self.new ≡ standing self.old) }
+        ensures in_log { StandsInLog (standing self.new) };
+
+    /// Passes the entry that was fetched last. Its place may be reserved again once all nodes passed it.
+    fn pass(&mut self)
+        requires { IsSome (standing self.old).held }
+        ensures { standing self.new ≡ passed_on (standing self.old) };
+
+    /// How many entries were reserved.
+    fn tail(&mut self) -> u64
+        ensures tail { result ≡ (standing self.new).seen }
+        ensures standing { LooksOn (standing self.old) (standing self.new) };
+
+    /// Notes that this node's replica has run a read, behind the entries that were passed so far.
+    fn note(&mut self, job: &Job)
+        ensures noted { standing self.new ≡ noted_with job.now (standing self.new).seen (standing self.old) }
+        ensures seen { (standing self.old).seen ≤ (standing self.new).seen };
+
+    /// A token that keeps how this end stands now.
+    fn token(&mut self) -> Self::Token
+        ensures kept { kept_by result ≡ standing self.old }
+        ensures same { standing self.new ≡ standing self.old };
+}

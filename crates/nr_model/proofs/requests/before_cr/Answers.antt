@@ -1,5 +1,0 @@
-use Rattle.nr_model.proofs.PlainFrames.{cr_by_suffix}
-use Rattle.nr_model.proofs.requests.before_cr.Goals as goal
-
-pub returns : goal.returns
-returns c = cr_by_suffix c.args.line.now c.strip_suffix.result c.strip_suffix.ensures.cases

@@ -1,0 +1,14 @@
+pub mod Fronts
+pub mod Places
+pub mod Changes
+pub mod Seats
+pub mod Looks
+pub mod Cells
+pub mod Claims
+pub mod Fills
+pub mod Counts
+pub mod Fetches
+pub mod Passes
+pub mod Calls
+pub mod Comings
+pub mod Seating

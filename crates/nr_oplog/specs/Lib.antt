@@ -1,0 +1,7 @@
+pub mod Layout
+pub mod Rule
+pub mod Plays
+pub mod Names
+pub mod Seats
+pub mod Calls
+pub mod Opening

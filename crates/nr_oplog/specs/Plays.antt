@@ -1,0 +1,106 @@
+-- What each step tells its seat.
+use Rattle.std.specs.Prelude.{◌≡◌, ◌≢◌, ℕ, suc, ◌^◌, ◌<◌, ◌≤◌, List, [], ◌∷◌, ◌++◌, length, map, option_to_list, slice_index, slice_set, Option, option_map, Some, None}
+use mathlib.Core.Option.{some}
+use Rattle.std.specs.Arc.{arc_value}
+use Rattle.atomic_table.specs.Table.{Me, Step, rest}
+use Rattle.nr_model.specs.Explains.{IsBeginningOf}
+use Rattle.nr_entry.specs.declared.entry.Entry.{Entry}
+use Rattle.nr_entry.specs.Shares.{shares_of}
+use Rattle.nr_log_end.specs.declared.standing.Standing.{Standing}
+use Rattle.nr_log_end.specs.declared.standing.Turn.TheVariants.{Ran}
+use Rattle.nr_entry.specs.declared.job.Job.{Job}
+use Rattle.nr_log_end.specs.Standings.{known_of, passed_of, StandsInLog, reserved_as, filled_for, fetched_with, passed_on}
+use Rattle.nr_oplog.specs.declared.view.LogView.{LogView}
+use Rattle.nr_oplog.specs.declared.view.Look.TheVariants.{Tail, Passed}
+use Rattle.nr_oplog.specs.Layout.{passed_word, stamp_word, slot_of}
+use Rattle.nr_oplog.specs.Rule.{Share, opening_view}
+
+abbrev Sat : Type 0
+Sat = Me (Option Share) LogView
+
+abbrev At : Type 0
+At = Step (Option Share)
+
+-- the tail was loaded, and is n
+abbrev pub with_tail : ℕ → LogView → LogView
+with_tail n v = record v { standing = record v.standing { seen = n }; looks = v.looks ++ Tail n ∷ [] }
+
+-- the tail was loaded, and a read is noted that the node ran, if there is one
+abbrev pub with_read : Option Job → ℕ → LogView → LogView
+with_read job n v = record v { standing = record v.standing { seen = n; history = v.standing.history ++ map Ran (option_to_list job) }; looks = v.looks ++ Tail n ∷ [] }
+
+-- a node's passed count was loaded, and is n
+abbrev pub with_passed : ℕ → ℕ → LogView → LogView
+with_passed node n v = record v { met = slice_set v.met node n; looks = v.looks ++ Passed node n ∷ [] }
+
+abbrev pub saw_tail : Sat → ℕ → Sat → Type 0
+saw_tail m n m' = (m'.1 ≡ m.1) × (m'.0 ≡ with_tail n m.0) × (m.0.standing.seen ≤ n)
+
+abbrev pub saw_tail_and_ran : Option Job → Sat → ℕ → Sat → Type 0
+saw_tail_and_ran job m n m' = (m'.1 ≡ m.1) × (m'.0 ≡ with_read job n m.0) × (m.0.standing.seen ≤ n)
+
+abbrev pub saw_passed : At → Sat → ℕ → Sat → Type 0
+saw_passed st m n m' = (m'.1 ≡ m.1) × ((node : ℕ) → st.word ≡ passed_word node → (m'.0 ≡ with_passed node n m.0) × (slice_index m.0.met node ≤ n))
+
+-- the tail was as expected, and the number is reserved; or it was not
+abbrev pub claimed : At → Sat → ℕ → Sat → Type 0
+claimed st m n m' =
+    (m'.1 ≡ m.1)
+    × (n ≡ st.first → (said : Option Share) (entry : Entry) → st.said ≡ some said → option_map arc_value said ≡ Some entry
+    → m'.0 ≡ record m.0 { standing = reserved_as n (shares_of entry m.0.standing.nodes) m.0.standing })
+    × (n ≢ st.first → (m'.0 ≡ record m.0 { standing = record m.0.standing { seen = n } }) × (m.0.standing.seen ≤ n))
+
+-- the cell of a node for the number reserved last was taken, empty
+abbrev pub took_to_fill : At → Sat → ℕ → Sat → Type 0
+took_to_fill st m n m' =
+    (node : ℕ) → node < m.0.standing.nodes → st.word ≡ stamp_word m.0.standing.nodes m.0.places node m.0.standing.at
+    → (m'.0 ≡ record m.0 { filling = suc node }) × (m'.1 ≡ (slot_of m.0.places node m.0.standing.at, None) ∷ m.1)
+
+-- the cell that was taken is given back, full
+abbrev pub filled : Sat → Sat → Type 0
+filled m m' = (m'.1 ≡ rest m.1) × ((node : ℕ) → m.0.filling ≡ suc node → m'.0 ≡ record m.0 { standing = filled_for node m.0.standing; filling = 0 })
+
+-- the next cell is full, and taken; or it is not
+abbrev pub looked_for_next : Sat → ℕ → Sat → Type 0
+looked_for_next m n m' =
+    StandsInLog m'.0.standing
+    × (n ≡ suc (passed_of m.0.standing)
+    → (passed_of m.0.standing < 2 ^ 63)
+    × ((share : Share) × (m'.0 ≡ record m.0 { standing = fetched_with (arc_value share) m.0.standing }) × (m'.1 ≡ (slot_of m.0.places m.0.standing.node (passed_of m.0.standing), Some share) ∷ m.1)))
+    × (n ≢ suc (passed_of m.0.standing) → m' ≡ m)
+
+-- the entry that was held is passed, and its cell is given back, empty
+abbrev pub passed_next : Sat → Sat → Type 0
+passed_next m m' = (m'.1 ≡ rest m.1) × (m'.0 ≡ record m.0 { standing = passed_on m.0.standing })
+
+-- one of two lists is a beginning of the other
+abbrev pub AreComparable : {A : Type 0} → List A → List A → Type 0
+AreComparable xs ys = (length xs ≤ length ys → IsBeginningOf xs ys) × (length ys ≤ length xs → IsBeginningOf ys xs)
+
+-- two standings at one log
+abbrev pub AreOfOneLog : Standing → Standing → Type 0
+AreOfOneLog s t = AreComparable (known_of s) (known_of t) × (s.node ≡ t.node → AreComparable s.history t.history)
+
+-- the tail was loaded, and is n, which the standing doesn't show
+abbrev pub with_look : ℕ → LogView → LogView
+with_look n v = record v { looks = v.looks ++ Tail n ∷ [] }
+
+abbrev pub compared : Sat → ℕ → Sat → Type 0
+compared m n m' = (m'.1 ≡ m.1) × (m'.0 ≡ with_look n m.0) × AreOfOneLog m.0.standing m.0.told
+
+-- the seat of the first of these nodes, and that of the others
+abbrev pub node_left : LogView → LogView
+node_left v = opening_view v.standing.nodes v.places (suc v.standing.node) v.upto
+
+abbrev pub node_right : LogView → LogView
+node_right v = opening_view v.standing.nodes v.places v.standing.node (suc v.standing.node)
+
+-- a token, which is the seat of no node
+abbrev pub token_view : LogView → LogView
+token_view v = record { standing = v.standing; places = v.places; upto = 0; met = []; looks = []; filling = 0; told = v.standing }
+
+abbrev pub with_told : LogView → LogView → LogView
+with_told v w = record v { told = w.standing }
+
+abbrev pub nobody : LogView
+nobody = opening_view 0 0 0 0

@@ -1,0 +1,74 @@
+// A seat with its log.
+ghost use Rattle.std.specs.Prelude.{◌≡◌};
+
+use crate::log::{LogName, Oplog};
+use crate::seat::LogSeat;
+use crate::token::Token;
+use nr_entry::{Entry, Job, Shares};
+use nr_log_end::{LogEnd, Reserve};
+use std::alloc::Global;
+use std::marker::Model;
+use std::sync::Arc;
+
+/// One node's end of the running log: its seat, with the log that all nodes share. Contracts see what the seat knows.
+#[derive(Drop)]
+pub struct End<B: LogName> {
+    seat: LogSeat<B>,
+    log: Arc<Oplog<B>, Global>,
+}
+
+impl<B: LogName> Model for End<B> {
+    ghost use Rattle.nr_oplog.specs.declared.view.LogView.{LogView};
+    ghost use Rattle.nr_oplog.specs.contracts.view.LogView as of_view;
+
+    ghost Value = { LogView };
+
+    ghost coded = { of_view.the_row.coded };
+
+    ghost view = { λ e. e.seat };
+}
+
+impl<B: LogName> End<B> {
+    /// The end of a seat.
+    pub fn new(seat: LogSeat<B>, log: Arc<Oplog<B>, Global>) -> End<B>
+        ensures { result ≡ seat }
+    {
+        End { seat, log }
+    }
+}
+
+impl<B: LogName> LogEnd for End<B> {
+    type Token = Token<B>;
+
+    ghost standing = { λ v. v.standing };
+
+    ghost kept_by = { λ v. v.standing };
+
+    fn reserve(&mut self, shares: Shares) -> Reserve {
+        self.seat.reserve(&self.log, shares)
+    }
+
+    fn fill(&mut self, at: u64, node: usize) {
+        self.seat.fill(&self.log, at, node);
+    }
+
+    fn fetch(&mut self) -> Option<Arc<Entry, Global>> {
+        self.seat.fetch(&self.log)
+    }
+
+    fn pass(&mut self) {
+        self.seat.pass(&self.log);
+    }
+
+    fn tail(&mut self) -> u64 {
+        self.seat.tail(&self.log)
+    }
+
+    fn note(&mut self, job: &Job) {
+        self.seat.note(&self.log, job);
+    }
+
+    fn token(&mut self) -> Token<B> {
+        self.seat.token(&self.log)
+    }
+}

@@ -1,0 +1,81 @@
+// Opening a log, and giving it its name.
+ghost use Rattle.std.specs.Prelude.{ℕ, ◌≡◌, ◌+◌, ◌*◌, ◌<◌, ◌≤◌, ◌↔◌, [], length, IfOk, Err, slice_get, Some};
+ghost use Rattle.nr_oplog.specs.Rule.{opening_view};
+ghost use Rattle.nr_oplog.specs.Names.{IsShape};
+ghost use Rattle.nr_oplog.specs.Opening.{name_of, nodes_of, places_of};
+
+use crate::log::{LogName, Oplog};
+use crate::open::{OpenError, Opened};
+use crate::seat::LogSeat;
+use crate::view::{LogSlotSeat, Shape};
+use atomic_table::Table;
+use nr_blob::Memory;
+use std::alloc::Global;
+use std::marker::PhantomData;
+
+impl Opened {
+    /// A log of `nodes` nodes, 1 to 8, and `places` places, 2 to 65,536. It takes a block of a word and one of a slot for each place of each
+    /// node, and some words more.
+    pub fn open(alloc: Global, nodes: usize, places: usize) -> Result<Opened, OpenError>
+        ensures ok { IfOk result (λ opened. (nodes_of opened ≡ nodes) × (places_of opened ≡ places)) }
+        ensures shape { (result ≡ Err OpenError.BadShape) ↔ (IsShape nodes places → ⊥) }
+    {
+        if nodes < 1 || nodes > 8 || places < 2 || places > 65536 {
+            return Err(OpenError::BadShape);
+        }
+        let row = places + 16;
+        let Ok(words) = Vec::from_elem(alloc, 0u64, 16 * nodes + 16 + nodes * row) else {
+            return Err(OpenError::Memory);
+        };
+        let shape = Shape {
+            nodes: nodes as u64,
+            places: places as u64,
+        };
+        match Table::vacant(alloc, words.as_slice(), nodes * places, &shape) {
+            Ok((table, seat)) => Ok(Opened {
+                table,
+                seat,
+                nodes,
+                places,
+            }),
+            Err(_) => Err(OpenError::Memory),
+        }
+    }
+
+    /// Gives the log its name, and each node its seat, the first one node 0. It takes memory for the list of seats alone.
+    pub fn named<B: LogName>(self, alloc: Global) -> Result<(Oplog<B>, Vec<LogSeat<B>>), Memory>
+        requires name { name_of self ≡ B.log }
+        requires shape { (nodes_of self ≡ B.nodes) × (places_of self ≡ B.places) }
+        ensures seats { IfOk result (λ r. (length r.1.items ≡ B.nodes) × ((node : ℕ) → node < B.nodes → slice_get r.1.items node ≡ Some (opening_view B.nodes B.places node (node + 1)))) }
+    {
+        let Opened {
+            table,
+            seat,
+            nodes,
+            places,
+        } = self;
+        let log = Oplog {
+            table,
+            nodes,
+            places,
+            of: PhantomData,
+        };
+        let seats = log.seats(alloc, seat)?;
+        Ok((log, seats))
+    }
+}
+
+impl<B: LogName> Oplog<B> {
+    // The seats of all nodes, cut from the first one.
+    fn seats(&self, alloc: Global, mut seat: LogSlotSeat) -> Result<Vec<LogSeat<B>>, Memory>
+        requires { (seat.table_id ≡ B.log) × (seat.me ≡ (opening_view B.nodes B.places 0 B.nodes, [])) }
+        ensures { IfOk result (λ seats. (length seats.items ≡ B.nodes) × ((node : ℕ) → node < B.nodes → slice_get seats.items node ≡ Some (opening_view B.nodes B.places node (node + 1)))) }
+    {
+        let mut seats = Vec::with_capacity(alloc, self.nodes)?;
+        for node in 0..self.nodes {
+            let own = self.cut(&mut seat, node);
+            seats.push(LogSeat::first(alloc, own, node))?;
+        }
+        Ok(seats)
+    }
+}

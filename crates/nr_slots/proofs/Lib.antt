@@ -1,0 +1,9 @@
+pub mod Changes
+pub mod Tales
+pub mod Moves
+pub mod WorkerSteps
+pub mod CombinerSteps
+pub mod Calls
+pub mod Openings
+pub mod Seating
+pub mod Facts

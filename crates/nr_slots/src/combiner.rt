@@ -1,0 +1,76 @@
+// The combiner's seat at the slots.
+ghost use Rattle.std.specs.Prelude.{◌≡◌, ◌<◌, ◌≤◌, [], length, MatchOption, IfSome};
+ghost use Rattle.nr_slots.specs.Names.{IsForLast, IsUnanswered};
+ghost use Rattle.nr_slots.specs.Seats.{new_combiner, with_lifted, with_answered, desk_of, IsOfWorkers};
+ghost use Rattle.nr_slots.specs.Rule.{opening_view};
+
+use crate::slots::Slots;
+use crate::steps::{put_answer, take_batch};
+use crate::view::SlotSeat;
+use nr_entry::{Answer, Batch};
+use std::marker::Model;
+
+/// The seat of a node's combiner at the slots of its workers. Contracts see for each worker the batches that it lifted, and the answers
+/// that it gave.
+#[derive(Drop)]
+pub struct CombinerSeat {
+    seat: SlotSeat,
+    // For each worker whether the batch lifted last wasn't answered.
+    holds: [bool; 16],
+}
+
+impl Model for CombinerSeat {
+    ghost use Rattle.std.specs.Prelude.{◌≡◌, ◌≤◌, [], length};
+    ghost use Rattle.nr_slots.specs.Seats.{CombinerView, AreHolding, IsOfWorkers};
+    ghost use Rattle.nr_slots.specs.Rule.{combiner_view};
+
+    ghost Value = { CombinerView };
+
+    ghost use Rattle.nr_slots.specs.Codes.{combiner_code};
+
+    ghost coded = { combiner_code };
+
+    ghost view = { λ s. record { slots = s.seat.table_id; desks = s.seat.me.0.desks } };
+
+    ghost invariant = { λ s. (s.seat.me ≡ (combiner_view (length s.seat.me.0.desks) s.seat.me.0.desks, [])) × (length s.seat.me.0.desks ≤ 16) × IsOfWorkers s.seat.table_id (length s.seat.me.0.desks) × AreHolding s.holds s.seat.me.0.desks };
+}
+
+impl CombinerSeat {
+    pub(crate) fn first(seat: SlotSeat, workers: usize) -> CombinerSeat
+        requires seat { seat.me ≡ (opening_view workers workers, []) }
+        requires workers { (workers ≤ 16) × IsOfWorkers seat.table_id workers }
+        ensures { result ≡ new_combiner seat.table_id workers }
+    {
+        CombinerSeat {
+            seat,
+            holds: [false; 16],
+        }
+    }
+
+    /// Takes a worker's batch out of its slot, if one is offered: two loads, or one where none is, or no step where the batch lifted last
+    /// wasn't answered.
+    pub fn lift(&mut self, slots: &Slots, worker: usize) -> Option<Batch>
+        requires slots { self.old.slots ≡ slots.now.id }
+        requires worker { worker < length self.old.desks }
+        ensures lifted { MatchOption result (self.new ≡ self.old) (λ batch. self.new ≡ with_lifted worker batch self.old) }
+        ensures unanswered { IfSome result (λ batch. IsUnanswered batch (desk_of self.new worker).lifted (desk_of self.new worker).answered) }
+    {
+        if self.holds[worker] {
+            return None;
+        }
+        let batch = take_batch(&slots.table.shared, &mut self.seat, worker)?;
+        self.holds[worker] = true;
+        Some(batch)
+    }
+
+    /// Puts the answer to the batch that was lifted last from a worker's slot into that slot: one load and one store.
+    pub fn answer(&mut self, slots: &Slots, worker: usize, answer: Answer)
+        requires slots { self.old.slots ≡ slots.now.id }
+        requires worker { worker < length self.old.desks }
+        requires lifted { IsForLast answer (desk_of self.old worker).lifted (desk_of self.old worker).answered }
+        ensures { self.new ≡ with_answered worker answer self.old }
+    {
+        put_answer(&slots.table.shared, &mut self.seat, worker, answer);
+        self.holds[worker] = false;
+    }
+}

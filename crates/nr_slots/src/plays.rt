@@ -1,0 +1,62 @@
+// What each step tells its seat. These types are for the proofs alone.
+ghost use Rattle.nr_slots.specs.Plays.{placed, published, looked, cleared, sought, lifted, reached, answered, worker_left, worker_right};
+
+use crate::view::{Parcel, SlotView};
+use atomic_table::{Play, Split};
+
+pub(crate) struct Place;
+
+impl Play<Option<Parcel>, SlotView> for Place {
+    ghost then = { λ _ m _. placed m };
+}
+
+pub(crate) struct Publish;
+
+impl Play<Option<Parcel>, SlotView> for Publish {
+    ghost then = { λ _ m _. published m };
+}
+
+pub(crate) struct Look;
+
+impl Play<Option<Parcel>, SlotView> for Look {
+    ghost then = { λ _. looked };
+}
+
+pub(crate) struct Clear;
+
+impl Play<Option<Parcel>, SlotView> for Clear {
+    ghost then = { λ _ m _. cleared m };
+}
+
+pub(crate) struct Seek;
+
+impl Play<Option<Parcel>, SlotView> for Seek {
+    ghost then = { sought };
+}
+
+pub(crate) struct Lift;
+
+impl Play<Option<Parcel>, SlotView> for Lift {
+    ghost then = { λ st m _. lifted st m };
+}
+
+pub(crate) struct Reach;
+
+impl Play<Option<Parcel>, SlotView> for Reach {
+    ghost then = { λ st m _. reached st m };
+}
+
+pub(crate) struct Reply;
+
+impl Play<Option<Parcel>, SlotView> for Reply {
+    ghost then = { λ st m _. answered st m };
+}
+
+// The next worker's seat is cut from the seat of all workers from there on and of the combiner.
+pub(crate) struct NextWorker;
+
+impl Split<SlotView> for NextWorker {
+    ghost left = { worker_left };
+
+    ghost right = { worker_right };
+}

@@ -1,0 +1,78 @@
+// A worker's seat at the slots.
+ghost use Rattle.std.specs.Prelude.{◌≡◌, ◌↔◌, ◌*◌, ◌<◌, [], length, MatchOption, MatchResult, IsOk};
+ghost use Rattle.nr_slots.specs.Names.{IsForLast};
+ghost use Rattle.nr_slots.specs.Seats.{new_worker, with_posted, with_collected, IsOfWorkers};
+ghost use Rattle.nr_slots.specs.Rule.{worker_view, no_lane};
+
+use crate::slots::Slots;
+use crate::steps::{put_batch, take_answer};
+use crate::view::SlotSeat;
+use nr_entry::{Answer, Batch};
+use std::marker::Model;
+
+/// A worker's seat at the slots of its node. Contracts see whose it is, the batches that it posted, and the answers that it collected.
+#[derive(Drop)]
+pub struct WorkerSeat {
+    seat: SlotSeat,
+    worker: usize,
+    // Whether the answer to the batch posted last wasn't collected.
+    waiting: bool,
+}
+
+impl Model for WorkerSeat {
+    ghost use Rattle.std.specs.Prelude.{◌≡◌, ◌*◌, ◌<◌, []};
+    ghost use Rattle.nr_slots.specs.Seats.{WorkerView, IsWaiting};
+    ghost use Rattle.nr_slots.specs.Rule.{worker_view};
+
+    ghost Value = { WorkerView };
+
+    ghost use Rattle.nr_slots.specs.Codes.{worker_code};
+
+    ghost coded = { worker_code };
+
+    ghost view = { λ s. record { slots = s.seat.table_id; worker = s.worker; lane = s.seat.me.0.lane } };
+
+    ghost invariant = { λ s. (s.seat.me ≡ (worker_view s.worker s.seat.me.0.lane, [])) × (s.worker < 16) × (2 * s.worker < s.seat.table_id.slots) × IsWaiting s.waiting s.seat.me.0.lane };
+}
+
+impl WorkerSeat {
+    pub(crate) fn first(seat: SlotSeat, worker: usize) -> WorkerSeat
+        requires seat { seat.me ≡ (worker_view worker no_lane, []) }
+        requires worker { (worker < 16) × (2 * worker < seat.table_id.slots) }
+        ensures { result ≡ new_worker seat.table_id worker }
+    {
+        WorkerSeat {
+            seat,
+            worker,
+            waiting: false,
+        }
+    }
+
+    /// Hands a batch to the combiner: one load and one store. The batch comes back while the answer to the last one wasn't collected.
+    pub fn post(&mut self, slots: &Slots, batch: Batch) -> Result<(), Batch>
+        requires { self.old.slots ≡ slots.now.id }
+        ensures exactly { IsOk result ↔ (length self.old.lane.posted ≡ length self.old.lane.collected) }
+        ensures posted { MatchResult result (λ _. self.new ≡ with_posted batch self.old) (λ back. (back ≡ batch) × (self.new ≡ self.old)) }
+    {
+        if self.waiting {
+            return Err(batch);
+        }
+        put_batch(&slots.table.shared, &mut self.seat, self.worker, batch);
+        self.waiting = true;
+        Ok(())
+    }
+
+    /// Takes the answer to the batch that was posted last, if it is there: one load, and one store where it is.
+    pub fn collect(&mut self, slots: &Slots) -> Option<Answer>
+        requires { self.old.slots ≡ slots.now.id }
+        ensures collected { MatchOption result (self.new ≡ self.old) (λ answer. self.new ≡ with_collected answer self.old) }
+        ensures own { MatchOption result (Unit {0}) (λ answer. IsForLast answer self.old.lane.posted self.old.lane.collected) }
+    {
+        if !self.waiting {
+            return None;
+        }
+        let answer = take_answer(&slots.table.shared, &mut self.seat, self.worker)?;
+        self.waiting = false;
+        Some(answer)
+    }
+}

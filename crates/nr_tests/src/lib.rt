@@ -1,0 +1,15 @@
+//! Tests of what no row of data reaches and no contract says: that calls succeed with memory at hand, texts of errors, time.
+#![tactic(auto)]
+
+#[cfg(test)]
+mod bytes;
+#[cfg(test)]
+mod copies;
+#[cfg(test)]
+mod keyspaces;
+#[cfg(test)]
+mod machines;
+#[cfg(test)]
+mod readers;
+#[cfg(test)]
+mod worlds;
