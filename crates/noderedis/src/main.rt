@@ -1,20 +1,13 @@
-//! A Redis server. Its program serves one connection on standard input and output.
+//! A Redis server: the program. It reads its words, serves one connection on standard input and output, and says why it failed.
 #![tactic(auto)]
 
-use fault::Fault;
-use moments::MachineClock;
-use run::run_on;
+use nr_serving::{Fault, MachineClock, run_on};
 use std::env;
 use std::hash::RandomState;
 use std::io::{self, ErrorKind};
 use std::process::ExitCode;
 use words::{Task, words};
 
-mod bytes;
-mod fault;
-mod moments;
-mod run;
-mod serving;
 mod words;
 
 fn serve_input(rt: &HostRuntime) -> io::Result<Result<(), Fault>> {

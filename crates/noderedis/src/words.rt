@@ -27,3 +27,16 @@ pub fn words<'a, S: AsStr>(alloc: Global, words: &'a [S]) -> Result<Task, Error>
     command.try_get_matches_from(words)?;
     Ok(Task::Run)
 }
+
+#[cfg(test)]
+mod tests {
+    use super::*;
+
+    #[test]
+    fn refuses_other_words(rt: HostRuntime) {
+        for word in ["walk", ""] {
+            let refused = words(rt.alloc(), &["noderedis", word]).err();
+            assert!(rt; refused.is_some_and(|error| error.exit_code() == 2));
+        }
+    }
+}

@@ -19,13 +19,15 @@ use Rattle.nr_model.proofs.IntegerTexts.{own, positive}
 use Rattle.nr_blob.specs.Integers.{is_leading_digit, begins_nonzero}
 
 -- where `d` says that a text is digits alone, behind its sign, std's parse answers by the range
-plain_gives : {E : Type 0} (r : Result ℤ E) (d : Bool) (k n : ℕ) → 0 < k → OkIff r ((d ≡ true) × (0 < k) × (n < 2 ^ 63)) (pos n) → result_ok r ≡ (if d then in_i64 (pos n) else None)
+plain_gives : {E : Type 0} (r : Result ℤ E) (d : Bool) (k n : ℕ) → 0 < k → OkIff r ((d ≡ true) × (0 < k) × (n < 2 ^ 63)) (pos n)
+    → result_ok r ≡ (if d then in_i64 (pos n) else None)
 plain_gives (Ok x) true k n some h = let small : n < 2 ^ 63 = h.0.2 in let same : x ≡ pos n = h.1 in grind (arith, nat_tests)
 plain_gives (Ok x) false k n some h = absurd (cc (h.0.0))
 plain_gives (Err e) true k n some h = elim (cases_lt n (2 ^ 63)) [ inl small ↦ absurd (h (refl, some, small)) | inr large ↦ grind (arith, nat_tests) ]
 plain_gives (Err e) false k n some h = refl
 
-minus_gives : {E : Type 0} (r : Result ℤ E) (d : Bool) (k n : ℕ) → 0 < k → OkIff r ((d ≡ true) × (0 < k) × (suc n ≤ 2 ^ 63)) (negsuc n) → result_ok r ≡ (if d then in_i64 (negsuc n) else None)
+minus_gives : {E : Type 0} (r : Result ℤ E) (d : Bool) (k n : ℕ) → 0 < k → OkIff r ((d ≡ true) × (0 < k) × (suc n ≤ 2 ^ 63)) (negsuc n)
+    → result_ok r ≡ (if d then in_i64 (negsuc n) else None)
 minus_gives (Ok x) true k n some h = let small : n < 2 ^ 63 = omega (arith, h.0.2) in let same : x ≡ negsuc n = h.1 in grind (arith, nat_tests)
 minus_gives (Ok x) false k n some h = absurd (cc (h.0.0))
 minus_gives (Err e) true k n some h = elim (cases_lt n (2 ^ 63)) [ inl small ↦ absurd (h (refl, some, omega arith)) | inr large ↦ grind (arith, nat_tests) ]
@@ -38,17 +40,24 @@ numeral_is (d ∷ ds) e = grind (arith, nat_tests)
 
 leading_within : (text : Bytes) (i : ℕ) → is_leading_digit (get_or text i 0) ≡ true → i < length text
 leading_within text i e =
-    elim (cases_lt i (length text)) [ inl within ↦ within | inr past ↦ absurd (let nothing : get_or text i 0 ≡ 0 = get_or_past text i 0 past in cc (e, nothing)) ]
+    elim (cases_lt i (length text)) [
+      | inl within ↦ within
+      | inr past ↦ absurd
+          (let nothing : get_or text i 0 ≡ 0 = get_or_past text i 0 past in cc (e, nothing))
+    ]
 
 -- what a text's value is, by how it begins
-plain_value : (text : Bytes) → is_leading_digit (get_or text 0 0) ≡ true → int_value text ≡ (if list_all is_digit text then in_i64 (pos (digits_value text)) else None)
+plain_value : (text : Bytes) → is_leading_digit (get_or text 0 0) ≡ true
+    → int_value text ≡ (if list_all is_digit text then in_i64 (pos (digits_value text)) else None)
 plain_value [] e = absurd (cc e)
 plain_value (c ∷ t) e = rw (← numeral_is (c ∷ t) e) (grind (arith, nat_tests))
 
-signed_value : (t : Bytes) → is_leading_digit (get_or t 0 0) ≡ true → int_value (45 ∷ t) ≡ (if list_all is_digit t then in_i64 (negsuc (digits_value t - 1)) else None)
+signed_value : (t : Bytes) → is_leading_digit (get_or t 0 0) ≡ true
+    → int_value (45 ∷ t) ≡ (if list_all is_digit t then in_i64 (negsuc (digits_value t - 1)) else None)
 signed_value t e = rw (← numeral_is t e) refl
 
-minus_value : (text : Bytes) → get_or text 0 0 ≡ 45 → is_leading_digit (get_or text 1 0) ≡ true → int_value text ≡ (if list_all is_digit (drop 1 text) then in_i64 (negsuc (digits_value (drop 1 text) - 1)) else None)
+minus_value : (text : Bytes) → get_or text 0 0 ≡ 45 → is_leading_digit (get_or text 1 0) ≡ true
+    → int_value text ≡ (if list_all is_digit (drop 1 text) then in_i64 (negsuc (digits_value (drop 1 text) - 1)) else None)
 minus_value [] minus e = absurd (cc minus)
 minus_value (c ∷ t) minus e = let is : c ≡ 45 = minus in rw is (signed_value t e)
 
@@ -58,7 +67,8 @@ by_plain text r e h =
     (parse_signed_plain own w64 text r h (grind (arith, nat_tests)) (grind (arith, nat_tests)))
     ∙ sym (plain_value text e)
 
-by_minus : {E : Type 0} (text : Bytes) (r : Result ℤ E) → get_or text 0 0 ≡ 45 → is_leading_digit (get_or text 1 0) ≡ true → ParsesSigned w64 10 text r → result_ok r ≡ int_value text
+by_minus : {E : Type 0} (text : Bytes) (r : Result ℤ E) → get_or text 0 0 ≡ 45 → is_leading_digit (get_or text 1 0) ≡ true → ParsesSigned w64 10 text r
+    → result_ok r ≡ int_value text
 by_minus text r minus e h =
     let t : Bytes = drop 1 text in
     let first : is_leading_digit (get_or t 0 0) ≡ true = subst (λ d. is_leading_digit d ≡ true) (sym (get_or_after_one text 0 0)) e in
@@ -69,7 +79,8 @@ by_minus text r minus e h =
     ∙ sym (minus_value text minus e)
 
 -- the two together, and a text that is none to std
-begins_cases : (text : Bytes) → begins_nonzero text ≡ true → (is_leading_digit (get_or text 0 0) ≡ true) ⊎ ((get_or text 0 0 ≡ 45) × (is_leading_digit (get_or text 1 0) ≡ true))
+begins_cases : (text : Bytes) → begins_nonzero text ≡ true
+    → (is_leading_digit (get_or text 0 0) ≡ true) ⊎ ((get_or text 0 0 ≡ 45) × (is_leading_digit (get_or text 1 0) ≡ true))
 begins_cases text e = grind (arith, nat_tests)
 
 pub parse_is_value : {E : Type 0} (text : Bytes) (r : Result ℤ E) → begins_nonzero text ≡ true → ParsesSigned w64 10 text r → result_ok r ≡ int_value text

@@ -1,4 +1,4 @@
-//! The table of commands: names and counts of words.
+//! The table of commands, names and counts of words, and requests read by it. Sessions look up, what runs commands matches on the answer.
 #![tactic(auto)]
 
 pub use command::{Cmd, copy_words};

@@ -1,4 +1,4 @@
-// From a request to its command.
+// From a request to its command: called for each request by its session. Words are moved, and nothing is taken from memory.
 ghost use Rattle.nr_command.specs.Check.{Checks};
 
 use crate::command::Cmd;

@@ -1,3 +1,5 @@
 pub mod Marks
 pub mod Moving
 pub mod Taking
+pub mod Crossing
+pub mod Changes

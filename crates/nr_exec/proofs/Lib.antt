@@ -1,3 +1,4 @@
+pub mod Refusals
 pub mod Removals
 pub mod Selected
 pub mod Swept

@@ -11,3 +11,8 @@ pub record IsDone (reply : Reply) (keyspace : Keyspace) (database : ℕ) (told t
   pub left : keyspace ≡ done.keyspace
   pub selected : database ≡ done.database
   pub touched : Touches told told' done.touched
+
+-- a body that changes the database alone
+pub record Selects (reply : Reply) (database : ℕ) (done : Done) : Type 0 where
+  pub replied : reply ≡ done.reply
+  pub selected : database ≡ done.database

@@ -1,3 +1,5 @@
 pub mod Touched
 pub mod Done
 pub mod Removed
+pub mod Reading
+pub mod Failures

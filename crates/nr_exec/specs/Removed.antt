@@ -1,5 +1,5 @@
 -- One key taken out, if it is there.
-use Rattle.std.specs.Prelude.{◌≡◌, Bool, cond, List, [], ◌∷◌}
+use Rattle.std.specs.Prelude.{◌≡◌, Bool, cond, [], ◌∷◌}
 use Rattle.std.specs.FinMap as map
 use Rattle.nr_model.specs.Keyspace.{Key, Keyspace}
 use Rattle.nr_exec.specs.Touched.{Told, Touches}

@@ -1,5 +1,5 @@
 -- Touched keys, as a set.
-use Rattle.std.specs.Prelude.{◌≡◌, List, [], ◌∷◌, Option, Some, None, fold}
+use Rattle.std.specs.Prelude.{◌≡◌, List, [], ◌∷◌, Option, Some, None}
 use Rattle.std.specs.FinSet as set
 use Rattle.nr_model.specs.Keyspace.{Key, key_cmp}
 

@@ -1,41 +1,59 @@
 // One command at a moment: the words behind its name go to the body of its section. The machine calls nothing else of this crate.
-ghost use Rattle.std.specs.Prelude.{◌≡◌, drop, IfOk};
+ghost use Rattle.std.specs.Prelude.{◌≡◌, drop, IfOk, IfErr};
 ghost use Rattle.nr_model.specs.Commands as commands;
 ghost use Rattle.nr_model.specs.Keyspace.{live};
 ghost use Rattle.nr_resp.specs.Seen.{reply_of};
+ghost use Rattle.nr_resp.specs.Shown.{shown_reply};
 ghost use Rattle.nr_exec.specs.Done.{IsDone};
+ghost use Rattle.nr_exec.specs.Failures.{IfRefused};
 
+use crate::arguments::Arguments;
+use crate::failure::Failure;
 use crate::touched::Touched;
 use crate::{keys, server, strings};
 use nr_blob::{Blob, Memory};
 use nr_keyspace::{Db, Keyspace};
 use nr_model::command::{Change, Look};
-use nr_resp::Reply;
-use std::alloc::Global;
+use nr_resp::{Reply, Shown};
 
 /// The reply of a command that only looks, at a moment in milliseconds, for a connection whose database this is. The words are
-/// those of the request, its name first.
-pub fn look(
-    alloc: Global,
-    keyspace: &Keyspace,
+/// those of the request, its name first. What the reply shows of a value or a word is lent.
+pub fn look<'k>(
+    keyspace: &'k Keyspace,
     now: u64,
     database: Db,
     command: Look,
-    words: &[Blob],
-) -> Result<Reply, Memory>
-    ensures { IfOk result (λ reply. reply_of reply ≡ commands.look command now (live keyspace.now now) database (drop 1 words.now)) }
+    words: &'k [Blob],
+) -> Result<Shown<'k>, Memory>
+    ensures { IfOk result (λ shown. shown_reply shown ≡ commands.look command now (live keyspace.now now) database (drop 1 words.now)) }
 {
-    let arguments = arguments(words);
+    match look_in_section(keyspace, now, database, command, words) {
+        Ok(shown) => Ok(shown),
+        Err(failure) => Ok(Shown::Owned(failure.reply()?)),
+    }
+}
+
+fn look_in_section<'k>(
+    keyspace: &'k Keyspace,
+    now: u64,
+    database: Db,
+    command: Look,
+    words: &'k [Blob],
+) -> Result<Shown<'k>, Failure>
+    ensures ok { IfOk result (λ shown. shown_reply shown ≡ commands.look command now (live keyspace.now now) database (drop 1 words.now)) }
+    ensures refused { IfErr result (λ failure. IfRefused failure
+        (λ reply. reply ≡ commands.look command now (live keyspace.now now) database (drop 1 words.now))) }
+{
+    let arguments = Arguments::new(behind_name(words));
     match command {
-        Look::Server(command) => server::look(alloc, command, arguments),
-        Look::Strings(command) => strings::look(alloc, keyspace, now, database, command, arguments),
+        Look::Server(command) => server::look(command, arguments),
+        Look::Strings(command) => strings::look(keyspace, now, database, command, arguments),
     }
 }
 
 /// One command that may change the keyspace or the database of its connection, at a moment in milliseconds. The words are those of the request,
 /// its name first. Where memory runs out the keyspace is safe to use, and holds part of the change or none.
 pub fn change<T: Touched>(
-    alloc: Global,
     keyspace: &mut Keyspace,
     now: u64,
     database: &mut Db,
@@ -43,25 +61,48 @@ pub fn change<T: Touched>(
     words: &[Blob],
     touched: &mut T,
 ) -> Result<Reply, Memory>
-    ensures { IfOk result (λ reply. IsDone (reply_of reply) keyspace.new database.new (T.told touched.old) (T.told touched.new) (commands.change command now (live keyspace.old now) database.old (drop 1 words.now))) }
+    ensures { IfOk result
+        (λ reply. IsDone (reply_of reply) keyspace.new database.new (T.told touched.old) (T.told touched.new)
+        (commands.change command now (live keyspace.old now) database.old (drop 1 words.now))) }
 {
     keyspace.sweep(now);
-    let arguments = arguments(words);
+    match change_in_section(keyspace, now, database, command, words, touched) {
+        Ok(reply) => Ok(reply),
+        Err(failure) => failure.reply(),
+    }
+}
+
+// A command that may change a keyspace whose keys are all live.
+fn change_in_section<T: Touched>(
+    keyspace: &mut Keyspace,
+    now: u64,
+    database: &mut Db,
+    command: Change,
+    words: &[Blob],
+    touched: &mut T,
+) -> Result<Reply, Failure>
+    requires { live keyspace.old now ≡ keyspace.old }
+    ensures ok { IfOk result
+        (λ reply. IsDone (reply_of reply) keyspace.new database.new (T.told touched.old) (T.told touched.new)
+        (commands.change command now keyspace.old database.old (drop 1 words.now))) }
+    ensures refused { IfErr result (λ failure. IfRefused failure
+        (λ reply. IsDone reply keyspace.new database.new (T.told touched.old) (T.told touched.new)
+        (commands.change command now keyspace.old database.old (drop 1 words.now)))) }
+{
+    let arguments = Arguments::new(behind_name(words));
     match command {
-        Change::Server(command) => server::change(
-            alloc, keyspace, database, command, arguments, touched,
-        ),
+        Change::Server(command) => server::change(keyspace, database, command, arguments, touched),
         Change::Keys(command) => keys::change(
             keyspace, now, *database, command, arguments, touched,
         ),
         Change::Strings(command) => strings::change(
-            alloc, keyspace, *database, command, arguments, touched,
+            keyspace, *database, command, arguments, touched,
         ),
     }
 }
 
 // The words behind the name.
-fn arguments(words: &[Blob]) -> &[Blob]
+fn behind_name(words: &[Blob]) -> &[Blob]
     ensures { result.now ≡ drop 1 words.now }
 {
     match words.split_first() {

@@ -1,13 +1,16 @@
 // The commands of the section on keys. They touch the keyspace, and tell of each key that they changed.
-ghost use Rattle.std.specs.Prelude.{◌≡◌, IfOk, OnOk};
+ghost use Rattle.std.specs.Prelude.{◌≡◌, IfOk, OnOk, IfErr};
 ghost use Rattle.nr_model.specs.Keyspace.{live};
 ghost use Rattle.nr_model.specs.Commands.Shape.{staying};
 ghost use Rattle.nr_model.specs.Commands.Keys as keys;
 ghost use Rattle.nr_keyspace.specs.Joined.{key_of};
 ghost use Rattle.nr_resp.specs.Seen.{reply_of};
 ghost use Rattle.nr_exec.specs.Done.{IsDone};
+ghost use Rattle.nr_exec.specs.Failures.{IfRefused};
 ghost use Rattle.nr_exec.specs.Removed.{Removes};
 
+use crate::arguments::Arguments;
+use crate::failure::Failure;
 use crate::touched::Touched;
 use nr_blob::{Blob, Memory};
 use nr_keyspace::{Db, Keyspace};
@@ -20,14 +23,19 @@ pub(crate) fn change<T: Touched>(
     now: u64,
     database: Db,
     command: KeysChange,
-    arguments: &[Blob],
+    arguments: Arguments<'_>,
     touched: &mut T,
-) -> Result<Reply, Memory>
+) -> Result<Reply, Failure>
     requires { live keyspace.old now ≡ keyspace.old }
-    ensures { IfOk result (λ reply. IsDone (reply_of reply) keyspace.new database (T.told touched.old) (T.told touched.new) (staying database (keys.change command now keyspace.old database arguments.now))) }
+    ensures ok { IfOk result
+        (λ reply. IsDone (reply_of reply) keyspace.new database (T.told touched.old) (T.told touched.new)
+        (staying database (keys.change command now keyspace.old database arguments.entry.words.now))) }
+    ensures refused { IfErr result (λ failure. IfRefused failure
+        (λ reply. IsDone reply keyspace.new database (T.told touched.old) (T.told touched.new)
+        (staying database (keys.change command now keyspace.old database arguments.entry.words.now)))) }
 {
     match command {
-        KeysChange::Del => del(keyspace, now, database, arguments, touched),
+        KeysChange::Del => Ok(del(keyspace, now, database, arguments.words(), touched)?),
     }
 }
 
@@ -40,7 +48,9 @@ fn del<T: Touched>(
     touched: &mut T,
 ) -> Result<Reply, Memory>
     requires { live keyspace.old now ≡ keyspace.old }
-    ensures { IfOk result (λ reply. IsDone (reply_of reply) keyspace.new database (T.told touched.old) (T.told touched.new) (staying database (keys.del keyspace.old database names.now))) }
+    ensures { IfOk result
+        (λ reply. IsDone (reply_of reply) keyspace.new database (T.told touched.old) (T.told touched.new)
+        (staying database (keys.del keyspace.old database names.now))) }
 {
     let mut removed: usize = 0;
     for name in names {
@@ -60,7 +70,8 @@ fn remove<T: Touched>(
     touched: &mut T,
 ) -> Result<bool, Memory>
     requires { live keyspace.old now ≡ keyspace.old }
-    ensures removed { IfOk result (λ removed. Removes removed keyspace.old keyspace.new (T.told touched.old) (T.told touched.new) (key_of database name.now)) }
+    ensures removed { IfOk result
+        (λ removed. Removes removed keyspace.old keyspace.new (T.told touched.old) (T.told touched.new) (key_of database name.now)) }
     ensures live { OnOk result (live keyspace.new now ≡ keyspace.new) }
 {
     if keyspace.remove(now, database, name.bytes()).is_none() {

@@ -4,9 +4,10 @@
 pub use exec::{change, look};
 pub use touched::{Nobody, Touched};
 
+mod arguments;
 mod exec;
+mod failure;
 mod keys;
-mod replies;
 mod server;
 mod strings;
 mod touched;

@@ -18,13 +18,15 @@ pub escaped_front : (d : ℕ) (rest : List ℕ) → IsMarkFront (92 ∷ d ∷ re
 unfolding class_marks class_rest
 escaped_front d rest = record { marks = refl; rest = refl }
 
-pub mark_escaped : (byte : ℕ) (behind : List ℕ) → byte ≡ 92 → 1 ≤ length behind → IsMarkFront (byte ∷ behind) (escaped (get_or behind 0 0)) (take (length behind - 1) (drop 1 behind))
+pub mark_escaped : (byte : ℕ) (behind : List ℕ) → byte ≡ 92 → 1 ≤ length behind
+    → IsMarkFront (byte ∷ behind) (escaped (get_or behind 0 0)) (take (length behind - 1) (drop 1 behind))
 mark_escaped byte [] is h = absurd (omega arith)
 mark_escaped byte (b ∷ bs) is h =
     subst (λ (t : List ℕ). IsMarkFront (byte ∷ b ∷ bs) (escaped b) t) (sym (behind_is b bs))
     (subst (λ (n : ℕ). IsMarkFront (n ∷ b ∷ bs) (escaped b) bs) (sym is) (escaped_front b bs))
 
-pub mark_first : (class after : List ℕ) (mark : Mark) → 1 ≤ length class → IsMarkFront (get_or class 0 0 ∷ take (length class - 1) (drop 1 class)) mark after → IsMarkFront class mark after
+pub mark_first : (class after : List ℕ) (mark : Mark) → 1 ≤ length class → IsMarkFront (get_or class 0 0 ∷ take (length class - 1) (drop 1 class)) mark after
+    → IsMarkFront class mark after
 mark_first class after mark h front = subst (λ (t : List ℕ). IsMarkFront t mark after) (sym (first_and_behind class h)) front
 
 pub end_of_bytes : (class : List ℕ) → length class < 1 → IsClassEnd class
@@ -54,12 +56,14 @@ pub no_range-none : (behind : List ℕ) → IsClassEnd behind → IsNoRange behi
 no_range-none behind end = λ x c. subst (λ (ms : List Mark). in_class (x ∷ ms) c ≡ (x.byte == c || in_class ms c)) (sym end.marks) (or_nothing (x.byte == c))
 
 pub no_range-plain : (behind after : List ℕ) (y : Mark) → IsMarkFront behind y after → is_dash y ≡ false → IsNoRange behind
-no_range-plain behind after y front dash = λ x c. subst (λ (ms : List Mark). in_class (x ∷ ms) c ≡ (x.byte == c || in_class ms c)) (sym front.marks) (one_of y (class_marks after) dash x c)
+no_range-plain behind after y front dash =
+    λ x c. subst (λ (ms : List Mark). in_class (x ∷ ms) c ≡ (x.byte == c || in_class ms c)) (sym front.marks) (one_of y (class_marks after) dash x c)
 
 pub no_range-last : (behind after : List ℕ) (y : Mark) → IsMarkFront behind y after → IsClassEnd after → IsNoRange behind
 no_range-last behind after y front end = λ x c.
     subst (λ (ms : List Mark). in_class (x ∷ ms) c ≡ (x.byte == c || in_class ms c)) (sym (front.marks ∙ ap (λ (ms : List Mark). y ∷ ms) end.marks)) refl
 
-pub range_read : (behind after rest : List ℕ) (y z : Mark) → IsMarkFront behind y after → is_dash y ≡ true → IsMarkFront after z rest → IsRangeEnd behind z.byte rest
+pub range_read : (behind after rest : List ℕ) (y z : Mark) → IsMarkFront behind y after → is_dash y ≡ true → IsMarkFront after z rest
+    → IsRangeEnd behind z.byte rest
 range_read behind after rest y z front dash last = λ x c.
     ap (λ (ms : List Mark). in_class (x ∷ ms) c) (front.marks ∙ ap (λ (ms : List Mark). y ∷ ms) last.marks) ∙ cond-true (is_dash y) _ _ dash

@@ -39,7 +39,8 @@ any_byte (d ∷ rest) = refl
 pub outside-any : (c : ℕ) (rest : List ℕ) → c ≡ 63 → parts_from Outside (c ∷ rest) ≡ AnyByte ∷ parts_from Outside rest
 outside-any c rest is = ap (λ (b : ℕ). parts_from Outside (b ∷ rest)) is ∙ any_byte rest
 
-pub part_escaped : (behind : List ℕ) → 1 ≤ length behind → parts_from Outside (92 ∷ behind) ≡ Byte (get_or behind 0 0) ∷ parts_from Outside (take (length behind - 1) (drop 1 behind))
+pub part_escaped : (behind : List ℕ) → 1 ≤ length behind
+    → parts_from Outside (92 ∷ behind) ≡ Byte (get_or behind 0 0) ∷ parts_from Outside (take (length behind - 1) (drop 1 behind))
 part_escaped behind h =
     ap (λ (t : List ℕ). parts_from Outside (92 ∷ t)) (first_and_behind behind h)
     ∙ outside-escaped (get_or behind 0 0) (take (length behind - 1) (drop 1 behind))
@@ -54,20 +55,24 @@ part_opening byte behind is = ap (λ (b : ℕ). parts_from Outside (b ∷ behind
 
 -- inside a class, behind some marks
 
-inside-closing : (negated : Bool) (marks : List Mark) (rest : List ℕ) → parts_from (Inside negated marks) (93 ∷ rest) ≡ class_part negated marks ∷ parts_from Outside rest
+inside-closing : (negated : Bool) (marks : List Mark) (rest : List ℕ)
+    → parts_from (Inside negated marks) (93 ∷ rest) ≡ class_part negated marks ∷ parts_from Outside rest
 unfolding parts_from
 inside-closing negated marks [] = refl
 inside-closing negated marks (d ∷ rest) = refl
 
-inside-escaped : (negated : Bool) (marks : List Mark) (d : ℕ) (rest : List ℕ) → parts_from (Inside negated marks) (92 ∷ d ∷ rest) ≡ parts_from (Inside negated (marks ++ escaped d ∷ [])) rest
+inside-escaped : (negated : Bool) (marks : List Mark) (d : ℕ) (rest : List ℕ)
+    → parts_from (Inside negated marks) (92 ∷ d ∷ rest) ≡ parts_from (Inside negated (marks ++ escaped d ∷ [])) rest
 unfolding parts_from
 inside-escaped negated marks d rest = refl
 
-inside-ending : (negated : Bool) (marks : List Mark) (c : ℕ) → c ≢ 93 → parts_from (Inside negated marks) (c ∷ []) ≡ parts_from (Inside negated (marks ++ plain c ∷ [])) []
+inside-ending : (negated : Bool) (marks : List Mark) (c : ℕ) → c ≢ 93
+    → parts_from (Inside negated marks) (c ∷ []) ≡ parts_from (Inside negated (marks ++ plain c ∷ [])) []
 unfolding parts_from
 inside-ending negated marks c ne = rw (ne_eqb c 93 ne) refl
 
-inside-other : (negated : Bool) (marks : List Mark) (c d : ℕ) (rest : List ℕ) → c ≢ 93 → c ≢ 92 → parts_from (Inside negated marks) (c ∷ d ∷ rest) ≡ parts_from (Inside negated (marks ++ plain c ∷ [])) (d ∷ rest)
+inside-other : (negated : Bool) (marks : List Mark) (c d : ℕ) (rest : List ℕ) → c ≢ 93 → c ≢ 92
+    → parts_from (Inside negated marks) (c ∷ d ∷ rest) ≡ parts_from (Inside negated (marks ++ plain c ∷ [])) (d ∷ rest)
 unfolding parts_from
 inside-other negated marks c d rest closing escape = rw (ne_eqb c 93 closing, ne_eqb c 92 escape, parts_from) refl
 
@@ -123,7 +128,8 @@ class_read negated marks (c ∷ d ∷ rest) =
       | inr other ↦ elim (cases_Bool (c == 92)) [
         | inl escape ↦
             subst (λ (n : ℕ). IsRead negated marks (n ∷ d ∷ rest)) (sym (eqb-true c 92 escape))
-            (read_on negated marks (92 ∷ d ∷ rest) rest (escaped d) (inside-escaped negated marks d rest) (escaped_front d rest) (class_read negated (marks ++ escaped d ∷ []) rest))
+            (read_on negated marks (92 ∷ d ∷ rest) rest (escaped d) (inside-escaped negated marks d rest) (escaped_front d rest)
+            (class_read negated (marks ++ escaped d ∷ []) rest))
         | inr unescaped ↦
             read_on negated marks (c ∷ d ∷ rest) (d ∷ rest) (plain c) (inside-other negated marks c d rest (eqb-false c 93 other) (eqb-false c 92 unescaped))
             (mark_plain c (d ∷ rest) (eqb-false c 93 other) (inr (eqb-false c 92 unescaped))) (class_read negated (marks ++ plain c ∷ []) (d ∷ rest))

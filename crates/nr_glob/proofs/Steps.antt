@@ -14,7 +14,8 @@ at_nothing (singles.Byte b) others = refl
 at_nothing (singles.Class class) others = refl
 at_nothing (singles.NotClass class) others = refl
 
-at_byte : (single : Single) (others : List Part) (c : ℕ) (cs : List ℕ) → parts_match (single_seen single ∷ others) (c ∷ cs) ≡ (takes (single_seen single) c && parts_match others cs)
+at_byte : (single : Single) (others : List Part) (c : ℕ) (cs : List ℕ)
+    → parts_match (single_seen single ∷ others) (c ∷ cs) ≡ (takes (single_seen single) c && parts_match others cs)
 at_byte singles.AnyByte others c cs = refl
 at_byte (singles.Byte b) others c cs = refl
 at_byte (singles.Class class) others c cs = refl
@@ -36,6 +37,7 @@ byte_taken single c cs taken = record {
       (λ d ds h. (and_parts (takes (single_seen single) d) (parts_match others ds) (sym (at_byte single others d ds) ∙ h)).1) c cs;
 }
 
-pub this_byte : (single : Single) (text : List ℕ) → 1 ≤ length text → takes (single_seen single) (get_or text 0 0) ≡ true → IsStep (single_seen single) text (take (length text - 1) (drop 1 text))
+pub this_byte : (single : Single) (text : List ℕ) → 1 ≤ length text → takes (single_seen single) (get_or text 0 0) ≡ true
+    → IsStep (single_seen single) text (take (length text - 1) (drop 1 text))
 this_byte single [] h taken = absurd (omega arith)
 this_byte single (c ∷ cs) h taken = subst (λ (t : List ℕ). IsStep (single_seen single) (c ∷ cs) t) (sym (behind_is c cs)) (byte_taken single c cs taken)

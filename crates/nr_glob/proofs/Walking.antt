@@ -16,7 +16,8 @@ pub walked_none : (pattern_text text : List ℕ) → IsWalked pattern_text text 
 walked_none pattern_text text = record { here = refl; later = λ h. h }
 
 -- the first part of what is left, and the others
-parted : (rest after : List ℕ) (part : Part) → 1 ≤ length rest → IsPartFront Outside (get_or rest 0 0 ∷ take (length rest - 1) (drop 1 rest)) part after → parts_from Outside rest ≡ part ∷ parts_from Outside after
+parted : (rest after : List ℕ) (part : Part) → 1 ≤ length rest → IsPartFront Outside (get_or rest 0 0 ∷ take (length rest - 1) (drop 1 rest)) part after
+    → parts_from Outside rest ≡ part ∷ parts_from Outside after
 parted rest after part h front = ap (parts_from Outside) (first_and_behind rest h) ∙ front
 
 pub walked_on : (pattern_text text rest left after later : List ℕ) (part : Part)
@@ -60,13 +61,15 @@ walked_to_star pattern_text text rest left walked h is =
           (λ m. some_here (is_match pattern_text) text (here ∙ m));
     }
 
-pub walked_whole : (pattern_text text rest left : List ℕ) → IsWalked pattern_text text rest left → length rest < 1 → length left < 1 → is_match pattern_text text ≡ true
+pub walked_whole : (pattern_text text rest left : List ℕ) → IsWalked pattern_text text rest left → length rest < 1 → length left < 1
+    → is_match pattern_text text ≡ true
 unfolding parts_from
 walked_whole pattern_text text [] [] walked h none = walked.here
 walked_whole pattern_text text [] (c ∷ cs) walked h none = absurd (omega arith)
 walked_whole pattern_text text (b ∷ bs) left walked h none = absurd (omega arith)
 
-pub walked_less : (pattern_text text rest left : List ℕ) → IsWalked pattern_text text rest left → length rest < 1 → 1 ≤ length left → is_match pattern_text text ≡ false
+pub walked_less : (pattern_text text rest left : List ℕ) → IsWalked pattern_text text rest left → length rest < 1 → 1 ≤ length left
+    → is_match pattern_text text ≡ false
 unfolding parts_from
 walked_less pattern_text text [] [] walked h some = absurd (omega arith)
 walked_less pattern_text text [] (c ∷ cs) walked h some = walked.here

@@ -1,4 +1,4 @@
-//! Glob-style patterns, matched in no memory.
+//! Glob-style patterns, read where they stand and matched in no memory. No command asks for them yet.
 #![tactic(auto)]
 
 mod classes;

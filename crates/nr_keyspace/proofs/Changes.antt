@@ -7,7 +7,7 @@ use Rattle.std.specs.FinSet as set
 use Rattle.nr_model.specs.Bytes.{Bytes}
 use Rattle.nr_model.specs.Keyspace.{Stored, is_live_at, only_live}
 use Rattle.nr_keyspace.specs.Deadlines.{due_cmp, without_deadline, IsReplaced}
-use Rattle.nr_keyspace.specs.Stores.{Store, IsIndexed, redated, bytes_of, store_of, stored_of, deadline_of}
+use Rattle.nr_keyspace.specs.Stores.{IsIndexed, redated, bytes_of, store_of, stored_of, deadline_of}
 use Rattle.nr_keyspace.specs.Values.{value_of}
 use Rattle.nr_keyspace.specs.declared.value.Value.{Value}
 use Rattle.nr_keyspace.specs.declared.database.Entry.{Entry}
@@ -20,23 +20,33 @@ Entries = List (Vec ℕ Global × Entry)
 abbrev pub IsReordered : Entries → Entries → Type 0
 IsReordered old new = (k : Vec ℕ Global) → lookup (same_name bytes_of k) new ≡ lookup (same_name bytes_of k) old
 
-pub put_store : (old room new : Entries) (name : Bytes) (entry : Entry) → IsReordered old room → lookup (is_name bytes_of name) new ≡ Some entry → KeepsOthers (same_name bytes_of) (is_name bytes_of name) room new
+pub put_store : (old room new : Entries) (name : Bytes) (entry : Entry) → IsReordered old room → lookup (is_name bytes_of name) new ≡ Some entry
+    → KeepsOthers (same_name bytes_of) (is_name bytes_of name) room new
     → store_of bytes_of new ≡ map.insert (store_of bytes_of old) name (stored_of entry)
-put_store old room new name entry same at_name others = inserted bytes_of room new name entry at_name others ∙ ap (λ m. map.insert m name (stored_of entry)) (reordered bytes_of old room same)
+put_store old room new name entry same at_name others =
+    inserted bytes_of room new name entry at_name others ∙ ap (λ m. map.insert m name (stored_of entry)) (reordered bytes_of old room same)
 
-pub put_indexed : (old room new : Entries) (dues after : set.FinSet due_cmp) (name : Bytes) (entry : Entry) → IsIndexed (store_of bytes_of old) dues → IsReordered old room → lookup (is_name bytes_of name) new ≡ Some entry → KeepsOthers (same_name bytes_of) (is_name bytes_of name) room new
+pub put_indexed : (old room new : Entries) (dues after : set.FinSet due_cmp) (name : Bytes) (entry : Entry) → IsIndexed (store_of bytes_of old) dues
+    → IsReordered old room → lookup (is_name bytes_of name) new ≡ Some entry → KeepsOthers (same_name bytes_of) (is_name bytes_of name) room new
     → IsReplaced dues after entry.deadline name → IsIndexed (store_of bytes_of new) after
 put_indexed old room new dues after name entry was same at_name others replaced =
-    subst (λ store. IsIndexed store after) (sym (put_store old room new name entry same at_name others)) (insert_indexed (store_of bytes_of old) dues after name (stored_of entry) was replaced)
+    subst (λ store. IsIndexed store after) (sym (put_store old room new name entry same at_name others))
+    (insert_indexed (store_of bytes_of old) dues after name (stored_of entry) was replaced)
 
-pub refused_indexed : (old room : Entries) (dues after : set.FinSet due_cmp) → IsIndexed (store_of bytes_of old) dues → IsReordered old room → after ≡ dues → IsIndexed (store_of bytes_of room) after
-refused_indexed old room dues after was same kept = subst (λ store. IsIndexed store after) (sym (reordered bytes_of old room same)) (subst (IsIndexed (store_of bytes_of old)) (sym kept) was)
+pub refused_indexed : (old room : Entries) (dues after : set.FinSet due_cmp) → IsIndexed (store_of bytes_of old) dues → IsReordered old room → after ≡ dues
+    → IsIndexed (store_of bytes_of room) after
+refused_indexed old room dues after was same kept =
+    subst (λ store. IsIndexed store after) (sym (reordered bytes_of old room same)) (subst (IsIndexed (store_of bytes_of old)) (sym kept) was)
 
-pub removed_indexed : (old new : Entries) (dues fewer : set.FinSet due_cmp) (name kept_name : Bytes) (entry : Entry) → IsIndexed (store_of bytes_of old) dues → Some entry ≡ lookup (is_name bytes_of name) old → name ≡ kept_name
-    → lookup (is_name bytes_of name) new ≡ None → KeepsOthers (same_name bytes_of) (is_name bytes_of name) old new → fewer ≡ without_deadline dues entry.deadline kept_name → IsIndexed (store_of bytes_of new) fewer
+pub removed_indexed : (old new : Entries) (dues fewer : set.FinSet due_cmp) (name kept_name : Bytes) (entry : Entry) → IsIndexed (store_of bytes_of old) dues
+    → Some entry ≡ lookup (is_name bytes_of name) old → name ≡ kept_name
+    → lookup (is_name bytes_of name) new ≡ None → KeepsOthers (same_name bytes_of) (is_name bytes_of name) old new
+    → fewer ≡ without_deadline dues entry.deadline kept_name → IsIndexed (store_of bytes_of new) fewer
 removed_indexed old new dues fewer name kept_name entry was found named at_name others taken =
-    let deadline : deadline_of (map.get (store_of bytes_of old) name) ≡ entry.deadline = ap deadline_of (get-store bytes_of old name ∙ ap (option_map stored_of) (sym found)) in
-    let same : without_deadline dues (deadline_of (map.get (store_of bytes_of old) name)) name ≡ fewer = ap (λ d. without_deadline dues d name) deadline ∙ ap (without_deadline dues entry.deadline) named ∙ sym taken in
+    let deadline : deadline_of (map.get (store_of bytes_of old) name) ≡ entry.deadline =
+    ap deadline_of (get-store bytes_of old name ∙ ap (option_map stored_of) (sym found)) in
+    let same : without_deadline dues (deadline_of (map.get (store_of bytes_of old) name)) name ≡ fewer =
+    ap (λ d. without_deadline dues d name) deadline ∙ ap (without_deadline dues entry.deadline) named ∙ sym taken in
     subst (λ store. IsIndexed store fewer) (sym (removed bytes_of old new name at_name others))
     (subst (IsIndexed (map.remove (store_of bytes_of old) name)) same (remove_indexed (store_of bytes_of old) dues name was))
 
@@ -49,7 +59,8 @@ shown_if true found some = refl
 shown_if false found some = absurd (true≢false (sym some))
 
 -- what is live and stored is what is stored
-pub shown : {A : Type 0} (now : ℕ) (stored : Option Stored) (found : Stored) (f : A → Stored) (seen : Option A) → stored ≡ Some found → option_map f seen ≡ only_live now stored → is_some seen ≡ true → only_live now stored ≡ Some found
+pub shown : {A : Type 0} (now : ℕ) (stored : Option Stored) (found : Stored) (f : A → Stored) (seen : Option A) → stored ≡ Some found
+    → option_map f seen ≡ only_live now stored → is_some seen ≡ true → only_live now stored ≡ Some found
 shown now stored found f seen at is some =
     let live : is_some (only_live now (Some found)) ≡ true = ap (λ o. is_some (only_live now o)) (sym at) ∙ ap is_some (sym is) ∙ is_some-map f seen ∙ some in
     ap (only_live now) at ∙ shown_if (is_live_at now found.deadline) found live
@@ -68,18 +79,25 @@ some_then (Some x) holds then = then holds
 some_then None holds then = tt
 
 -- the entry at a name with another deadline is what is stored there with another deadline
-pub redated_entries : (old new : Entries) (name : Bytes) (found written : Entry) → Some found ≡ lookup (is_name bytes_of name) old → lookup (is_name bytes_of name) new ≡ Some written → KeepsOthers (same_name bytes_of) (is_name bytes_of name) old new
+pub redated_entries : (old new : Entries) (name : Bytes) (found written : Entry) → Some found ≡ lookup (is_name bytes_of name) old
+    → lookup (is_name bytes_of name) new ≡ Some written → KeepsOthers (same_name bytes_of) (is_name bytes_of name) old new
     → written.value ≡ found.value → store_of bytes_of new ≡ redated (store_of bytes_of old) name (map.get (store_of bytes_of old) name) written.deadline
 redated_entries old new name found written is at_name others same =
     inserted bytes_of old new name written at_name others
     ∙ ap (λ (v : Value). let s : Stored = record { value = value_of v; deadline = written.deadline } in map.insert (store_of bytes_of old) name s) same
-    ∙ sym (ap (λ (o : Option Stored). redated (store_of bytes_of old) name o written.deadline) (get-store bytes_of old name ∙ ap (option_map stored_of) (sym is)))
+    ∙ sym (ap (λ (o : Option Stored). redated (store_of bytes_of old) name o written.deadline)
+    (get-store bytes_of old name ∙ ap (option_map stored_of) (sym is)))
 
-pub redated_none : (old : Entries) (name : Bytes) (deadline : Option ℤ) → None ≡ lookup (is_name bytes_of name) old → store_of bytes_of old ≡ redated (store_of bytes_of old) name (map.get (store_of bytes_of old) name) deadline
-redated_none old name deadline is = sym (ap (λ (o : Option Stored). redated (store_of bytes_of old) name o deadline) (get-store bytes_of old name ∙ ap (option_map stored_of) (sym is)))
+pub redated_none : (old : Entries) (name : Bytes) (deadline : Option ℤ) → None ≡ lookup (is_name bytes_of name) old
+    → store_of bytes_of old ≡ redated (store_of bytes_of old) name (map.get (store_of bytes_of old) name) deadline
+redated_none old name deadline is = sym
+    (ap (λ (o : Option Stored). redated (store_of bytes_of old) name o deadline) (get-store bytes_of old name ∙ ap (option_map stored_of) (sym is)))
 
-pub redated_indexed : (old new : Entries) (dues after : set.FinSet due_cmp) (name : Bytes) (stored : Stored) (deadline : Option ℤ) → IsIndexed (store_of bytes_of old) dues → map.get (store_of bytes_of old) name ≡ Some stored
-    → store_of bytes_of new ≡ redated (store_of bytes_of old) name (map.get (store_of bytes_of old) name) deadline → IsReplaced dues after deadline name → IsIndexed (store_of bytes_of new) after
+pub redated_indexed : (old new : Entries) (dues after : set.FinSet due_cmp) (name : Bytes) (stored : Stored) (deadline : Option ℤ)
+    → IsIndexed (store_of bytes_of old) dues → map.get (store_of bytes_of old) name ≡ Some stored
+    → store_of bytes_of new ≡ redated (store_of bytes_of old) name (map.get (store_of bytes_of old) name) deadline → IsReplaced dues after deadline name
+    → IsIndexed (store_of bytes_of new) after
 redated_indexed old new dues after name stored deadline was at is replaced =
     let s : Stored = record { value = stored.value; deadline = deadline } in
-    subst (λ store. IsIndexed store after) (sym (is ∙ ap (λ (o : Option Stored). redated (store_of bytes_of old) name o deadline) at)) (insert_indexed (store_of bytes_of old) dues after name s was replaced)
+    subst (λ store. IsIndexed store after) (sym (is ∙ ap (λ (o : Option Stored). redated (store_of bytes_of old) name o deadline) at))
+    (insert_indexed (store_of bytes_of old) dues after name s was replaced)

@@ -1,5 +1,5 @@
 -- That the ordered deadlines are those of the names stays so.
-use Rattle.std.proofs.Common.{◌≡◌, ◌≤◌, ◌-◌, suc, arith, subst, ℕ, ℤ, pos, Bool, true, false, cond, not, ◌||◌, ◌&&◌, Option, Some, None, refl, ap, sym, ◌∙◌, true≢false}
+use Rattle.std.proofs.Common.{◌≡◌, ◌≤◌, ◌-◌, suc, arith, subst, ℕ, ℤ, pos, Bool, true, false, cond, not, ◌&&◌, Option, Some, None, refl, ap, sym, ◌∙◌, true≢false}
 use Rattle.std.specs.Prelude.{int_lt}
 use Rattle.std.specs.Ordering.{is_eq, eq_by_cmp, int_cmp}
 use Rattle.std.specs.Cmp.{Equal-is, tied_itself, int_cmp_total}
@@ -18,13 +18,19 @@ named : (q name : Bytes) → eq_by_cmp byte_cmp q name ≡ true → q ≡ name
 named q name here = exact_bytes q name ((Equal-is (byte_cmp q name)).0 here)
 
 pub empty_indexed : IsIndexed map.empty set.empty
-empty_indexed = record { exact = λ deadline name. set.contains-empty due_cmp (deadline, name) ∙ ap (λ found. has_deadline deadline (deadline_of found)) (sym (map.get-empty byte_cmp name)) }
+empty_indexed = record {
+  exact = λ deadline name. set.contains-empty due_cmp (deadline, name)
+      ∙ ap (λ found. has_deadline deadline (deadline_of found)) (sym (map.get-empty byte_cmp name));
+}
 
-pub insert_indexed : (store : Store) (old new : set.FinSet due_cmp) (name : Bytes) (stored : Stored) → IsIndexed store old → IsReplaced old new stored.deadline name → IsIndexed (map.insert store name stored) new
+pub insert_indexed : (store : Store) (old new : set.FinSet due_cmp) (name : Bytes) (stored : Stored) → IsIndexed store old
+    → IsReplaced old new stored.deadline name → IsIndexed (map.insert store name stored) new
 insert_indexed store old new name stored was replaced = record {
   exact = λ deadline q.
       replaced.found deadline q
-      ∙ elim (eq_by_cmp byte_cmp q name) as (λ t. cond t (has_deadline deadline stored.deadline) (set.contains old (deadline, q)) ≡ has_deadline deadline (deadline_of (cond t (Some stored) (map.get store q)))) [
+      ∙ elim (eq_by_cmp byte_cmp q name) as
+      (λ t. cond t (has_deadline deadline stored.deadline) (set.contains old (deadline, q))
+      ≡ has_deadline deadline (deadline_of (cond t (Some stored) (map.get store q)))) [
         | true ↦ refl
         | false ↦ was.exact deadline q
       ]
@@ -41,14 +47,17 @@ gone true false found has is _ = is refl
 gone false true found has _ is = is refl
 gone false false found has _ is = is refl
 
-pub remove_indexed : (store : Store) (dues : set.FinSet due_cmp) (name : Bytes) → IsIndexed store dues → IsIndexed (map.remove store name) (without_deadline dues (deadline_of (map.get store name)) name)
+pub remove_indexed : (store : Store) (dues : set.FinSet due_cmp) (name : Bytes) → IsIndexed store dues
+    → IsIndexed (map.remove store name) (without_deadline dues (deadline_of (map.get store name)) name)
 remove_indexed store dues name was = record {
   exact = λ deadline q.
       contains-without dues (deadline_of (map.get store name)) name deadline q
-      ∙ gone (eq_by_cmp byte_cmp q name) (has_deadline deadline (deadline_of (map.get store name))) (set.contains dues (deadline, q)) (has_deadline deadline (deadline_of (map.get store q)))
+      ∙ gone (eq_by_cmp byte_cmp q name) (has_deadline deadline (deadline_of (map.get store name))) (set.contains dues (deadline, q))
+      (has_deadline deadline (deadline_of (map.get store q)))
       (λ here. was.exact deadline q ∙ ap (λ n. has_deadline deadline (deadline_of (map.get store n))) (named q name here))
       (λ _. was.exact deadline q)
-      ∙ elim (eq_by_cmp byte_cmp q name) as (λ t. cond t false (has_deadline deadline (deadline_of (map.get store q))) ≡ has_deadline deadline (deadline_of (cond t None (map.get store q)))) [
+      ∙ elim (eq_by_cmp byte_cmp q name) as
+      (λ t. cond t false (has_deadline deadline (deadline_of (map.get store q))) ≡ has_deadline deadline (deadline_of (cond t None (map.get store q)))) [
         | true ↦ refl
         | false ↦ refl
       ]
@@ -63,7 +72,8 @@ had_deadline deadline (Some stored) has =
       | Some other ↦ λ same. ap Some (sym (exact_signed deadline other ((Equal-is (int_cmp deadline other)).0 same)))
     ] has
 
-live_by : (now : ℕ) (stored : Option Stored) (deadline : ℤ) → deadline_of stored ≡ Some deadline → only_live now stored ≡ cond (int_lt (pos now) deadline) stored None
+live_by : (now : ℕ) (stored : Option Stored) (deadline : ℤ) → deadline_of stored ≡ Some deadline
+    → only_live now stored ≡ cond (int_lt (pos now) deadline) stored None
 live_by now None deadline has = absurd (let no : ◌≡◌ {A = Option ℤ} None (Some deadline) = has in cc no)
 live_by now (Some stored) deadline has = ap (λ d. cond (is_live_at now d) (Some stored) None) has
 
@@ -77,21 +87,25 @@ pub sweep_step : (now : ℕ) (store : Store) (dues fewer : set.FinSet due_cmp) (
     → IsStep now store dues name fewer
 sweep_step now store dues fewer name was popped =
     let at : deadline_of (map.get store name) ≡ Some popped.0 = had_deadline popped.0 (map.get store name) (sym (was.exact popped.0 name) ∙ popped.2) in
-    let expired : only_live now (map.get store name) ≡ None = live_by now (map.get store name) popped.0 at ∙ ap (λ b. cond b (map.get store name) None) popped.1 in
+    let expired : only_live now (map.get store name) ≡ None =
+    live_by now (map.get store name) popped.0 at ∙ ap (λ b. cond b (map.get store name) None) popped.1 in
     record {
       indexed = subst (IsIndexed (map.remove store name)) (ap (λ d. without_deadline dues d name) at ∙ sym popped.3) (remove_indexed store dues name was);
       same_live = λ q.
           ap (only_live now) (map.get-remove nat_list_cmp_total store name q)
-          ∙ elim (eq_by_cmp byte_cmp q name) as (λ t. eq_by_cmp byte_cmp q name ≡ t → only_live now (cond t None (map.get store q)) ≡ only_live now (map.get store q)) [
+          ∙ elim (eq_by_cmp byte_cmp q name) as
+          (λ t. eq_by_cmp byte_cmp q name ≡ t → only_live now (cond t None (map.get store q)) ≡ only_live now (map.get store q)) [
             | true ↦ λ here. sym (ap (λ n. only_live now (map.get store n)) (named q name here) ∙ expired)
             | false ↦ λ _. refl
           ] refl;
     }
 
-pub sweep_shrinks : (dues fewer : set.FinSet due_cmp) (name : Bytes) (now : ℕ) → (deadline : ℤ) × (int_lt (pos now) deadline ≡ false) × (set.contains dues (deadline, name) ≡ true) × (fewer ≡ set.remove dues (deadline, name))
+pub sweep_shrinks : (dues fewer : set.FinSet due_cmp) (name : Bytes) (now : ℕ)
+    → (deadline : ℤ) × (int_lt (pos now) deadline ≡ false) × (set.contains dues (deadline, name) ≡ true) × (fewer ≡ set.remove dues (deadline, name))
     → suc (set.len fewer) ≤ set.len dues
 sweep_shrinks dues fewer name now popped =
-    let one : set.len dues ≡ 0 → ⊥ = λ none. true≢false (sym popped.2 ∙ ap (λ s. set.contains s (popped.0, name)) (set.empty_of_len dues none) ∙ set.contains-empty due_cmp (popped.0, name)) in
+    let one : set.len dues ≡ 0 → ⊥ = λ none. true≢false
+    (sym popped.2 ∙ ap (λ s. set.contains s (popped.0, name)) (set.empty_of_len dues none) ∙ set.contains-empty due_cmp (popped.0, name)) in
     let left : set.len fewer ≡ set.len dues - 1 =
     ap set.len popped.3 ∙ set.len-remove due_total dues (popped.0, name) ∙ ap (λ b. cond b (set.len dues - 1) (set.len dues)) popped.2 in
     omega (arith, one)
@@ -104,7 +118,8 @@ no_deadline now None _ = refl
 no_deadline now (Some stored) at = ap (λ d. cond (is_live_at now d) (Some stored) None) at
 
 -- where each deadline is live, so is each name
-pub all_live : (now : ℕ) (store : Store) (dues : set.FinSet due_cmp) → IsIndexed store dues → ((deadline : ℤ) (name : Bytes) → set.contains dues (deadline, name) ≡ true → int_lt (pos now) deadline ≡ true)
+pub all_live : (now : ℕ) (store : Store) (dues : set.FinSet due_cmp) → IsIndexed store dues
+    → ((deadline : ℤ) (name : Bytes) → set.contains dues (deadline, name) ≡ true → int_lt (pos now) deadline ≡ true)
     → (q : Bytes) → only_live now (map.get store q) ≡ map.get store q
 all_live now store dues was live q =
     elim (deadline_of (map.get store q)) as (λ d. deadline_of (map.get store q) ≡ d → only_live now (map.get store q) ≡ map.get store q) [
@@ -114,5 +129,6 @@ all_live now store dues was live q =
       | None ↦ λ at. no_deadline now (map.get store q) at
     ] refl
 
-pub live_here : (now : ℕ) (stored : Option Stored) (found : Stored) (live : Bool) → stored ≡ Some found → live ≡ is_live_at now found.deadline → only_live now stored ≡ cond live (Some found) None
+pub live_here : (now : ℕ) (stored : Option Stored) (found : Stored) (live : Bool) → stored ≡ Some found → live ≡ is_live_at now found.deadline
+    → only_live now stored ≡ cond live (Some found) None
 live_here now stored found live at is = ap (only_live now) at ∙ ap (λ b. cond b (Some found) None) (sym is)

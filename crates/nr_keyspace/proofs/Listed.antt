@@ -1,5 +1,5 @@
 -- The names that a walk over the entries lists.
-use Rattle.std.proofs.Common.{◌≡◌, ℕ, Vec, Global, Bool, true, false, cond, ◌||◌, Option, Some, None, List, [], ◌∷◌, is_some, refl, ap, sym, ◌∙◌, subst}
+use Rattle.std.proofs.Common.{◌≡◌, ℕ, Vec, Global, Bool, true, false, cond, ◌||◌, Option, Some, None, List, [], ◌∷◌, is_some, refl, ap, sym, ◌∙◌}
 use Rattle.std.specs.List.{IsDistinct}
 use Rattle.std.specs.Map.{keys_of}
 use Rattle.std.specs.Ordering.{eq_by_cmp}
@@ -25,9 +25,11 @@ set_of names = record { keys = names }
 -- the live names that are listed and those that are left are all
 pub record IsListed (now : ℕ) (all : Store) (names : BTreeSet Bytes) (left : Entries) : Type 0 where
   pub distinct : IsDistinct (same_name bytes_of) (keys_of left)
-  pub found : (q : Bytes) → (sorted.contains byte_cmp names q || is_some (only_live now (map.get (store_of bytes_of left) q))) ≡ is_some (only_live now (map.get all q))
+  pub found : (q : Bytes) → (sorted.contains byte_cmp names q || is_some (only_live now (map.get (store_of bytes_of left) q)))
+      ≡ is_some (only_live now (map.get all q))
 
-pub listed_none : (now : ℕ) (all : Store) (names : BTreeSet Bytes) (entries : Entries) → names.keys ≡ [] → store_of bytes_of entries ≡ all → IsDistinct (same_name bytes_of) (keys_of entries) → IsListed now all names entries
+pub listed_none : (now : ℕ) (all : Store) (names : BTreeSet Bytes) (entries : Entries) → names.keys ≡ [] → store_of bytes_of entries ≡ all
+    → IsDistinct (same_name bytes_of) (keys_of entries) → IsListed now all names entries
 listed_none now all names entries empty seen distinct = record {
   distinct = distinct;
   found = λ q.
@@ -44,8 +46,10 @@ or_false true = refl
 or_false false = refl
 
 -- an entry is listed if it is live, and else passed over
-pub listed_more : (now : ℕ) (all : Store) (old new : BTreeSet Bytes) (e : Vec ℕ Global × Entry) (left : Entries) (live : Bool) → IsListed now all old (e ∷ left) → live ≡ is_live_at now e.1.deadline
-    → ((q : Bytes) → sorted.contains byte_cmp new q ≡ cond live (cond (eq_by_cmp byte_cmp q (bytes_of e.0)) true (sorted.contains byte_cmp old q)) (sorted.contains byte_cmp old q))
+pub listed_more : (now : ℕ) (all : Store) (old new : BTreeSet Bytes) (e : Vec ℕ Global × Entry) (left : Entries) (live : Bool)
+    → IsListed now all old (e ∷ left) → live ≡ is_live_at now e.1.deadline
+    → ((q : Bytes) → sorted.contains byte_cmp new q
+    ≡ cond live (cond (eq_by_cmp byte_cmp q (bytes_of e.0)) true (sorted.contains byte_cmp old q)) (sorted.contains byte_cmp old q))
     → IsListed now all new left
 listed_more now all old new e left live so_far is change = record {
   distinct = IsDistinct-tail (same_name bytes_of) e.0 (keys_of left) so_far.distinct;
@@ -54,19 +58,24 @@ listed_more now all old new e left live so_far is change = record {
       let before = sorted.contains byte_cmp old q in
       ap (λ b. b || is_some rest) (change q)
       ∙ elim (eq_by_cmp byte_cmp q (bytes_of e.0)) as (λ t. eq_by_cmp byte_cmp q (bytes_of e.0) ≡ t
-      → (cond live (cond t true before) before || is_some rest) ≡ (before || is_some (only_live now (cond t (Some (stored_of e.1)) (map.get (store_of bytes_of left) q))))) [
+      → (cond live (cond t true before) before || is_some rest)
+      ≡ (before || is_some (only_live now (cond t (Some (stored_of e.1)) (map.get (store_of bytes_of left) q))))) [
         | true ↦ λ here.
-            let none : rest ≡ None = ap (only_live now) (only_once e left so_far.distinct q ((bytes_decides q (bytes_of e.0)).0 (texts_ties q (bytes_of e.0) ∙ here))) in
+            let none : rest ≡ None = ap (only_live now)
+            (only_once e left so_far.distinct q ((bytes_decides q (bytes_of e.0)).0 (texts_ties q (bytes_of e.0) ∙ here))) in
             ap (λ (o : Option Stored). cond live true before || is_some o) none
-            ∙ elim live as (λ b. (cond b true before || false) ≡ (before || is_some (cond b (Some (stored_of e.1)) None))) [ true ↦ sym (or_true before) | false ↦ refl ]
+            ∙ elim live as (λ b. (cond b true before || false)
+            ≡ (before || is_some (cond b (Some (stored_of e.1)) None))) [ true ↦ sym (or_true before) | false ↦ refl ]
             ∙ ap (λ b. before || is_some (cond b (Some (stored_of e.1)) None)) is
         | false ↦ λ _. elim live as (λ b. (cond b before before || is_some rest) ≡ (before || is_some rest)) [ true ↦ refl | false ↦ refl ]
       ] refl
-      ∙ ap (λ (o : Option Stored). before || is_some (only_live now o)) (sym (map.get-insert nat_list_cmp_total (store_of bytes_of left) (bytes_of e.0) (stored_of e.1) q))
+      ∙ ap (λ (o : Option Stored). before || is_some (only_live now o))
+      (sym (map.get-insert nat_list_cmp_total (store_of bytes_of left) (bytes_of e.0) (stored_of e.1) q))
       ∙ so_far.found q;
 }
 
-pub listed_all : (now : ℕ) (all : Store) (names : BTreeSet Bytes) → IsListed now all names [] → sorted.IsOrdered byte_cmp names → names.keys ≡ map.keys (live_store all now)
+pub listed_all : (now : ℕ) (all : Store) (names : BTreeSet Bytes) → IsListed now all names [] → sorted.IsOrdered byte_cmp names
+    → names.keys ≡ map.keys (live_store all now)
 listed_all now all names whole ordered =
     btree_set_from_contains nat_list_cmp_total names (set_of (map.keys (live_store all now))) ordered (keys_rise (live_store all now))
     (λ q.

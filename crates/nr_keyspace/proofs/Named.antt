@@ -1,15 +1,15 @@
 -- What a change of the entries is on the finite map that they make.
-use Rattle.std.proofs.Common.{◌≡◌, Bool, true, false, cond, Option, Some, None, List, [], ◌∷◌, refl, ap, sym, ◌∙◌, true≢false}
+use Rattle.std.proofs.Common.{◌≡◌, Bool, true, false, cond, Option, Some, None, List, [], ◌∷◌, refl, ap, sym, ◌∙◌}
 use Rattle.std.specs.Option.{option_map}
 use Rattle.std.specs.Str.{bytes_eq}
-use Rattle.std.specs.Ordering.{is_eq, eq_by_cmp}
+use Rattle.std.specs.Ordering.{eq_by_cmp}
 use Rattle.std.specs.Cmp.Lexicographic.{nat_list_cmp_total, nat_list_eq_equiv, texts_ties, bytes_decides}
 use Rattle.std.specs.Map.{lookup, KeepsOthers}
 use Rattle.std.specs.FinMap as map
 use Rattle.std.proofs.lemmas.Map.Lookups.{exact_bytes}
 use Rattle.std.proofs.lemmas.Map.Entries.{place_from_lookup}
 use Rattle.nr_model.specs.Bytes.{Bytes}
-use Rattle.nr_model.specs.Keyspace.{byte_cmp, Stored}
+use Rattle.nr_model.specs.Keyspace.{byte_cmp}
 use Rattle.nr_keyspace.specs.Stores.{Store, stored_of, stored_entries, store_of}
 use Rattle.nr_keyspace.specs.declared.database.Entry.{Entry}
 
@@ -29,7 +29,8 @@ module _ {Name : Type 0} (bytes : Name → Bytes) where
   abbrev pub same_name : Name → Name → Bool
   same_name a b = bytes_eq (bytes a) (bytes b)
 
-  find-stored : (q : Bytes) (entries : List (Name × Entry)) → map.find byte_cmp q (stored_entries bytes entries) ≡ option_map stored_of (lookup (is_name q) entries)
+  find-stored : (q : Bytes) (entries : List (Name × Entry))
+      → map.find byte_cmp q (stored_entries bytes entries) ≡ option_map stored_of (lookup (is_name q) entries)
   find-stored q [] = refl
   find-stored q (e ∷ entries) =
       ap (λ b. cond b (Some (stored_of e.1)) (map.find byte_cmp q (stored_entries bytes entries))) (sym (texts_ties q (bytes e.0)))
@@ -39,7 +40,8 @@ module _ {Name : Type 0} (bytes : Name → Bytes) where
   pub get-store : (entries : List (Name × Entry)) (q : Bytes) → map.get (store_of bytes entries) q ≡ option_map stored_of (lookup (is_name q) entries)
   get-store entries q = map.get-from_entries nat_list_cmp_total (stored_entries bytes entries) q ∙ find-stored q entries
 
-  pub get-found : (entries : List (Name × Entry)) (store : Store) (name : Bytes) (found : Option Entry) → store_of bytes entries ≡ store → found ≡ lookup (is_name name) entries → map.get store name ≡ option_map stored_of found
+  pub get-found : (entries : List (Name × Entry)) (store : Store) (name : Bytes) (found : Option Entry) → store_of bytes entries ≡ store
+      → found ≡ lookup (is_name name) entries → map.get store name ≡ option_map stored_of found
   get-found entries store name found seen is = ap (λ m. map.get m name) (sym seen) ∙ get-store entries name ∙ ap (option_map stored_of) (sym is)
 
   -- after a change at one name, any other is found as before
@@ -58,7 +60,8 @@ module _ {Name : Type 0} (bytes : Name → Bytes) where
       ∙ ap (λ b. cond b (option_map stored_of w) (option_map stored_of (lookup (is_name q) old))) (texts_ties q name)
       ∙ ap (cond (eq_by_cmp byte_cmp q name) (option_map stored_of w)) (sym (get-store old q))
 
-  pub inserted : (old new : List (Name × Entry)) (name : Bytes) (entry : Entry) → lookup (is_name name) new ≡ Some entry → KeepsOthers same_name (is_name name) old new
+  pub inserted : (old new : List (Name × Entry)) (name : Bytes) (entry : Entry) → lookup (is_name name) new ≡ Some entry
+      → KeepsOthers same_name (is_name name) old new
       → store_of bytes new ≡ map.insert (store_of bytes old) name (stored_of entry)
   inserted old new name entry at_name others = map.same_map nat_list_cmp_total exact_bytes _ _ (λ q.
       changed old new name (Some entry) at_name others q ∙ sym (map.get-insert nat_list_cmp_total (store_of bytes old) name (stored_of entry) q))
@@ -68,7 +71,8 @@ module _ {Name : Type 0} (bytes : Name → Bytes) where
   removed old new name at_name others = map.same_map nat_list_cmp_total exact_bytes _ _ (λ q.
       changed old new name None at_name others q ∙ sym (map.get-remove nat_list_cmp_total (store_of bytes old) name q))
 
-  found_at : (entries fewer : List (Name × Entry)) → ((k : Name) → lookup (same_name k) fewer ≡ lookup (same_name k) entries) → (q : Bytes) (entry : Entry) → lookup (is_name q) entries ≡ Some entry → lookup (is_name q) fewer ≡ lookup (is_name q) entries
+  found_at : (entries fewer : List (Name × Entry)) → ((k : Name) → lookup (same_name k) fewer ≡ lookup (same_name k) entries) → (q : Bytes) (entry : Entry)
+      → lookup (is_name q) entries ≡ Some entry → lookup (is_name q) fewer ≡ lookup (is_name q) entries
   found_at entries fewer same q entry found =
       let at = place_from_lookup (is_name q) entries entry found in
       let named : q ≡ bytes at.1 = (bytes_decides q (bytes at.1)).0 at.3 in

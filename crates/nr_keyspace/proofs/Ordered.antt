@@ -1,5 +1,5 @@
 -- What a change of the ordered deadlines is on the finite set that they make.
-use Rattle.std.proofs.Common.{◌≡◌, ℕ, ◌<◌, length, ℤ, pos, Bool, true, false, cond, not, ◌||◌, ◌&&◌, List, [], ◌∷◌, map, refl, ap, sym, ◌∙◌, subst, true≢false, arith}
+use Rattle.std.proofs.Common.{◌≡◌, ℕ, ◌<◌, length, ℤ, pos, Bool, true, false, cond, not, ◌||◌, ◌&&◌, List, [], ◌∷◌, refl, ap, sym, ◌∙◌, true≢false, arith}
 use Rattle.std.specs.declared.cmp.Ordering.{Ordering}
 use Rattle.std.specs.declared.cmp.Ordering.TheVariants.{Less, Equal, Greater}
 use Rattle.std.specs.Ordering.{is_eq, is_gt, eq_by_cmp, int_cmp, ordering_then}
@@ -84,31 +84,40 @@ not_greater Greater s h = h
 later_too : (now : ℕ) (first later : ℤ) → int_lt (pos now) first ≡ true → is_gt (int_cmp first later) ≡ false → int_lt (pos now) later ≡ true
 later_too now first later before h = grind (arith, ints)
 
-pub still_live : {Name : Type 0} (bytes : Name → Bytes) (now : ℕ) (first : ℤ × Name) (keys : List (ℤ × Name)) → AllByRecursion (λ k. is_gt (due_cmp (due bytes first) (due bytes k)) ≡ false) keys → int_lt (pos now) first.0 ≡ true
+pub still_live : {Name : Type 0} (bytes : Name → Bytes) (now : ℕ) (first : ℤ × Name) (keys : List (ℤ × Name))
+    → AllByRecursion (λ k. is_gt (due_cmp (due bytes first) (due bytes k)) ≡ false) keys → int_lt (pos now) first.0 ≡ true
     → (deadline : ℤ) (name : Bytes) → set.contains (set.from_list {R = due_cmp} (dues_of bytes keys)) (deadline, name) ≡ true → int_lt (pos now) deadline ≡ true
 still_live bytes now first keys all before deadline name found =
     later_too now first.0 deadline before
-    (not_greater _ (byte_cmp (bytes first.1) name) (earliest bytes (due bytes first) keys all (deadline, name) (sym (contains-dues bytes keys (deadline, name)) ∙ found)))
+    (not_greater _ (byte_cmp (bytes first.1) name)
+    (earliest bytes (due bytes first) keys all (deadline, name) (sym (contains-dues bytes keys (deadline, name)) ∙ found)))
 
 -- where nothing is stored, nothing is found
-pub none_found : {Name : Type 0} (bytes : Name → Bytes) (keys : List (ℤ × Name)) → (0 < length keys → ⊥) → {P : Type 0} (q : Due) → set.contains (set.from_list {R = due_cmp} (dues_of bytes keys)) q ≡ true → P
+pub none_found : {Name : Type 0} (bytes : Name → Bytes) (keys : List (ℤ × Name)) → (0 < length keys → ⊥) → {P : Type 0} (q : Due)
+    → set.contains (set.from_list {R = due_cmp} (dues_of bytes keys)) q ≡ true → P
 none_found bytes [] none q found = absurd (true≢false (sym (sym (contains-dues bytes [] q) ∙ found)))
 none_found bytes (k ∷ keys) none q found = absurd (none (omega arith))
 
 -- the first is found
-pub first_found : {Name : Type 0} (bytes : Name → Bytes) (k : ℤ × Name) (keys : List (ℤ × Name)) → set.contains (set.from_list {R = due_cmp} (dues_of bytes (k ∷ keys))) (due bytes k) ≡ true
-first_found bytes k keys = contains-dues bytes (k ∷ keys) (due bytes k) ∙ ap (λ b. is_eq b || list_any (is_due bytes (due bytes k)) keys) (tied_itself due_total (due bytes k))
+pub first_found : {Name : Type 0} (bytes : Name → Bytes) (k : ℤ × Name) (keys : List (ℤ × Name))
+    → set.contains (set.from_list {R = due_cmp} (dues_of bytes (k ∷ keys))) (due bytes k) ≡ true
+first_found bytes k keys = contains-dues bytes (k ∷ keys) (due bytes k)
+    ∙ ap (λ b. is_eq b || list_any (is_due bytes (due bytes k)) keys) (tied_itself due_total (due bytes k))
 
 same_first : {A : Type 0} (first popped : A) (all rest : List A) → slice_get all 0 ≡ Some first → all ≡ popped ∷ rest → first ≡ popped
 same_first {A} first popped all rest at_first parts = let e : Some popped ≡ Some first = sym (ap (λ (xs : List A). slice_get xs 0) parts) ∙ at_first in cc
 
 -- the first, taken out, was found at its deadline, and is gone
-pub popped_was : {Name : Type 0} (bytes : Name → Bytes) (now : ℕ) (first popped : ℤ × Name) (all rest : List (ℤ × Name)) (before : set.FinSet due_cmp) → set.from_list (dues_of bytes all) ≡ before
-    → slice_get all 0 ≡ Some first → all ≡ popped ∷ rest → int_lt (pos now) first.0 ≡ false → list_any (is_due bytes (due bytes popped)) rest ≡ false → KeepsOthers (eq_by_cmp (stored_cmp bytes)) (is_due bytes (due bytes popped)) all rest
-    → (deadline : ℤ) × (int_lt (pos now) deadline ≡ false) × (set.contains before (deadline, bytes popped.1) ≡ true) × (set.from_list {R = due_cmp} (dues_of bytes rest) ≡ set.remove before (deadline, bytes popped.1))
+pub popped_was : {Name : Type 0} (bytes : Name → Bytes) (now : ℕ) (first popped : ℤ × Name) (all rest : List (ℤ × Name)) (before : set.FinSet due_cmp)
+    → set.from_list (dues_of bytes all) ≡ before
+    → slice_get all 0 ≡ Some first → all ≡ popped ∷ rest → int_lt (pos now) first.0 ≡ false → list_any (is_due bytes (due bytes popped)) rest ≡ false
+    → KeepsOthers (eq_by_cmp (stored_cmp bytes)) (is_due bytes (due bytes popped)) all rest
+    → (deadline : ℤ) × (int_lt (pos now) deadline ≡ false) × (set.contains before (deadline, bytes popped.1) ≡ true)
+    × (set.from_list {R = due_cmp} (dues_of bytes rest) ≡ set.remove before (deadline, bytes popped.1))
 popped_was {Name} bytes now first popped all rest before seen at_first parts late gone others = (
   popped.0,
   ap (λ (k : ℤ × Name). int_lt (pos now) k.0) (sym (same_first first popped all rest at_first parts)) ∙ late,
-  ap (λ dues. set.contains dues (due bytes popped)) (sym seen ∙ ap (λ keys. set.from_list {R = due_cmp} (dues_of bytes keys)) parts) ∙ first_found bytes popped rest,
+  ap (λ dues. set.contains dues (due bytes popped)) (sym seen ∙ ap (λ keys. set.from_list {R = due_cmp} (dues_of bytes keys)) parts)
+      ∙ first_found bytes popped rest,
   removed bytes all rest (due bytes popped) gone others ∙ ap (λ dues. set.remove dues (due bytes popped)) seen,
 )

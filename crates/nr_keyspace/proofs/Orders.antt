@@ -1,5 +1,5 @@
 -- The orders of deadlines, names and keys: total, and only equal ones tie.
-use Rattle.std.proofs.Common.{◌≡◌, ℕ, ap, ◌∙◌, sym}
+use Rattle.std.proofs.Common.{ℕ, ap}
 use Rattle.std.specs.Cmp.{IsTotalOrder, int_cmp_total}
 use Rattle.std.specs.Cmp.Lexicographic.{nat_list_cmp_total}
 use Rattle.std.specs.Ordering.{int_cmp, nat_cmp}

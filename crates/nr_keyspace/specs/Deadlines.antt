@@ -39,4 +39,5 @@ without_deadline dues (Some deadline) name = set.remove dues (deadline, name)
 
 -- the name has this deadline alone, or none, and the others have what they had
 pub record IsReplaced (old new : set.FinSet due_cmp) (after : Option ℤ) (name : Bytes) : Type 0 where
-  pub found : (deadline : ℤ) (other : Bytes) → set.contains new (deadline, other) ≡ cond (eq_by_cmp byte_cmp other name) (has_deadline deadline after) (set.contains old (deadline, other))
+  pub found : (deadline : ℤ) (other : Bytes)
+      → set.contains new (deadline, other) ≡ cond (eq_by_cmp byte_cmp other name) (has_deadline deadline after) (set.contains old (deadline, other))

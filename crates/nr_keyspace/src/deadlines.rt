@@ -100,7 +100,8 @@ impl Deadlines {
 
     /// Takes out the earliest deadline, if it is not after the moment.
     pub(crate) fn pop_expired(&mut self, now: u64) -> Option<Vec<u8>>
-        ensures expired { IfSome result (λ name. (deadline : ℤ) × (int_lt (pos now) deadline ≡ false) × (set.contains self.old (deadline, name.items) ≡ true) × (self.new ≡ set.remove self.old (deadline, name.items))) }
+        ensures expired { IfSome result (λ name. (deadline : ℤ) × (int_lt (pos now) deadline ≡ false)
+            × (set.contains self.old (deadline, name.items) ≡ true) × (self.new ≡ set.remove self.old (deadline, name.items))) }
         ensures live { IfNone result ((deadline : ℤ) (name : Bytes) → set.contains self.old (deadline, name) ≡ true → int_lt (pos now) deadline ≡ true) }
         ensures unchanged { IfNone result (self.new ≡ self.old) }
     {

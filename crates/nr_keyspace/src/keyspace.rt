@@ -88,7 +88,8 @@ impl Keyspace {
 
     /// The value of a live key.
     pub fn get(&self, now: u64, database: Db, name: &[u8]) -> Option<&Value>
-        ensures { option_map (λ value. value_of value.now) result ≡ option_map (λ stored. stored.value) (map.get (model.live self.now now) (key_of database name.now)) }
+        ensures { option_map (λ value. value_of value.now) result
+            ≡ option_map (λ stored. stored.value) (map.get (model.live self.now now) (key_of database name.now)) }
     {
         self.databases[database.index()].get(now, name)
     }

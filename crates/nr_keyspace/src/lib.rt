@@ -1,4 +1,5 @@
-//! Keys, their values and deadlines, in sixteen databases.
+//! Keys, their values and deadlines, in sixteen databases. A machine owns one keyspace, and commands read and change it. It touches
+//! memory alone, and knows no clock: each call is handed its moment.
 #![tactic(auto)]
 
 pub use db::Db;

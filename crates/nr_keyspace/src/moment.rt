@@ -1,4 +1,4 @@
-// When a key with a deadline can be seen.
+// When a key with a deadline can be seen: the one place that compares a moment with a deadline.
 ghost use Rattle.std.specs.Prelude.{◌≡◌};
 ghost use Rattle.nr_model.specs.Keyspace.{is_live_at};
 

@@ -1,4 +1,4 @@
-// What a key holds. A kind of value is a variant.
+// What a key holds. A kind of value is a variant; commands match on it.
 ghost use Rattle.std.specs.Prelude.{◌≡◌, IfOk};
 
 use nr_blob::{Blob, Memory};

@@ -1,8 +1,7 @@
-//! Tests of the running log: what no contract says of it.
+//! Tests of the running log and of the slots: what no contract says of them.
 #![tactic(auto)]
 
-pub mod entries;
 #[cfg(test)]
-mod tests;
-pub mod worker;
-pub mod workers;
+mod log;
+#[cfg(test)]
+mod slots;

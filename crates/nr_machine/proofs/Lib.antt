@@ -1,4 +1,6 @@
 pub mod Acted
-pub mod Folds
-pub mod Progressed
 pub mod Entries
+pub mod Folds
+pub mod Kept
+pub mod Nodes
+pub mod Progressed

@@ -1,12 +1,12 @@
 -- Jobs of the code, as their deeds.
-use Rattle.std.proofs.Common.{rules, ◌≡◌, ℕ, Bool, true, max, cond, List, [], ◌∷◌, ◌++◌, map, refl, ap, sym, ◌∙◌, Some, None}
+use Rattle.std.proofs.Common.{rules, ◌≡◌, ℕ, Bool, true, max, cond, List, ◌++◌, refl, ap, sym, ◌∙◌, Some, None}
 use Rattle.std.specs.Ordering.{ord_max, nat_cmp}
 use Rattle.nr_model.specs.Keyspace.{Keyspace}
 use Rattle.nr_model.specs.Items.{Connection, Item, is_update}
 use Rattle.nr_model.specs.Replies.{Reply, array}
-use Rattle.nr_model.specs.Sequential.{Progress}
+use Rattle.nr_model.specs.Sequential.{Progress, start, done_by}
 use Rattle.nr_model.specs.Sequential.Events.{Emission}
-use Rattle.nr_model.specs.States.{State, beginning, done_by, stepped, emitted_in}
+use Rattle.nr_model.specs.States.{State, found_in, stepped, emitted_in}
 use Rattle.nr_model.specs.declared.command.Operation.TheVariants as operations
 use Rattle.nr_entry.specs.Jobs.{connection_of}
 use Rattle.nr_entry.specs.Kinds.{deed_of, update_deed, read_deed}
@@ -20,75 +20,74 @@ use Rattle.nr_entry.specs.declared.job.Read.TheVariants.{Look, Local}
 use Rattle.nr_entry.specs.declared.job.Transaction.TheVariants.{Queued, Spoiled}
 use Rattle.nr_machine.specs.Machines.{MachineState, Ran, ran, starting, answering}
 use Rattle.nr_machine.specs.Progressed.{after_update, after_read, after_job}
-use Rattle.nr_machine.specs.Emitted.{item_at}
+use Rattle.nr_machine.specs.Emitted.{replies_to, item_at}
 use Rattle.nr_machine.proofs.Acted.{acted_is, all_acted_is}
 
 -- a job's deed does what the job does, and sends no message
-update_is : (c : Connection) (now : ℕ) (update : Update) (p : Progress) → (ran (done_by c now (update_deed update) p) ≡ after_update now update (ran p)) × ((done_by c now (update_deed update) p).messages ≡ p.messages)
-update_is c now (Change command words) p = acted_is [] c now p (operations.Change command) words.items
-update_is c now (Exec (Queued commands)) p =
-    let all = all_acted_is [] c now p commands.items in
+update_is : (state : State) (now : ℕ) (update : Update) (p : Progress) → (ran (done_by (found_in state) now (update_deed update) p) ≡ after_update now update (ran p)) × ((done_by (found_in state) now (update_deed update) p).messages ≡ p.messages)
+update_is state now (Change command words) p = acted_is (found_in state) now p (operations.Change command) words.items
+update_is state now (Exec (Queued commands)) p =
+    let all = all_acted_is (found_in state) now p commands.items in
     (ap (λ (r : Ran). answering (array r.replies) r) all.0, all.1)
-update_is c now (Exec Spoiled) p = (refl, refl)
-update_is c now (Close None) p = (refl, refl)
-update_is c now (Close (Some reply)) p = (refl, refl)
+update_is state now (Exec Spoiled) p = (refl, refl)
+update_is state now (Close None) p = (refl, refl)
+update_is state now (Close (Some reply)) p = (refl, refl)
 
-read_is : (c : Connection) (now : ℕ) (read : Read) (p : Progress) → (ran (done_by c now (read_deed read) p) ≡ after_read now read (ran p)) × ((done_by c now (read_deed read) p).messages ≡ p.messages)
-read_is c now (Look command words) p = acted_is [] c now p (operations.Look command) words.items
-read_is c now (Local reply) p = (refl, refl)
+read_is : (state : State) (now : ℕ) (read : Read) (p : Progress) → (ran (done_by (found_in state) now (read_deed read) p) ≡ after_read now read (ran p)) × ((done_by (found_in state) now (read_deed read) p).messages ≡ p.messages)
+read_is state now (Look command words) p = acted_is (found_in state) now p (operations.Look command) words.items
+read_is state now (Local reply) p = (refl, refl)
 
-pub done_is : (c : Connection) (now : ℕ) (kind : JobKind) (p : Progress) → (ran (done_by c now (deed_of kind) p) ≡ after_job now kind (ran p)) × ((done_by c now (deed_of kind) p).messages ≡ p.messages)
-done_is c now (kinds.Update update) p = update_is c now update p
-done_is c now (kinds.Read read) p = read_is c now read p
+pub done_is : (state : State) (now : ℕ) (kind : JobKind) (p : Progress) → (ran (done_by (found_in state) now (deed_of kind) p) ≡ after_job now kind (ran p)) × ((done_by (found_in state) now (deed_of kind) p).messages ≡ p.messages)
+done_is state now (kinds.Update update) p = update_is state now update p
+done_is state now (kinds.Read read) p = read_is state now read p
 
--- a reply to a connection
-abbrev to : Connection → Reply → Emission
-to c reply = record { connection = c; reply = reply }
-
-emitted_is : (state : State) (job : Job) (moment : ℕ) (replies : List Reply) → replies ≡ (after_job (max moment state.logged) job.kind (starting state.keyspace)).replies
-    → emitted_in state (item_at job moment) ≡ map (to (connection_of job.conn)) replies
-emitted_is state job moment replies same =
+-- what a job emits are its replies to its connection
+pub emitted_is : (state : State) (job : Job) (moment : ℕ)
+    → emitted_in state (item_at job moment) ≡ replies_to (connection_of job.conn) (after_job (max moment state.logged) job.kind (starting state.keyspace)).replies
+emitted_is state job moment =
     let c = connection_of job.conn in
-    let is = done_is c (max moment state.logged) job.kind (beginning state) in
-    let p = done_by c (max moment state.logged) (deed_of job.kind) (beginning state) in
-    ap (λ (messages : List Emission). messages ++ map (to c) p.replies) is.1
-    ∙ ap (λ (r : Ran). map (to c) r.replies) is.0
-    ∙ ap (map (to c)) (sym same)
+    let is = done_is state (max moment state.logged) job.kind (start (found_in state)) in
+    let p = done_by (found_in state) (max moment state.logged) (deed_of job.kind) (start (found_in state)) in
+    ap (λ (messages : List Emission). messages ++ replies_to c p.replies) is.1
+    ∙ ap (λ (r : Ran). replies_to c r.replies) is.0
 
 stepped_is : (state : State) (job : Job) (moment : ℕ) → is_update (deed_of job.kind) ≡ true
     → stepped state (item_at job moment) ≡ record { keyspace = (after_job (max moment state.logged) job.kind (starting state.keyspace)).keyspace; logged = max moment state.logged }
 stepped_is state job moment updates =
     let now = max moment state.logged in
     let left : Ran → Bool → State = λ r update. record { keyspace = r.keyspace; logged = cond update now state.logged } in
-    ap (λ (r : Ran). left r (is_update (deed_of job.kind))) (done_is (connection_of job.conn) now job.kind (beginning state)).0
+    ap (λ (r : Ran). left r (is_update (deed_of job.kind))) (done_is state now job.kind (start (found_in state))).0
     ∙ ap (left (after_job now job.kind (starting state.keyspace))) updates
 
 max_is : (a b : ℕ) → ord_max nat_cmp a b ≡ max a b
 max_is a b = search rules
 
--- a job emits its replies to its connection
-pub emitted_by : (old inside : MachineState) (job : Job) (moment now : ℕ) (replies : List Reply) → inside ≡ old → now ≡ ord_max nat_cmp moment inside.state.logged
-    → replies ≡ (after_job now job.kind (starting inside.state.keyspace)).replies
-    → emitted_in old.state (item_at job moment) ≡ map (to (connection_of job.conn)) replies
-emitted_by old inside job moment now replies same later is =
+-- the replies of a job
+abbrev replies_by : MachineState → Job → ℕ → List Reply
+replies_by inside job now = (after_job now job.kind (starting inside.state.keyspace)).replies
+
+-- are what it emits, to its connection
+pub emitted_by : (old inside : MachineState) (job : Job) (moment now : ℕ) → inside ≡ old → now ≡ ord_max nat_cmp moment inside.state.logged
+    → emitted_in old.state (item_at job moment) ≡ replies_to (connection_of job.conn) (replies_by inside job now)
+emitted_by old inside job moment now same later =
     let latest : now ≡ max moment inside.state.logged = later ∙ max_is moment inside.state.logged in
     ap (λ (s : MachineState). emitted_in s.state (item_at job moment)) (sym same)
-    ∙ emitted_is inside.state job moment replies (is ∙ ap (λ (n : ℕ). (after_job n job.kind (starting inside.state.keyspace)).replies) latest)
+    ∙ emitted_is inside.state job moment
+    ∙ ap (λ (n : ℕ). replies_to (connection_of job.conn) (replies_by inside job n)) (sym latest)
 
--- so does a read
-pub emitted_by_read : (old inside : MachineState) (c : Connection) (number moment now : ℕ) (read : Read) (reply : Reply) → inside ≡ old → now ≡ ord_max nat_cmp moment inside.state.logged
-    → reply ∷ [] ≡ (after_read now read (starting inside.state.keyspace)).replies
-    → emitted_in old.state (record { connection = c; number = number; moment = moment; deed = read_deed read }) ≡ to c reply ∷ []
-emitted_by_read old inside c number moment now read reply same later is =
+-- a read emits its replies to its connection
+pub emitted_by_read : (old inside : MachineState) (c : Connection) (number moment now : ℕ) (read : Read) → inside ≡ old → now ≡ ord_max nat_cmp moment inside.state.logged
+    → emitted_in old.state (record { connection = c; number = number; moment = moment; deed = read_deed read }) ≡ replies_to c (after_read now read (starting inside.state.keyspace)).replies
+emitted_by_read old inside c number moment now read same later =
     let item : Item = record { connection = c; number = number; moment = moment; deed = read_deed read } in
     let state = inside.state in
     let latest : now ≡ max moment state.logged = later ∙ max_is moment state.logged in
-    let does = read_is c (max moment state.logged) read (beginning state) in
-    let p = done_by c (max moment state.logged) (read_deed read) (beginning state) in
+    let does = read_is state (max moment state.logged) read (start (found_in state)) in
+    let p = done_by (found_in state) (max moment state.logged) (read_deed read) (start (found_in state)) in
     ap (λ (s : MachineState). emitted_in s.state item) (sym same)
-    ∙ ap (λ (messages : List Emission). messages ++ map (to c) p.replies) does.1
-    ∙ ap (λ (r : Ran). map (to c) r.replies) does.0
-    ∙ ap (map (to c)) (sym (is ∙ ap (λ (n : ℕ). (after_read n read (starting state.keyspace)).replies) latest))
+    ∙ ap (λ (messages : List Emission). messages ++ replies_to c p.replies) does.1
+    ∙ ap (λ (r : Ran). replies_to c r.replies) does.0
+    ∙ ap (λ (n : ℕ). replies_to c (after_read n read (starting state.keyspace)).replies) (sym latest)
 
 -- an update leaves its keyspace, and its moment where that is later
 pub applied_by : (old inside : MachineState) (job : Job) (moment now : ℕ) (new : Keyspace) → inside ≡ old → now ≡ ord_max nat_cmp moment inside.state.logged

@@ -1,3 +1,4 @@
 pub mod Machines
 pub mod Progressed
+pub mod Kept
 pub mod Emitted

@@ -1,60 +1,101 @@
-// What an update or a read is answered. They touch the keyspace; nothing is emitted here.
-ghost use Rattle.std.specs.Prelude.{◌≡◌, map, [], ◌∷◌, OnOk, IfOk, option_to_list};
-ghost use Rattle.nr_model.specs.Replies as model;
-ghost use Rattle.nr_model.specs.Sequential.{exec_abort};
+// What an update or a read of a connection is answered. It touches the keyspace and the sink.
+ghost use Rattle.std.specs.Prelude.{◌≡◌, [], ◌∷◌, OnOk, OnErr, IfOk};
+ghost use Rattle.nr_model.specs.Sequential.{for_node};
 ghost use Rattle.nr_resp.specs.Seen.{reply_of};
+ghost use Rattle.nr_resp.specs.Shown.{shown_reply};
+ghost use Rattle.nr_entry.specs.Jobs.{connection_of};
+ghost use Rattle.nr_machine.specs.Emitted.{all_after, replies_to};
 ghost use Rattle.nr_machine.specs.Machines.{starting};
 ghost use Rattle.nr_machine.specs.Progressed.{after_transaction, after_update, after_read, after_job};
 
+use crate::performing::perform;
 use crate::progress::act_all;
-use nr_blob::{Blob, Memory};
-use nr_entry::{JobKind, Read, Transaction, Update};
+use crate::sink::Sink;
+use nr_blob::Memory;
+use nr_entry::{ConnId, Job, JobKind, Read, Transaction, Update};
 use nr_exec::{Nobody, change, look};
 use nr_keyspace::{Db, Keyspace};
-use nr_resp::Reply;
+use nr_resp::{Reply, Shown};
 use std::alloc::Global;
 
-/// The reply at a moment, and none to a connection that ends without one.
-pub(crate) fn answered(
+/// Does what a job asks for at a moment. A connection of the node is answered, and for another no reply is made.
+pub(crate) fn execute<S: Sink>(
     alloc: Global,
     keyspace: &mut Keyspace,
     now: u64,
-    kind: &JobKind,
-) -> Result<Option<Reply>, Memory>
-    ensures replies { IfOk result (λ reply. map reply_of (option_to_list reply) ≡ (after_job now kind.now (starting keyspace.old)).replies) }
-    ensures keyspace { OnOk result (keyspace.new ≡ (after_job now kind.now (starting keyspace.old)).keyspace) }
+    node: usize,
+    job: &Job,
+    out: &mut S,
+) -> Result<(), Memory>
+    ensures emitted { OnOk result (out.new
+        ≡ all_after S.after out.old
+        (for_node node (replies_to (connection_of job.now.conn) (after_job now job.now.kind (starting keyspace.old)).replies))) }
+    ensures keyspace { OnOk result (keyspace.new ≡ (after_job now job.now.kind (starting keyspace.old)).keyspace) }
+    ensures unchanged { OnErr result (out.new ≡ out.old) }
 {
-    match kind {
-        JobKind::Update(update) => updated(alloc, keyspace, now, update),
-        JobKind::Read(read) => Ok(Some(looked(alloc, keyspace, now, read)?)),
+    if job.conn.node != node {
+        perform(keyspace, now, &job.kind)?;
+        return Ok(());
     }
+    answer(alloc, keyspace, now, job.conn, &job.kind, out)?;
+    Ok(())
 }
 
-fn updated(
+// Does what a job asks for, and puts its reply into the sink: none to a connection that ends without one.
+fn answer<S: Sink>(
     alloc: Global,
     keyspace: &mut Keyspace,
     now: u64,
+    conn: ConnId,
+    kind: &JobKind,
+    out: &mut S,
+) -> Result<(), Memory>
+    ensures emitted { OnOk result (out.new
+        ≡ all_after S.after out.old (replies_to (connection_of conn) (after_job now kind.now (starting keyspace.old)).replies)) }
+    ensures keyspace { OnOk result (keyspace.new ≡ (after_job now kind.now (starting keyspace.old)).keyspace) }
+    ensures unchanged { OnErr result (out.new ≡ out.old) }
+{
+    match kind {
+        JobKind::Update(update) => answer_update(alloc, keyspace, now, conn, update, out)?,
+        JobKind::Read(Read::Look { command, words }) => {
+            let shown = look(keyspace, now, Db::FIRST, *command, words)?;
+            out.put(conn, shown)?
+        }
+        JobKind::Read(Read::Local(reply)) => out.put(conn, Shown::Lent(reply))?,
+    }
+    Ok(())
+}
+
+fn answer_update<S: Sink>(
+    alloc: Global,
+    keyspace: &mut Keyspace,
+    now: u64,
+    conn: ConnId,
     update: &Update,
-) -> Result<Option<Reply>, Memory>
-    ensures replies { IfOk result (λ reply. map reply_of (option_to_list reply) ≡ (after_update now update.now (starting keyspace.old)).replies) }
+    out: &mut S,
+) -> Result<(), Memory>
+    ensures emitted { OnOk result (out.new
+        ≡ all_after S.after out.old (replies_to (connection_of conn) (after_update now update.now (starting keyspace.old)).replies)) }
     ensures keyspace { OnOk result (keyspace.new ≡ (after_update now update.now (starting keyspace.old)).keyspace) }
+    ensures unchanged { OnErr result (out.new ≡ out.old) }
 {
     match update {
         Update::Change { command, words } => {
             let mut database = Db::FIRST;
-            Ok(Some(change(
-                alloc,
-                keyspace,
-                now,
-                &mut database,
-                *command,
-                words,
-                &mut Nobody,
-            )?))
+            let reply = change(keyspace, now, &mut database, *command, words, &mut Nobody)?;
+            out.put(conn, Shown::Owned(reply))?;
+            Ok(())
         }
-        Update::Exec(transaction) => Ok(Some(executed(alloc, keyspace, now, transaction)?)),
-        Update::Close(None) => Ok(None),
-        Update::Close(Some(reply)) => Ok(Some(reply.copy()?)),
+        Update::Exec(transaction) => {
+            let reply = executed(alloc, keyspace, now, transaction)?;
+            out.put(conn, Shown::Owned(reply))?;
+            Ok(())
+        }
+        Update::Close(None) => Ok(()),
+        Update::Close(Some(reply)) => {
+            out.put(conn, Shown::Lent(reply))?;
+            Ok(())
+        }
     }
 }
 
@@ -72,29 +113,34 @@ fn executed(
         Transaction::Queued(commands) => {
             Ok(Reply::Array(act_all(alloc, keyspace, now, commands)?))
         }
-        Transaction::Spoiled => spoiled(alloc),
+        Transaction::Spoiled => Ok(Reply::FixedError(
+            "EXECABORT Transaction discarded because of previous errors.",
+        )),
     }
 }
 
-// The reply to the EXEC of a transaction that a faulty request spoiled.
-fn spoiled(alloc: Global) -> Result<Reply, Memory>
-    ensures { IfOk result (λ reply. reply_of reply ≡ model.Error exec_abort) }
+/// Puts the reply to a read at a moment into the sink. What it shows is lent by the keyspace or the read.
+pub(crate) fn answer_read<'k, S: Sink>(
+    keyspace: &'k Keyspace,
+    now: u64,
+    conn: ConnId,
+    read: &'k Read,
+    out: &mut S,
+) -> Result<(), Memory>
+    ensures emitted { OnOk result (out.new
+        ≡ all_after S.after out.old (replies_to (connection_of conn) (after_read now read.now (starting keyspace.now)).replies)) }
+    ensures unchanged { OnErr result (out.new ≡ out.old) }
 {
-    let text = "EXECABORT Transaction discarded because of previous errors.";
-    Ok(Reply::Error(Blob::from_slice(alloc, text.as_bytes())?))
+    let shown = looked(keyspace, now, read)?;
+    out.put(conn, shown)?;
+    Ok(())
 }
 
-/// The reply to a read at a moment.
-pub(crate) fn looked(
-    alloc: Global,
-    keyspace: &Keyspace,
-    now: u64,
-    read: &Read,
-) -> Result<Reply, Memory>
-    ensures { IfOk result (λ reply. reply_of reply ∷ [] ≡ (after_read now read.now (starting keyspace.now)).replies) }
+fn looked<'k>(keyspace: &'k Keyspace, now: u64, read: &'k Read) -> Result<Shown<'k>, Memory>
+    ensures { IfOk result (λ shown. shown_reply shown ∷ [] ≡ (after_read now read.now (starting keyspace.now)).replies) }
 {
     match read {
-        Read::Look { command, words } => look(alloc, keyspace, now, Db::FIRST, *command, words),
-        Read::Local(reply) => reply.copy(),
+        Read::Look { command, words } => look(keyspace, now, Db::FIRST, *command, words),
+        Read::Local(reply) => Ok(Shown::Lent(reply)),
     }
 }

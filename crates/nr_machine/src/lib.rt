@@ -1,10 +1,13 @@
 //! One sequential Redis: its keyspace, and what it emits.
 #![tactic(auto)]
 
-pub use emission::{Emission, Emissions};
+pub use emissions::{Emission, Emissions};
 pub use machine::Machine;
+pub use sink::{Nowhere, Sink};
 
 mod answers;
-mod emission;
+mod emissions;
 mod machine;
+mod performing;
 mod progress;
+mod sink;

@@ -1,14 +1,15 @@
 // The machine: it applies the updates of entries, looks for reads, and emits. It knows commands by `change` and `look` alone.
-ghost use Rattle.std.specs.Prelude.{◌≡◌, ◌++◌, ℕ, true, false, take, OnOk, OnErr, IfOk, IsErr};
+ghost use Rattle.std.specs.Prelude.{◌≡◌, ℕ, true, false, take, OnOk, OnErr, IfOk, IsErr};
 ghost use Rattle.nr_model.specs.Entries.{entry_items};
 ghost use Rattle.nr_model.specs.Items.{is_update};
+ghost use Rattle.nr_model.specs.Sequential.{for_node};
 ghost use Rattle.nr_model.specs.States.{opening, stepped, emitted_in, after_all, emitted_all};
 ghost use Rattle.nr_entry.specs.Jobs.{connection_of, items_of};
 ghost use Rattle.nr_entry.specs.Kinds.{deed_of, read_deed};
-ghost use Rattle.nr_machine.specs.Emitted.{emissions_seen, item_at};
+ghost use Rattle.nr_machine.specs.Emitted.{all_after, item_at};
 
-use crate::answers::{answered, looked};
-use crate::emission::{Emissions, emit};
+use crate::answers::{answer_read, execute};
+use crate::sink::Sink;
 use nr_blob::Memory;
 use nr_entry::{ConnId, Entry, Job, Read};
 use nr_keyspace::Keyspace;
@@ -67,12 +68,22 @@ impl Machine {
     }
 
     /// An entry's updates, one after the other, at the entry's moment or that of the updates so far, whichever is later.
-    /// What they emit is put behind what was emitted so far. Where memory runs out the machine has failed, and what the
-    /// updates before emitted is there.
-    pub fn apply(&mut self, alloc: Global, entry: &Entry, out: &mut Emissions) -> Result<(), Memory>
+    /// What they emit for the connections of the node goes into the sink, and for others nothing is made. Where memory runs out
+    /// the machine has failed, and the sink has what the updates before emitted.
+    pub fn apply<S: Sink>(
+        &mut self,
+        alloc: Global,
+        entry: &Entry,
+        node: usize,
+        out: &mut S,
+    ) -> Result<(), Memory>
         ensures applied { OnOk result (self.new ≡ record { state = after_all self.old.state (entry_items (items_of entry.now.jobs.items)); failed = false }) }
-        ensures emitted { OnOk result (emissions_seen out.new.items ≡ emissions_seen out.old.items ++ emitted_all self.old.state (entry_items (items_of entry.now.jobs.items))) }
-        ensures partly { OnErr result ((n : ℕ) × (emissions_seen out.new.items ≡ emissions_seen out.old.items ++ take n (emitted_all self.old.state (entry_items (items_of entry.now.jobs.items))))) }
+        ensures emitted { OnOk result (out.new
+            ≡ all_after S.after out.old (for_node node (emitted_all self.old.state (entry_items (items_of entry.now.jobs.items))))) }
+        ensures own { node ≡ entry.now.node → OnOk result (out.new
+            ≡ all_after S.after out.old (emitted_all self.old.state (entry_items (items_of entry.now.jobs.items)))) }
+        ensures partly { OnErr result ((n : ℕ) × (out.new
+            ≡ all_after S.after out.old (take n (for_node node (emitted_all self.old.state (entry_items (items_of entry.now.jobs.items))))))) }
         ensures failed { OnErr result (self.new.failed ≡ true) }
         ensures repeats { self.old.failed ≡ true → IsErr result }
     {
@@ -81,55 +92,52 @@ impl Machine {
         }
         self.has_failed = true;
         for job in &entry.jobs {
-            self.apply_job(alloc, job, entry.moment, out)?;
+            self.apply_job(alloc, job, entry.moment, node, out)?;
         }
         self.has_failed = false;
         Ok(())
     }
 
     // An update at its entry's moment.
-    fn apply_job(
+    fn apply_job<S: Sink>(
         &mut self,
         alloc: Global,
         job: &Job,
         moment: u64,
-        out: &mut Emissions,
+        node: usize,
+        out: &mut S,
     ) -> Result<(), Memory>
         requires { is_update (deed_of job.now.kind) ≡ true }
         ensures applied { OnOk result (self.new ≡ record { state = stepped self.old.state (item_at job.now moment); failed = self.old.failed }) }
-        ensures emitted { OnOk result (emissions_seen out.new.items ≡ emissions_seen out.old.items ++ emitted_in self.old.state (item_at job.now moment)) }
+        ensures emitted { OnOk result (out.new ≡ all_after S.after out.old (for_node node (emitted_in self.old.state (item_at job.now moment)))) }
         ensures failed { OnErr result (self.new.failed ≡ self.old.failed) }
-        ensures unchanged { OnErr result (out.new.items ≡ out.old.items) }
+        ensures unchanged { OnErr result (out.new ≡ out.old) }
     {
         let now = cmp::max(moment, self.logged);
-        if let Some(reply) = answered(alloc, &mut self.keyspace, now, &job.kind)? {
-            emit(out, job.conn, reply)?;
-        }
+        execute(alloc, &mut self.keyspace, now, node, job, out)?;
         self.logged = now;
         Ok(())
     }
 
     /// A read of a connection, at a moment or that of the updates so far, whichever is later: a command that only looks, or a reply
-    /// that needs no state. What it emits is put behind what was emitted so far.
-    pub fn look(
-        &self,
-        alloc: Global,
+    /// that needs no state. What it emits goes into the sink. Where memory runs out that is as it was.
+    pub fn look<'k, S: Sink>(
+        &'k self,
         now: u64,
         conn: ConnId,
-        read: &Read,
-        out: &mut Emissions,
+        read: &'k Read,
+        out: &mut S,
     ) -> Result<(), Memory>
-        ensures emitted { (number : ℕ) → OnOk result (emissions_seen out.new.items ≡ emissions_seen out.old.items
-            ++ emitted_in self.now.state (record { connection = connection_of conn; number = number; moment = now; deed = read_deed read.now })) }
-        ensures unchanged { OnErr result (emissions_seen out.new.items ≡ emissions_seen out.old.items) }
+        ensures emitted { (number : ℕ) → OnOk result (out.new
+            ≡ all_after S.after out.old (emitted_in self.now.state (record { connection = connection_of conn; number = number; moment = now; deed = read_deed read.now }))) }
+        ensures unchanged { OnErr result (out.new ≡ out.old) }
         ensures repeats { self.now.failed ≡ true → IsErr result }
     {
         if self.has_failed {
             return Err(Memory);
         }
         let now = cmp::max(now, self.logged);
-        let reply = looked(alloc, &self.keyspace, now, read)?;
-        emit(out, conn, reply)?;
+        answer_read(&self.keyspace, now, conn, read, out)?;
         Ok(())
     }
 }

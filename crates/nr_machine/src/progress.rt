@@ -43,16 +43,12 @@ fn act_next(
     ensures { OnOk result (ran_of keyspace.new database.new replies.new.items ≡ with_command now (ran_of keyspace.old database.old replies.old.items) cmd.now) }
 {
     let reply = match cmd.command {
-        Operation::Look(command) => look(alloc, keyspace, now, *database, command, &cmd.words)?,
-        Operation::Change(command) => change(
-            alloc,
-            keyspace,
-            now,
-            database,
-            command,
-            &cmd.words,
-            &mut Nobody,
-        )?,
+        Operation::Look(command) => {
+            look(keyspace, now, *database, command, &cmd.words)?.into_reply(alloc)?
+        }
+        Operation::Change(command) => {
+            change(keyspace, now, database, command, &cmd.words, &mut Nobody)?
+        }
     };
     replies.push(reply)?;
     Ok(())

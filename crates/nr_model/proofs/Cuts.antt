@@ -22,12 +22,14 @@ unfolding frames_within
 within_nil zero = refl
 within_nil (suc n) = refl
 
-same_next : (bytes : Bytes) (next next' : Bytes → Framing) (front : Front Frame) → Leaves (λ rest. next rest ≡ next' rest) front → by_front bytes next front ≡ by_front bytes next' front
+same_next : (bytes : Bytes) (next next' : Bytes → Framing) (front : Front Frame) → Leaves (λ rest. next rest ≡ next' rest) front
+    → by_front bytes next front ≡ by_front bytes next' front
 same_next bytes next next' (Whole words rest) same = ap (with_request words) same
 same_next bytes next next' (Faulty fault) same = refl
 same_next bytes next next' Partial same = refl
 
-leaves_same : (n : ℕ) (next next' : Bytes → Framing) (front : Front Frame) → Leaves (λ rest. length rest < n) front → ((rest : Bytes) → length rest < n → next rest ≡ next' rest) → Leaves (λ rest. next rest ≡ next' rest) front
+leaves_same : (n : ℕ) (next next' : Bytes → Framing) (front : Front Frame) → Leaves (λ rest. length rest < n) front
+    → ((rest : Bytes) → length rest < n → next rest ≡ next' rest) → Leaves (λ rest. next rest ≡ next' rest) front
 leaves_same n next next' (Whole words rest) left each = each rest left
 leaves_same n next next' (Faulty fault) left each = tt
 leaves_same n next next' Partial left each = tt
@@ -42,7 +44,8 @@ same_fuel (suc m) zero bytes low high =
 same_fuel (suc m) (suc n) bytes low high =
     within_suc m bytes
     ∙ same_next bytes (frames_within m) (frames_within n) (request_at bytes)
-    (leaves_same (length bytes) (frames_within m) (frames_within n) (request_at bytes) (request_leaves bytes) (λ rest less. same_fuel m n rest (omega arith) (omega arith)))
+    (leaves_same (length bytes) (frames_within m) (frames_within n) (request_at bytes) (request_leaves bytes)
+    (λ rest less. same_fuel m n rest (omega arith) (omega arith)))
     ∙ sym (within_suc n bytes)
 
 -- any number of steps from the length on gives the same frames
@@ -60,19 +63,23 @@ step_law bytes =
     sym (fuel_law (suc (length bytes)) bytes (omega arith))
     ∙ within_suc (length bytes) bytes
     ∙ same_next bytes (frames_within (length bytes)) framing_of (request_at bytes)
-    (leaves_same (length bytes) (frames_within (length bytes)) framing_of (request_at bytes) (request_leaves bytes) (λ rest less. fuel_law (length bytes) rest (omega arith)))
+    (leaves_same (length bytes) (frames_within (length bytes)) framing_of (request_at bytes) (request_leaves bytes)
+    (λ rest less. fuel_law (length bytes) rest (omega arith)))
     ∙ by_is bytes (request_at bytes)
 
-continued_request : (words : List Bytes) (framing : Framing) (more : Bytes) → with_request words (continued framing more) ≡ continued (with_request words framing) more
+continued_request : (words : List Bytes) (framing : Framing) (more : Bytes)
+    → with_request words (continued framing more) ≡ continued (with_request words framing) more
 continued_request [] framing more = refl
 continued_request (word ∷ words) framing more = by_fault framing.fault refl
   where
-    by_fault : (fault : Option Fault) → framing.fault ≡ fault → with_request (word ∷ words) (continued framing more) ≡ continued (with_request (word ∷ words) framing) more
+    by_fault : (fault : Option Fault) → framing.fault ≡ fault
+        → with_request (word ∷ words) (continued framing more) ≡ continued (with_request (word ∷ words) framing) more
     by_fault None e = rw e refl
     by_fault (Some fault) e = rw e refl
 
 -- what holds of each shorter rest
-leaves_each : (P : Bytes → Type 0) (n : ℕ) (front : Front Frame) → Leaves (λ rest. length rest < n) front → ((rest : Bytes) → length rest < n → P rest) → Leaves P front
+leaves_each : (P : Bytes → Type 0) (n : ℕ) (front : Front Frame) → Leaves (λ rest. length rest < n) front
+    → ((rest : Bytes) → length rest < n → P rest) → Leaves P front
 leaves_each P n (Whole words rest) left each = each rest left
 leaves_each P n (Faulty fault) left each = tt
 leaves_each P n Partial left each = tt
@@ -80,10 +87,12 @@ leaves_each P n Partial left each = tt
 abbrev IsCut : Bytes → Bytes → Type 0
 IsCut more bytes = framing_of (bytes ++ more) ≡ continued (framing_of bytes) more
 
-cut_by : (bytes more : Bytes) (front front' : Front Frame) → framing_of bytes ≡ framing_by bytes front → framing_of (bytes ++ more) ≡ framing_by (bytes ++ more) front'
+cut_by : (bytes more : Bytes) (front front' : Front Frame) → framing_of bytes ≡ framing_by bytes front
+    → framing_of (bytes ++ more) ≡ framing_by (bytes ++ more) front'
     → Extends front more front' → Leaves (IsCut more) front → IsCut more bytes
 cut_by bytes more (Whole words rest) front' here there e left =
-    there ∙ ap (framing_by (bytes ++ more)) e ∙ ap (with_request words) left ∙ continued_request words (framing_of rest) more ∙ ap (λ framing. continued framing more) (sym here)
+    there ∙ ap (framing_by (bytes ++ more)) e ∙ ap (with_request words) left ∙ continued_request words (framing_of rest) more
+    ∙ ap (λ framing. continued framing more) (sym here)
 cut_by bytes more (Faulty fault) front' here there e left = there ∙ ap (framing_by (bytes ++ more)) e ∙ ap (λ framing. continued framing more) (sym here)
 cut_by bytes more Partial front' here there e left = ap (λ framing. continued framing more) (sym here)
 

@@ -55,7 +55,8 @@ not_zero_text (d ∷ ds) h = ap (λ b. b && bytes_eq ds []) (ne_eqb d 48 (λ e. 
 pub of_numeral : (ds : Bytes) → is_numeral ds ≡ true → int_value ds ≡ in_i64 (pos (digits_value ds))
 of_numeral [] h = cc
 of_numeral (c ∷ t) h =
-    ap (λ b. cond b (Some (pos 0)) (cond (is_numeral (c ∷ t)) (in_i64 (pos (digits_value (c ∷ t)))) (cond (eqb c 45 && is_numeral t) (in_i64 (negsuc (digits_value t - 1))) None))) (not_zero_text (c ∷ t) h)
+    ap (λ b. cond b (Some (pos 0)) (cond (is_numeral (c ∷ t)) (in_i64 (pos (digits_value (c ∷ t))))
+    (cond (eqb c 45 && is_numeral t) (in_i64 (negsuc (digits_value t - 1))) None))) (not_zero_text (c ∷ t) h)
     ∙ ap (λ b. cond b (in_i64 (pos (digits_value (c ∷ t)))) (cond (eqb c 45 && is_numeral t) (in_i64 (negsuc (digits_value t - 1))) None)) h
 
 pub of_minus : (ds : Bytes) → is_numeral ds ≡ true → int_value (45 ∷ ds) ≡ in_i64 (negsuc (digits_value ds - 1))
@@ -118,7 +119,8 @@ text_of_value (c ∷ t) z e =
       | inl nought ↦
           let is : pos 0 ≡ z = cc (nought.1) in
           let fits : FitsSigned w64 (pos 0) = record { sfits = omega arith } in
-          subst (λ z. FitsSigned w64 z × (c ∷ t ≡ signed_decimal z)) is (fits, (bytes_eq-Decides (c ∷ t) (48 ∷ [])).0 nought.0 ∙ sym (decimal_digit 0 (omega arith)))
+          subst (λ z. FitsSigned w64 z × (c ∷ t ≡ signed_decimal z)) is
+          (fits, (bytes_eq-Decides (c ∷ t) (48 ∷ [])).0 nought.0 ∙ sym (decimal_digit 0 (omega arith)))
       | inr more ↦ elim (chosen (is_numeral (c ∷ t)) (in_i64 (pos (digits_value (c ∷ t)))) _ (Some z) more.1) [
         | inl whole ↦ pos_text (c ∷ t) z whole.0 whole.1
         | inr others ↦ elim (chosen (eqb c 45 && is_numeral t) (in_i64 (negsuc (digits_value t - 1))) None (Some z) others.1) [

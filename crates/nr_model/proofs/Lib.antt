@@ -6,6 +6,11 @@ pub mod Words
 pub mod Matching
 pub mod Live
 pub mod Agreement
+pub mod Ordered
+pub mod Subscribed
+pub mod Watched
+pub mod Serving
+pub mod Conversing
 pub mod ServedDeeds
 pub mod Counts
 pub mod WorldsLists

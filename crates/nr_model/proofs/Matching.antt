@@ -40,7 +40,8 @@ one_byte_finds test others (c ∷ cs) h =
     record { byte = c; rest = cs; whole = refl; byte_passes = both.0; rest_passes = both.1 }
 
 -- a front of one byte, and the rest
-one_byte_from : (test : ℕ → Bool) (others : List ℕ → Bool) (text front rest : List ℕ) (c : ℕ) → text ≡ front ++ rest → front ≡ c ∷ [] → test c ≡ true → others rest ≡ true → one_byte test others text ≡ true
+one_byte_from : (test : ℕ → Bool) (others : List ℕ → Bool) (text front rest : List ℕ) (c : ℕ) → text ≡ front ++ rest → front ≡ c ∷ [] → test c ≡ true
+    → others rest ≡ true → one_byte test others text ≡ true
 one_byte_from test others text front rest c whole one byte_passes rest_passes =
     let is : text ≡ c ∷ rest = whole ∙ ap (λ (t : List ℕ). t ++ rest) one in
     subst (λ (t : List ℕ). one_byte test others t ≡ true) (sym is) (and_from (test c) (others rest) byte_passes rest_passes)
@@ -67,7 +68,8 @@ PartsMatch-from_test (NotClass marks ∷ others) text h =
 pub parts_match-from_relation : (ps : List Part) (text : List ℕ) → PartsMatch ps text → parts_match ps text ≡ true
 parts_match-from_relation [] text h = subst (λ (t : List ℕ). parts_match [] t ≡ true) (sym h) refl
 parts_match-from_relation (Star ∷ others) text h =
-    subst (λ (t : List ℕ). some_rest (parts_match others) t ≡ true) (sym h.2) (some_rest_from (parts_match others) h.0 h.1 (parts_match-from_relation others h.1 h.4))
+    subst (λ (t : List ℕ). some_rest (parts_match others) t ≡ true) (sym h.2)
+    (some_rest_from (parts_match others) h.0 h.1 (parts_match-from_relation others h.1 h.4))
 parts_match-from_relation (AnyByte ∷ others) text h =
     one_byte_from (λ c. true) (parts_match others) text h.0 h.1 h.3.0 h.2 h.3.1 refl (parts_match-from_relation others h.1 h.4)
 parts_match-from_relation (Byte b ∷ others) text h =
@@ -75,4 +77,5 @@ parts_match-from_relation (Byte b ∷ others) text h =
 parts_match-from_relation (Class marks ∷ others) text h =
     one_byte_from (in_class marks) (parts_match others) text h.0 h.1 h.3.0 h.2 h.3.1 h.3.2 (parts_match-from_relation others h.1 h.4)
 parts_match-from_relation (NotClass marks ∷ others) text h =
-    one_byte_from (λ c. not (in_class marks c)) (parts_match others) text h.0 h.1 h.3.0 h.2 h.3.1 (not_from_false (in_class marks h.3.0) h.3.2) (parts_match-from_relation others h.1 h.4)
+    one_byte_from (λ c. not (in_class marks c)) (parts_match others) text h.0 h.1 h.3.0 h.2 h.3.1 (not_from_false (in_class marks h.3.0) h.3.2)
+    (parts_match-from_relation others h.1 h.4)

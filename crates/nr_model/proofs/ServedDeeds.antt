@@ -26,7 +26,8 @@ is_performed (Session command) = false
 abbrev IsDone : Command → Type 0
 IsDone command = (call : Call) → by_itself command call plain ≡ asks (Act call) plain
 
-has_one : {A : Type 0} (P : A → Type 0) (b : Bool) (y : A) (others : Option A) → P y → ((x : A) → others ≡ Some x → P x) → (x : A) → cond b (Some y) others ≡ Some x → P x
+has_one : {A : Type 0} (P : A → Type 0) (b : Bool) (y : A) (others : Option A) → P y → ((x : A) → others ≡ Some x → P x) → (x : A)
+    → cond b (Some y) others ≡ Some x → P x
 has_one P true y others here there x e = subst P (cc) here
 has_one P false y others here there x e = there x e
 
@@ -43,7 +44,8 @@ pub and_true : (a b : Bool) → (a && b) ≡ true → (a ≡ true) × (b ≡ tru
 and_true true b e = (refl, e)
 and_true false b e = absurd (cc)
 
-pub All-where : (P : Command → Type 0) (test : Command → Bool) (commands : List Command) → ((command : Command) → test command ≡ true → P command) → list_all test commands ≡ true → AllByRecursion P commands
+pub All-where : (P : Command → Type 0) (test : Command → Bool) (commands : List Command) → ((command : Command) → test command ≡ true → P command)
+    → list_all test commands ≡ true → AllByRecursion P commands
 All-where P test [] each all = tt
 All-where P test (command ∷ commands) each all =
     let both = and_true (test command) (list_all test commands) all in (each command both.0, All-where P test commands each both.1)
@@ -52,25 +54,29 @@ all_done : AllByRecursion IsDone served
 all_done = All-where IsDone is_performed served performed refl
 
 -- by how the words are counted, and by what command was found
-counted_answer : (command : Command) (frame : Frame) → IsDone command → (b : Bool) → IsPlainAnswer (reading_answer (cond b (Known (record { command = command; words = frame })) (WrongArity command)) plain)
+counted_answer : (command : Command) (frame : Frame) → IsDone command → (b : Bool)
+    → IsPlainAnswer (reading_answer (cond b (Known (record { command = command; words = frame })) (WrongArity command)) plain)
 counted_answer command frame done true =
     let call : Call = record { command = command; words = frame } in
     subst (λ (a : Answer). IsPlainAnswer a) (sym (done call)) (refl, refl)
 counted_answer command frame done false = (refl, refl)
 
-found_answer : (name : Bytes) (frame : Frame) (o : Option Command) → ((command : Command) → o ≡ Some command → IsDone command) → IsPlainAnswer (reading_answer (found name frame o) plain)
+found_answer : (name : Bytes) (frame : Frame) (o : Option Command) → ((command : Command) → o ≡ Some command → IsDone command)
+    → IsPlainAnswer (reading_answer (found name frame o) plain)
 found_answer name frame None done = (refl, refl)
 found_answer name frame (Some command) done = counted_answer command frame (done command refl) (arity_ok (row_of command).arity (length frame))
 
 plain_answer : (frame : Frame) → IsPlainAnswer (answer served plain frame)
-plain_answer frame = found_answer (first_word frame) frame (named served (first_word frame)) (find_has IsDone (λ (command : Command). bytes_eq (row_of command).name (str_to_ascii_lowercase (first_word frame))) served all_done)
+plain_answer frame = found_answer (first_word frame) frame (named served (first_word frame))
+    (find_has IsDone (λ (command : Command). bytes_eq (row_of command).name (str_to_ascii_lowercase (first_word frame))) served all_done)
 
 first_goes_on : (deed : Deed) (more : Conversation) → is_end deed ≡ false
     → first_deed (asks deed plain) more ≡ record { deeds = deed ∷ more.deeds; mode = more.mode; ended = more.ended }
 first_goes_on deed more e = rw e
 
 conversation_along : (frames : List Frame) (fault : Option Fault)
-    → conversation served plain frames fault ≡ record { deeds = map served_deed frames ++ (last_deed fault plain).deeds; mode = plain; ended = (last_deed fault plain).ended }
+    → conversation served plain frames fault
+    ≡ record { deeds = map served_deed frames ++ (last_deed fault plain).deeds; mode = plain; ended = (last_deed fault plain).ended }
 conversation_along [] None = refl
 conversation_along [] (Some fault) = refl
 conversation_along (frame ∷ frames) fault =

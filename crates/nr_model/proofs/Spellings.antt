@@ -62,12 +62,14 @@ signed_short z fits = length_signed_le 20 z (omega (arith, fits.sfits)) fits.sfi
 abbrev said : Fault → (ℤ → Bool) → Bytes → Bytes → Front ℤ
 said fault fits line rest = cond (ends_with_cr line) (number_or fault fits (int_value (drop 1 (without_last line))) rest) (Faulty LineEnd)
 
-said_of : (fault : Fault) (fits : ℤ → Bool) (mark : ℕ) (text rest : Bytes) → said fault fits (mark ∷ (text ++ 13 ∷ [])) rest ≡ number_or fault fits (int_value text) rest
+said_of : (fault : Fault) (fits : ℤ → Bool) (mark : ℕ) (text rest : Bytes)
+    → said fault fits (mark ∷ (text ++ 13 ∷ [])) rest ≡ number_or fault fits (int_value text) rest
 said_of fault fits mark text rest =
     ap (λ b. cond b (number_or fault fits (int_value (drop 1 (without_last (mark ∷ (text ++ 13 ∷ []))))) rest) (Faulty LineEnd)) (ends_cr (mark ∷ text))
     ∙ ap (λ line. number_or fault fits (int_value (drop 1 line)) rest) (last_gone (mark ∷ text) 13)
 
-pub header_only : (fault : Fault) (fits : ℤ → Bool) (mark : ℕ) (z : ℤ) (rest : Bytes) → eqb mark 10 ≡ false → FitsSigned w64 z → fits z ≡ true → header_at fault fits (mark ∷ (signed_decimal z ++ 13 ∷ 10 ∷ rest)) ≡ Whole z rest
+pub header_only : (fault : Fault) (fits : ℤ → Bool) (mark : ℕ) (z : ℤ) (rest : Bytes) → eqb mark 10 ≡ false → FitsSigned w64 z → fits z ≡ true
+    → header_at fault fits (mark ∷ (signed_decimal z ++ 13 ∷ 10 ∷ rest)) ≡ Whole z rest
 header_only fault fits mark z rest other small fit =
     let text = signed_decimal z in
     let line : Bytes = mark ∷ (text ++ 13 ∷ []) in
@@ -75,7 +77,8 @@ header_only fault fits mark z rest other small fit =
     let split : mark ∷ (text ++ 13 ∷ 10 ∷ rest) ≡ line ++ 10 ∷ rest = ap (λ bs. mark ∷ bs) (sym (append_assoc text (13 ∷ []) (10 ∷ rest))) in
     let short : ltb most_header_bytes (length line) ≡ false = le-ltb 64 (length line) (omega (arith, length-append text (13 ∷ []), signed_short z small)) in
     let found : line_at most_header_bytes fault (mark ∷ (text ++ 13 ∷ 10 ∷ rest)) ≡ Whole line rest =
-    ap (line_at most_header_bytes fault) split ∙ line_of_line most_header_bytes fault line rest no_lf ∙ ap (λ b. cond b (Faulty fault) (Whole line rest)) short in
+    ap (line_at most_header_bytes fault) split ∙ line_of_line most_header_bytes fault line rest no_lf
+    ∙ ap (λ b. cond b (Faulty fault) (Whole line rest)) short in
     ap (λ front. front_then front (said fault fits)) found
     ∙ said_of fault fits mark text rest
     ∙ ap (λ number. number_or fault fits number rest) (value_of_text z small)
@@ -91,13 +94,18 @@ line_found most fault bytes line rest e =
             | inr there ↦ absurd (partial_whole there.1)
           ]
       | inr found ↦
-          elim (chosen (ltb most (length found.0)) (Faulty fault) (Whole found.0 found.1) (Whole line rest) (sym (ap (line_at most fault) found.3 ∙ line_of_line most fault found.0 found.1 found.2) ∙ e)) [
+          elim (chosen (ltb most (length found.0)) (Faulty fault) (Whole found.0 found.1) (Whole line rest)
+          (sym (ap (line_at most fault) found.3 ∙ line_of_line most fault found.0 found.1 found.2) ∙ e)) [
             | inl here ↦ absurd (faulty_whole here.1)
             | inr there ↦
                 let same_line : found.0 ≡ line = cc (there.1) in
                 let same_rest : found.1 ≡ rest = cc (there.1) in
-                let short : length found.0 ≤ most = ltb-false most (length found.0) there.0 in
-                (ap (list_any is_lf) (sym same_line) ∙ found.2, subst (λ l. length l ≤ most) same_line short, found.3 ∙ ap (λ l. l ++ 10 ∷ found.1) same_line ∙ ap (λ bs. line ++ 10 ∷ bs) same_rest)
+                let short : length found.0 ≤ most = ltb-false most (length found.0) there.0 in (
+                  ap (list_any is_lf) (sym same_line) ∙ found.2,
+                  subst (λ l. length l ≤ most) same_line short,
+                  found.3 ∙ ap (λ l. l ++ 10 ∷ found.1) same_line
+                      ∙ ap (λ bs. line ++ 10 ∷ bs) same_rest,
+                )
           ]
     ]
   where
@@ -107,7 +115,8 @@ line_found most fault bytes line rest e =
     partial_whole : Partial ≡ Whole line rest → ⊥
     partial_whole e = cc
 
-number_found : (fault : Fault) (fits : ℤ → Bool) (number : Option ℤ) (mid rest : Bytes) (z : ℤ) → number_or fault fits number mid ≡ Whole z rest → (number ≡ Some z) × (fits z ≡ true) × (mid ≡ rest)
+number_found : (fault : Fault) (fits : ℤ → Bool) (number : Option ℤ) (mid rest : Bytes) (z : ℤ) → number_or fault fits number mid ≡ Whole z rest
+    → (number ≡ Some z) × (fits z ≡ true) × (mid ≡ rest)
 number_found fault fits None mid rest z e = absurd (faulty_whole e)
   where
     faulty_whole : Faulty fault ≡ Whole z rest → ⊥
@@ -124,13 +133,15 @@ number_found fault fits (Some number) mid rest z e =
     faulty_whole e = cc
 
 -- the line of a header is its mark, the number's text and CR
-header_line : (mark : ℕ) (bytes front rest : Bytes) → eqb mark 13 ≡ false → mark ∷ bytes ≡ (front ++ 13 ∷ []) ++ 10 ∷ rest → (text : Bytes) × (front ≡ mark ∷ text) × (bytes ≡ text ++ 13 ∷ 10 ∷ rest)
+header_line : (mark : ℕ) (bytes front rest : Bytes) → eqb mark 13 ≡ false → mark ∷ bytes ≡ (front ++ 13 ∷ []) ++ 10 ∷ rest
+    → (text : Bytes) × (front ≡ mark ∷ text) × (bytes ≡ text ++ 13 ∷ 10 ∷ rest)
 header_line mark bytes [] rest other e = absurd (eqb-false mark 13 other (ap (λ s. get_or s 0 0) e))
 header_line mark bytes (c ∷ front) rest other e =
     let same : c ≡ mark = sym (ap (λ s. get_or s 0 0) e) in
     (front, ap (λ d. d ∷ front) same, ap (drop 1) e ∙ append_assoc front (13 ∷ []) (10 ∷ rest))
 
-header_found : (fault : Fault) (fits : ℤ → Bool) (mark : ℕ) (bytes : Bytes) (z : ℤ) (rest : Bytes) → eqb mark 13 ≡ false → header_at fault fits (mark ∷ bytes) ≡ Whole z rest
+header_found : (fault : Fault) (fits : ℤ → Bool) (mark : ℕ) (bytes : Bytes) (z : ℤ) (rest : Bytes) → eqb mark 13 ≡ false
+    → header_at fault fits (mark ∷ bytes) ≡ Whole z rest
     → FitsSigned w64 z × (fits z ≡ true) × (bytes ≡ signed_decimal z ++ 13 ∷ 10 ∷ rest)
 header_found fault fits mark bytes z rest other e =
     let parts = then_whole (line_at most_header_bytes fault (mark ∷ bytes)) (said fault fits) z rest e in
@@ -143,7 +154,8 @@ header_found fault fits mark bytes z rest other e =
           let split = header_line mark bytes front.0 mid other (found.2 ∙ ap (λ l. l ++ 10 ∷ mid) front.1) in
           let text = split.0 in
           let whole : line ≡ mark ∷ (text ++ 13 ∷ []) = front.1 ∙ ap (λ l. l ++ 13 ∷ []) split.1 in
-          let number = number_found fault fits (int_value text) mid rest z (sym (said_of fault fits mark text mid) ∙ ap (λ l. said fault fits l mid) (sym whole) ∙ parts.3) in
+          let number = number_found fault fits (int_value text) mid rest z
+          (sym (said_of fault fits mark text mid) ∙ ap (λ l. said fault fits l mid) (sym whole) ∙ parts.3) in
           let read = text_of_value text z number.0 in
           (read.0, number.1, split.2 ∙ ap (λ t. t ++ 13 ∷ 10 ∷ mid) read.1 ∙ ap (λ bs. signed_decimal z ++ 13 ∷ 10 ∷ bs) number.2)
       | inr there ↦ absurd (faulty_whole there.1)
@@ -193,8 +205,11 @@ word_found len bytes word rest e =
       | inl here ↦ absurd (partial_whole here.1)
       | inr there ↦
           let enough : len ≤ length bytes = ltb-false (length bytes) len there.0 in
-          let parts = ending_found (take len bytes) (drop len bytes) word rest there.1 in
-          (ap length (sym parts.0) ∙ length-take-le len bytes enough, sym (take-append-drop len bytes) ∙ ap (λ w. w ++ drop len bytes) parts.0 ∙ ap (λ bs. word ++ bs) parts.1)
+          let parts = ending_found (take len bytes) (drop len bytes) word rest there.1 in (
+            ap length (sym parts.0) ∙ length-take-le len bytes enough,
+            sym (take-append-drop len bytes) ∙ ap (λ w. w ++ drop len bytes) parts.0
+                ∙ ap (λ bs. word ++ bs) parts.1,
+          )
     ]
   where
     partial_whole : Partial ≡ Whole word rest → ⊥
@@ -214,7 +229,8 @@ pub bulk_only : (word more : Bytes) → length word ≤ most_word_bytes → bulk
 bulk_only word more short =
     ap bulk_at (bulk_split word more)
     ∙ ap (λ front. front_then front (λ len rest. word_at (how_many len) rest))
-    (header_only Length is_length 36 (pos (length word)) (word ++ 13 ∷ 10 ∷ more) refl (fits_low (length word) (omega arith)) (le-leb (length word) most_word_bytes short))
+    (header_only Length is_length 36 (pos (length word)) (word ++ 13 ∷ 10 ∷ more) refl (fits_low (length word) (omega arith))
+    (le-leb (length word) most_word_bytes short))
     ∙ word_only word more
 
 bulk_found : (bytes word rest : Bytes) → bulk_at bytes ≡ Whole word rest → (length word ≤ most_word_bytes) × (bytes ≡ bulk_text word ++ rest)
@@ -235,12 +251,14 @@ bulk_found (c ∷ bytes) word rest e =
     faulty_whole : Faulty (Dollar c) ≡ Whole word rest → ⊥
     faulty_whole e = cc
 
-    of_length : (bytes : Bytes) (z : ℤ) (mid : Bytes) → is_length z ≡ true → bytes ≡ signed_decimal z ++ 13 ∷ 10 ∷ mid → word_at (how_many z) mid ≡ Whole word rest → (length word ≤ most_word_bytes) × (36 ∷ bytes ≡ bulk_text word ++ rest)
+    of_length : (bytes : Bytes) (z : ℤ) (mid : Bytes) → is_length z ≡ true → bytes ≡ signed_decimal z ++ 13 ∷ 10 ∷ mid
+        → word_at (how_many z) mid ≡ Whole word rest → (length word ≤ most_word_bytes) × (36 ∷ bytes ≡ bulk_text word ++ rest)
     of_length bytes (pos n) mid fit split at =
         let low : n ≤ most_word_bytes = leb-true n most_word_bytes fit in
         let parts = word_found n mid word rest at in (
           omega (arith, parts.0),
-          ap (λ bs. 36 ∷ bs) (split ∙ ap (λ bs. decimal n ++ 13 ∷ 10 ∷ bs) parts.1 ∙ ap (λ m. decimal m ++ 13 ∷ 10 ∷ (word ++ 13 ∷ 10 ∷ rest)) (sym parts.0)) ∙ sym (bulk_split word rest),
+          ap (λ bs. 36 ∷ bs) (split ∙ ap (λ bs. decimal n ++ 13 ∷ 10 ∷ bs) parts.1 ∙ ap (λ m. decimal m ++ 13 ∷ 10 ∷ (word ++ 13 ∷ 10 ∷ rest)) (sym parts.0))
+              ∙ sym (bulk_split word rest),
         )
     of_length bytes (negsuc n) mid fit split at = cc
 
@@ -263,7 +281,8 @@ bulks_only (word ∷ words) more short =
     behind : ℕ → Bytes → Bytes → Front (List Bytes)
     behind n word' rest = front_then (bulks_at n rest) (λ words' rest'. Whole (word' ∷ words') rest')
 
-bulks_found : (n : ℕ) (bytes : Bytes) (words : List Bytes) (rest : Bytes) → bulks_at n bytes ≡ Whole words rest → (length words ≡ n) × AreShort words × (bytes ≡ flat_map bulk_text words ++ rest)
+bulks_found : (n : ℕ) (bytes : Bytes) (words : List Bytes) (rest : Bytes) → bulks_at n bytes ≡ Whole words rest
+    → (length words ≡ n) × AreShort words × (bytes ≡ flat_map bulk_text words ++ rest)
 bulks_found zero bytes words rest e = of_none words (cc e) (cc e)
   where
     of_none : (words : List Bytes) → [] ≡ words → bytes ≡ rest → (length words ≡ 0) × AreShort words × (bytes ≡ flat_map bulk_text words ++ rest)
@@ -279,7 +298,8 @@ bulks_found (suc n) bytes words rest e =
     subst (λ ws. (length ws ≡ suc n) × AreShort ws × (bytes ≡ flat_map bulk_text ws ++ rest)) same (
       ap suc bulks.0,
       (bulk.0, bulks.1),
-      bulk.1 ∙ ap (λ bs. bulk_text first.0 ++ bs) (bulks.2 ∙ ap (λ bs. flat_map bulk_text others.0 ++ bs) same_rest) ∙ sym (append_assoc (bulk_text first.0) (flat_map bulk_text others.0) rest),
+      bulk.1 ∙ ap (λ bs. bulk_text first.0 ++ bs) (bulks.2 ∙ ap (λ bs. flat_map bulk_text others.0 ++ bs) same_rest)
+          ∙ sym (append_assoc (bulk_text first.0) (flat_map bulk_text others.0) rest),
     )
 
 header_split : (z : ℤ) (body more : Bytes) → 42 ∷ signed_decimal z ++ crlf ++ body ++ more ≡ 42 ∷ (signed_decimal z ++ 13 ∷ 10 ∷ (body ++ more))
@@ -313,7 +333,8 @@ empty_only z more fits low =
 abbrev inline_said : Bytes → Bytes → Front (List Bytes)
 inline_said line rest = cond (list_any is_quote line) (Faulty Quotes) (Whole (words_of (without_cr line)) rest)
 
-inline_line : (line more : Bytes) → length line ≤ most_inline_bytes → list_any is_lf line ≡ false → list_any is_quote line ≡ false → inline_at (line ++ 10 ∷ more) ≡ Whole (words_of (without_cr line)) more
+inline_line : (line more : Bytes) → length line ≤ most_inline_bytes → list_any is_lf line ≡ false → list_any is_quote line ≡ false
+    → inline_at (line ++ 10 ∷ more) ≡ Whole (words_of (without_cr line)) more
 inline_line line more short one unquoted =
     ap (λ front. front_then front inline_said)
     (line_of_line most_inline_bytes Inline line more one ∙ ap (λ b. cond b (Faulty Inline) (Whole line more)) (le-ltb most_inline_bytes (length line) short))
@@ -339,14 +360,19 @@ array_found bytes words rest e =
     let header = header_found Count is_count 42 bytes parts.0 parts.1 refl parts.2 in
     of_count parts.0 parts.1 header.0 header.1 header.2 parts.3
   where
-    of_none : (z : ℤ) (mid : Bytes) → FitsSigned w64 z → z ≤ℤ pos 0 → bytes ≡ signed_decimal z ++ 13 ∷ 10 ∷ mid → Whole [] mid ≡ Whole words rest → IsSpelled (42 ∷ bytes) words rest
+    of_none : (z : ℤ) (mid : Bytes) → FitsSigned w64 z → z ≤ℤ pos 0 → bytes ≡ signed_decimal z ++ 13 ∷ 10 ∷ mid → Whole [] mid ≡ Whole words rest
+        → IsSpelled (42 ∷ bytes) words rest
     of_none z mid fits low split same =
         let none : [] ≡ words = cc same in
         let left : mid ≡ rest = cc same in
-        subst (λ ws. IsSpelled (42 ∷ bytes) ws rest) none
-        (42 ∷ signed_decimal z ++ crlf, empty_array z fits low, ap (λ bs. 42 ∷ bs) (split ∙ ap (λ bs. signed_decimal z ++ 13 ∷ 10 ∷ bs) left ∙ sym (append_assoc (signed_decimal z) crlf rest)))
+        subst (λ ws. IsSpelled (42 ∷ bytes) ws rest) none (
+          42 ∷ signed_decimal z ++ crlf,
+          empty_array z fits low,
+          ap (λ bs. 42 ∷ bs) (split ∙ ap (λ bs. signed_decimal z ++ 13 ∷ 10 ∷ bs) left ∙ sym (append_assoc (signed_decimal z) crlf rest)),
+        )
 
-    of_count : (z : ℤ) (mid : Bytes) → FitsSigned w64 z → is_count z ≡ true → bytes ≡ signed_decimal z ++ 13 ∷ 10 ∷ mid → bulks_at (how_many z) mid ≡ Whole words rest → IsSpelled (42 ∷ bytes) words rest
+    of_count : (z : ℤ) (mid : Bytes) → FitsSigned w64 z → is_count z ≡ true → bytes ≡ signed_decimal z ++ 13 ∷ 10 ∷ mid
+        → bulks_at (how_many z) mid ≡ Whole words rest → IsSpelled (42 ∷ bytes) words rest
     of_count (negsuc n) mid fits fit split at = of_none (negsuc n) mid fits (omega (arith, ints)) split at
     of_count (pos zero) mid fits fit split at = of_none (pos 0) mid fits (omega (arith, ints)) split at
     of_count (pos (suc n)) mid fits fit split at =
@@ -354,11 +380,13 @@ array_found bytes words rest e =
         let found = bulks_found (suc n) mid words rest at in (
           array_text words,
           array words (omega (arith, found.0)) (omega (arith, found.0)) found.1,
-          ap (λ bs. 42 ∷ bs) (split ∙ ap (λ bs. decimal (suc n) ++ 13 ∷ 10 ∷ bs) found.2 ∙ ap (λ m. decimal m ++ 13 ∷ 10 ∷ (flat_map bulk_text words ++ rest)) (sym found.0))
+          ap (λ bs. 42 ∷ bs) (split ∙ ap (λ bs. decimal (suc n) ++ 13 ∷ 10 ∷ bs) found.2
+              ∙ ap (λ m. decimal m ++ 13 ∷ 10 ∷ (flat_map bulk_text words ++ rest)) (sym found.0))
               ∙ sym (header_split (pos (length words)) (flat_map bulk_text words) rest),
         )
 
-inline_found : (c : ℕ) (bytes : Bytes) (words : List Bytes) (rest : Bytes) → eqb c 42 ≡ false → inline_at (c ∷ bytes) ≡ Whole words rest → IsSpelled (c ∷ bytes) words rest
+inline_found : (c : ℕ) (bytes : Bytes) (words : List Bytes) (rest : Bytes) → eqb c 42 ≡ false → inline_at (c ∷ bytes) ≡ Whole words rest
+    → IsSpelled (c ∷ bytes) words rest
 inline_found c bytes words rest other e =
     let parts = then_whole (line_at most_inline_bytes Inline (c ∷ bytes)) inline_said words rest e in
     let line = parts.0 in

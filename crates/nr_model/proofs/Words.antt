@@ -20,7 +20,8 @@ ends_by_suffix (c ∷ d ∷ line) =
     ends_by_suffix (d ∷ line) ∙ ap (λ n. bytes_eq (drop n (c ∷ d ∷ line)) (13 ∷ [])) (sym size)
 
 pub cr_by_suffix : (line : Bytes) (r : Option (Bor (List ℕ)))
-    → MatchOption r (bytes_eq (drop (length line - 1) line) (13 ∷ []) ≡ false) (λ x. (bytes_eq (drop (length line - 1) line) (13 ∷ []) ≡ true) × (x.now ≡ take (length line - 1) line) × (length x.now + 1 ≡ length line))
+    → MatchOption r (bytes_eq (drop (length line - 1) line) (13 ∷ []) ≡ false)
+    (λ x. (bytes_eq (drop (length line - 1) line) (13 ∷ []) ≡ true) × (x.now ≡ take (length line - 1) line) × (length x.now + 1 ≡ length line))
     → MatchOption r (ends_with_cr line ≡ false) (λ front. (ends_with_cr line ≡ true) × (front.now ≡ without_last line))
 cr_by_suffix line None h = ends_by_suffix line ∙ h
 cr_by_suffix line (Some front) h = (ends_by_suffix line ∙ h.0, h.1)
@@ -30,7 +31,8 @@ abbrev pub with_front : List Bytes → Front (List Bytes) → Front (List Bytes)
 with_front front read = front_then read (λ words rest. Whole (front ++ words) rest)
 
 -- a word ends before a blank
-word_before : (c : ℕ) (word rest : Bytes) → list_any is_blank (c ∷ word) ≡ false → begins_blank rest ≡ true → words_of (c ∷ word ++ rest) ≡ (c ∷ word) ∷ words_of rest
+word_before : (c : ℕ) (word rest : Bytes) → list_any is_blank (c ∷ word) ≡ false → begins_blank rest ≡ true
+    → words_of (c ∷ word ++ rest) ≡ (c ∷ word) ∷ words_of rest
 word_before c [] rest none blank =
     let first = or_parts (is_blank c) false none in
     ap (λ b. cond b (words_of rest) (cond (begins_blank rest) ((c ∷ []) ∷ words_of rest) (onto_first c (words_of rest)))) first.0
@@ -46,7 +48,8 @@ word_before c (d ∷ word) rest none blank =
 blank_step : (c : ℕ) (rest : Bytes) → is_blank c ≡ true → words_of (c ∷ rest) ≡ words_of rest
 blank_step c rest blank = ap (λ b. cond b (words_of rest) (cond (begins_blank rest) ((c ∷ []) ∷ words_of rest) (onto_first c (words_of rest)))) blank
 
-pub blank_behind : (words : List Bytes) (word : Bytes) (c : ℕ) (rest : Bytes) (total : List Bytes) → list_any is_blank word ≡ false → is_blank c ≡ true → 0 < length word
+pub blank_behind : (words : List Bytes) (word : Bytes) (c : ℕ) (rest : Bytes) (total : List Bytes) → list_any is_blank word ≡ false
+    → is_blank c ≡ true → 0 < length word
     → words ++ words_of (word ++ c ∷ rest) ≡ total → (words ++ word ∷ []) ++ words_of rest ≡ total
 blank_behind words [] c rest total none blank some so_far = absurd (omega arith)
 blank_behind words (d ∷ word) c rest total none blank some so_far =
@@ -60,7 +63,8 @@ pub blank_alone : (words : List Bytes) (word : Bytes) (c : ℕ) (rest : Bytes) (
 blank_alone words [] c rest total blank none so_far = ap (λ ws. words ++ ws) (sym (blank_step c rest blank)) ∙ so_far
 blank_alone words (d ∷ word) c rest total blank none so_far = absurd (omega arith)
 
-pub word_at_end : (words : List Bytes) (word : Bytes) (total : List Bytes) → list_any is_blank word ≡ false → 0 < length word → words ++ words_of (word ++ []) ≡ total → words ++ word ∷ [] ≡ total
+pub word_at_end : (words : List Bytes) (word : Bytes) (total : List Bytes) → list_any is_blank word ≡ false → 0 < length word
+    → words ++ words_of (word ++ []) ≡ total → words ++ word ∷ [] ≡ total
 word_at_end words [] total none some so_far = absurd (omega arith)
 word_at_end words (d ∷ word) total none some so_far = ap (λ ws. words ++ ws) (sym (word_before d word [] none refl)) ∙ so_far
 
@@ -69,17 +73,20 @@ no_word_at_end words [] total none so_far = sym (append-nil words) ∙ so_far
 no_word_at_end words (d ∷ word) total none so_far = absurd (omega arith)
 
 -- the words so far, with the next byte apart, and with it in the open word
-pub byte_apart : (words : List Bytes) (word line : Bytes) (i : ℕ) (total : List Bytes) → i < length line → words ++ words_of (word ++ drop i line) ≡ total → words ++ words_of (word ++ get_or line i 0 ∷ drop (i + 1) line) ≡ total
+pub byte_apart : (words : List Bytes) (word line : Bytes) (i : ℕ) (total : List Bytes) → i < length line → words ++ words_of (word ++ drop i line) ≡ total
+    → words ++ words_of (word ++ get_or line i 0 ∷ drop (i + 1) line) ≡ total
 byte_apart words word line i total lt so_far = ap (λ rest. words ++ words_of (word ++ rest)) (sym (drop_more line i 0 lt)) ∙ so_far
 
-pub byte_joined : (words : List Bytes) (word line : Bytes) (i : ℕ) (total : List Bytes) → i < length line → words ++ words_of (word ++ drop i line) ≡ total → words ++ words_of ((word ++ get_or line i 0 ∷ []) ++ drop (i + 1) line) ≡ total
+pub byte_joined : (words : List Bytes) (word line : Bytes) (i : ℕ) (total : List Bytes) → i < length line → words ++ words_of (word ++ drop i line) ≡ total
+    → words ++ words_of ((word ++ get_or line i 0 ∷ []) ++ drop (i + 1) line) ≡ total
 byte_joined words word line i total lt so_far =
     ap (λ bs. words ++ words_of bs) (append_assoc word (get_or line i 0 ∷ []) (drop (i + 1) line)) ∙ byte_apart words word line i total lt so_far
 
 pub still_unparted : (word : Bytes) (c : ℕ) → list_any is_blank word ≡ false → is_blank c ≡ false → list_any is_blank (word ++ c ∷ []) ≡ false
 still_unparted word c none other = list_any-append is_blank word (c ∷ []) ∙ or_from _ _ none (or_from _ _ other refl)
 
-pub at_end : (words : List Bytes) (word line : Bytes) (i : ℕ) (total : List Bytes) → length line ≤ i → words ++ words_of (word ++ drop i line) ≡ total → words ++ words_of (word ++ []) ≡ total
+pub at_end : (words : List Bytes) (word line : Bytes) (i : ℕ) (total : List Bytes) → length line ≤ i → words ++ words_of (word ++ drop i line) ≡ total
+    → words ++ words_of (word ++ []) ≡ total
 at_end words word line i total le so_far = ap (λ rest. words ++ words_of (word ++ rest)) (sym (drop_all i line le)) ∙ so_far
 
 -- what `is_empty` says of a Vec

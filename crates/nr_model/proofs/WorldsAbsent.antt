@@ -43,7 +43,8 @@ exists_on world c absent =
     elim (cases_Bool (exists world c)) [
       | inl e ↦ let both = and_parts (eqb c.node 0) (ltb c.serial world.opened) e in
           let below : c.serial < world.opened = ltb-true c.serial world.opened both.1 in
-          let here : exists (with_opened world) c ≡ true = and_from (eqb c.node 0) (ltb c.serial (world.opened + 1)) both.0 (lt-ltb c.serial (world.opened + 1) (omega arith)) in
+          let here : exists (with_opened world) c ≡ true =
+          and_from (eqb c.node 0) (ltb c.serial (world.opened + 1)) both.0 (lt-ltb c.serial (world.opened + 1) (omega arith)) in
           absurd (cc (here, absent))
       | inr e ↦ e
     ]
@@ -75,10 +76,20 @@ keeps_untouched = record {
       record { text = fed_to_other world d c time bytes other ∙ u.text; on = u.on; jobs = fed_apart world d c time bytes other ∙ u.jobs };
   applies = λ world p c absent.
       let u = p c absent in
-      record { text = u.text; on = u.on; jobs = done_apart world (left_by_entry world.waiting) (Entry (entry_jobs world.waiting)) c (entry_apart c world.waiting) ∙ u.jobs };
+      record {
+        text = u.text;
+        on = u.on;
+        jobs = done_apart world (left_by_entry world.waiting) (Entry (entry_jobs world.waiting)) c
+            (entry_apart c world.waiting) ∙ u.jobs;
+      };
   looks = λ world p c absent.
       let u = p c absent in
-      record { text = u.text; on = u.on; jobs = done_apart world (left_by_reads world.waiting) (Reads (read_jobs world.waiting)) c (reads_apart c world.waiting) ∙ u.jobs };
+      record {
+        text = u.text;
+        on = u.on;
+        jobs = done_apart world (left_by_reads world.waiting) (Reads (read_jobs world.waiting)) c
+            (reads_apart c world.waiting) ∙ u.jobs;
+      };
   collects = λ world p c absent.
       let u = p c absent in
       record { text = u.text; on = u.on; jobs = u.jobs };
@@ -105,7 +116,8 @@ nothing_mapped f (x ∷ xs) e = absurd (cc e)
 
 -- no items, where there were no jobs
 no_items : (world : World) (c : Connection) → own_jobs c (jobs_executed world) ≡ [] → own_jobs c (sequence_of world) ≡ []
-no_items world c none = nothing_mapped (λ (item : Item). item.number) (own_jobs c (sequence_of world)) (own_numbers c world.executed ∙ ap (λ (js : Jobs). map (λ (item : Item). item.number) js) none)
+no_items world c none = nothing_mapped (λ (item : Item). item.number) (own_jobs c (sequence_of world))
+    (own_numbers c world.executed ∙ ap (λ (js : Jobs). map (λ (item : Item). item.number) js) none)
 
 -- no bytes have no frames, and ask for nothing
 asked_by_none : framed_conversation served plain (framing_of []) ≡ record { deeds = []; mode = plain; ended = false }
@@ -122,7 +134,8 @@ is_absent world untouched given c absent =
     let u = untouched c absent in
     let jobs = nothing_in (own_jobs c (jobs_executed world)) (own_jobs c world.waiting) u.jobs in
     let alone = all_plain world.executed given.plain.executed in
-    let silence : emitted_for c (sequence_of world) ≡ [] = emitted_for-is c (sequence_of world) alone ∙ silent c opening (sequence_of world) alone (no_items world c jobs.0) in
+    let silence : emitted_for c (sequence_of world) ≡ [] =
+    emitted_for-is c (sequence_of world) alone ∙ silent c opening (sequence_of world) alone (no_items world c jobs.0) in
     let b = given.begins c in
     let bytes = nothing_in (handed_to c world.handed) b.0 (b.1 ∙ silence) in
     record {

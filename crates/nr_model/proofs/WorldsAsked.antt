@@ -33,7 +33,8 @@ pub record IsAsked (world : World) (c : Connection) : Type 0 where
   pub counted : is_closed world c ≡ false → length (all_of world c) ≡ length (deeds_by served (fed_to c world.fed))
 
 -- what is executed was waiting
-pub done_apart : (world : World) (left : Jobs) (done : Executed) (c : Connection) → own_jobs c world.waiting ≡ own_jobs c (executed_jobs done) ++ own_jobs c left
+pub done_apart : (world : World) (left : Jobs) (done : Executed) (c : Connection)
+    → own_jobs c world.waiting ≡ own_jobs c (executed_jobs done) ++ own_jobs c left
     → all_of (with_done world left done) c ≡ all_of world c
 done_apart world left done c e =
     let before = jobs_executed world in
@@ -58,10 +59,12 @@ fed_apart world d c time bytes other =
     let new = new_jobs world d time bytes in
     let none : own_jobs c new ≡ [] = no_jobs_from d c (length (asked_by world d).deeds) (moment time) _ other in
     ap (λ (js : Jobs). own_jobs c (jobs_executed world) ++ js)
-    (filter-append (λ (job : Item). same_connection job.connection c) world.waiting new ∙ ap (λ (js : Jobs). own_jobs c world.waiting ++ js) none ∙ append-nil (own_jobs c world.waiting))
+    (filter-append (λ (job : Item). same_connection job.connection c) world.waiting new ∙ ap (λ (js : Jobs). own_jobs c world.waiting ++ js) none
+    ∙ append-nil (own_jobs c world.waiting))
 
 -- nor bytes
-pub fed_to_other : (world : World) (d c : Connection) (time : ℕ) (bytes : Bytes) → same_connection d c ≡ false → fed_to c (fed world d time bytes).fed ≡ fed_to c world.fed
+pub fed_to_other : (world : World) (d c : Connection) (time : ℕ) (bytes : Bytes) → same_connection d c ≡ false
+    → fed_to c (fed world d time bytes).fed ≡ fed_to c world.fed
 fed_to_other world d c time bytes other =
     let feeding : Feeding = record { connection = d; moment = moment time; bytes = bytes } in
     fed_to-append c world.fed (feeding ∷ []) ∙ ap (λ (b : Bytes). fed_to c world.fed ++ b) (other_bytes c feeding other) ∙ append-nil (fed_to c world.fed)
@@ -91,7 +94,8 @@ feeds_own world c time bytes on a =
     let before = length (deeds_by served old) in
     let new = new_jobs world c time bytes in
     let of_c = λ (job : Item). same_connection job.connection c in
-    let text : fed_to c after.fed ≡ old ++ bytes = fed_to-append c world.fed (feeding ∷ []) ∙ ap (λ (b : Bytes). old ++ b) (own_bytes c feeding (same_self c)) in
+    let text : fed_to c after.fed ≡ old ++ bytes =
+    fed_to-append c world.fed (feeding ∷ []) ∙ ap (λ (b : Bytes). old ++ b) (own_bytes c feeding (same_self c)) in
     let deeds = deeds_by served (fed_to c after.fed) in
     let mine : own_jobs c new ≡ new = own_jobs_from c before (moment time) (drop before deeds) in
     let more : all_of after c ≡ all_of world c ++ new =
@@ -101,7 +105,8 @@ feeds_own world c time bytes on a =
     let was : all_of world c ≡ jobs_of_feeds c [] world.fed = a.own ∙ ap (λ (o : Option Item). cut_by o (jobs_of_feeds c [] world.fed)) uncut in
     let here : jobs_of_feeds c old (feeding ∷ []) ≡ new =
     own_feed c old feeding (same_self c) ∙ ap (λ (b : Bytes). jobs_from c before (moment time) (drop before (deeds_by served b))) (sym text) in
-    let jobs : jobs_of_feeds c [] after.fed ≡ jobs_of_feeds c [] world.fed ++ new = jobs_of_feeds-append c [] world.fed (feeding ∷ []) ∙ ap (λ (js : Jobs). jobs_of_feeds c [] world.fed ++ js) here in
+    let jobs : jobs_of_feeds c [] after.fed ≡ jobs_of_feeds c [] world.fed ++ new =
+    jobs_of_feeds-append c [] world.fed (feeding ∷ []) ∙ ap (λ (js : Jobs). jobs_of_feeds c [] world.fed ++ js) here in
     let known : length (all_of world c) ≡ before = a.counted on in
     let from : before ≡ 0 + length (all_of world c) = omega (arith, known) in
     let long : length new ≡ length (drop before deeds) = length-jobs_from c before (moment time) (drop before deeds) in
@@ -113,7 +118,8 @@ feeds_own world c time bytes on a =
       own = more ∙ ap (λ (js : Jobs). js ++ new) was ∙ sym jobs ∙ sym (ap (λ (o : Option Item). cut_by o (jobs_of_feeds c [] after.fed)) uncut);
       numbers =
           subst (CountsFrom 0) (sym more)
-          (CountsFrom-append 0 (all_of world c) new a.numbers (subst (λ (n : ℕ). CountsFrom n new) from (jobs_from-counts c before (moment time) (drop before deeds))));
+          (CountsFrom-append 0 (all_of world c) new a.numbers
+          (subst (λ (n : ℕ). CountsFrom n new) from (jobs_from-counts c before (moment time) (drop before deeds))));
       counted = λ still. ap length more ∙ total ∙ omega (arith, known, long, grown, behind, left);
     }
 
@@ -121,7 +127,8 @@ feeds_own world c time bytes on a =
 not_both : (c d e : Connection) → same_connection c d ≡ false → same_connection e c ≡ true → same_connection e d ≡ false
 not_both c d e other same = subst (λ (f : Connection). same_connection f d ≡ false) (sym (same_is e c same)) other
 
-others_stay : (c d : Connection) (jobs : Jobs) → same_connection c d ≡ false → own_jobs d (filter (λ (job : Item). not (same_connection job.connection c)) jobs) ≡ own_jobs d jobs
+others_stay : (c d : Connection) (jobs : Jobs) → same_connection c d ≡ false
+    → own_jobs d (filter (λ (job : Item). not (same_connection job.connection c)) jobs) ≡ own_jobs d jobs
 others_stay c d [] other = refl
 others_stay c d (job ∷ jobs) other =
     let of_d = λ (j : Item). same_connection j.connection d in
@@ -146,17 +153,20 @@ own_dropped c (job ∷ jobs) =
     ]
 
 -- the job of a close is its connection's
-close_other : (none : Bool) (job : Item) (d : Connection) → same_connection job.connection d ≡ false → own_jobs d (option_to_list (cond none None (Some job))) ≡ []
+close_other : (none : Bool) (job : Item) (d : Connection) → same_connection job.connection d ≡ false
+    → own_jobs d (option_to_list (cond none None (Some job))) ≡ []
 close_other true job d other = refl
 close_other false job d other = filter-drops (λ (j : Item). same_connection j.connection d) job [] other
 
 -- and stays among them
-close_own : (none : Bool) (job : Item) (c : Connection) → same_connection job.connection c ≡ true → own_jobs c (option_to_list (cond none None (Some job))) ≡ option_to_list (cond none None (Some job))
+close_own : (none : Bool) (job : Item) (c : Connection) → same_connection job.connection c ≡ true
+    → own_jobs c (option_to_list (cond none None (Some job))) ≡ option_to_list (cond none None (Some job))
 close_own true job c same = refl
 close_own false job c same = filter-keeps (λ (j : Item). same_connection j.connection c) job [] same
 
 -- a connection that is open was open before a close
-not_closed_before : (world : World) (closing : Closing) (d : Connection) → list_any (λ (k : Closing). same_connection k.connection d) (world.closed ++ closing ∷ []) ≡ false → is_closed world d ≡ false
+not_closed_before : (world : World) (closing : Closing) (d : Connection)
+    → list_any (λ (k : Closing). same_connection k.connection d) (world.closed ++ closing ∷ []) ≡ false → is_closed world d ≡ false
 not_closed_before world closing d e =
     let of_d = λ (k : Closing). same_connection k.connection d in
     first_false (list_any of_d world.closed) _ (sym (list_any-append of_d world.closed (closing ∷ [])) ∙ e)
@@ -170,7 +180,12 @@ pub closed_apart : (world : World) (c d : Connection) (time : ℕ) → same_conn
 closed_apart world c d time other =
     let job = close_job world c time in
     let kept = filter (λ (j : Item). not (same_connection j.connection c)) world.waiting in
-    let mine : Item = record { connection = c; number = close_number (length (asked_by world c).deeds) (own_jobs c world.waiting); moment = moment time; deed = End None } in
+    let mine : Item = record {
+      connection = c;
+      number = close_number (length (asked_by world c).deeds) (own_jobs c world.waiting);
+      moment = moment time;
+      deed = End None;
+    } in
     let none : own_jobs d (option_to_list job) ≡ [] = close_other ((asked_by world c).ended && length (own_jobs c world.waiting) == 0) mine d other in
     ap (λ (js : Jobs). own_jobs d (jobs_executed world) ++ js)
     (filter-append (λ (j : Item). same_connection j.connection d) kept (option_to_list job)
@@ -194,8 +209,10 @@ cut_at : (front behind : Jobs) (job : Item) → job.number ≡ length front → 
 cut_at front behind job e = sym (ap (λ (js : Jobs). js ++ job ∷ []) (take_at front behind job.number (sym e)))
 
 -- by what waits: nothing, or a first job that is dropped
-cuts : (ended : Bool) (front behind : Jobs) (job : Item) (n : ℕ) → CountsFrom 0 (front ++ behind) → length (front ++ behind) ≡ n → job.number ≡ close_number n behind
-    → front ++ option_to_list (cond (ended && length behind == 0) None (Some job)) ≡ cut_by (cond (ended && length behind == 0) None (Some job)) (front ++ behind)
+cuts : (ended : Bool) (front behind : Jobs) (job : Item) (n : ℕ) → CountsFrom 0 (front ++ behind) → length (front ++ behind) ≡ n
+    → job.number ≡ close_number n behind
+    → front ++ option_to_list (cond (ended && length behind == 0) None (Some job))
+    ≡ cut_by (cond (ended && length behind == 0) None (Some job)) (front ++ behind)
 cuts true front [] job n counts long e = refl
 cuts false front [] job n counts long e = cut_at front [] job (e ∙ sym long ∙ ap length (append-nil front))
 cuts true front (x ∷ behind) job n counts long e =
@@ -208,7 +225,8 @@ cuts false front (x ∷ behind) job n counts long e =
     cut_at front (x ∷ behind) job (e ∙ CountsFrom-next 0 front x behind counts ∙ at)
 
 -- the numbers go on counting up
-cut_counts : (none : Bool) (front behind : Jobs) (job : Item) → CountsFrom 0 (front ++ behind) → job.number ≡ length front → CountsFrom 0 (front ++ option_to_list (cond none None (Some job)))
+cut_counts : (none : Bool) (front behind : Jobs) (job : Item) → CountsFrom 0 (front ++ behind) → job.number ≡ length front
+    → CountsFrom 0 (front ++ option_to_list (cond none None (Some job)))
 cut_counts true front behind job counts e = subst (CountsFrom 0) (sym (append-nil front)) (CountsFrom-front 0 front behind counts)
 cut_counts false front behind job counts e =
     let at : length front ≡ 0 + length front = omega arith in
@@ -222,7 +240,8 @@ number_is front (x ∷ behind) n counts long =
     CountsFrom-next 0 front x behind counts ∙ at
 
 -- a connection that was closed now is closed
-pub closed_now : (world : World) (closing : Closing) (c : Connection) → same_connection closing.connection c ≡ true → list_any (λ (k : Closing). same_connection k.connection c) (world.closed ++ closing ∷ []) ≡ true
+pub closed_now : (world : World) (closing : Closing) (c : Connection) → same_connection closing.connection c ≡ true
+    → list_any (λ (k : Closing). same_connection k.connection c) (world.closed ++ closing ∷ []) ≡ true
 closed_now world closing c same =
     let of_c = λ (k : Closing). same_connection k.connection c in
     list_any-append of_c world.closed (closing ∷ []) ∙ or_right (list_any of_c world.closed) (of_c closing || false) (or_left (of_c closing) false same)
@@ -244,7 +263,8 @@ closes_own world c time on a =
     let kept = filter (λ (j : Item). not (same_connection j.connection c)) world.waiting in
     let more : all_of after c ≡ front ++ option_to_list job =
     ap (λ (js : Jobs). front ++ js)
-    (filter-append of_c kept (option_to_list job) ∙ ap (λ (js : Jobs). js ++ own_jobs c (option_to_list job)) (own_dropped c world.waiting) ∙ close_own none mine c (same_self c)) in
+    (filter-append of_c kept (option_to_list job) ∙ ap (λ (js : Jobs). js ++ own_jobs c (option_to_list job)) (own_dropped c world.waiting)
+    ∙ close_own none mine c (same_self c)) in
     let was : all_of world c ≡ asked = a.own ∙ ap (λ (o : Option Item). cut_by o asked) (closing_none c world.closed on) in
     record {
       own =

@@ -12,8 +12,8 @@ use Rattle.nr_model.specs.declared.command.Command.TheVariants.{Perform, Session
 use Rattle.nr_model.specs.declared.command.Operation.TheVariants.{Look, Change}
 use Rattle.nr_model.specs.Items.{Connection, same_connection, Call, Deed, Say, Act, Run, Abort, End, Item, Sequence}
 use Rattle.nr_model.specs.Sequential.Events.{Emission}
-use Rattle.nr_model.specs.Sequential.{Progress, acted, acted_all, bytes_for, emitted_for}
-use Rattle.nr_model.specs.States.{State, opening, stepped, emitted_in, after_all, emitted_all, done_by, progress_in, beginning, now_in, needs_keyspace_alone, is_plain_call, is_plain_deed, ArePlain}
+use Rattle.nr_model.specs.Sequential.{Found, Progress, acted, acted_all, done_by, start, bytes_for, emitted_for}
+use Rattle.nr_model.specs.States.{State, opening, stepped, emitted_in, after_all, emitted_all, found_in, progress_in, now_in, needs_keyspace_alone, is_plain_call, is_plain_deed, ArePlain}
 use Rattle.nr_model.specs.Entries.{Jobs, entry_moment}
 use Rattle.nr_model.specs.Worlds.{own_jobs, Executed, Entry, Reads, executed_items, executed_jobs}
 use Rattle.nr_model.proofs.Agreement.{machine_is_sequential}
@@ -56,26 +56,26 @@ emitted_for-more c items more plain both =
     ∙ ap (λ (b : Bytes). b ++ bytes_for c (emitted_all (after_all opening items) more)) (sym (emitted_for-is c items plain))
 
 -- plain deeds send no messages
-act_sends_none : (c : Connection) (now : ℕ) (command : Command) (call : Call) (p : Progress) → needs_keyspace_alone command ≡ true → (acted [] c now command call p).messages ≡ p.messages
-act_sends_none c now (Perform (Look command)) call p h = refl
-act_sends_none c now (Perform (Change command)) call p h = refl
-act_sends_none c now (Session command) call p h = absurd (cc)
+act_sends_none : (found : Found) (now : ℕ) (command : Command) (call : Call) (p : Progress) → needs_keyspace_alone command ≡ true → (acted found now command call p).messages ≡ p.messages
+act_sends_none found now (Perform (Look command)) call p h = refl
+act_sends_none found now (Perform (Change command)) call p h = refl
+act_sends_none found now (Session command) call p h = absurd (cc)
 
 -- nor do the commands of a transaction
-acts_send_none : (c : Connection) (now : ℕ) (calls : List Call) (p : Progress) → list_all is_plain_call calls ≡ true → (acted_all [] c now calls p).messages ≡ p.messages
-acts_send_none c now [] p h = refl
-acts_send_none c now (call ∷ calls) p h =
+acts_send_none : (found : Found) (now : ℕ) (calls : List Call) (p : Progress) → list_all is_plain_call calls ≡ true → (acted_all found now calls p).messages ≡ p.messages
+acts_send_none found now [] p h = refl
+acts_send_none found now (call ∷ calls) p h =
     let both = and_parts (is_plain_call call) (list_all is_plain_call calls) h in
-    acts_send_none c now calls (acted [] c now call.command call p) both.1 ∙ act_sends_none c now call.command call p both.0
+    acts_send_none found now calls (acted found now call.command call p) both.1 ∙ act_sends_none found now call.command call p both.0
 
 -- by the deed
-sends_none : (c : Connection) (now : ℕ) (deed : Deed) (p : Progress) → is_plain_deed deed ≡ true → (done_by c now deed p).messages ≡ p.messages
-sends_none c now (Say reply) p h = refl
-sends_none c now (Act call) p h = act_sends_none c now call.command call p h
-sends_none c now (Run calls) p h = acts_send_none c now calls p h
-sends_none c now Abort p h = refl
-sends_none c now (End None) p h = refl
-sends_none c now (End (Some reply)) p h = refl
+sends_none : (found : Found) (now : ℕ) (deed : Deed) (p : Progress) → found.spoiled ≡ false → is_plain_deed deed ≡ true → (done_by found now deed p).messages ≡ p.messages
+sends_none found now (Say reply) p whole h = refl
+sends_none found now (Act call) p whole h = act_sends_none found now call.command call p h
+sends_none found now (Run calls) p whole h = rw whole (acts_send_none found now calls p h)
+sends_none found now Abort p whole h = refl
+sends_none found now (End None) p whole h = refl
+sends_none found now (End (Some reply)) p whole h = refl
 
 -- replies as emissions
 abbrev replies_to : Connection → List Reply → List Emission
@@ -92,7 +92,7 @@ to_others c d (reply ∷ replies) other =
 item_silent : (c : Connection) (state : State) (item : Item) → is_plain_deed item.deed ≡ true → same_connection item.connection c ≡ false → bytes_for c (emitted_in state item) ≡ []
 item_silent c state item plain other =
     let p = progress_in state item in
-    ap (λ (ms : List Emission). bytes_for c (ms ++ replies_to item.connection p.replies)) (sends_none item.connection (now_in state item) item.deed (beginning state) plain)
+    ap (λ (ms : List Emission). bytes_for c (ms ++ replies_to item.connection p.replies)) (sends_none (found_in state) (now_in state item) item.deed (start (found_in state)) refl plain)
     ∙ to_others item.connection c p.replies other
 
 -- nothing is emitted for a connection that has no item

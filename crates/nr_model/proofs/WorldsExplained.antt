@@ -39,7 +39,8 @@ kept setup steps = record {
 }
 
 -- the numbers of a connection's items count up
-numbered : (world : World) (c : Connection) → IsAsked world c → map (λ (item : Item). item.number) (own_jobs c (sequence_of world)) ≡ range_with_len 0 (length (own_jobs c (sequence_of world)))
+numbered : (world : World) (c : Connection) → IsAsked world c
+    → map (λ (item : Item). item.number) (own_jobs c (sequence_of world)) ≡ range_with_len 0 (length (own_jobs c (sequence_of world)))
 numbered world c a =
     let number = λ (item : Item). item.number in
     let jobs = own_jobs c (jobs_executed world) in
@@ -63,10 +64,12 @@ or_none true = refl
 or_none false = refl
 
 -- another connection's close
-same_closed : (world : World) (closing : Closing) (c : Connection) → same_connection closing.connection c ≡ false → list_any (λ (k : Closing). same_connection k.connection c) (world.closed ++ closing ∷ []) ≡ is_closed world c
+same_closed : (world : World) (closing : Closing) (c : Connection) → same_connection closing.connection c ≡ false
+    → list_any (λ (k : Closing). same_connection k.connection c) (world.closed ++ closing ∷ []) ≡ is_closed world c
 same_closed world closing c other =
     let of_c = λ (k : Closing). same_connection k.connection c in
-    list_any-append of_c world.closed (closing ∷ []) ∙ ap (λ (b : Bool). list_any of_c world.closed || (b || false)) other ∙ or_none (list_any of_c world.closed)
+    list_any-append of_c world.closed (closing ∷ []) ∙ ap (λ (b : Bool). list_any of_c world.closed || (b || false)) other
+    ∙ or_none (list_any of_c world.closed)
 
 -- nothing waits behind a collect
 nothing_waits : (world : World) → IsKept world → (c : Connection) → waiting_for (gathered world) c ≡ []
@@ -88,7 +91,8 @@ moved world k = record {
   collected = λ node worker c. nothing_waits world k c;
   closed = λ c time. none_waits (closed world c time) c (closed_now world (record { connection = c; job = close_job world c time }) c (same_self c));
   unclosed = λ c d time other.
-      ap (λ (cut : Bool). cond cut [] (drop (length (handed_to d world.handed)) (emitted_for d (sequence_of world)))) (same_closed world (record { connection = c; job = close_job world c time }) d other);
+      ap (λ (cut : Bool). cond cut [] (drop (length (handed_to d world.handed)) (emitted_for d (sequence_of world))))
+      (same_closed world (record { connection = c; job = close_job world c time }) d other);
   opened = λ node worker c. refl;
   as_fed = λ c d time bytes. refl;
 }

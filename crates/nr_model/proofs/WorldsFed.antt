@@ -44,7 +44,8 @@ no_fault : (framing : Framing) → (asks_for framing).ended ≡ false → framin
 no_fault framing on = none_ended framing.fault (sym (ended_is framing) ∙ on)
 
 -- frames in front of others ask for theirs first
-deeds_behind : (framing next : Framing) → framing.fault ≡ None → (asks_for (with_frames framing.frames next)).deeds ≡ (asks_for framing).deeds ++ (asks_for next).deeds
+deeds_behind : (framing next : Framing) → framing.fault ≡ None
+    → (asks_for (with_frames framing.frames next)).deeds ≡ (asks_for framing).deeds ++ (asks_for next).deeds
 deeds_behind framing next whole =
     let front = map served_deed framing.frames in
     let alone : (asks_for framing).deeds ≡ front =
@@ -59,7 +60,8 @@ ended_behind : (frames : List Frame) (next : Framing) → (asks_for (with_frames
 ended_behind frames next = ended_is (with_frames frames next) ∙ sym (ended_is next)
 
 -- the frames of the bytes with more behind them
-goes_on : (bytes more : Bytes) → (asks_for (framing_of bytes)).ended ≡ false → framing_of (bytes ++ more) ≡ with_frames (framing_of bytes).frames (framing_of ((framing_of bytes).rest ++ more))
+goes_on : (bytes more : Bytes) → (asks_for (framing_of bytes)).ended ≡ false
+    → framing_of (bytes ++ more) ≡ with_frames (framing_of bytes).frames (framing_of ((framing_of bytes).rest ++ more))
 goes_on bytes more on =
     let framing = framing_of bytes in
     let next = with_frames framing.frames (framing_of (framing.rest ++ more)) in
@@ -75,7 +77,8 @@ is_fed world c time bytes on =
     let next = framed_next world c bytes in
     let before = (asked_by world c).deeds in
     let more = (asked_next world c bytes).deeds in
-    let text : fed_to c after.fed ≡ old ++ bytes = fed_to-append c world.fed (feeding ∷ []) ∙ ap (λ (b : Bytes). old ++ b) (own_bytes c feeding (same_self c)) in
+    let text : fed_to c after.fed ≡ old ++ bytes =
+    fed_to-append c world.fed (feeding ∷ []) ∙ ap (λ (b : Bytes). old ++ b) (own_bytes c feeding (same_self c)) in
     let frames : framing_of (fed_to c after.fed) ≡ with_frames framing.frames next = ap framing_of text ∙ goes_on old bytes on in
     let deeds : (asked_by after c).deeds ≡ before ++ more = ap (λ (f : Framing). (asks_for f).deeds) frames ∙ deeds_behind framing next (no_fault framing on) in
     record {

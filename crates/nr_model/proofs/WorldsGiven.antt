@@ -45,7 +45,11 @@ whole_account world c b on = ap (λ (w : Bytes). handed_to c world.handed ++ w) 
 pub account_begins : (world : World) (c : Connection) → Begins world c → IsBeginningOf (account_of world c) (emitted_for c (sequence_of world))
 account_begins world c b =
     elim (cases_Bool (is_closed world c)) [
-      | inl e ↦ (b.0, ap (λ (w : Bytes). w ++ b.0) (ap (λ (w : Bytes). handed_to c world.handed ++ w) (none_waits world c e) ∙ append-nil (handed_to c world.handed)) ∙ b.1)
+      | inl e ↦ (
+        b.0,
+        ap (λ (w : Bytes). w ++ b.0)
+            (ap (λ (w : Bytes). handed_to c world.handed ++ w) (none_waits world c e) ∙ append-nil (handed_to c world.handed)) ∙ b.1,
+      )
       | inr e ↦ ([], append-nil (account_of world c) ∙ whole_account world c b e)
     ]
 
@@ -56,11 +60,13 @@ pub record IsGiven (world : World) : Type 0 where
 
 -- once something more was executed
 pub sequence_more : (world : World) (left : Jobs) (done : Executed) → sequence_of (with_done world left done) ≡ sequence_of world ++ executed_items done
-sequence_more world left done = flat_map-append executed_items world.executed (done ∷ []) ∙ ap (λ (items : Sequence). sequence_of world ++ items) (append-nil (executed_items done))
+sequence_more world left done = flat_map-append executed_items world.executed (done ∷ [])
+    ∙ ap (λ (items : Sequence). sequence_of world ++ items) (append-nil (executed_items done))
 
 -- what it emits
 emits_more : (world : World) (left : Jobs) (done : Executed) (c : Connection) → IsPlainWorld world → IsFormed done
-    → emitted_for c (sequence_of (with_done world left done)) ≡ emitted_for c (sequence_of world) ++ bytes_for c (emitted_all (state_of world) (executed_items done))
+    → emitted_for c (sequence_of (with_done world left done))
+    ≡ emitted_for c (sequence_of world) ++ bytes_for c (emitted_all (state_of world) (executed_items done))
 emits_more world left done c plain formed =
     let more = sequence_more world left done in
     let all = all_plain (with_done world left done).executed (All-append IsFormed world.executed (done ∷ []) plain.executed (formed, tt)) in
@@ -68,7 +74,8 @@ emits_more world left done c plain formed =
     ∙ emitted_for-more c (sequence_of world) (executed_items done) (all_plain world.executed plain.executed) (subst (AllByRecursion _) more all)
 
 -- what was handed begins it still
-done_begins : (world : World) (left : Jobs) (done : Executed) (c : Connection) → IsPlainWorld world → IsFormed done → Begins world c → Begins (with_done world left done) c
+done_begins : (world : World) (left : Jobs) (done : Executed) (c : Connection) → IsPlainWorld world → IsFormed done → Begins world c
+    → Begins (with_done world left done) c
 done_begins world left done c plain formed b =
     let new = bytes_for c (emitted_all (state_of world) (executed_items done)) in
     (b.0 ++ new, sym (append_assoc (handed_to c world.handed) b.0 new) ∙ ap (λ (w : Bytes). w ++ new) b.1 ∙ sym (emits_more world left done c plain formed))
@@ -93,7 +100,8 @@ handed_all world c here = handed_to-append c world.handed (collected world) ∙ 
 
 -- one that does not exist is handed nothing
 handed_none : (world : World) (c : Connection) → exists world c ≡ false → handed_to c (gathered world).handed ≡ handed_to c world.handed
-handed_none world c absent = handed_to-append c world.handed (collected world) ∙ ap (λ (w : Bytes). handed_to c world.handed ++ w) (collected_none world c absent) ∙ append-nil (handed_to c world.handed)
+handed_none world c absent = handed_to-append c world.handed (collected world)
+    ∙ ap (λ (w : Bytes). handed_to c world.handed ++ w) (collected_none world c absent) ∙ append-nil (handed_to c world.handed)
 
 -- what was handed begins what is emitted, still
 gathered_begins : (world : World) (c : Connection) → Begins world c → Begins (gathered world) c
@@ -113,8 +121,10 @@ gathered_waits world c b here =
     ]
 
 -- nor for another, if nothing is emitted for it
-pub gathered_still : (world : World) (c : Connection) → Begins world c → is_closed world c ≡ false → exists world c ≡ false → waiting_for world c ≡ [] → waiting_for (gathered world) c ≡ []
-gathered_still world c b on absent none = unread (gathered world) c (b.0, ap (λ (w : Bytes). w ++ b.0) (handed_none world c absent) ∙ b.1) on ∙ sym (unread world c b on) ∙ none
+pub gathered_still : (world : World) (c : Connection) → Begins world c → is_closed world c ≡ false → exists world c ≡ false → waiting_for world c ≡ []
+    → waiting_for (gathered world) c ≡ []
+gathered_still world c b on absent none =
+    unread (gathered world) c (b.0, ap (λ (w : Bytes). w ++ b.0) (handed_none world c absent) ∙ b.1) on ∙ sym (unread world c b on) ∙ none
 
 -- at first
 pub fresh_given : IsGiven fresh
@@ -129,12 +139,14 @@ keeps_given = record {
   applies = λ world g.
       record {
         plain = keeps_plain.applies world g.plain;
-        begins = λ c. done_begins world (left_by_entry world.waiting) (Entry (entry_jobs world.waiting)) c g.plain (entry_formed world.waiting g.plain.waiting) (g.begins c);
+        begins = λ c. done_begins world (left_by_entry world.waiting) (Entry (entry_jobs world.waiting)) c g.plain
+            (entry_formed world.waiting g.plain.waiting) (g.begins c);
       };
   looks = λ world g.
       record {
         plain = keeps_plain.looks world g.plain;
-        begins = λ c. done_begins world (left_by_reads world.waiting) (Reads (read_jobs world.waiting)) c g.plain (look_formed world.waiting g.plain.waiting) (g.begins c);
+        begins = λ c. done_begins world (left_by_reads world.waiting) (Reads (read_jobs world.waiting)) c g.plain
+            (look_formed world.waiting g.plain.waiting) (g.begins c);
       };
   collects = λ world g. record { plain = keeps_plain.collects world g.plain; begins = λ c. gathered_begins world c (g.begins c) };
   closes = λ world c time here on g. record { plain = keeps_plain.closes world c time here on g.plain; begins = g.begins };

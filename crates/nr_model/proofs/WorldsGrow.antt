@@ -31,7 +31,8 @@ count framing =
 
 -- no fewer behind more bytes
 grow_on : (frames : List Frame) (fault : Option Fault) (rest more : Bytes)
-    → length (deeds_of (record { frames = frames; fault = fault; rest = rest })) ≤ length (deeds_of (continued (record { frames = frames; fault = fault; rest = rest }) more))
+    → length (deeds_of (record { frames = frames; fault = fault; rest = rest })) ≤ length
+    (deeds_of (continued (record { frames = frames; fault = fault; rest = rest }) more))
 grow_on frames (Some fault) rest more = omega arith
 grow_on frames None rest more =
     let next = framing_of (rest ++ more) in
@@ -50,7 +51,8 @@ pub fed_to-append : (c : Connection) (fed more : List Feeding) → fed_to c (fed
 fed_to-append c [] more = refl
 fed_to-append c (f ∷ fed) more =
     let ih = fed_to-append c fed more in
-    elim (same_connection f.connection c) as (λ own. cond own (f.bytes ++ fed_to c (fed ++ more)) (fed_to c (fed ++ more)) ≡ cond own (f.bytes ++ fed_to c fed) (fed_to c fed) ++ fed_to c more) [
+    elim (same_connection f.connection c) as
+    (λ own. cond own (f.bytes ++ fed_to c (fed ++ more)) (fed_to c (fed ++ more)) ≡ cond own (f.bytes ++ fed_to c fed) (fed_to c fed) ++ fed_to c more) [
       | true ↦ ap (λ (b : Bytes). f.bytes ++ b) ih ∙ sym (append_assoc f.bytes (fed_to c fed) (fed_to c more))
       | false ↦ ih
     ]
@@ -61,19 +63,22 @@ after_is true before bytes more = append_assoc before bytes more
 after_is false before bytes more = refl
 
 -- the jobs of more feeds
-pub jobs_of_feeds-append : (c : Connection) (before : Bytes) (fed more : List Feeding) → jobs_of_feeds c before (fed ++ more) ≡ jobs_of_feeds c before fed ++ jobs_of_feeds c (before ++ fed_to c fed) more
+pub jobs_of_feeds-append : (c : Connection) (before : Bytes) (fed more : List Feeding)
+    → jobs_of_feeds c before (fed ++ more) ≡ jobs_of_feeds c before fed ++ jobs_of_feeds c (before ++ fed_to c fed) more
 jobs_of_feeds-append c before [] more = ap (λ (b : Bytes). jobs_of_feeds c b more) (sym (append-nil before))
 jobs_of_feeds-append c before (f ∷ fed) more =
     let own = same_connection f.connection c in
     let after = cond own (before ++ f.bytes) before in
     let known = length (deeds_by served before) in
     let here = cond own (jobs_from c known f.moment (drop known (deeds_by served after))) [] in
-    ap (λ (js : Jobs). here ++ js) (jobs_of_feeds-append c after fed more ∙ ap (λ (b : Bytes). jobs_of_feeds c after fed ++ jobs_of_feeds c b more) (after_is own before f.bytes (fed_to c fed)))
+    ap (λ (js : Jobs). here ++ js) (jobs_of_feeds-append c after fed more
+    ∙ ap (λ (b : Bytes). jobs_of_feeds c after fed ++ jobs_of_feeds c b more) (after_is own before f.bytes (fed_to c fed)))
     ∙ sym (append_assoc here (jobs_of_feeds c after fed) (jobs_of_feeds c (before ++ fed_to c (f ∷ fed)) more))
 
 -- one feed of the connection, and one of another
 pub own_feed : (c : Connection) (before : Bytes) (f : Feeding) → same_connection f.connection c ≡ true
-    → jobs_of_feeds c before (f ∷ []) ≡ jobs_from c (length (deeds_by served before)) f.moment (drop (length (deeds_by served before)) (deeds_by served (before ++ f.bytes)))
+    → jobs_of_feeds c before (f ∷ []) ≡ jobs_from c (length (deeds_by served before)) f.moment
+    (drop (length (deeds_by served before)) (deeds_by served (before ++ f.bytes)))
 own_feed c before f e =
     let known = length (deeds_by served before) in
     ap (λ (own : Bool). cond own (jobs_from c known f.moment (drop known (deeds_by served (cond own (before ++ f.bytes) before)))) [] ++ []) e
@@ -108,11 +113,14 @@ closing_none c [] e = refl
 closing_none c (k ∷ closed) e = by_neither (closes c k) (list_any (closes c) closed) k.job (closing_job c closed) None e (λ d. closing_none c closed d)
 
 -- it is the one that comes now
-pub closing_first : (c : Connection) (closed : List Closing) (k : Closing) → list_any (closes c) closed ≡ false → same_connection k.connection c ≡ true → closing_job c (closed ++ k ∷ []) ≡ k.job
+pub closing_first : (c : Connection) (closed : List Closing) (k : Closing) → list_any (closes c) closed ≡ false → same_connection k.connection c ≡ true
+    → closing_job c (closed ++ k ∷ []) ≡ k.job
 closing_first c [] k e own = ap (λ (b : Bool). cond b k.job None) own
-closing_first c (j ∷ closed) k e own = by_neither (closes c j) (list_any (closes c) closed) j.job (closing_job c (closed ++ k ∷ [])) k.job e (λ d. closing_first c closed k d own)
+closing_first c (j ∷ closed) k e own =
+    by_neither (closes c j) (list_any (closes c) closed) j.job (closing_job c (closed ++ k ∷ [])) k.job e (λ d. closing_first c closed k d own)
 
 -- one of another connection makes no difference
-pub closing_other : (c : Connection) (closed : List Closing) (k : Closing) → same_connection k.connection c ≡ false → closing_job c (closed ++ k ∷ []) ≡ closing_job c closed
+pub closing_other : (c : Connection) (closed : List Closing) (k : Closing) → same_connection k.connection c ≡ false
+    → closing_job c (closed ++ k ∷ []) ≡ closing_job c closed
 closing_other c [] k e = ap (λ (b : Bool). cond b k.job None) e
 closing_other c (j ∷ closed) k e = ap (λ (o : Option Item). cond (closes c j) j.job o) (closing_other c closed k e)

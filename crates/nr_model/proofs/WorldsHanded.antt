@@ -14,7 +14,9 @@ pub handed_to-append : (c : Connection) (handed more : List Handed) → handed_t
 handed_to-append c [] more = refl
 handed_to-append c (h ∷ handed) more =
     let ih = handed_to-append c handed more in
-    elim (same_connection h.connection c) as (λ own. cond own (h.bytes ++ handed_to c (handed ++ more)) (handed_to c (handed ++ more)) ≡ cond own (h.bytes ++ handed_to c handed) (handed_to c handed) ++ handed_to c more) [
+    elim (same_connection h.connection c) as
+    (λ own. cond own (h.bytes ++ handed_to c (handed ++ more)) (handed_to c (handed ++ more))
+    ≡ cond own (h.bytes ++ handed_to c handed) (handed_to c handed) ++ handed_to c more) [
       | true ↦ ap (λ (b : Bytes). h.bytes ++ b) ih ∙ sym (append_assoc h.bytes (handed_to c handed) (handed_to c more))
       | false ↦ ih
     ]
@@ -35,7 +37,8 @@ abbrev to_each : (Connection → Bytes) → List Connection → List Handed
 to_each f cs = map {A = Connection} (λ c. record { connection = c; bytes = f c }) cs
 
 -- a connection that gets no bytes makes no difference
-without_empty : (f : Connection → Bytes) (c : Connection) (cs : List Connection) → handed_to c (to_each f (filter (λ d. is_some_bytes (f d)) cs)) ≡ handed_to c (to_each f cs)
+without_empty : (f : Connection → Bytes) (c : Connection) (cs : List Connection)
+    → handed_to c (to_each f (filter (λ d. is_some_bytes (f d)) cs)) ≡ handed_to c (to_each f cs)
 without_empty f c [] = refl
 without_empty f c (d ∷ cs) =
     let some = λ (e : Connection). is_some_bytes (f e) in
@@ -94,13 +97,15 @@ pub collected_for : (world : World) (c : Connection) → exists world c ≡ true
 collected_for world c here =
     let both = and_parts (eqb c.node 0) (ltb c.serial world.opened) here in
     let node : 0 ≡ c.node = sym (eqb-true c.node 0 both.0) in
-    let own : same_connection (of_node c.serial) c ≡ true = and_from (eqb 0 c.node) (eqb c.serial c.serial) (eq-eqb 0 c.node node) (eq-eqb c.serial c.serial refl) in
+    let own : same_connection (of_node c.serial) c ≡ true =
+    and_from (eqb 0 c.node) (eqb c.serial c.serial) (eq-eqb 0 c.node node) (eq-eqb c.serial c.serial refl) in
     let below : c.serial < world.opened = ltb-true c.serial world.opened both.1 in
     without_empty (waiting_for world) c (connections_of world) ∙ one_among (waiting_for world) c 0 world.opened own (omega arith) (omega arith)
 
 -- and to one that does not exist
 pub collected_none : (world : World) (c : Connection) → exists world c ≡ false → handed_to c (collected world) ≡ []
-collected_none world c absent = without_empty (waiting_for world) c (connections_of world) ∙ none_among (waiting_for world) c 0 world.opened (λ s low high. other s (omega arith))
+collected_none world c absent = without_empty (waiting_for world) c (connections_of world)
+    ∙ none_among (waiting_for world) c 0 world.opened (λ s low high. other s (omega arith))
   where
     other : (s : ℕ) → s < world.opened → same_connection (of_node s) c ≡ false
     other s below =

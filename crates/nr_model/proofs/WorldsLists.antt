@@ -123,7 +123,8 @@ pub own_jobs_from : (c : Connection) (n time : ℕ) (deeds : List Deed) → own_
 own_jobs_from c n time [] = refl
 own_jobs_from c n time (deed ∷ deeds) =
     let job : Item = record { connection = c; number = n; moment = time; deed = deed } in
-    filter-keeps (λ (j : Item). same_connection j.connection c) job (jobs_from c (n + 1) time deeds) (same_self c) ∙ ap (λ (js : Jobs). job ∷ js) (own_jobs_from c (n + 1) time deeds)
+    filter-keeps (λ (j : Item). same_connection j.connection c) job (jobs_from c (n + 1) time deeds) (same_self c)
+    ∙ ap (λ (js : Jobs). job ∷ js) (own_jobs_from c (n + 1) time deeds)
 
 -- and none are of another
 pub no_jobs_from : (c d : Connection) (n time : ℕ) (deeds : List Deed) → same_connection c d ≡ false → own_jobs d (jobs_from c n time deeds) ≡ []

@@ -58,10 +58,12 @@ placed n [] items a = refl
 placed n (job ∷ jobs) items a =
     let rest = jobs ++ items in
     let here : Placed = record { before = n; item = job } in
-    ap (λ (b : Bool). cond b (reads_in (n + 1) rest) (here ∷ reads_in n rest)) (not-true (is_update job.deed) a.0) ∙ ap (λ (ps : List Placed). here ∷ ps) (placed n jobs items a.1)
+    ap (λ (b : Bool). cond b (reads_in (n + 1) rest) (here ∷ reads_in n rest)) (not-true (is_update job.deed) a.0)
+    ∙ ap (λ (ps : List Placed). here ∷ ps) (placed n jobs items a.1)
 
 -- the reads of all that was executed
 pub all_placed : (n : ℕ) (all : List Executed) → AllByRecursion IsFormed all → reads_in n (flat_map executed_items all) ≡ placed_from n all
 all_placed n [] formed = refl
 all_placed n (Entry jobs ∷ all) formed = passed n (entry_moment jobs) jobs (flat_map executed_items all) formed.0.0 ∙ all_placed (n + length jobs) all formed.1
-all_placed n (Reads jobs ∷ all) formed = placed n jobs (flat_map executed_items all) formed.0.0 ∙ ap (λ (ps : List Placed). placed_all n jobs ++ ps) (all_placed n all formed.1)
+all_placed n (Reads jobs ∷ all) formed =
+    placed n jobs (flat_map executed_items all) formed.0.0 ∙ ap (λ (ps : List Placed). placed_all n jobs ++ ps) (all_placed n all formed.1)

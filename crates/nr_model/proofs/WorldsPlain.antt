@@ -40,21 +40,24 @@ all_alone : AllByRecursion IsAlone served
 all_alone = All-where IsAlone needs_keyspace_alone served alone refl
 
 -- by how the words are counted
-counted_plain : (command : Command) (frame : Frame) → IsAlone command → (b : Bool) → IsPlain (reading_answer (cond b (Known (record { command = command; words = frame })) (WrongArity command)) plain).deed
+counted_plain : (command : Command) (frame : Frame) → IsAlone command → (b : Bool)
+    → IsPlain (reading_answer (cond b (Known (record { command = command; words = frame })) (WrongArity command)) plain).deed
 counted_plain command frame alone true =
     let call : Call = record { command = command; words = frame } in
     ap (λ (a : Answer). is_plain_deed a.deed) (alone.0 call) ∙ alone.1
 counted_plain command frame alone false = refl
 
 -- by what command was found
-found_plain : (name : Bytes) (frame : Frame) (o : Option Command) → ((command : Command) → o ≡ Some command → IsAlone command) → IsPlain (reading_answer (found name frame o) plain).deed
+found_plain : (name : Bytes) (frame : Frame) (o : Option Command) → ((command : Command) → o ≡ Some command → IsAlone command)
+    → IsPlain (reading_answer (found name frame o) plain).deed
 found_plain name frame None alone = refl
 found_plain name frame (Some command) alone = counted_plain command frame (alone command refl) (arity_ok (row_of command).arity (length frame))
 
 -- what a request asks for
 pub served_deed_plain : (frame : Frame) → is_plain_deed (served_deed frame) ≡ true
 served_deed_plain frame =
-    found_plain (first_word frame) frame (named served (first_word frame)) (find_has IsAlone (λ (command : Command). bytes_eq (row_of command).name (str_to_ascii_lowercase (first_word frame))) served all_alone)
+    found_plain (first_word frame) frame (named served (first_word frame))
+    (find_has IsAlone (λ (command : Command). bytes_eq (row_of command).name (str_to_ascii_lowercase (first_word frame))) served all_alone)
 
 -- what requests ask for
 each_plain : (frames : List Frame) → AllByRecursion IsPlain (map served_deed frames)
@@ -99,7 +102,8 @@ pub record IsPlainWorld (world : World) : Type 0 where
   pub waiting : ArePlain world.waiting
 
 -- a job keeps its deed at the moment of its entry
-pub All-at_moment : (P : Deed → Type 0) (time : ℕ) (jobs : Jobs) → AllByRecursion (λ (item : Item). P item.deed) jobs → AllByRecursion (λ (item : Item). P item.deed) (map {A = Item} (λ job. record job { moment = time }) jobs)
+pub All-at_moment : (P : Deed → Type 0) (time : ℕ) (jobs : Jobs) → AllByRecursion (λ (item : Item). P item.deed) jobs
+    → AllByRecursion (λ (item : Item). P item.deed) (map {A = Item} (λ job. record job { moment = time }) jobs)
 All-at_moment P time [] a = tt
 All-at_moment P time (job ∷ jobs) a = (a.0, All-at_moment P time jobs a.1)
 
@@ -111,7 +115,8 @@ executed_plain (Reads jobs) formed = formed.1
 -- all that was executed is plain
 pub all_plain : (all : List Executed) → AllByRecursion IsFormed all → ArePlain (flat_map executed_items all)
 all_plain [] formed = tt
-all_plain (done ∷ all) formed = All-append (λ (item : Item). IsPlain item.deed) (executed_items done) (flat_map executed_items all) (executed_plain done formed.0) (all_plain all formed.1)
+all_plain (done ∷ all) formed = All-append (λ (item : Item). IsPlain item.deed) (executed_items done) (flat_map executed_items all)
+    (executed_plain done formed.0) (all_plain all formed.1)
 
 -- the jobs of the next entry
 pub entry_formed : (jobs : Jobs) → ArePlain jobs → IsFormed (Entry (entry_jobs jobs))
@@ -122,7 +127,8 @@ pub look_formed : (jobs : Jobs) → ArePlain jobs → IsFormed (Reads (read_jobs
 look_formed jobs a = (look_reads jobs, All-reads (λ (item : Item). IsPlain item.deed) jobs a)
 
 -- the job of a close
-closing_plain : (b : Bool) (c : Connection) (number time : ℕ) → ArePlain (option_to_list (cond b None (Some (record { connection = c; number = number; moment = time; deed = End None }))))
+closing_plain : (b : Bool) (c : Connection) (number time : ℕ)
+    → ArePlain (option_to_list (cond b None (Some (record { connection = c; number = number; moment = time; deed = End None }))))
 closing_plain true c number time = tt
 closing_plain false c number time = (refl, tt)
 
@@ -154,9 +160,11 @@ keeps_plain = record {
       record {
         executed = p.executed;
         waiting =
-            All-append (λ (item : Item). IsPlain item.deed) (filter (λ (job : Item). not (same_connection job.connection c)) world.waiting) (option_to_list (close_job world c time))
+            All-append (λ (item : Item). IsPlain item.deed) (filter (λ (job : Item). not (same_connection job.connection c)) world.waiting)
+            (option_to_list (close_job world c time))
             (All-filter (λ (item : Item). IsPlain item.deed) (λ (job : Item). not (same_connection job.connection c)) world.waiting p.waiting)
-            (closing_plain ((asked_by world c).ended && length (own_jobs c world.waiting) == 0) c (close_number (length (asked_by world c).deeds) (own_jobs c world.waiting)) (moment time));
+            (closing_plain ((asked_by world c).ended && length (own_jobs c world.waiting) == 0) c
+            (close_number (length (asked_by world c).deeds) (own_jobs c world.waiting)) (moment time));
       };
 }
 

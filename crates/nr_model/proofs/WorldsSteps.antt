@@ -30,7 +30,8 @@ with_opened world = record world { opened = world.opened + 1 }
 -- each enabled step keeps P
 pub record Keeps (P : World → Type 0) : Type 0 where
   pub opens : (world : World) → P world → P (with_opened world)
-  pub feeds : (world : World) (c : Connection) (time : ℕ) (bytes : Bytes) → exists world c ≡ true → is_closed world c ≡ false → P world → P (fed world c time bytes)
+  pub feeds : (world : World) (c : Connection) (time : ℕ) (bytes : Bytes) → exists world c ≡ true → is_closed world c ≡ false → P world
+      → P (fed world c time bytes)
   pub applies : (world : World) → P world → P (applied world)
   pub looks : (world : World) → P world → P (looked world)
   pub collects : (world : World) → P world → P (gathered world)

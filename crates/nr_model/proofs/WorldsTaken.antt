@@ -42,9 +42,11 @@ none_taken leads blocks stops c (suc room) before (job ∷ jobs) blocked =
     ]
 
 -- one more in front of what is taken
-filter_front : {A : Type 0} (test : A → Bool) (x : A) (xs ys zs : List A) → filter test xs ≡ filter test ys ++ zs → filter test (x ∷ xs) ≡ filter test (x ∷ ys) ++ zs
+filter_front : {A : Type 0} (test : A → Bool) (x : A) (xs ys zs : List A) → filter test xs ≡ filter test ys ++ zs
+    → filter test (x ∷ xs) ≡ filter test (x ∷ ys) ++ zs
 filter_front test x xs ys zs h =
-    elim (test x) as (λ m. cond m (x ∷ filter test xs) (filter test xs) ≡ cond m (x ∷ filter test ys) (filter test ys) ++ zs) [ true ↦ ap (λ ws. x ∷ ws) h | false ↦ h ]
+    elim (test x) as (λ m. cond m (x ∷ filter test xs) (filter test xs)
+    ≡ cond m (x ∷ filter test ys) (filter test ys) ++ zs) [ true ↦ ap (λ ws. x ∷ ws) h | false ↦ h ]
 
 -- one more in front of what is left, where none of its kind is taken
 filter_behind : {A : Type 0} (test : A → Bool) (x : A) (xs ys zs : List A) → filter test xs ≡ filter test ys ++ filter test zs
@@ -66,18 +68,21 @@ left_none leads before (x ∷ jobs) = refl
 apart : (leads : Jobs → Item → Bool) (blocks : Connection → Jobs → Bool) → Stops leads blocks → (c : Connection) (room : ℕ) (before jobs : Jobs)
     → own_jobs c jobs ≡ own_jobs c (take room (leading leads before jobs)) ++ own_jobs c (left_after leads room before jobs)
 apart leads blocks stops c zero before jobs =
-    sym (ap (λ (js : Jobs). own_jobs c js ++ own_jobs c (left_after leads zero before jobs)) (take_none (leading leads before jobs)) ∙ ap (own_jobs c) (left_none leads before jobs))
+    sym (ap (λ (js : Jobs). own_jobs c js ++ own_jobs c (left_after leads zero before jobs)) (take_none (leading leads before jobs))
+    ∙ ap (own_jobs c) (left_none leads before jobs))
 apart leads blocks stops c (suc room) before [] = refl
 apart leads blocks stops c (suc room) before (job ∷ jobs) =
     let after = before ++ job ∷ [] in
     let more = leading leads after jobs in
     let of_c = λ (j : Item). same_connection j.connection c in
     let at : Bool → Jobs =
-    λ m. own_jobs c (take (suc room) (cond m (job ∷ more) more)) ++ own_jobs c (elim m [ true ↦ left_after leads room after jobs | false ↦ job ∷ left_after leads (suc room) after jobs ]) in
+    λ m. own_jobs c (take (suc room) (cond m (job ∷ more) more))
+    ++ own_jobs c (elim m [ true ↦ left_after leads room after jobs | false ↦ job ∷ left_after leads (suc room) after jobs ]) in
     elim (cases_Bool (leads before job)) [
       | inl e ↦ filter_front of_c job jobs (take room more) _ (apart leads blocks stops c room after jobs) ∙ sym (ap at e)
       | inr e ↦ filter_behind of_c job jobs (take (suc room) more) (left_after leads (suc room) after jobs) (apart leads blocks stops c (suc room) after jobs)
-          (λ same. none_taken leads blocks stops c (suc room) after jobs (subst (λ (d : Connection). blocks d after ≡ true) (same_is job.connection c same) (stops.begins before job e)))
+          (λ same. none_taken leads blocks stops c (suc room) after jobs
+          (subst (λ (d : Connection). blocks d after ≡ true) (same_is job.connection c same) (stops.begins before job e)))
           ∙ sym (ap at e)
     ]
 
@@ -126,13 +131,15 @@ leading_within leads before (x ∷ jobs) =
     elim (leads before x) as (λ m. length (cond m (x ∷ more) more) ≤ suc (length jobs)) [ true ↦ omega arith | false ↦ omega arith ]
 
 -- and those are left that do not lead
-left_by_all : (leads : Jobs → Item → Bool) (room : ℕ) (before jobs : Jobs) → length jobs ≤ room → left_after leads room before jobs ≡ not_leading leads before jobs
+left_by_all : (leads : Jobs → Item → Bool) (room : ℕ) (before jobs : Jobs) → length jobs ≤ room
+    → left_after leads room before jobs ≡ not_leading leads before jobs
 left_by_all leads room before [] h = refl
 left_by_all leads zero before (x ∷ jobs) h = absurd (omega arith)
 left_by_all leads (suc room) before (x ∷ jobs) h =
     let after = before ++ x ∷ [] in
     let more = not_leading leads after jobs in
-    elim (leads before x) as (λ m. elim m [ true ↦ left_after leads room after jobs | false ↦ x ∷ left_after leads (suc room) after jobs ] ≡ cond m more (x ∷ more)) [
+    elim (leads before x) as (λ m. elim m [ true ↦ left_after leads room after jobs | false ↦ x ∷ left_after leads (suc room) after jobs ]
+    ≡ cond m more (x ∷ more)) [
       | true ↦ left_by_all leads room after jobs (omega arith)
       | false ↦ ap (λ (t : Jobs). x ∷ t) (left_by_all leads (suc room) after jobs (omega arith))
     ]
@@ -145,7 +152,8 @@ entry_apart c jobs = apart leads_as_update has_read_of (stops_by updates reads (
 pub reads_apart : (c : Connection) (jobs : Jobs) → own_jobs c jobs ≡ own_jobs c (read_jobs jobs) ++ own_jobs c (left_by_reads jobs)
 reads_apart c jobs =
     let room = length jobs in
-    let all : take room (leading leads_as_read [] jobs) ≡ leading leads_as_read [] jobs = take_all room (leading leads_as_read [] jobs) (leading_within leads_as_read [] jobs) in
+    let all : take room (leading leads_as_read [] jobs) ≡ leading leads_as_read [] jobs =
+    take_all room (leading leads_as_read [] jobs) (leading_within leads_as_read [] jobs) in
     let left = left_by_all leads_as_read room [] jobs (omega arith) in
     apart leads_as_read has_update_of (stops_by reads updates (λ job e. not-false (is_update job.deed) e)) c room [] jobs
     ∙ ap (λ (js : Jobs). own_jobs c js ++ own_jobs c (left_after leads_as_read room [] jobs)) all
@@ -160,7 +168,8 @@ All-leading P leads before (x ∷ jobs) a =
     elim (leads before x) as (λ m. AllByRecursion P (cond m (x ∷ rest) rest)) [ true ↦ (a.0, more) | false ↦ more ]
 
 -- of those that are left
-All-left : (P : Item → Type 0) (leads : Jobs → Item → Bool) (room : ℕ) (before jobs : Jobs) → AllByRecursion P jobs → AllByRecursion P (left_after leads room before jobs)
+All-left : (P : Item → Type 0) (leads : Jobs → Item → Bool) (room : ℕ) (before jobs : Jobs) → AllByRecursion P jobs
+    → AllByRecursion P (left_after leads room before jobs)
 All-left P leads room before [] a = tt
 All-left P leads zero before (x ∷ jobs) a = a
 All-left P leads (suc room) before (x ∷ jobs) a =
@@ -184,7 +193,8 @@ All-reads P jobs a = All-leading P leads_as_read [] jobs a
 
 -- of those that it leaves
 pub All-left_by_reads : (P : Item → Type 0) (jobs : Jobs) → AllByRecursion P jobs → AllByRecursion P (left_by_reads jobs)
-All-left_by_reads P jobs a = subst (AllByRecursion P) (left_by_all leads_as_read (length jobs) [] jobs (omega arith)) (All-left P leads_as_read (length jobs) [] jobs a)
+All-left_by_reads P jobs a = subst (AllByRecursion P) (left_by_all leads_as_read (length jobs) [] jobs (omega arith))
+    (All-left P leads_as_read (length jobs) [] jobs a)
 
 -- those that lead are of the kind
 kind_leads : (kind : Item → Bool) (leads : Jobs → Item → Bool) → ((before : Jobs) (job : Item) → leads before job ≡ true → kind job ≡ true)
@@ -204,4 +214,5 @@ entry_updates jobs =
 
 -- and a look takes reads
 pub look_reads : (jobs : Jobs) → AllByRecursion (λ (job : Item). not (is_update job.deed) ≡ true) (read_jobs jobs)
-look_reads jobs = kind_leads reads leads_as_read (λ before job e. (and_parts (not (is_update job.deed)) (not (has_update_of job.connection before)) e).0) [] jobs
+look_reads jobs = kind_leads reads leads_as_read
+    (λ before job e. (and_parts (not (is_update job.deed)) (not (has_update_of job.connection before)) e).0) [] jobs

@@ -146,9 +146,12 @@ strings_changes_served = strings_change strings_changes.Set ∷ []
 -- the commands that speak of connections
 abbrev pub session_commands : List Command
 session_commands =
-    commands.Session sessions.Quit ∷ server_change server_changes.Select ∷ commands.Session sessions.Multi ∷ commands.Session sessions.Exec ∷ commands.Session sessions.Discard
-    ∷ commands.Session sessions.Watch ∷ commands.Session sessions.Unwatch ∷ commands.Session (sessions.Subscribe kinds.Channels) ∷ commands.Session (sessions.Subscribe kinds.Patterns)
-    ∷ commands.Session (sessions.Unsubscribe kinds.Channels) ∷ commands.Session (sessions.Unsubscribe kinds.Patterns) ∷ commands.Session sessions.Publish ∷ commands.Session sessions.Pubsub ∷ []
+    commands.Session sessions.Quit ∷ server_change server_changes.Select ∷ commands.Session sessions.Multi ∷ commands.Session sessions.Exec
+    ∷ commands.Session sessions.Discard
+    ∷ commands.Session sessions.Watch ∷ commands.Session sessions.Unwatch ∷ commands.Session (sessions.Subscribe kinds.Channels)
+    ∷ commands.Session (sessions.Subscribe kinds.Patterns)
+    ∷ commands.Session (sessions.Unsubscribe kinds.Channels) ∷ commands.Session (sessions.Unsubscribe kinds.Patterns) ∷ commands.Session sessions.Publish
+    ∷ commands.Session sessions.Pubsub ∷ []
 
 -- the commands whose names are served; another name is an unknown command
 abbrev pub served : List Command

@@ -74,7 +74,8 @@ abbrev pub Values : Type 0
 Values = Bytes ⊎ (List Bytes ⊎ (map.FinMap byte_cmp Bytes ⊎ (set.FinSet byte_cmp ⊎ map.FinMap byte_cmp ℤ)))
 
 abbrev pub coded_values : Coded Values
-coded_values = coded⊎ coded_bytes (coded⊎ (coded_list coded_bytes) (coded⊎ (map.code coded_bytes coded_bytes) (coded⊎ (set.code coded_bytes) (map.code coded_bytes coded_ℤ))))
+coded_values = coded⊎ coded_bytes (coded⊎ (coded_list coded_bytes)
+    (coded⊎ (map.code coded_bytes coded_bytes) (coded⊎ (set.code coded_bytes) (map.code coded_bytes coded_ℤ))))
 
 abbrev pub values_of : Value → Values
 values_of (Text bytes) = inl bytes
@@ -104,7 +105,8 @@ abbrev pub coded_key : Coded Key
 coded_key = code_by (ℕ × Bytes) (coded× coded_ℕ coded_bytes) (λ k. (k.database, k.name)) (λ p. record { database = p.0; name = p.1 }) (λ _. refl)
 
 abbrev pub coded_stored : Coded Stored
-coded_stored = code_by (Value × Option ℤ) (coded× coded_value (coded_option coded_ℤ)) (λ s. (s.value, s.deadline)) (λ p. record { value = p.0; deadline = p.1 }) (λ _. refl)
+coded_stored = code_by (Value × Option ℤ) (coded× coded_value (coded_option coded_ℤ)) (λ s. (s.value, s.deadline))
+    (λ p. record { value = p.0; deadline = p.1 }) (λ _. refl)
 
 abbrev pub coded_keyspace : Coded Keyspace
 coded_keyspace = map.code coded_key coded_stored

@@ -7,10 +7,13 @@ pub mod Keyspace
 pub mod Commands
 pub mod Items
 pub mod Names
+pub mod Strings
 pub mod Modes
 pub mod Served
 pub mod Sequential
 pub mod States
+pub mod Servers
+pub mod Conversations
 pub mod Entries
 pub mod Worlds
 pub mod Explains

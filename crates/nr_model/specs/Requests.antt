@@ -91,7 +91,8 @@ pub record IsInlineLine (line : Bytes) : Type 0 where
 
 -- The bytes are one whole request of these words, an empty request where there are none (RESP2 specification, inline commands)
 pub data Spells : List Bytes → Bytes → Type 0 where
-  array : (words : List Bytes) → 0 < length words → length words ≤ most_words → AllByRecursion (λ word. length word ≤ most_word_bytes) words → Spells words (array_text words)
+  array : (words : List Bytes) → 0 < length words → length words ≤ most_words → AllByRecursion (λ word. length word ≤ most_word_bytes) words
+      → Spells words (array_text words)
   empty_array : (count : ℤ) → FitsSigned w64 count → count ≤ℤ pos 0 → Spells [] (42 ∷ signed_decimal count ++ crlf)
   inline : (line : Bytes) → IsInlineLine line → Spells (words_of (without_cr line)) (line ++ 10 ∷ [])
 

@@ -5,6 +5,7 @@ use Rattle.std.specs.Str.{str_to_ascii_lowercase}
 use Rattle.std.specs.FinMap as map
 pub mod Events
 pub mod Subscribers
+pub mod Messages
 pub mod Watches
 use Rattle.nr_model.specs.Bytes.{Bytes}
 use Rattle.nr_model.specs.Replies.{Reply, Int, Error, NullArray, array, reply_text}
@@ -16,10 +17,21 @@ use Rattle.nr_model.specs.declared.command.Session.TheVariants.{Multi, Exec, Dis
 use Rattle.nr_model.specs.Commands.{look, change}
 use Rattle.nr_model.specs.Commands.Shape.{Done}
 use Rattle.nr_model.specs.Commands.Texts.{ok}
+use Rattle.nr_model.specs.Names.{Held}
 use Rattle.nr_model.specs.Items.{Connection, same_connection, Call, arguments, Deed, Say, Act, Run, Abort, End, Item, Sequence}
 use Rattle.nr_model.specs.Sequential.Events.{Emission, Event, Past, keyspace_after, database_of, now_of}
-use Rattle.nr_model.specs.Sequential.Subscribers.{deliveries, subscribe_replies, unsubscribe_replies, pubsub_reply}
+use Rattle.nr_model.specs.Sequential.Subscribers.{held_of, subscribers, names_held}
+use Rattle.nr_model.specs.Sequential.Messages.{Subscriptions, deliveries, subscribe_replies, unsubscribe_replies, pubsub_reply}
 use Rattle.nr_model.specs.Sequential.Watches.{is_spoiled}
+
+-- What a deed finds: the keyspace, its connection's database and what that holds, who is subscribed to what, and whether a watch of its
+-- connection was broken. The past gives it here; a state gives it elsewhere.
+pub record Found : Type 0 where
+  pub keyspace : Keyspace
+  pub database : ℕ
+  pub held : Held
+  pub subscriptions : Subscriptions
+  pub spoiled : Bool
 
 -- what commands of one item leave: the keyspace, the connection's database, the keys touched, the messages sent and the replies
 pub record Progress : Type 0 where
@@ -28,6 +40,9 @@ pub record Progress : Type 0 where
   pub touched : List Key
   pub messages : List Emission
   pub replies : List Reply
+
+abbrev pub start : Found → Progress
+start found = record { keyspace = found.keyspace; database = found.database; touched = []; messages = []; replies = [] }
 
 abbrev pub with_replies : List Reply → Progress → Progress
 with_replies replies p = record p { replies = p.replies ++ replies }
@@ -43,45 +58,42 @@ with_done done p =
     }
 
 -- PUBLISH channel message: to each that subscribed, and then how many messages those are
-abbrev pub published : Past → List Bytes → Progress → Progress
-published past (channel ∷ message ∷ words) p =
-    let sent = deliveries past channel message in
+abbrev pub published : Subscriptions → List Bytes → Progress → Progress
+published subscriptions (channel ∷ message ∷ words) p =
+    let sent = deliveries subscriptions channel message in
     record p { messages = p.messages ++ sent; replies = p.replies ++ Int (pos (length sent)) ∷ [] }
-published past (channel ∷ []) p = p
-published past [] p = p
+published subscriptions (channel ∷ []) p = p
+published subscriptions [] p = p
 
--- One command at a moment. A look leaves the keyspace as it is, keys past their deadline too; another finds the live keyspace. WATCH, UNWATCH and DISCARD answer OK: what they change is read back from the past.
-abbrev pub acted : Past → Connection → ℕ → Command → Call → Progress → Progress
-acted past c now (Perform (Look command)) call p = with_replies (look command now (live p.keyspace now) p.database (arguments call) ∷ []) p
-acted past c now (Perform (Change command)) call p = with_done (change command now (live p.keyspace now) p.database (arguments call)) p
-acted past c now (Session (Subscribe kind)) call p = with_replies (subscribe_replies past c kind (arguments call)) p
-acted past c now (Session (Unsubscribe kind)) call p = with_replies (unsubscribe_replies past c kind (arguments call)) p
-acted past c now (Session Publish) call p = published past (arguments call) p
-acted past c now (Session Pubsub) call p = with_replies (pubsub_reply past (arguments call) ∷ []) p
-acted past c now (Session Multi) call p = with_replies (ok ∷ []) p
-acted past c now (Session Exec) call p = with_replies (ok ∷ []) p
-acted past c now (Session Discard) call p = with_replies (ok ∷ []) p
-acted past c now (Session Watch) call p = with_replies (ok ∷ []) p
-acted past c now (Session Unwatch) call p = with_replies (ok ∷ []) p
-acted past c now (Session Quit) call p = with_replies (ok ∷ []) p
+-- One command at a moment. A look leaves the keyspace as it is, keys past their deadline too; another finds the live keyspace.
+-- WATCH, UNWATCH and DISCARD answer OK: what they change is read back from the past.
+abbrev pub acted : Found → ℕ → Command → Call → Progress → Progress
+acted found now (Perform (Look command)) call p = with_replies (look command now (live p.keyspace now) p.database (arguments call) ∷ []) p
+acted found now (Perform (Change command)) call p = with_done (change command now (live p.keyspace now) p.database (arguments call)) p
+acted found now (Session (Subscribe kind)) call p = with_replies (subscribe_replies kind found.held (arguments call)) p
+acted found now (Session (Unsubscribe kind)) call p = with_replies (unsubscribe_replies kind found.held (arguments call)) p
+acted found now (Session Publish) call p = published found.subscriptions (arguments call) p
+acted found now (Session Pubsub) call p = with_replies (pubsub_reply found.subscriptions (arguments call) ∷ []) p
+acted found now (Session Multi) call p = with_replies (ok ∷ []) p
+acted found now (Session Exec) call p = with_replies (ok ∷ []) p
+acted found now (Session Discard) call p = with_replies (ok ∷ []) p
+acted found now (Session Watch) call p = with_replies (ok ∷ []) p
+acted found now (Session Unwatch) call p = with_replies (ok ∷ []) p
+acted found now (Session Quit) call p = with_replies (ok ∷ []) p
 
 -- the commands of a transaction, at one moment
-abbrev pub acted_all : Past → Connection → ℕ → List Call → Progress → Progress
-acted_all past c now calls p = fold (λ q call. acted past c now call.command call q) p calls
-
-abbrev pub start : Past → Connection → Progress
-start past c =
-    record { keyspace = keyspace_after past; database = database_of c past; touched = []; messages = []; replies = [] }
+abbrev pub acted_all : Found → ℕ → List Call → Progress → Progress
+acted_all found now calls p = fold (λ q call. acted found now call.command call q) p calls
 
 abbrev pub one_reply : Reply → Progress → Progress
 one_reply reply p = record p { replies = reply ∷ [] }
 
--- a transaction's replies are one array, and the null array where a watch was touched: then nothing is run
-abbrev pub run_calls : Past → Connection → ℕ → List Call → Progress → Progress
-run_calls past c now calls p =
-    elim (is_spoiled c now [] past) [
+-- a transaction's replies are one array, and the null array where a watch was broken: then nothing is run
+abbrev pub run_calls : Found → ℕ → List Call → Progress → Progress
+run_calls found now calls p =
+    elim found.spoiled [
       | true ↦ one_reply NullArray p
-      | false ↦ let q = acted_all past c now calls p in one_reply (array q.replies) q
+      | false ↦ let q = acted_all found now calls p in one_reply (array q.replies) q
     ]
 
 abbrev pub last_reply : Option Reply → Progress → Progress
@@ -91,13 +103,13 @@ last_reply (Some reply) p = one_reply reply p
 abbrev pub exec_abort : Bytes
 exec_abort = codes "EXECABORT Transaction discarded because of previous errors."
 
--- what an item's deed leaves
-abbrev pub progress_of : Past → Connection → ℕ → Deed → Progress → Progress
-progress_of past c now (Say reply) p = one_reply reply p
-progress_of past c now (Act call) p = acted past c now call.command call p
-progress_of past c now (Run calls) p = run_calls past c now calls p
-progress_of past c now Abort p = one_reply (Error exec_abort) p
-progress_of past c now (End reply) p = last_reply reply p
+-- what a deed leaves
+abbrev pub done_by : Found → ℕ → Deed → Progress → Progress
+done_by found now (Say reply) p = one_reply reply p
+done_by found now (Act call) p = acted found now call.command call p
+done_by found now (Run calls) p = run_calls found now calls p
+done_by found now Abort p = one_reply (Error exec_abort) p
+done_by found now (End reply) p = last_reply reply p
 
 -- an end forgets the connection's database
 abbrev pub database_left : Deed → ℕ → ℕ
@@ -107,18 +119,33 @@ database_left (Act call) database = database
 database_left (Run calls) database = database
 database_left Abort database = database
 
--- messages first, and then the replies, to the item's own connection
+-- what a connection's deed finds behind a past
+abbrev pub found_after : Past → Connection → ℕ → Found
+found_after past c now =
+    record {
+      keyspace = keyspace_after past;
+      database = database_of c past;
+      held = held_of c past;
+      subscriptions = record { subscribers = λ kind name. subscribers kind name past; names = λ kind. names_held kind past };
+      spoiled = is_spoiled c now [] past;
+    }
+
+-- messages first, and then the replies, to the connection
+abbrev pub emissions_of : Connection → Progress → List Emission
+emissions_of c p = p.messages ++ map (λ reply. record { connection = c; reply = reply }) p.replies
+
 unfoldable pub event_of : Past → Item → Event
 event_of past item =
     let now = now_of past item in
-    let p = progress_of past item.connection now item.deed (start past item.connection) in
+    let found = found_after past item.connection now in
+    let p = done_by found now item.deed (start found) in
     record {
       item = item;
       now = now;
       keyspace = p.keyspace;
       database = database_left item.deed p.database;
       touched = p.touched;
-      emitted = p.messages ++ map (λ reply. record { connection = item.connection; reply = reply }) p.replies;
+      emitted = emissions_of item.connection p;
     }
 
 -- the past after a sequence that follows this past
@@ -146,3 +173,7 @@ bytes_for c (emission ∷ emissions) =
 
 abbrev pub emitted_for : Connection → Sequence → Bytes
 emitted_for c items = bytes_for c (emit items)
+
+-- what is emitted for the connections of one node
+abbrev pub for_node : ℕ → List Emission → List Emission
+for_node node emissions = filter (λ emission. emission.connection.node == node) emissions

@@ -15,4 +15,6 @@ pub record ServedLaw : Type 0 where
   pub answers : (frame : Frame) → answer served plain frame ≡ asks (served_deed frame) plain
   pub goes_on : (frame : Frame) → is_end (served_deed frame) ≡ false
   -- so the deeds are those of each request by itself, and then a fault's
-  pub conversations : (frames : List Frame) (fault : Option Fault) → conversation served plain frames fault ≡ record { deeds = map served_deed frames ++ (last_deed fault plain).deeds; mode = plain; ended = (last_deed fault plain).ended }
+  pub conversations : (frames : List Frame) (fault : Option Fault)
+      → conversation served plain frames fault
+      ≡ record { deeds = map served_deed frames ++ (last_deed fault plain).deeds; mode = plain; ended = (last_deed fault plain).ended }

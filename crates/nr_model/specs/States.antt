@@ -1,17 +1,17 @@
 -- One sequential Redis as a machine that goes from state to state, where its commands need the keyspace alone: a law says that it answers
 -- as the sequential Redis, which looks back, along every sequence of such commands.
-use Rattle.std.specs.Prelude.{◌≡◌, ℕ, Bool, true, false, cond, max, List, [], ◌∷◌, ◌++◌, map}
+use Rattle.std.specs.Prelude.{◌≡◌, ℕ, Bool, true, false, cond, max, List, [], ◌∷◌, ◌++◌}
 use Rattle.std.specs.List.{list_all, AllByRecursion}
 use Rattle.std.specs.FinMap as finmap
-use Rattle.nr_model.specs.Replies.{Error, array}
 use Rattle.nr_model.specs.Keyspace.{Keyspace}
 use Rattle.nr_model.specs.declared.command.Command.{Command}
 use Rattle.nr_model.specs.declared.command.Command.TheVariants.{Perform, Session}
 use Rattle.nr_model.specs.declared.command.Operation.TheVariants.{Look, Change}
 use Rattle.nr_model.specs.declared.command.Change.TheVariants as changes
-use Rattle.nr_model.specs.Items.{Call, Deed, Say, Act, Run, Abort, End, Item, Sequence, is_update, Connection}
+use Rattle.nr_model.specs.Names.{holding_none}
+use Rattle.nr_model.specs.Items.{Call, Deed, Say, Act, Run, Abort, End, Item, Sequence, is_update}
 use Rattle.nr_model.specs.Sequential.Events.{Emission}
-use Rattle.nr_model.specs.Sequential.{Progress, acted, acted_all, one_reply, last_reply, exec_abort, redis, emit}
+use Rattle.nr_model.specs.Sequential.{Found, Progress, start, done_by, emissions_of, redis, emit}
 
 -- the keyspace, and the greatest moment of the updates so far
 pub record State : Type 0 where
@@ -26,23 +26,19 @@ opening = record { keyspace = finmap.empty; logged = 0 }
 abbrev pub now_in : State → Item → ℕ
 now_in state item = max item.moment state.logged
 
-abbrev pub beginning : State → Progress
-beginning state = record { keyspace = state.keyspace; database = 0; touched = []; messages = []; replies = [] }
-
--- the commands of a transaction, whose replies are one array
-abbrev pub ran : Connection → ℕ → List Call → Progress → Progress
-ran c now calls p = let q = acted_all [] c now calls p in one_reply (array q.replies) q
-
--- what a deed leaves
-abbrev pub done_by : Connection → ℕ → Deed → Progress → Progress
-done_by c now (Say reply) p = one_reply reply p
-done_by c now (Act call) p = acted [] c now call.command call p
-done_by c now (Run calls) p = ran c now calls p
-done_by c now Abort p = one_reply (Error exec_abort) p
-done_by c now (End reply) p = last_reply reply p
+-- what a deed finds: no subscriptions, no watches, and database 0
+abbrev pub found_in : State → Found
+found_in state =
+    record {
+      keyspace = state.keyspace;
+      database = 0;
+      held = holding_none;
+      subscriptions = record { subscribers = λ kind name. []; names = λ kind. [] };
+      spoiled = false;
+    }
 
 abbrev pub progress_in : State → Item → Progress
-progress_in state item = done_by item.connection (now_in state item) item.deed (beginning state)
+progress_in state item = done_by (found_in state) (now_in state item) item.deed (start (found_in state))
 
 -- the state behind an item: only an update moves the greatest moment
 abbrev pub stepped : State → Item → State
@@ -54,9 +50,7 @@ stepped state item =
 
 -- what an item emits: messages, and then the replies to its connection
 abbrev pub emitted_in : State → Item → List Emission
-emitted_in state item =
-    let p = progress_in state item in
-    p.messages ++ map (λ reply. record { connection = item.connection; reply = reply }) p.replies
+emitted_in state item = emissions_of item.connection (progress_in state item)
 
 -- after a sequence, and all that it emits
 abbrev pub after_all : State → Sequence → State

@@ -5,12 +5,12 @@ ghost use Rattle.nr_model.specs.Numbers.{IsIntText, int_value};
 ghost use Rattle.nr_model.specs.Rows.Integers.{IntegerRows};
 
 /// The law of integers' texts: the value that is read from a text is the integer whose text it is.
-pub fn integer_texts()
+fn integer_texts()
     ensures found { (text : Bytes) (z : ℤ) → int_value text ≡ Some z → IsIntText text z }
     ensures only { (text : Bytes) (z : ℤ) → IsIntText text z → int_value text ≡ Some z }
 {}
 
 /// Some texts with the integers that they are, and texts that are none.
-pub fn integer_rows()
+fn integer_rows()
     ensures { IntegerRows }
 {}

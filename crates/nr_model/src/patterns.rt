@@ -5,11 +5,11 @@ ghost use Rattle.nr_model.specs.Patterns.{Matches, matches};
 ghost use Rattle.nr_model.specs.Rows.Patterns.{PatternRows};
 
 /// What some patterns match, by computation.
-pub fn pattern_rows()
+fn pattern_rows()
     ensures { PatternRows }
 {}
 
 /// The test that computes is the relation.
-pub fn pattern_law()
+fn pattern_law()
     ensures { (p x : List ℕ) → (matches p x ≡ true ↔ Matches p x) }
 {}

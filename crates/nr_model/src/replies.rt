@@ -3,6 +3,6 @@
 ghost use Rattle.nr_model.specs.Rows.Replies.{ReplyRows};
 
 /// The bytes of some replies, by computation.
-pub fn reply_rows()
+fn reply_rows()
     ensures { ReplyRows }
 {}

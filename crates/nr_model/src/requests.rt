@@ -4,7 +4,7 @@ ghost use Rattle.nr_model.specs.Requests.Laws.{CutLaw, RestLaw, StepLaw, FuelLaw
 ghost use Rattle.nr_model.specs.Rows.Requests.{WholeRows, UnfinishedRows, BrokenRows, FaultTexts};
 
 /// What the definitions give for single inputs.
-pub fn request_rows()
+fn request_rows()
     ensures whole { WholeRows }
     ensures unfinished { UnfinishedRows }
     ensures broken { BrokenRows }
@@ -12,7 +12,7 @@ pub fn request_rows()
 {}
 
 /// However bytes are cut into pieces, their frames are the same, and what is left of them is less than a request.
-pub fn pieces()
+fn pieces()
     ensures cut { CutLaw }
     ensures rest { RestLaw }
     ensures step { StepLaw }
@@ -22,7 +22,7 @@ pub fn pieces()
 
 /// What stands at the front of bytes is a request only where a spelling of it stands there, and each spelling of a request
 /// is that request, whatever follows it.
-pub fn one_reading()
+fn one_reading()
     ensures only { EachIsFound }
     ensures found { EachIsSpelled }
 {}

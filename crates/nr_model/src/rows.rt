@@ -5,21 +5,21 @@ ghost use Rattle.nr_model.specs.Rows.Sequential.{MessageRows, SequentialRows};
 ghost use Rattle.nr_model.specs.Rows.Worlds.{WorldRows};
 
 /// What the bytes of a connection ask for: transactions, subscriptions, unknown names and ends.
-pub fn mode_rows()
+fn mode_rows()
     ensures { ModeRows }
 {}
 
 /// Who gets which messages, and the answers of the subscribing commands and PUBLISH.
-pub fn message_rows()
+fn message_rows()
     ensures { MessageRows }
 {}
 
 /// Moments, watches, and reads between writes.
-pub fn sequential_rows()
+fn sequential_rows()
     ensures { SequentialRows }
 {}
 
 /// Steps of a world of one node: their outcomes, what is handed out, and a sequence that explains it.
-pub fn world_rows()
+fn world_rows()
     ensures { WorldRows }
 {}

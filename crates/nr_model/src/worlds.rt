@@ -4,6 +4,6 @@ ghost use Rattle.nr_model.specs.Explained.{WorldLaw};
 
 /// Whatever steps are taken, what was executed is a sequence that explains the world, and each connection was handed, with what waits for it,
 /// what one sequential Redis emits for it along that sequence, or a beginning of that where a close cut it.
-pub fn world_law()
+fn world_law()
     ensures { WorldLaw }
 {}

@@ -12,3 +12,4 @@ pub mod Passes
 pub mod Calls
 pub mod Comings
 pub mod Seating
+pub mod Crossing

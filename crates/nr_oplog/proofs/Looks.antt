@@ -17,7 +17,7 @@ use Rattle.nr_oplog.specs.Rule.{Share, Owns, SeatOk, LogRule}
 use Rattle.nr_oplog.specs.Plays.{with_tail, with_read, with_passed, saw_tail, saw_tail_and_ran, saw_passed, compared}
 use Rattle.nr_oplog.specs.Seats.{IsOfNode}
 use Rattle.nr_oplog.proofs.Fronts.{begins_more, begins_both, applied_append}
-use Rattle.nr_oplog.proofs.Changes.{change, at_change, change_here, change_else}
+use Rattle.nr_entry.proofs.Changes.{change, at_change, change_here, change_else}
 use Rattle.nr_oplog.proofs.Seats.{each_set, apart_set, unmoved}
 
 module _ (nodes places : ℕ) where

@@ -18,7 +18,8 @@ use Rattle.nr_oplog.specs.Rule.{Share, Homes, Phase, empty, filling, full, lifte
 use Rattle.nr_oplog.specs.Plays.{passed_next}
 use Rattle.nr_oplog.specs.Seats.{IsOfNode}
 use Rattle.nr_oplog.proofs.Fronts.{begins_more, applied_append}
-use Rattle.nr_oplog.proofs.Changes.{change, at_change, change_here, change_else, change₂, change₂_here, change₂_else, at_change₂}
+use Rattle.nr_entry.proofs.Changes.{change, at_change, change_here, change_else}
+use Rattle.nr_oplog.proofs.Changes.{change₂, change₂_here, change₂_else, at_change₂}
 use Rattle.nr_oplog.proofs.Places.{stamp_high, slot_there, slot_apart, passed_there}
 use Rattle.nr_oplog.proofs.Seats.{each_set, apart_set}
 use Rattle.nr_oplog.proofs.Cells.{empty_not_lifted, cell_stays, not_lifted, waiting_phase}

@@ -4,7 +4,7 @@ use Rattle.std.specs.Prelude.{FitsSigned, ◌≤ℤ◌, Result, Ok, Err, OnErr}
 use Rattle.std.specs.Int.{w64}
 use Rattle.std.specs.Fmt.{signed_decimal}
 use Rattle.std.specs.List.{list_any, AllByRecursion}
-use Rattle.std.proofs.lemmas.List.{append-nil, flat_map_more, nil_from_length, take_at}
+use Rattle.std.proofs.lemmas.List.{append-nil, flat_map_more, nil_from_length}
 use Rattle.std.proofs.lemmas.Bool.{leb-true, eqb-true, ne_eqb, cases_lt}
 use Rattle.std.proofs.lemmas.Int.{ints}
 use Rattle.nr_model.specs.declared.fault.Fault.{Fault}

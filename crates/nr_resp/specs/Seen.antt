@@ -8,6 +8,7 @@ abbrev mutual
   pub reply_of : code.Reply → Reply
   reply_of (code.Simple text) = Simple text.now
   reply_of (code.Error text) = Error text
+  reply_of (code.FixedError text) = Error text.now
   reply_of (code.Int n) = Int n
   reply_of (code.Bulk text) = Bulk text
   reply_of code.NullBulk = NullBulk

@@ -4,7 +4,9 @@
 pub use frame::Frame;
 pub use reader::{FeedError, Reader};
 pub use reply::Reply;
+pub use shown::Shown;
 
 mod frame;
 mod reader;
 mod reply;
+mod shown;

@@ -110,14 +110,3 @@ impl Reader {
         fed
     }
 }
-
-#[cfg(test)]
-impl Reader {
-    /// How many bytes it keeps room for, those of its words apart.
-    fn room(&self) -> usize {
-        self.next.room()
-    }
-}
-
-#[cfg(test)]
-mod tests;

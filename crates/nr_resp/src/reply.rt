@@ -1,5 +1,6 @@
 // A reply, written as the RESP2 specification spells it, straight into its connection's buffer.
 ghost use Rattle.std.specs.Prelude.{◌≡◌, ◌++◌, ◌∷◌, ◌^◌, ◌<◌, ℕ, List, OnOk, OnErr, IfOk, decimal, map, length};
+ghost use Rattle.nr_model.specs.Replies as model;
 ghost use Rattle.nr_model.specs.Replies.{line, reply_text};
 ghost use Rattle.std.specs.Fmt.{signed_decimal};
 ghost use Rattle.nr_resp.specs.Seen.{reply_of};
@@ -13,6 +14,8 @@ pub enum Reply {
     Simple(&'static str),
     /// An error, `-text`. The text has no CR and no LF.
     Error(Blob),
+    /// An error whose text is always the same. It takes no memory.
+    FixedError(&'static str),
     /// A number, `:number`.
     Int(i64),
     /// Bytes behind their length.
@@ -47,6 +50,7 @@ impl Reply {
         match self {
             Reply::Simple(text) => Ok(Reply::Simple(text)),
             Reply::Error(text) => Ok(Reply::Error(text.copy()?)),
+            Reply::FixedError(text) => Ok(Reply::FixedError(text)),
             Reply::Int(number) => Ok(Reply::Int(*number)),
             Reply::Bulk(value) => Ok(Reply::Bulk(value.copy()?)),
             Reply::NullBulk => Ok(Reply::NullBulk),
@@ -54,6 +58,19 @@ impl Reply {
             Reply::NullArray => Ok(Reply::NullArray),
         }
     }
+}
+
+/// Appends a bulk of these bytes, or nothing where memory runs out.
+pub(crate) fn write_bulk(bytes: &[u8], out: &mut Vec<u8>) -> Result<(), Memory>
+    ensures ok { OnOk result (out.new.items ≡ out.old.items ++ reply_text (model.Bulk bytes.now)) }
+    ensures err { OnErr result (out.new.items ≡ out.old.items) }
+{
+    let before = out.len();
+    let written = append_bulk(bytes, out);
+    if written.is_err() {
+        out.truncate(before);
+    }
+    written
 }
 
 // The same replies once more.
@@ -76,6 +93,7 @@ fn append(reply: &Reply, out: &mut Vec<u8>) -> Result<(), Memory>
     match reply {
         Reply::Simple(text) => append_line(b'+', text.as_bytes(), out),
         Reply::Error(text) => append_line(b'-', text.bytes(), out),
+        Reply::FixedError(text) => append_line(b'-', text.as_bytes(), out),
         Reply::Int(number) => append_number(b':', *number, out),
         Reply::Bulk(value) => append_bulk(value.bytes(), out),
         Reply::NullBulk => append_line(b'$', b"-1", out),

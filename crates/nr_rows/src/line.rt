@@ -2,6 +2,7 @@
 use crate::failure::LineFault;
 use crate::rows::{Action, Fact};
 use crate::text::unescaped;
+use itoa::Buffer;
 use std::alloc::Global;
 
 /// What a line says.
@@ -27,7 +28,7 @@ fn number(text: &str) -> Result<u64, LineFault> {
 // A header of a request: a kind of line, a number, and its end.
 fn push_header(bytes: &mut Vec<u8>, kind: u8, count: usize) -> Result<(), LineFault> {
     bytes.push(kind)?;
-    bytes.extend_from_slice(format!(in *bytes.allocator(); "{count}")?.as_bytes())?;
+    bytes.extend_from_slice(Buffer::new().format(count).as_bytes())?;
     bytes.extend_from_slice(b"\r\n")?;
     Ok(())
 }

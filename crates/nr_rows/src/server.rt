@@ -35,13 +35,10 @@ fn setup() -> Setup {
 fn size(step: &Step) -> u64
     ensures { result ≡ bytes_of (step_seen step.now) }
 {
-    match step {
-        Step::Feed(_, _, bytes) => bytes.len() as u64,
-        Step::Open(_, _)
-        | Step::Apply(_)
-        | Step::Look(_)
-        | Step::Collect(_, _)
-        | Step::Close(_, _) => 0,
+    if let Step::Feed(_, _, bytes) = step {
+        bytes.len() as u64
+    } else {
+        0
     }
 }
 

@@ -89,9 +89,18 @@ pub(crate) fn unescaped(alloc: Global, text: &str) -> Result<Vec<u8>, LineFault>
     Ok(unescaping.bytes)
 }
 
+const HEX_DIGITS: &[u8; 16] = b"0123456789abcdef";
+
 /// Bytes that are shown as row files spell them.
 #[derive(Drop)]
 pub(crate) struct Escaped<'a>(pub(crate) &'a [u8]);
+
+// The two hexadecimal digits of a byte, in lower case.
+fn write_hex<W: fmt::Write>(f: &mut fmt::Formatter<W>, byte: u8) -> fmt::Result {
+    f.write_str("\\x")?;
+    f.write_char(char::from(HEX_DIGITS[(byte >> 4) as usize]))?;
+    f.write_char(char::from(HEX_DIGITS[(byte & 15) as usize]))
+}
 
 fn write_byte<W: fmt::Write>(f: &mut fmt::Formatter<W>, byte: u8) -> fmt::Result {
     match byte {
@@ -99,7 +108,7 @@ fn write_byte<W: fmt::Write>(f: &mut fmt::Formatter<W>, byte: u8) -> fmt::Result
         b'\n' => f.write_str("\\n"),
         b'\\' => f.write_str("\\\\"),
         b' '..=b'~' => f.write_char(char::from(byte)),
-        _ => write!(f, "\\x{byte:02x}"),
+        _ => write_hex(f, byte),
     }
 }
 

@@ -1,5 +1,5 @@
 -- What a piece asks for, by the fault that it ends with.
-use Rattle.std.proofs.Common.{◌≡◌, ℕ, zero, suc, ◌+◌, ◌≤◌, ◌<◌, true, false, List, [], ◌∷◌, ◌++◌, length, take, refl, ap, sym, ◌∙◌, subst, append_assoc, arith, length-append}
+use Rattle.std.proofs.Common.{◌≡◌, ℕ, zero, suc, ◌+◌, ◌≤◌, true, false, List, [], ◌∷◌, ◌++◌, length, take, refl, ap, sym, ◌∙◌, append_assoc, arith, length-append}
 use Rattle.std.specs.Prelude.{map, None, Some}
 use Rattle.std.proofs.lemmas.List.{length-map, take_at}
 use Rattle.nr_model.specs.Bytes.{Bytes}
@@ -48,17 +48,20 @@ pub few_frames_and_rest : (rest piece : Bytes) → length (framed rest piece).fr
 few_frames_and_rest rest piece = omega (arith, frames_and_rest_le_bytes (rest ++ piece), length-append rest piece)
 
 -- jobs of deeds behind others
-pub jobs_append : (c : Connection) (number moment : ℕ) (ds es : List Deed) → jobs_from c number moment (ds ++ es) ≡ jobs_from c number moment ds ++ jobs_from c (number + length ds) moment es
+pub jobs_append : (c : Connection) (number moment : ℕ) (ds es : List Deed)
+    → jobs_from c number moment (ds ++ es) ≡ jobs_from c number moment ds ++ jobs_from c (number + length ds) moment es
 jobs_append c number moment [] es = ap (λ n. jobs_from c n moment es) (omega arith)
 jobs_append c number moment (d ∷ ds) es =
     ap (λ js. record { connection = c; number = number; moment = moment; deed = d } ∷ js)
     (jobs_append c (number + 1) moment ds es ∙ ap (λ n. jobs_from c (number + 1) moment ds ++ jobs_from c n moment es) (omega arith))
 
 -- a front of the frames' jobs is that front's jobs
-pub jobs_take : (c : Connection) (number moment n : ℕ) (frames : List (List Bytes)) → request_jobs c number moment (take n frames) ≡ take n (request_jobs c number moment frames)
+pub jobs_take : (c : Connection) (number moment n : ℕ) (frames : List (List Bytes))
+    → request_jobs c number moment (take n frames) ≡ take n (request_jobs c number moment frames)
 jobs_take c number moment zero frames = refl
 jobs_take c number moment (suc n) [] = refl
-jobs_take c number moment (suc n) (f ∷ fs) = ap (λ js. record { connection = c; number = number; moment = moment; deed = served_deed f } ∷ js) (jobs_take c (number + 1) moment n fs)
+jobs_take c number moment (suc n) (f ∷ fs) =
+    ap (λ js. record { connection = c; number = number; moment = moment; deed = served_deed f } ∷ js) (jobs_take c (number + 1) moment n fs)
 
 -- a front of a front is a front
 take_within : {A : Type 0} (m n : ℕ) (xs : List A) → m ≤ length (take n xs) → take m (take n xs) ≡ take m xs
@@ -100,7 +103,8 @@ length-jobs c number moment [] = refl
 length-jobs c number moment (d ∷ ds) = ap suc (length-jobs c (number + 1) moment ds)
 
 -- so they are where those of all these frames were added
-pub all_added : (c : Connection) (number number' moment count : ℕ) (old now : List Item) (some all : List (List Bytes)) → IsFrontOf some all → now ≡ old ++ request_jobs c number moment some → number' ≡ number + count
+pub all_added : (c : Connection) (number number' moment count : ℕ) (old now : List Item) (some all : List (List Bytes)) → IsFrontOf some all
+    → now ≡ old ++ request_jobs c number moment some → number' ≡ number + count
     → length some ≡ count → AddsFront old now number number' (request_jobs c number moment all)
 all_added c number number' moment count old now some all f added numbered counted =
     of_all c number number' moment old now some all f
@@ -108,7 +112,8 @@ all_added c number number' moment count old now some all f added numbered counte
     (numbered ∙ omega (arith, counted, length-jobs c number moment (map served_deed some), length-map some served_deed)))
 
 -- the frames before a refusal are the first of all
-pub ran_out_front : (bytes held : Bytes) (frames frames' : List Frame) → frames ≡ [] → RanOut bytes held frames frames' → IsFrontOf frames' (framing_of bytes).frames
+pub ran_out_front : (bytes held : Bytes) (frames frames' : List Frame) → frames ≡ [] → RanOut bytes held frames frames'
+    → IsFrontOf frames' (framing_of bytes).frames
 ran_out_front bytes held frames frames' none ran = (
   length ran.1.added,
   ran.1.pushed ∙ ap (λ fs. fs ++ ran.1.added) none

@@ -10,7 +10,8 @@ pub on_err : {T E : Type 0} (r : Result T E) (P : Type 0) → P → OnErr r P
 on_err (Ok x) P p = tt
 on_err (Err e) P p = p
 
-begun : {A : Type 0} (old now left all : List A) → now ++ left ≡ old ++ all → length old ≤ length now → (n : ℕ) × (n + length old ≡ length now) × (now ≡ old ++ take n all)
+begun : {A : Type 0} (old now left all : List A) → now ++ left ≡ old ++ all → length old ≤ length now
+    → (n : ℕ) × (n + length old ≡ length now) × (now ≡ old ++ take n all)
 begun [] now left all e h = (length now, omega arith, sym (ap (take (length now)) (sym e) ∙ take-append_seam now left))
 begun (x ∷ old) [] left all e h = absurd (omega arith)
 begun (x ∷ old) (y ∷ now) left all e h =
@@ -20,7 +21,8 @@ begun (x ∷ old) (y ∷ now) left all e h =
     (more.0, omega (arith, more.1), λ i. heads i ∷ more.2 i)
 
 -- the number of the next job counts what was added
-pub adds_front : (old now left all : List Item) (start next : ℕ) → now ++ left ≡ old ++ all → length now + start ≡ length old + next → start ≤ next → AddsFront old now start next all
+pub adds_front : (old now left all : List Item) (start next : ℕ) → now ++ left ≡ old ++ all → length now + start ≡ length old + next → start ≤ next
+    → AddsFront old now start next all
 adds_front old now left all start next e counted on =
     let front = begun old now left all e (omega arith) in record {
       count = front.0;

@@ -1,4 +1,4 @@
--- What contracts see of a session.
+-- What contracts see of a session, and the front of the jobs that is there where memory ran out.
 use Rattle.std.specs.Prelude.{◌≡◌, ℕ, ◌+◌, ◌≤◌, Bool, List, ◌++◌, length, map, take}
 use Rattle.nr_model.specs.Bytes.{Bytes}
 use Rattle.nr_model.specs.Commands.{served}

@@ -54,7 +54,8 @@ pub fn push_close(
     jobs: &mut Vec<Job>,
 ) -> Result<(), Memory>
     requires in_time { moment ≤ last_moment }
-    ensures ok { OnOk result (items_of jobs.new.items ≡ items_of jobs.old.items ++ jobs_from (connection_of conn) number moment (update_deed (Update.Close reply) ∷ [])) }
+    ensures ok { OnOk result (items_of jobs.new.items ≡ items_of jobs.old.items
+        ++ jobs_from (connection_of conn) number moment (update_deed (Update.Close reply) ∷ [])) }
     ensures err { OnErr result (jobs.new.items ≡ jobs.old.items) }
 {
     jobs.push(Job {

@@ -1,4 +1,4 @@
-//! Sessions: what the bytes of a connection ask of the server.
+//! Sessions: what the bytes of a connection ask of the server, as jobs numbered without gap. A world has one for each connection.
 #![tactic(auto)]
 
 pub use session::{Session, SessionError};

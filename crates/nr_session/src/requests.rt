@@ -1,4 +1,4 @@
-// What one request asks for, and the errors of requests and faults.
+// What one request asks for, and the errors of requests and faults: called by the session for each. Touches memory alone.
 ghost use Rattle.std.specs.Prelude.{◌≡◌, ◌++◌, ◌∷◌, true, IfOk, OnOk, codes, take};
 ghost use Rattle.nr_model.specs.Bytes.{quoted, on_one_line};
 ghost use Rattle.nr_model.specs.Replies as replies;

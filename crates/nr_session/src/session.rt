@@ -121,7 +121,8 @@ impl Session {
         self.ended
     }
 
-    /// Takes bytes, and adds the jobs that they ask for, numbered on, each at the moment, in milliseconds, at most 2^53. A fault's error is the reply of a close.
+    /// Takes bytes, and adds the jobs that they ask for, numbered on, each at the moment, in milliseconds, at most 2^53. A fault's error is
+    /// the reply of a close.
     ///
     /// # Errors
     ///
@@ -141,12 +142,14 @@ impl Session {
         ensures goes_on { OnOk result (self.new.ended ≡ (asked self.old.rest bytes.now).ended) }
         ensures gave_end { self.new.gave_end ≡ (if is_ok result then (asked self.old.rest bytes.now).ended else self.old.gave_end) }
         ensures rest { OnOk result (self.new.ended ≡ false → self.new.rest ≡ (framed self.old.rest bytes.now).rest) }
-        ensures numbers { OnOk result (self.new.ended ≡ false → self.new.next + length self.new.rest ≤ self.old.next + (length self.old.rest + length bytes.now)) }
+        ensures numbers { OnOk result (self.new.ended ≡ false
+            → self.new.next + length self.new.rest ≤ self.old.next + (length self.old.rest + length bytes.now)) }
         ensures connection { self.new.connection ≡ self.old.connection }
 
         ensures ended { (result ≡ Err SessionError.Ended) ↔ (self.old.ended ≡ true) }
         ensures unchanged { result ≡ Err SessionError.Ended → (self.new ≡ self.old) × (jobs.new.items ≡ jobs.old.items) }
-        ensures memory { result ≡ Err SessionError.Memory → (self.new.ended ≡ true) × AddsFront (items_of jobs.old.items) (items_of jobs.new.items) self.old.next self.new.next
+        ensures memory { result ≡ Err SessionError.Memory → (self.new.ended ≡ true)
+            × AddsFront (items_of jobs.old.items) (items_of jobs.new.items) self.old.next self.new.next
             (request_jobs self.old.connection self.old.next moment (framed self.old.rest bytes.now).frames) }
     {
         if self.ended {
@@ -178,7 +181,8 @@ impl Session {
     pub fn close(&mut self, moment: u64, dropped: Option<u64>) -> Option<Job>
         requires in_time { moment ≤ last_moment }
         ensures none { IsNone result ↔ ((self.old.gave_end ≡ true) × (dropped ≡ None)) }
-        ensures job { IfSome result (λ job. item_of job ≡ record { connection = self.old.connection; number = unwrap_or dropped self.old.next; moment = moment; deed = End None }) }
+        ensures job { IfSome result (λ job. item_of job
+            ≡ record { connection = self.old.connection; number = unwrap_or dropped self.old.next; moment = moment; deed = End None }) }
         ensures ended { self.new ≡ record self.old { ended = true } }
     {
         self.ended = true;

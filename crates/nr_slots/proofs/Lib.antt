@@ -1,4 +1,3 @@
-pub mod Changes
 pub mod Tales
 pub mod Moves
 pub mod WorkerSteps
@@ -7,3 +6,4 @@ pub mod Calls
 pub mod Openings
 pub mod Seating
 pub mod Facts
+pub mod Crossing

@@ -15,7 +15,7 @@ use Rattle.nr_slots.specs.declared.view.SlotView.{SlotView}
 use Rattle.nr_slots.specs.Layout.{word_of, place_of, words_of, places_of}
 use Rattle.nr_slots.specs.Names.{Names}
 use Rattle.nr_slots.specs.Rule.{Round, Tale, word_at, home_at, IsNamed, lane_of, desk_of, Homes, SlotOk, Owns, Combines, OnlyOne, SeatOk, SlotRule, worker_view, combiner_view, no_desk}
-use Rattle.nr_slots.proofs.Changes.{change, at_change, change_here, change_else}
+use Rattle.nr_entry.proofs.Changes.{change, at_change, change_here, change_else}
 
 -- what holds of the new view, and of each other view, holds of all
 pub each_set : (F : SlotView → Type 0) (views : List SlotView) (id : ℕ) (w : SlotView) → F w → ((j : ℕ) (u : SlotView) → j ≢ id → get_elem? views j ≡ some u → F u)

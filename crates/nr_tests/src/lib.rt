@@ -1,8 +1,6 @@
-//! Tests of what no row of data reaches and no contract says: that calls succeed with memory at hand, texts of errors, time.
+//! Tests of what no row of data reaches and no contract says: that calls succeed with memory at hand, readers and writers that fail, time.
 #![tactic(auto)]
 
-#[cfg(test)]
-mod bytes;
 #[cfg(test)]
 mod copies;
 #[cfg(test)]
@@ -11,5 +9,7 @@ mod keyspaces;
 mod machines;
 #[cfg(test)]
 mod readers;
+#[cfg(test)]
+mod serving;
 #[cfg(test)]
 mod worlds;

@@ -2,8 +2,7 @@
 use nr_blob::{Blob, Memory};
 use nr_command::Cmd;
 use nr_entry::{ConnId, Entry, Job, JobKind, Transaction, Update};
-use nr_keyspace::Db;
-use nr_machine::Machine;
+use nr_machine::{Emissions, Machine};
 use nr_model::command::{Change, Look, Operation, StringsChange, StringsLook};
 use std::alloc::Global;
 use std::hash::RandomState;
@@ -13,61 +12,47 @@ const GET: Operation = Operation::Look(Look::Strings(StringsLook::Get));
 
 const SET: Operation = Operation::Change(Change::Strings(StringsChange::Set));
 
-const CONN: ConnId = ConnId { node: 3, serial: 1 };
-
-fn cmd(alloc: Global, command: Operation, words: &[&[u8]]) -> Result<Cmd, Memory> {
-    let mut copied = Vec::new(alloc);
-    for word in words {
-        copied.push(Blob::from_slice(alloc, word)?)?;
+// The name of a key or a value behind a command of so many words.
+fn cmd(alloc: Global, command: Operation, count: usize) -> Result<Cmd, Memory> {
+    let mut words = Vec::new(alloc);
+    for _ in 0..count {
+        words.push(Blob::from_slice(alloc, b"k")?)?;
     }
-    Ok(Cmd {
-        command,
-        words: copied,
-    })
+    Ok(Cmd { command, words })
 }
 
-// An entry of one transaction.
-fn entry(alloc: Global, transaction: Transaction) -> Result<Entry, Memory> {
-    let job = Job {
-        conn: CONN,
+// An entry of one transaction of these commands, and one that was spoiled.
+fn transactions(alloc: Global, queued: Vec<Cmd>) -> Result<Entry, Memory> {
+    let conn = ConnId { node: 3, serial: 1 };
+    let whole = Job {
+        conn,
         number: 0,
         moment: 7,
-        kind: JobKind::Update(Update::Exec(transaction)),
+        kind: JobKind::Update(Update::Exec(Transaction::Queued(queued))),
     };
-    Ok(Entry::new(3, vec![in alloc; job]?))
-}
-
-// What a machine emits for an entry.
-fn emitted(alloc: Global, machine: &mut Machine, entry: &Entry) -> Result<Vec<u8>, Memory> {
-    let mut emissions = Vec::new(alloc);
-    machine.apply(alloc, entry, &mut emissions)?;
-    let mut bytes = Vec::new(alloc);
-    for emission in &emissions {
-        emission.reply.write(&mut bytes)?;
-    }
-    Ok(bytes)
+    let spoiled = Job {
+        conn,
+        number: 1,
+        moment: 7,
+        kind: JobKind::Update(Update::Exec(Transaction::Spoiled)),
+    };
+    Ok(Entry::new(3, vec![in alloc; whole, spoiled]?))
 }
 
 #[test]
 fn a_transaction_runs_whole_or_not_at_all(rt: HostRuntime) -> Result<(), Fail> {
     let alloc = rt.alloc();
-    let mut machine = Machine::new(alloc, RandomState::new(&rt)?)?;
-    let copied = machine.copy()?;
-    let queued = vec![in alloc;
-        cmd(alloc, GET, &[b"get", b"k"])?,
-        cmd(alloc, SET, &[b"set", b"k", b"v"])?,
-    ]?;
-    let whole = entry(alloc, Transaction::Queued(queued))?;
-    let spoiled = entry(alloc, Transaction::Spoiled)?;
-    assert_eq!(rt;
-        emitted(alloc, &mut machine, &whole)?.as_slice(),
-        b"*2\r\n$-1\r\n+OK\r\n".as_slice()
-    );
-    assert_eq!(rt;
-        emitted(alloc, &mut machine, &spoiled)?.as_slice(),
-        b"-EXECABORT Transaction discarded because of previous errors.\r\n".as_slice()
-    );
-    assert!(rt; machine.keyspace().get(7, Db::FIRST, b"k").is_some());
-    assert!(rt; copied.keyspace().get(7, Db::FIRST, b"k").is_none());
+    let queued = vec![in alloc; cmd(alloc, GET, 2)?, cmd(alloc, SET, 3)?]?;
+    let entry = transactions(alloc, queued)?;
+    let mut machine = Machine::new(alloc, RandomState::new(&rt)?)?.copy()?;
+    let mut emissions = Emissions::new(alloc);
+    machine.apply(alloc, &entry, entry.node, &mut emissions)?;
+    let mut bytes = Vec::new(alloc);
+    for emission in emissions.list() {
+        bytes.extend_from_slice(&emission.bytes)?;
+    }
+    let expected =
+        b"*2\r\n$-1\r\n+OK\r\n-EXECABORT Transaction discarded because of previous errors.\r\n";
+    assert!(rt; bytes.as_slice() == expected.as_slice());
     Ok(())
 }

@@ -18,13 +18,13 @@ fn time_of(
     let mut reader = Reader::new(alloc);
     let mut frames = Vec::new(alloc);
     let start = Instant::now(rt)?;
-    assert_eq!(rt; reader.feed(header, &mut frames), Ok(()));
+    assert!(rt; reader.feed(header, &mut frames).is_ok());
     for _ in 0..count {
-        assert_eq!(rt; reader.feed(piece, &mut frames), Ok(()));
+        assert!(rt; reader.feed(piece, &mut frames).is_ok());
     }
-    assert_eq!(rt; reader.feed(b"\r\n", &mut frames), Ok(()));
+    assert!(rt; reader.feed(b"\r\n", &mut frames).is_ok());
     let elapsed = start.elapsed(rt)?;
-    assert_eq!(rt; frames.len(), 1);
+    assert!(rt; frames.len() == 1);
     Ok(elapsed)
 }
 

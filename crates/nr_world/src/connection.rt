@@ -1,17 +1,17 @@
 // A connection: its session, the bytes that wait for it, and whether it was closed.
-ghost use Rattle.std.specs.Prelude.{◌≡◌, ◌<◌, ◌≤◌, ◌+◌, ◌^◌, ◌++◌, [], false, OnOk, length};
+ghost use Rattle.std.specs.Prelude.{◌≡◌, ◌<◌, ◌≤◌, ◌+◌, ◌^◌, ◌++◌, [], false, OnOk, OnErr, length};
 ghost use Rattle.std.specs.Option.{option_map};
 ghost use Rattle.nr_model.specs.Replies.{reply_text};
 ghost use Rattle.nr_model.specs.Keyspace.{last_moment};
 ghost use Rattle.nr_model.specs.Worlds.{jobs_from};
-ghost use Rattle.nr_resp.specs.Seen.{reply_of};
+ghost use Rattle.nr_resp.specs.Shown.{shown_reply};
 ghost use Rattle.nr_entry.specs.Jobs.{connection_of, item_of, items_of};
 ghost use Rattle.nr_session.specs.SessionState.{asked};
 ghost use Rattle.nr_world.specs.Clients.{fresh_client, fed_client, closed_client, emptied, replied, end_of};
 
 use nr_blob::Memory;
 use nr_entry::{ConnId, Job};
-use nr_resp::Reply;
+use nr_resp::Shown;
 use nr_session::Session;
 use std::alloc::Global;
 use std::marker::Model;
@@ -100,13 +100,26 @@ impl Connection {
         self.session.close(moment, dropped)
     }
 
-    /// Writes a reply to what waits for it, unless it is closed.
-    pub(crate) fn push_reply(&mut self, reply: &Reply) -> Result<(), Memory>
-        ensures client { OnOk result (self.new ≡ replied (reply_text (reply_of reply.now)) self.old) }
+    /// Writes a reply to what waits for it, unless it is closed. Where memory runs out it is as it was.
+    pub(crate) fn put(&mut self, shown: Shown<'_>) -> Result<(), Memory>
+        ensures client { OnOk result (self.new ≡ replied (reply_text (shown_reply shown.entry)) self.old) }
         ensures connection { self.new.connection ≡ self.old.connection }
+        ensures unchanged { OnErr result (self.new ≡ self.old) }
     {
         if !self.is_closed {
-            reply.write(&mut self.output)?;
+            shown.write(&mut self.output)?;
+        }
+        Ok(())
+    }
+
+    /// Writes the bytes of a message to what waits for it, unless it is closed. Where memory runs out it is as it was.
+    pub(crate) fn share(&mut self, message: &[u8]) -> Result<(), Memory>
+        ensures client { OnOk result (self.new ≡ replied message.now self.old) }
+        ensures connection { self.new.connection ≡ self.old.connection }
+        ensures unchanged { OnErr result (self.new ≡ self.old) }
+    {
+        if !self.is_closed {
+            self.output.extend_from_slice(message)?;
         }
         Ok(())
     }

@@ -1,14 +1,11 @@
-// All connections of node 0, by serial: each call changes one of them, or delivers to all that are meant.
+// All connections of node 0, by serial: each call changes one of them. The machine emits into them.
 ghost use Rattle.std.specs.Prelude.{◌≡◌, ◌<◌, ◌≤◌, ◌+◌, ◌^◌, ◌++◌, ◌∷◌, [], true, false, IfOk, OnOk, IfSome, IsSome, ◌↔◌, IsTrue, length, map};
 ghost use Rattle.std.specs.Option.{option_map};
-ghost use Rattle.nr_model.specs.Replies.{reply_text};
 ghost use Rattle.nr_model.specs.Keyspace.{last_moment};
 ghost use Rattle.nr_model.specs.Worlds.{jobs_from};
-ghost use Rattle.nr_resp.specs.Seen.{reply_of};
 ghost use Rattle.nr_entry.specs.Jobs.{connection_of, item_of, items_of};
-ghost use Rattle.nr_machine.specs.Emitted.{emissions_seen};
 ghost use Rattle.nr_session.specs.SessionState.{asked};
-ghost use Rattle.nr_world.specs.Clients.{fresh_client, fed_client, closed_client, emptied, replied, end_of, delivered, collected_clients};
+ghost use Rattle.nr_world.specs.Clients.{fresh_client, fed_client, closed_client, emptied, end_of, collected_clients};
 ghost use Rattle.nr_world.specs.Seen.{handed_seen};
 ghost use Rattle.nr_world.specs.Numbered.{is_client, client_at, at_client};
 
@@ -17,10 +14,11 @@ use crate::connection::Connection;
 use crate::step::Handed;
 use nr_blob::Memory;
 use nr_entry::{ConnId, Job};
-use nr_machine::Emission;
-use nr_resp::Reply;
+use nr_machine::Sink;
+use nr_resp::Shown;
 use std::alloc::Global;
 use std::marker::Model;
+use std::sync::Arc;
 
 /// The connections of node 0, by serial.
 #[derive(Drop)]
@@ -112,16 +110,6 @@ impl Connections {
         self.list[conn.serial as usize].close(moment, dropped)
     }
 
-    /// Writes a reply to what waits for a connection, unless it is closed or there is none.
-    pub(crate) fn push_reply(&mut self, conn: ConnId, reply: &Reply) -> Result<(), Memory>
-        ensures { OnOk result (self.new ≡ map (at_client (connection_of conn) (replied (reply_text (reply_of reply.now)))) self.old) }
-    {
-        if !self.contains(conn) {
-            return Ok(());
-        }
-        self.list[conn.serial as usize].push_reply(reply)
-    }
-
     /// Hands out what waits for each connection, by serial. Linear in the connections.
     pub(crate) fn collect(&mut self, alloc: Global, handed: &mut Vec<Handed>) -> Result<(), Memory>
         ensures handed { OnOk result (map handed_seen handed.new.items ≡ map handed_seen handed.old.items ++ collected_clients self.old) }
@@ -129,14 +117,25 @@ impl Connections {
     {
         collect(alloc, &mut self.list, handed)
     }
+}
 
-    /// Writes what was emitted to what waits for the connections that are there and not closed, in order.
-    pub(crate) fn deliver(&mut self, emissions: &[Emission]) -> Result<(), Memory>
-        ensures { OnOk result (self.new ≡ map (delivered (emissions_seen emissions.now)) self.old) }
-    {
-        for emission in emissions {
-            self.push_reply(emission.conn, &emission.reply)?;
+/// What is emitted is written once, to what waits for its connection, unless that is closed or there is none.
+impl Sink for Connections {
+    ghost use Rattle.nr_world.specs.Numbered.{heard};
+
+    ghost after = { heard };
+
+    fn put(&mut self, conn: ConnId, shown: Shown<'_>) -> Result<(), Memory> {
+        if !self.contains(conn) {
+            return Ok(());
         }
-        Ok(())
+        self.list[conn.serial as usize].put(shown)
+    }
+
+    fn share(&mut self, conn: ConnId, message: &Arc<Vec<u8>>) -> Result<(), Memory> {
+        if !self.contains(conn) {
+            return Ok(());
+        }
+        self.list[conn.serial as usize].share(message)
     }
 }

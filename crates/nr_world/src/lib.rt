@@ -11,6 +11,7 @@ mod collecting;
 mod connection;
 mod connections;
 mod dropping;
+mod executing;
 mod reading;
 mod running;
 mod server;

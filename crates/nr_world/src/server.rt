@@ -13,6 +13,7 @@ ghost use Rattle.nr_world.specs.Served.{server_of};
 
 use crate::connections::Connections;
 use crate::dropping::drop_own;
+use crate::executing::run_entry;
 use crate::reading::run_reads;
 use crate::setup::Setup;
 use crate::step::{Handed, Outcome, Reason, Step};
@@ -135,9 +136,7 @@ impl Server {
             return Ok(Outcome::Idle(Reason::Nothing));
         }
         let entry = Entry::new(node, jobs);
-        let mut emissions = Vec::new(self.alloc);
-        self.machine.apply(self.alloc, &entry, &mut emissions)?;
-        self.connections.deliver(&emissions)?;
+        run_entry(self.alloc, &mut self.machine, &entry, &mut self.connections)?;
         Ok(Outcome::Done)
     }
 
@@ -153,9 +152,7 @@ impl Server {
         if jobs.is_empty() {
             return Ok(Outcome::Idle(Reason::Nothing));
         }
-        let mut emissions = Vec::new(self.alloc);
-        run_reads(self.alloc, &self.machine, &jobs, &mut emissions)?;
-        self.connections.deliver(&emissions)?;
+        run_reads(&self.machine, &jobs, &mut self.connections)?;
         Ok(Outcome::Done)
     }
 

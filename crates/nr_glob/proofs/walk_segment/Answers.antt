@@ -4,7 +4,8 @@ use Rattle.nr_glob.proofs.walk_segment.Goals as goal
 
 pub returns-then-first-eq42-clause-walk : goal.returns-then-first-eq42-clause-walk
 returns-then-first-eq42-clause-walk c =
-    walked_to_star c.args.pattern.now c.args.text.now c.loop-rest.rest.now c.loop-rest.left.now c.loop-rest.invariant.walked c.in-len1-up.len_at_least c.if-first-eq42.true
+    walked_to_star c.args.pattern.now c.args.text.now c.loop-rest.rest.now c.loop-rest.left.now c.loop-rest.invariant.walked
+    c.in-len1-up.len_at_least c.if-first-eq42.true
 
 pub loop-rest-preserved : goal.loop-rest-preserved
 loop-rest-preserved c = record {

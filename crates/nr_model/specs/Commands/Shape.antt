@@ -1,8 +1,9 @@
 -- The shape of each command's row.
 use Rattle.std.specs.Prelude.{ℕ, Bool, nat_le, ◌==◌, List, []}
-use Rattle.nr_model.specs.Bytes.{Bytes}
 use Rattle.nr_model.specs.Keyspace.{Key, Keyspace}
 use Rattle.nr_model.specs.Replies.{Reply, Error}
+use Rattle.nr_model.specs.declared.refused.Refused.{Refused}
+use Rattle.nr_model.specs.Commands.Texts.{refusal_text}
 
 -- how many words a request has, its name counted: so many, or at least so many
 pub data Arity : Type 0 where
@@ -34,6 +35,9 @@ staying database effect = record { reply = effect.reply; keyspace = effect.keysp
 abbrev pub unchanged : Keyspace → Reply → Effect
 unchanged keyspace reply = record { reply = reply; keyspace = keyspace; touched = [] }
 
--- an error, with nothing changed
-abbrev pub refused : Keyspace → Bytes → Effect
-refused keyspace text = unchanged keyspace (Error text)
+-- a refusal: an error, with nothing changed
+abbrev pub refusal : Refused → Reply
+refusal why = Error (refusal_text why)
+
+abbrev pub refused : Keyspace → Refused → Effect
+refused keyspace why = unchanged keyspace (refusal why)

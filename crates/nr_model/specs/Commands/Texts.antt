@@ -2,6 +2,8 @@
 use Rattle.std.specs.Prelude.{◌++◌, codes}
 use Rattle.nr_model.specs.Bytes.{Bytes, quoted}
 use Rattle.nr_model.specs.Replies.{Reply, Simple}
+use Rattle.nr_model.specs.declared.refused.Refused.{Refused}
+use Rattle.nr_model.specs.declared.refused.Refused.TheVariants.{Syntax, NotAnInteger, NoSuchDatabase, PingArity}
 
 -- `+OK`
 abbrev pub ok : Reply
@@ -30,3 +32,10 @@ wrong_arity name = codes "ERR wrong number of arguments for '" ++ name ++ codes 
 -- a name of no command (own wording)
 abbrev pub unknown_command : Bytes → Bytes
 unknown_command word = codes "ERR unknown command '" ++ quoted word ++ codes "'"
+
+-- the text of each refusal
+abbrev pub refusal_text : Refused → Bytes
+refusal_text Syntax = syntax_error
+refusal_text NotAnInteger = not_an_integer
+refusal_text NoSuchDatabase = no_such_database
+refusal_text PingArity = wrong_arity (codes "ping")

@@ -17,5 +17,7 @@ pub record ReplyRows : Type 0 where
   pub null_bulk : reply_text NullBulk ≡ codes "$-1\r\n"
   pub null_array : reply_text NullArray ≡ codes "*-1\r\n"
   pub empty_array : reply_text (array []) ≡ codes "*0\r\n"
-  pub subscribed : reply_text (array (Bulk (codes "subscribe") ∷ Bulk (codes "news") ∷ Int (pos 1) ∷ [])) ≡ codes "*3\r\n$9\r\nsubscribe\r\n$4\r\nnews\r\n:1\r\n"
-  pub nested : reply_text (array (array (Int (pos 1) ∷ NullBulk ∷ []) ∷ array [] ∷ NullArray ∷ Simple (codes "OK") ∷ [])) ≡ codes "*4\r\n*2\r\n:1\r\n$-1\r\n*0\r\n*-1\r\n+OK\r\n"
+  pub subscribed : reply_text (array (Bulk (codes "subscribe") ∷ Bulk (codes "news") ∷ Int (pos 1) ∷ []))
+      ≡ codes "*3\r\n$9\r\nsubscribe\r\n$4\r\nnews\r\n:1\r\n"
+  pub nested : reply_text (array (array (Int (pos 1) ∷ NullBulk ∷ []) ∷ array [] ∷ NullArray ∷ Simple (codes "OK") ∷ []))
+      ≡ codes "*4\r\n*2\r\n:1\r\n$-1\r\n*0\r\n*-1\r\n+OK\r\n"

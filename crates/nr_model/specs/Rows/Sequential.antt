@@ -109,12 +109,16 @@ news_begun = codes "*3\r\n$9\r\nsubscribe\r\n$4\r\nnews\r\n:1\r\n"
 
 pub record MessageRows : Type 0 where
   pub published_in_turn : emitted_for bob in_turn ≡ codes ":0\r\n:1\r\n:0\r\n"
-  pub received_in_turn : emitted_for alice in_turn ≡ news_begun ++ codes "*3\r\n$7\r\nmessage\r\n$4\r\nnews\r\n$1\r\ny\r\n*3\r\n$11\r\nunsubscribe\r\n$4\r\nnews\r\n:0\r\n"
+  pub received_in_turn : emitted_for alice in_turn
+      ≡ news_begun ++ codes "*3\r\n$7\r\nmessage\r\n$4\r\nnews\r\n$1\r\ny\r\n*3\r\n$11\r\nunsubscribe\r\n$4\r\nnews\r\n:0\r\n"
   pub published_to_both : emitted_for bob both_kinds ≡ codes ":2\r\n"
-  pub received_by_both : emitted_for alice both_kinds ≡ news_begun ++ codes "*3\r\n$10\r\npsubscribe\r\n$2\r\nn*\r\n:2\r\n*3\r\n$7\r\nmessage\r\n$4\r\nnews\r\n$2\r\nhi\r\n*4\r\n$8\r\npmessage\r\n$2\r\nn*\r\n$4\r\nnews\r\n$2\r\nhi\r\n"
-  pub counts : emitted_for alice counted ≡ codes "*3\r\n$9\r\nsubscribe\r\n$1\r\nb\r\n:1\r\n*3\r\n$9\r\nsubscribe\r\n$1\r\na\r\n:2\r\n*3\r\n$9\r\nsubscribe\r\n$1\r\na\r\n:2\r\n*3\r\n$11\r\nunsubscribe\r\n$1\r\na\r\n:1\r\n*3\r\n$11\r\nunsubscribe\r\n$1\r\nb\r\n:0\r\n*3\r\n$11\r\nunsubscribe\r\n$-1\r\n:0\r\n"
+  pub received_by_both : emitted_for alice both_kinds
+      ≡ news_begun ++ codes "*3\r\n$10\r\npsubscribe\r\n$2\r\nn*\r\n:2\r\n*3\r\n$7\r\nmessage\r\n$4\r\nnews\r\n$2\r\nhi\r\n*4\r\n$8\r\npmessage\r\n$2\r\nn*\r\n$4\r\nnews\r\n$2\r\nhi\r\n"
+  pub counts : emitted_for alice counted
+      ≡ codes "*3\r\n$9\r\nsubscribe\r\n$1\r\nb\r\n:1\r\n*3\r\n$9\r\nsubscribe\r\n$1\r\na\r\n:2\r\n*3\r\n$9\r\nsubscribe\r\n$1\r\na\r\n:2\r\n*3\r\n$11\r\nunsubscribe\r\n$1\r\na\r\n:1\r\n*3\r\n$11\r\nunsubscribe\r\n$1\r\nb\r\n:0\r\n*3\r\n$11\r\nunsubscribe\r\n$-1\r\n:0\r\n"
   pub published_to_patterns : emitted_for bob two_patterns ≡ codes ":2\r\n"
-  pub patterns_in_order : emitted_for alice two_patterns ≡ codes "*3\r\n$10\r\npsubscribe\r\n$2\r\nn*\r\n:1\r\n*3\r\n$10\r\npsubscribe\r\n$1\r\n*\r\n:2\r\n*4\r\n$8\r\npmessage\r\n$1\r\n*\r\n$4\r\nnews\r\n$1\r\nx\r\n*4\r\n$8\r\npmessage\r\n$2\r\nn*\r\n$4\r\nnews\r\n$1\r\nx\r\n"
+  pub patterns_in_order : emitted_for alice two_patterns
+      ≡ codes "*3\r\n$10\r\npsubscribe\r\n$2\r\nn*\r\n:1\r\n*3\r\n$10\r\npsubscribe\r\n$1\r\n*\r\n:2\r\n*4\r\n$8\r\npmessage\r\n$1\r\n*\r\n$4\r\nnews\r\n$1\r\nx\r\n*4\r\n$8\r\npmessage\r\n$2\r\nn*\r\n$4\r\nnews\r\n$1\r\nx\r\n"
   pub published_after_end : emitted_for bob ended ≡ codes ":0\r\n"
 
 pub record SequentialRows : Type 0 where

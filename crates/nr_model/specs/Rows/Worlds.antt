@@ -37,7 +37,8 @@ pub record WorldRows : Type 0 where
   pub answered : handed_to first pinged.handed ≡ codes "+PONG\r\n"
   pub in_order : outcomes read_first ≡ Opened first ∷ Done ∷ Idle Nothing ∷ Done ∷ Done ∷ Idle Nothing ∷ Done ∷ Idle Nothing ∷ []
   pub both : handed_to first (world_after small read_first).handed ≡ codes "+PONG\r\n+OK\r\n"
-  pub reasons : outcomes not_enabled ≡ Idle NoSuch ∷ Idle NoSuch ∷ Opened first ∷ Idle TooMany ∷ Done ∷ Idle Ended ∷ Idle Ended ∷ Opened (record { node = 0; serial = 1 }) ∷ []
+  pub reasons : outcomes not_enabled
+      ≡ Idle NoSuch ∷ Idle NoSuch ∷ Opened first ∷ Idle TooMany ∷ Done ∷ Idle Ended ∷ Idle Ended ∷ Opened (record { node = 0; serial = 1 }) ∷ []
   pub closed : outcomes closed_early ≡ Opened first ∷ Done ∷ Done ∷ Idle Nothing ∷ Done ∷ Idle Nothing ∷ []
   -- the sequence of what was executed explains the world, and accounts for what was handed out
   pub explained : Explains (sequence_of pinged) pinged

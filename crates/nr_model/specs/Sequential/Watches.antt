@@ -30,13 +30,13 @@ abbrev pub command_watches : Command → ℕ → List Bytes → List Key
 command_watches (Session Watch) database names = map (λ name. record { database = database; name = name }) names
 command_watches _ database names = []
 
--- the keys that an event watches, in the database that its connection has then
-abbrev pub watched_keys : Event → Deed → List Key
-watched_keys event (Act call) = command_watches call.command event.database (arguments call)
-watched_keys event (Say reply) = []
-watched_keys event (Run calls) = []
-watched_keys event Abort = []
-watched_keys event (End reply) = []
+-- the keys that a deed watches, in the database that its connection has
+abbrev pub watched_keys : ℕ → Deed → List Key
+watched_keys database (Act call) = command_watches call.command database (arguments call)
+watched_keys database (Say reply) = []
+watched_keys database (Run calls) = []
+watched_keys database Abort = []
+watched_keys database (End reply) = []
 
 -- what was live at one moment is past its deadline at another
 abbrev pub has_passed : Option Stored → ℕ → ℕ → Bool
@@ -55,4 +55,4 @@ is_spoiled c now touched (event ∷ older) =
     let own = same_connection event.item.connection c in
     let earlier = is_spoiled c now (touched ++ event.touched) older in
     not (own && forgets event.item.deed)
-    && ((own && list_any (is_broken event now touched) (watched_keys event event.item.deed)) || earlier)
+    && ((own && list_any (is_broken event now touched) (watched_keys event.database event.item.deed)) || earlier)

@@ -240,15 +240,6 @@ impl PartialRequest {
     }
 }
 
-#[cfg(test)]
-impl PartialRequest {
-    /// How many bytes its buffers have room for, those of its words apart.
-    pub fn room(&self) -> usize {
-        let words = self.words.capacity().saturating_mul(mem::size_of::<Blob>());
-        self.part.capacity().saturating_add(words)
-    }
-}
-
 /// The most bytes of a first line, and the fault of a longer one.
 fn line_limit(starred: bool) -> (usize, Fault)
     ensures most { result.0 ≡ most_line starred }

@@ -1,5 +1,9 @@
+use Rattle.nr_exec.proofs.Refusals.{refused_in}
 use Rattle.nr_exec.proofs.Swept.{live_live}
 use Rattle.nr_exec.proofs.exec.change.Goals as goal
 
-pub change-requires-in-Keys : goal.change-requires-in-Keys
-change-requires-in-Keys g c = rw c.sweep.ensures (live_live c.args.keyspace.now c.args.now)
+pub change_in_section-requires : goal.change_in_section-requires
+change_in_section-requires g c = rw c.sweep.ensures (live_live c.args.keyspace.now c.args.now)
+
+pub returns-in-Err : goal.returns-in-Err
+returns-in-Err g c = rw (← c.sweep.ensures) (refused_in c.reply.result c.in-Err.failure _ c.reply.ensures c.in-Err.ensures.refused)

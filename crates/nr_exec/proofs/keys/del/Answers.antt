@@ -1,4 +1,4 @@
-use Rattle.std.proofs.Common.{arith, sym, subst, ap, ◌∙◌, ℕ, ◌≡◌, ◌+◌}
+use Rattle.std.proofs.Common.{arith, sym, subst, ap, ◌∙◌, ◌≡◌, ◌+◌}
 use Rattle.nr_exec.proofs.Removals.{Along, counted_on, one_further}
 use Rattle.nr_exec.proofs.keys.del.Goals as goal
 use Rattle.nr_exec.proofs.keys.del.Goals.{then-branch, else-branch}

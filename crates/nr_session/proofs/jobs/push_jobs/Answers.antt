@@ -1,6 +1,6 @@
 use Rattle.std.proofs.Common.{◌≡◌, arith}
 use Rattle.std.proofs.lemmas.List.{length-map}
-use Rattle.nr_entry.specs.Jobs.{item_of, items_of}
+use Rattle.nr_entry.specs.Jobs.{item_of}
 use Rattle.nr_session.proofs.Fronts.{on_err, adds_front}
 use Rattle.nr_session.proofs.jobs.push_jobs.Goals as goal
 

@@ -1,4 +1,4 @@
-use Rattle.std.proofs.Common.{◌≡◌, ◌++◌, ◌∷◌, [], append_assoc, refl}
+use Rattle.std.proofs.Common.{append_assoc}
 use Rattle.nr_session.proofs.requests.push_unexpected.Goals as goal
 
 pub returns : goal.returns

@@ -1,4 +1,4 @@
-use Rattle.std.proofs.Common.{◌≡◌, ap, ◌∙◌, sym, subst}
+use Rattle.std.proofs.Common.{ap, ◌∙◌, sym, subst}
 use Rattle.std.specs.Map.Iter.{deref_pair}
 use Rattle.std.specs.FinMap as map
 use Rattle.std.proofs.lemmas.Map.Iter.{rest_more, rest_all}
@@ -17,14 +17,17 @@ loop-name-init c =
 
 pub loop-name-preserved : goal.loop-name-preserved
 loop-name-preserved c =
-    let parts = rest_more deref_pair c.loop-name.name-iterator c.next.new.self c.next.result (c.in-Some.name, c.in-Some.entry) c.in-Some.is c.next.ensures.steps in
+    let parts = rest_more deref_pair c.loop-name.name-iterator c.next.new.self c.next.result
+    (c.in-Some.name, c.in-Some.entry) c.in-Some.is c.next.ensures.steps in
     let stored : Value → Stored = λ value. record { value = value_of value; deadline = c.in-Some.entry.now.deadline } in
     let put = c.in_ok-put.ensures.ok
     ∙ ap (λ (name : Bytes). map.insert c.loop-name.copy name (stored c.in_ok-copy.field-0)) (c.in_ok-from_slice.ensures.items ∙ c.deref.ensures.value)
     ∙ ap (λ value. map.insert c.loop-name.copy c.in-Some.name.now.items (stored value)) c.in_ok-copy.ensures in
     subst (λ copy. IsCopied c.args.self.now copy c.next.new.self) (sym put)
-    (copied_more c.args.self.now c.loop-name.copy (deref_pair (c.in-Some.name, c.in-Some.entry)) c.next.new.self (subst (IsCopied c.args.self.now c.loop-name.copy) parts c.loop-name.invariant))
+    (copied_more c.args.self.now c.loop-name.copy (deref_pair (c.in-Some.name, c.in-Some.entry)) c.next.new.self
+    (subst (IsCopied c.args.self.now c.loop-name.copy) parts c.loop-name.invariant))
 
 pub returns : goal.returns
 returns c = copied_all c.args.self.now c.loop-name.copy
-    (subst (IsCopied c.args.self.now c.loop-name.copy) (rest_all deref_pair c.loop-name.name-iterator c.next.new.self c.next.result c.in-None.is c.next.ensures.steps) c.loop-name.invariant)
+    (subst (IsCopied c.args.self.now c.loop-name.copy)
+    (rest_all deref_pair c.loop-name.name-iterator c.next.new.self c.next.result c.in-None.is c.next.ensures.steps) c.loop-name.invariant)

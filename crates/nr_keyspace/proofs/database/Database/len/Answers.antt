@@ -9,11 +9,13 @@ pub overflow_sub-result : goal.overflow_sub-result
 overflow_sub-result c =
     let entries = c.self.inside.by_name.entries in
     let store = store_of bytes_of entries in
-    count_within (map.len (live_store store c.args.now)) c.count_expired.result (map.len store) (length entries) c.len.result (c.count_expired.ensures store c.self.invariant) (len_entries entries c.len.ensures.unique) c.len.ensures.len
+    count_within (map.len (live_store store c.args.now)) c.count_expired.result (map.len store) (length entries) c.len.result
+    (c.count_expired.ensures store c.self.invariant) (len_entries entries c.len.ensures.unique) c.len.ensures.len
 
 pub returns : goal.returns
 returns c =
     let entries = c.self.inside.by_name.entries in
     let store = store_of bytes_of entries in
-    others (map.len (live_store store c.args.now)) c.count_expired.result (map.len store) (length entries) c.len.result (c.count_expired.ensures store c.self.invariant) (len_entries entries c.len.ensures.unique) c.len.ensures.len
+    others (map.len (live_store store c.args.now)) c.count_expired.result (map.len store) (length entries) c.len.result
+    (c.count_expired.ensures store c.self.invariant) (len_entries entries c.len.ensures.unique) c.len.ensures.len
     ∙ ap (λ s. map.len (live_store s c.args.now)) c.self.view_is

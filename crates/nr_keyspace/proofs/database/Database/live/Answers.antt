@@ -1,6 +1,4 @@
-use Rattle.std.proofs.Common.{◌≡◌, cond, Some, None, ap, ◌∙◌, sym}
-use Rattle.std.specs.Option.{option_map}
-use Rattle.std.specs.FinMap as map
+use Rattle.std.proofs.Common.{cond, Some, None, ap, ◌∙◌, sym}
 use Rattle.nr_model.specs.Keyspace.{only_live}
 use Rattle.nr_keyspace.specs.Stores.{stored_of, bytes_of}
 use Rattle.nr_keyspace.proofs.Named.{get-found}
@@ -9,7 +7,8 @@ use Rattle.nr_keyspace.proofs.database.Database.live.Goals as goal
 
 pub returns-in_err-entry : goal.returns-in_err-entry
 returns-in_err-entry c = rw c.from_residual.ensures
-    (sym (ap (only_live c.args.now) (get-found bytes_of c.self.inside.by_name.entries c.args.self.now c.args.name.now None c.self.view_is c.in_err-entry.ensures.value)))
+    (sym (ap (only_live c.args.now)
+    (get-found bytes_of c.self.inside.by_name.entries c.args.self.now c.args.name.now None c.self.view_is c.in_err-entry.ensures.value)))
 
 pub returns-then-is_live : goal.returns-then-is_live
 returns-then-is_live c =

@@ -1,4 +1,4 @@
-use Rattle.std.proofs.Common.{◌≡◌, true, false, cond, refl, ap, ◌∙◌, sym, subst}
+use Rattle.std.proofs.Common.{true, false, cond, refl, ap, ◌∙◌, sym, subst}
 use Rattle.std.specs.Map.Iter.{deref_pair}
 use Rattle.std.specs.BTreeSet as sorted
 use Rattle.std.specs.Ordering.{eq_by_cmp}
@@ -12,14 +12,17 @@ use Rattle.nr_keyspace.proofs.database.Database.names.Goals as goal
 
 pub loop-name-init : goal.loop-name-init
 loop-name-init c = record {
-  listed = subst (IsListed c.args.now c.args.self.now c.new-names.result) (sym (c.into_iter-name-iterator.ensures.into_iter_gives ∙ c.iter-name-items.ensures.rest))
-      (listed_none c.args.now c.args.self.now c.new-names.result c.self.inside.by_name.entries c.new-names.ensures.empty c.self.view_is c.iter-name-items.ensures.unique);
+  listed = subst (IsListed c.args.now c.args.self.now c.new-names.result)
+      (sym (c.into_iter-name-iterator.ensures.into_iter_gives ∙ c.iter-name-items.ensures.rest))
+      (listed_none c.args.now c.args.self.now c.new-names.result c.self.inside.by_name.entries c.new-names.ensures.empty c.self.view_is
+      c.iter-name-items.ensures.unique);
   ordered = c.new-names.ensures.ordered;
 }
 
 pub loop-name-preserved-in_ok-insert : goal.loop-name-preserved-in_ok-insert
 loop-name-preserved-in_ok-insert c =
-    let parts = rest_more deref_pair c.loop-name.name-iterator c.next.new.self c.next.result (c.in-Some.name, c.in-Some.entry) c.in-Some.is c.next.ensures.steps in
+    let parts = rest_more deref_pair c.loop-name.name-iterator c.next.new.self c.next.result
+    (c.in-Some.name, c.in-Some.entry) c.in-Some.is c.next.ensures.steps in
     let named = c.in_ok-from_slice.ensures ∙ c.deref.ensures.value in
     let changes = c.in_ok-insert.ensures.updates in
     record {
@@ -33,7 +36,8 @@ loop-name-preserved-in_ok-insert c =
 
 pub loop-name-preserved : goal.loop-name-preserved
 loop-name-preserved c =
-    let parts = rest_more deref_pair c.loop-name.name-iterator c.next.new.self c.next.result (c.in-Some.name, c.in-Some.entry) c.in-Some.is c.next.ensures.steps in
+    let parts = rest_more deref_pair c.loop-name.name-iterator c.next.new.self c.next.result
+    (c.in-Some.name, c.in-Some.entry) c.in-Some.is c.next.ensures.steps in
     record {
       listed = listed_more c.args.now c.args.self.now c.loop-name.names c.loop-name.names (deref_pair (c.in-Some.name, c.in-Some.entry)) c.next.new.self false
           (subst (IsListed c.args.now c.args.self.now c.loop-name.names) parts c.loop-name.invariant.listed) (sym c.if-is_live.false ∙ c.is_live.ensures)
@@ -44,5 +48,6 @@ loop-name-preserved c =
 pub returns : goal.returns
 returns c = c.in_ok-in_order.ensures
     ∙ listed_all c.args.now c.args.self.now c.loop-name.names
-    (subst (IsListed c.args.now c.args.self.now c.loop-name.names) (rest_all deref_pair c.loop-name.name-iterator c.next.new.self c.next.result c.in-None.is c.next.ensures.steps) c.loop-name.invariant.listed)
+    (subst (IsListed c.args.now c.args.self.now c.loop-name.names)
+    (rest_all deref_pair c.loop-name.name-iterator c.next.new.self c.next.result c.in-None.is c.next.ensures.steps) c.loop-name.invariant.listed)
     c.loop-name.invariant.ordered

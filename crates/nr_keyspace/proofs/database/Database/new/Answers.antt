@@ -1,5 +1,3 @@
-use Rattle.std.specs.FinMap as map
-use Rattle.nr_keyspace.specs.Stores.{IsIndexed}
 use Rattle.nr_keyspace.proofs.Indexed.{empty_indexed}
 use Rattle.nr_keyspace.proofs.database.Database.new.Goals as goal
 

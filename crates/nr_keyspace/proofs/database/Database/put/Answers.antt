@@ -8,7 +8,9 @@ use Rattle.nr_keyspace.proofs.Changes.{put_store, put_indexed, refused_indexed, 
 use Rattle.nr_keyspace.proofs.database.Database.put.Goals as goal
 
 pub invariant_of-self-in_err-name : goal.invariant_of-self-in_err-name
-invariant_of-self-in_err-name c = refused_indexed c.self.inside.by_name.entries c.reserve.new.self.entries c.self.inside.deadlines c.replace.new.self c.self.invariant c.in_ok-reserve.ensures.entries.2 c.in_err-name.ensures.err
+invariant_of-self-in_err-name c =
+    refused_indexed c.self.inside.by_name.entries c.reserve.new.self.entries c.self.inside.deadlines c.replace.new.self c.self.invariant
+    c.in_ok-reserve.ensures.entries.2 c.in_err-name.ensures.err
 
 pub returns-in_err-name-clause-err : goal.returns-in_err-name-clause-err
 returns-in_err-name-clause-err c = on_err c.from_residual-in_err-name.result
@@ -18,14 +20,17 @@ pub invariant_of-self-2 : goal.invariant_of-self-2
 invariant_of-self-2 c =
     let changes = c.in_ok-insert.ensures.updates in
     let entry : Entry = record { value = c.args.value; deadline = c.args.deadline } in
-    put_indexed c.self.inside.by_name.entries c.reserve.new.self.entries c.insert.new.self.entries c.self.inside.deadlines c.replace.new.self c.in_ok-name.name.items entry
+    put_indexed c.self.inside.by_name.entries c.reserve.new.self.entries c.insert.new.self.entries c.self.inside.deadlines c.replace.new.self
+    c.in_ok-name.name.items entry
     c.self.invariant c.in_ok-reserve.ensures.entries.2 changes.1 changes.3
-    (subst (λ (name : Vec ℕ Global). IsReplaced c.self.inside.deadlines c.replace.new.self c.args.deadline name.items) (sym c.in_ok-name.ensures.same) c.in_ok-name.ensures.ok)
+    (subst (λ (name : Vec ℕ Global). IsReplaced c.self.inside.deadlines c.replace.new.self c.args.deadline name.items)
+    (sym c.in_ok-name.ensures.same) c.in_ok-name.ensures.ok)
 
 pub returns-clause-ok : goal.returns-clause-ok
 returns-clause-ok c =
     let changes = c.in_ok-insert.ensures.updates in
     let entry : Entry = record { value = c.args.value; deadline = c.args.deadline } in
-    put_store c.self.inside.by_name.entries c.reserve.new.self.entries c.insert.new.self.entries c.in_ok-name.name.items entry c.in_ok-reserve.ensures.entries.2 changes.1 changes.3
+    put_store c.self.inside.by_name.entries c.reserve.new.self.entries c.insert.new.self.entries c.in_ok-name.name.items entry
+    c.in_ok-reserve.ensures.entries.2 changes.1 changes.3
     ∙ ap (λ store. map.insert store c.in_ok-name.name.items (stored_of entry)) c.self.view_is
     ∙ ap (λ (name : Vec ℕ Global). map.insert c.args.self.now name.items (stored_of entry)) c.in_ok-name.ensures.same

@@ -1,4 +1,4 @@
-use Rattle.std.proofs.Common.{Some, None, is_some, ap, ◌∙◌, sym, subst}
+use Rattle.std.proofs.Common.{None, is_some, ap, ◌∙◌, sym, subst}
 use Rattle.std.specs.Option.{option_map}
 use Rattle.std.specs.FinMap as map
 use Rattle.std.specs.FinSet as set
@@ -12,11 +12,13 @@ use Rattle.nr_keyspace.proofs.database.Database.set_deadline.Goals as goal
 
 pub returns-in_default-clause-live : goal.returns-in_default-clause-live
 returns-in_default-clause-live c =
-    sym (ap (λ o. is_some (only_live c.args.now o)) (get-found bytes_of c.self.inside.by_name.entries c.args.self.now c.args.name.now None c.self.view_is c.in_default.ensures.value))
+    sym (ap (λ o. is_some (only_live c.args.now o))
+    (get-found bytes_of c.self.inside.by_name.entries c.args.self.now c.args.name.now None c.self.view_is c.in_default.ensures.value))
 
 pub returns-in_default-clause-ok : goal.returns-in_default-clause-ok
 returns-in_default-clause-ok c =
-    sym (ap (λ o. redated c.args.self.now c.args.name.now (only_live c.args.now o) c.args.deadline) (get-found bytes_of c.self.inside.by_name.entries c.args.self.now c.args.name.now None c.self.view_is c.in_default.ensures.value))
+    sym (ap (λ o. redated c.args.self.now c.args.name.now (only_live c.args.now o) c.args.deadline)
+    (get-found bytes_of c.self.inside.by_name.entries c.args.self.now c.args.name.now None c.self.view_is c.in_default.ensures.value))
 
 pub replace-requires : goal.replace-requires
 replace-requires c = λ deadline.
@@ -28,7 +30,9 @@ replace-requires c = λ deadline.
 pub invariant_of-self-2 : goal.invariant_of-self-2
 invariant_of-self-2 c =
     let entry = c.in-Some.field-0-1.now in
-    redated_indexed c.self.inside.by_name.entries c.redate.new.by_name.entries c.self.inside.deadlines c.replace.new.self c.args.name.now (stored_of entry) c.args.deadline c.self.invariant
+    redated_indexed c.self.inside.by_name.entries c.redate.new.by_name.entries c.self.inside.deadlines c.replace.new.self c.args.name.now
+    (stored_of entry) c.args.deadline c.self.invariant
     (get-store bytes_of c.self.inside.by_name.entries c.args.name.now ∙ ap (option_map stored_of) (sym c.in-Some.ensures.value))
     c.redate.ensures
-    (subst (λ (name : Bytes). IsReplaced c.self.inside.deadlines c.replace.new.self c.args.deadline name) c.in_ok-name_copy.ensures.items c.in_ok-replace.ensures.ok)
+    (subst (λ (name : Bytes). IsReplaced c.self.inside.deadlines c.replace.new.self c.args.deadline name) c.in_ok-name_copy.ensures.items
+    c.in_ok-replace.ensures.ok)

@@ -12,7 +12,9 @@ loop-name-smaller c = sweep_shrinks c.loop-name.self-inside.deadlines c.pop_expi
 pub loop-name-preserved : goal.loop-name-preserved
 loop-name-preserved c =
     let entries = c.loop-name.self-inside.by_name.entries in
-    let step = sweep_step c.args.now (store_of bytes_of entries) c.loop-name.self-inside.deadlines c.pop_expired.new.self c.in-Some.name.items c.loop-name.invariant.indexed c.in-Some.ensures.expired in
+    let step = sweep_step c.args.now
+    (store_of bytes_of entries) c.loop-name.self-inside.deadlines c.pop_expired.new.self c.in-Some.name.items c.loop-name.invariant.indexed
+    c.in-Some.ensures.expired in
     let gone = removed bytes_of entries c.remove.new.self.entries c.in-Some.name.items c.remove.ensures.updates.1 c.remove.ensures.updates.3 in
     record {
       indexed = subst (λ store. IsIndexed store c.pop_expired.new.self) (sym gone) step.indexed;
@@ -21,5 +23,6 @@ loop-name-preserved c =
 
 pub returns : goal.returns
 returns c = λ name.
-    sym (all_live c.args.now (store_of bytes_of c.loop-name.self-inside.by_name.entries) c.loop-name.self-inside.deadlines c.loop-name.invariant.indexed c.in_default.ensures.live name)
+    sym (all_live c.args.now
+    (store_of bytes_of c.loop-name.self-inside.by_name.entries) c.loop-name.self-inside.deadlines c.loop-name.invariant.indexed c.in_default.ensures.live name)
     ∙ c.loop-name.invariant.same_live name

@@ -1,4 +1,4 @@
-use Rattle.std.proofs.Common.{◌≡◌, pos, rules, SFits, w64, to_z-of_z, ap, ◌+◌, ◌∙◌, sym, subst}
+use Rattle.std.proofs.Common.{pos, rules, SFits, w64, to_z-of_z, ap, ◌+◌, ◌∙◌, sym, subst}
 use Rattle.std.specs.Prelude.{int_lt}
 use Rattle.std.specs.Map.Iter.{deref}
 use Rattle.std.specs.FinMap as map
@@ -15,7 +15,8 @@ returns-then-is_live c = λ store indexed.
     let parts = rest_more deref c.loop-due.due-iterator c.next.new.self c.next.result c.in-Some.due c.in-Some.is c.next.ensures.steps in
     ap (λ n. map.len (live_store store c.args.now) + n)
     (all_counted bytes_of c.loop-due.count c.args.now c.loop-due.due-iterator c.into_iter-due-iterator.result c.self.inside.ordered.keys
-    (none_after bytes_of c.args.now c.loop-due.due-iterator c.next.new.self c.in-Some.due.now parts live) c.loop-due.invariant.expired (c.into_iter-due-iterator.ensures.into_iter_gives ∙ c.iter-due-items.ensures.rest))
+    (none_after bytes_of c.args.now c.loop-due.due-iterator c.next.new.self c.in-Some.due.now parts live) c.loop-due.invariant.expired
+    (c.into_iter-due-iterator.ensures.into_iter_gives ∙ c.iter-due-items.ensures.rest))
     ∙ counted bytes_of c.args.now c.self.inside.ordered.keys store c.iter-due-items.ensures.ordered (subst (IsIndexed store) (sym c.self.view_is) indexed)
 
 pub returns : goal.returns

@@ -1,5 +1,4 @@
-use Rattle.std.proofs.Common.{ap, ◌∙◌, sym, true≢false}
-use Rattle.nr_keyspace.specs.Deadlines.{with_deadline, without_deadline, IsReplaced}
+use Rattle.std.proofs.Common.{◌∙◌, sym, true≢false}
 use Rattle.nr_keyspace.proofs.Replaced.{moved, kept, same_deadline}
 use Rattle.nr_keyspace.proofs.deadlines.Deadlines.replace.Goals as goal
 

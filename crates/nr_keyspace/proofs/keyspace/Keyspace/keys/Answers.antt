@@ -1,8 +1,8 @@
 use Rattle.std.proofs.Common.{◌≡◌, ◌<◌, List, length, IfOk, ap, ◌∙◌, sym, subst, arith}
 use Rattle.nr_model.specs.Bytes.{Bytes}
 use Rattle.nr_model.specs.Keyspace as model
-use Rattle.nr_keyspace.specs.Names.{names_in, live_store}
-use Rattle.nr_keyspace.proofs.Names.{names_at, len_keys}
+use Rattle.nr_keyspace.specs.Names.{names_in}
+use Rattle.nr_keyspace.proofs.Names.{names_at}
 use Rattle.nr_keyspace.proofs.keyspace.Keyspace.keys.Goals as goal
 
 pub returns : goal.returns

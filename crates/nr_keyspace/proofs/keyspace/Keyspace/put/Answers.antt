@@ -1,4 +1,4 @@
-use Rattle.std.proofs.Common.{◌≡◌, ◌<◌, length, set, ap, ◌∙◌, sym, arith}
+use Rattle.std.proofs.Common.{◌<◌, length, set, ap, ◌∙◌, arith}
 use Rattle.std.specs.FinMap as map
 use Rattle.nr_model.specs.Bytes.{Bytes}
 use Rattle.nr_model.specs.Keyspace as model

@@ -12,7 +12,8 @@ returns-clause-value c =
     let below : c.index.result < length c.self.inside.databases.items = omega arith in
     let stored = λ (o : Option model.Stored). option_map (λ (s : model.Stored). s.value) o in
     c.remove.ensures.value
-    ∙ ap stored (sym (get-live_at c.self.inside.databases.items c.args.now c.index.result c.index_mut.result.now c.args.name.now c.index_mut.ensures.value below)
+    ∙ ap stored (sym (get-live_at c.self.inside.databases.items c.args.now c.index.result c.index_mut.result.now c.args.name.now
+    c.index_mut.ensures.value below)
     ∙ ap (λ keyspace. map.get (model.live keyspace c.args.now) (key_of c.index.result c.args.name.now)) c.self.view_is
     ∙ ap (λ database. map.get (model.live c.args.self.now c.args.now) (key_of database c.args.name.now)) c.index.ensures.value)
 

@@ -24,7 +24,10 @@ returns-clause-ok c =
     ∙ ap (λ database. map.get (model.live c.args.self.now c.args.now) (key_of database c.args.name.now)) c.index.ensures.value in
     ok_then c.set_deadline.result c.set_deadline.ensures.ok (λ is.
     ap (λ store. joined (set c.self.inside.databases.items c.index.result store)) is
-    ∙ redated_at c.self.inside.databases.items c.index.result c.index_mut.result.now c.args.name.now (only_live c.args.now (map.get c.index_mut.result.now c.args.name.now)) c.args.deadline c.index_mut.ensures.value below
-    ∙ ap (λ keyspace. redated keyspace (key_of c.index.result c.args.name.now) (only_live c.args.now (map.get c.index_mut.result.now c.args.name.now)) c.args.deadline) c.self.view_is
-    ∙ ap (λ database. redated c.args.self.now (key_of database c.args.name.now) (only_live c.args.now (map.get c.index_mut.result.now c.args.name.now)) c.args.deadline) c.index.ensures.value
+    ∙ redated_at c.self.inside.databases.items c.index.result c.index_mut.result.now c.args.name.now
+    (only_live c.args.now (map.get c.index_mut.result.now c.args.name.now)) c.args.deadline c.index_mut.ensures.value below
+    ∙ ap (λ keyspace. redated keyspace (key_of c.index.result c.args.name.now)
+    (only_live c.args.now (map.get c.index_mut.result.now c.args.name.now)) c.args.deadline) c.self.view_is
+    ∙ ap (λ database. redated c.args.self.now (key_of database c.args.name.now)
+    (only_live c.args.now (map.get c.index_mut.result.now c.args.name.now)) c.args.deadline) c.index.ensures.value
     ∙ ap (λ (o : Option model.Stored). redated c.args.self.now (key_of c.args.database c.args.name.now) o c.args.deadline) seen)

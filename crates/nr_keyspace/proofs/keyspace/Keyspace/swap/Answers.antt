@@ -1,4 +1,4 @@
-use Rattle.std.proofs.Common.{ℕ, ap, ◌∙◌, sym, subst}
+use Rattle.std.proofs.Common.{ap, ◌∙◌}
 use Rattle.std.specs.FinMap as map
 use Rattle.nr_keyspace.specs.Joined.{exchanged}
 use Rattle.nr_keyspace.proofs.Joined.{exchanged_in}

@@ -1,12 +1,11 @@
 use Rattle.std.proofs.Common.{◌≡◌, true, drop}
 use Rattle.nr_model.specs.Entries.{entry_items}
 use Rattle.nr_entry.specs.Jobs.{items_of}
-use Rattle.nr_machine.specs.Emitted.{emissions_seen}
 use Rattle.nr_machine.proofs.Entries.{Along}
 use Rattle.nr_machine.proofs.machine.Machine.apply.Given as goal
 
 abbrev pub invariant-loop-job : goal.invariant-loop-job
-invariant-loop-job l = record {
+invariant-loop-job g l = record {
   failed : l.self.failed ≡ true;
-  along : Along l.fn.self.state l.self.state (emissions_seen l.fn.out.items) (emissions_seen l.out.items) (entry_items (items_of l.entry.jobs.items)) (drop l.job-index l.job-items) l.entry.moment;
+  along : Along _ g.S.Sink.after l.node l.fn.self.state l.self.state l.fn.out l.out (entry_items (items_of l.entry.jobs.items)) (drop l.job-index l.job-items) l.entry.moment;
 }

@@ -1,11 +1,9 @@
-use Rattle.std.proofs.Common.{List, ◌++◌, ap, sym, ◌∙◌, subst}
+use Rattle.std.proofs.Common.{ap, sym, ◌∙◌, subst}
 use Rattle.std.specs.Prelude.{map}
+use Rattle.nr_model.specs.Items.{Sequence}
 use Rattle.nr_model.specs.States.{emitted_all}
 use Rattle.nr_model.proofs.WorldsTaken.{look_reads}
 use Rattle.nr_entry.specs.Jobs.{items_of}
-use Rattle.nr_entry.specs.declared.job.Job.{Job}
-use Rattle.nr_machine.specs.Emitted.{emissions_seen}
-use Rattle.nr_machine.specs.declared.emission.Emission.{Emission}
 use Rattle.nr_world.specs.Executing.{AreReads}
 use Rattle.nr_world.specs.Clients.{delivered}
 use Rattle.nr_world.specs.Served.{server_of}
@@ -24,11 +22,7 @@ run_reads-requires c =
 pub returns-clause-server : goal.returns-clause-server
 returns-clause-server c =
     let state = c.args.self.now.machine.state in
-    let emitted =
-    ap emissions_seen c.deref-2.ensures.value
-    ∙ c.in_ok-run_reads.ensures
-    ∙ ap (λ (es : List Emission). emissions_seen es ++ emitted_all state (items_of c.deref.result.now)) c.new-emissions.ensures.items
-    ∙ ap (λ (jobs : List Job). emitted_all state (items_of jobs)) c.deref.ensures.value
-    ∙ ap (emitted_all state) c.in_ok-jobs.ensures.taken in
+    let delivers = λ (items : Sequence). map (delivered (emitted_all state items)) c.args.self.now.connections in
+    let reads = ap items_of c.deref.ensures.value ∙ c.in_ok-jobs.ensures.taken in
     λ setup. look_done setup (server_of c.args.self.now) c.args.node c.in_ok-jobs.jobs.items c.in_ok-jobs.jobs.len _ _ _ c.if-node-ne0.false c.is_empty.ensures c.if-is_empty.false c.in_ok-jobs.jobs.ok.0
-    c.in_ok-jobs.ensures.taken c.in_ok-jobs.ensures.left (c.in_ok-deliver.ensures ∙ ap (λ es. map (delivered es) c.args.self.now.connections) emitted)
+    c.in_ok-jobs.ensures.taken c.in_ok-jobs.ensures.left (c.in_ok-run_reads.ensures ∙ ap delivers reads)

@@ -1,0 +1,12 @@
+use Rattle.std.proofs.Common.{◌+◌}
+use Rattle.nr_oplog.specs.Rule.{opening_view}
+use Rattle.nr_exchange.proofs.Popped.{popped, moved}
+use Rattle.nr_exchange.proofs.nodes.ends.Goals as goal
+
+pub loop-seat-preserved : goal.loop-seat-preserved
+loop-seat-preserved g c =
+    let i = c.loop-seat.invariant in (
+      moved c.loop-seat.seats.items c.pop.new.self.items c.pop.result c.in-Some.seat c.loop-seat.all.items c.push.new.self.items c.ready.result g.B.LogName.nodes c.pop.ensures.items c.in-Some.is c.in_ok-push.ensures.items i.0,
+      i.1,
+      popped c.loop-seat.seats.items c.pop.new.self.items c.pop.result (λ node. opening_view g.B.LogName.nodes g.B.LogName.places node (node + 1)) c.pop.ensures.items i.2,
+    )

@@ -1,0 +1,147 @@
+ghost use Rattle.std.specs.Prelude.{◌≡◌, ◌<◌, length};
+
+use nr_entry::{Answer, Batch, Outcome};
+use nr_exchange::hand_over;
+use nr_slots::{CombinerSeat, OpenError, Slots, WorkerSeat};
+use std::alloc::Global;
+use std::process::Abort;
+use std::test::Fail;
+
+// The answer that a batch was executed.
+fn answer_to(batch: &Batch) -> Answer
+    ensures { (result.node ≡ batch.now.node) × (result.worker ≡ batch.now.worker) × (result.batch ≡ batch.now.number) }
+{
+    Answer {
+        node: batch.node,
+        worker: batch.worker,
+        batch: batch.number,
+        outcome: Outcome::Executed,
+    }
+}
+
+// A batch of no job.
+fn batch(alloc: Global, worker: usize, number: u64) -> Batch {
+    Batch {
+        node: 0,
+        worker,
+        number,
+        jobs: Vec::new(alloc),
+    }
+}
+
+// Whether the answer is there, and names this batch.
+fn is_of(answer: Option<Answer>, worker: usize, number: u64) -> bool {
+    match answer {
+        Some(answer) => answer.worker == worker && answer.batch == number,
+        None => false,
+    }
+}
+
+// Posts a batch, lifts it, answers and collects. Nothing is there before it is put there, nor twice.
+fn hand_once(
+    rt: &impl Abort,
+    alloc: Global,
+    slots: &Slots,
+    seat: &mut WorkerSeat,
+    combiner: &mut CombinerSeat,
+    worker: usize,
+    number: u64,
+)
+    requires seat { seat.old.slots ≡ slots.now.id }
+    requires combiner { (combiner.old.slots ≡ slots.now.id) × (worker < length combiner.old.desks) }
+    ensures seat { seat.new.slots ≡ slots.now.id }
+    ensures combiner { (combiner.new.slots ≡ slots.now.id) × (length combiner.new.desks ≡ length combiner.old.desks) }
+{
+    assert!(rt; combiner.lift(slots, worker).is_none());
+    assert!(rt; seat.collect(slots).is_none());
+    assert!(rt; seat.post(slots, batch(alloc, worker, number)).is_ok());
+    assert!(rt; seat.collect(slots).is_none());
+    let Some(lifted) = combiner.lift(slots, worker) else {
+        panic!(rt; "no batch is there");
+    };
+    assert!(rt; lifted.worker == worker && lifted.number == number);
+    assert!(rt; seat.collect(slots).is_none());
+    combiner.answer(slots, worker, answer_to(&lifted));
+    assert!(rt; combiner.lift(slots, worker).is_none());
+    let answer = seat.collect(slots);
+    assert!(rt; is_of(answer, worker, number));
+    assert!(rt; seat.collect(slots).is_none());
+}
+
+// A second batch comes back while the first one's answer wasn't collected.
+fn posts_one(rt: &impl Abort, alloc: Global, slots: &Slots, seat: &mut WorkerSeat)
+    requires { seat.old.slots ≡ slots.now.id }
+    ensures { seat.new.slots ≡ slots.now.id }
+{
+    assert!(rt; seat.post(slots, batch(alloc, 1, 7)).is_ok());
+    match seat.post(slots, batch(alloc, 1, 8)) {
+        Ok(()) => panic!(rt; "two batches were posted"),
+        Err(back) => assert!(rt; back.worker == 1 && back.number == 8),
+    }
+}
+
+fn seats_in_turn(
+    rt: &impl Abort,
+    alloc: Global,
+    slots: &Slots,
+    first: &mut WorkerSeat,
+    second: &mut WorkerSeat,
+    combiner: &mut CombinerSeat,
+)
+    requires first { first.old.slots ≡ slots.now.id }
+    requires second { second.old.slots ≡ slots.now.id }
+    requires combiner { (combiner.old.slots ≡ slots.now.id) × (length combiner.old.desks ≡ 2) }
+{
+    hand_once(rt, alloc, slots, first, combiner, 0, 0);
+    hand_once(rt, alloc, slots, second, combiner, 1, 0);
+    hand_once(rt, alloc, slots, first, combiner, 0, 1);
+    hand_once(rt, alloc, slots, second, combiner, 1, 1);
+    posts_one(rt, alloc, slots, second);
+    hand_once(rt, alloc, slots, first, combiner, 0, 2);
+    assert!(rt; combiner.lift(slots, 0).is_none());
+    let Some(lifted) = combiner.lift(slots, 1) else {
+        panic!(rt; "no batch is there");
+    };
+    assert!(rt; lifted.worker == 1 && lifted.number == 7);
+}
+
+#[test]
+fn slots_in_turn(rt: HostRuntime) -> Result<(), Fail> {
+    let Ok((slots, mut seats, mut combiner)) = Slots::open(rt.alloc(), 2) else {
+        panic!(rt; "no memory");
+    };
+    let Some(mut second) = seats.pop() else {
+        panic!(rt; "no seat");
+    };
+    let Some(mut first) = seats.pop() else {
+        panic!(rt; "no seat");
+    };
+    seats_in_turn(
+        &rt,
+        rt.alloc(),
+        &slots,
+        &mut first,
+        &mut second,
+        &mut combiner,
+    );
+    Ok(())
+}
+
+#[test]
+fn opens_for_1_to_16(rt: HostRuntime) -> Result<(), Fail> {
+    for workers in [0, 17, usize::MAX] {
+        assert!(rt; matches!(Slots::open(rt.alloc(), workers), Err(OpenError::BadShape)));
+    }
+    for workers in [1, 16] {
+        assert!(rt; Slots::open(rt.alloc(), workers).is_ok());
+    }
+    Ok(())
+}
+
+// A worker and a combiner on two threads hand batches over and back, each answer naming its batch.
+#[test]
+fn over_and_back(rt: HostRuntime) -> Result<(), Fail> {
+    let counts = hand_over(&rt, rt.alloc(), 10_000).expect(&rt, "memory");
+    assert!(&rt; counts == (10_000, 10_000));
+    Ok(())
+}

@@ -1,0 +1,12 @@
+//! Serving: one connection on any reader and writer, from its first byte to its end. The program calls it, on standard input and output.
+#![tactic(auto)]
+
+pub use fault::Fault;
+pub use moments::{MachineClock, Moments};
+pub use run::run_on;
+
+mod bytes;
+mod fault;
+mod moments;
+mod run;
+mod serving;

@@ -1,0 +1,45 @@
+// Readers and writers that fail: no clause says when one does.
+use nr_serving::{Fault, MachineClock, run_on};
+use std::hash::RandomState;
+use std::io::{self, ErrorKind, Read, Write};
+use std::test::Fail;
+
+// Gives line feeds and takes anything, a byte a call, and fails once so many calls were made.
+#[derive(Drop)]
+struct Device(usize);
+
+impl Read for Device {
+    fn read(&mut self, buffer: &mut [u8]) -> io::Result<usize> {
+        self.flush()?;
+        let count = buffer.len().min(1);
+        buffer[..count].fill(b'\n');
+        Ok(count)
+    }
+}
+
+impl Write for Device {
+    fn write(&mut self, bytes: &[u8]) -> io::Result<usize> {
+        self.flush()?;
+        Ok(bytes.len().min(1))
+    }
+
+    fn flush(&mut self) -> io::Result<()> {
+        self.0 = self.0.checked_sub(1).ok_or(ErrorKind::Other)?;
+        Ok(())
+    }
+}
+
+// Each read fails once, and of a reply each of the 7 writes and the flush: past them none does.
+#[test]
+fn says_what_failed(rt: HostRuntime) -> Result<(), Fail> {
+    let keys = RandomState::new(&rt)?;
+    let clock = MachineClock { runtime: &rt };
+    for calls in 0..9 {
+        let read = run_on(rt.alloc(), keys, &mut Device(calls), &mut Device(9), &clock);
+        assert!(rt; read == Err(Fault::Read));
+        let mut ping = b"PING\n".as_slice();
+        let written = run_on(rt.alloc(), keys, &mut ping, &mut Device(calls), &clock);
+        assert!(rt; written == if calls < 8 { Err(Fault::Write) } else { Ok(()) });
+    }
+    Ok(())
+}
