@@ -1,14 +1,14 @@
 // Requests whose command is known, as sessions hand them on. Words are moved, and copied only where a copy is asked for.
-ghost use Rattle.std.specs.Prelude.{◌≡◌, IfOk};
+ghost use Rattle.std.specs.Prelude.{◌≡◌, IfOk, drop};
 ghost use Rattle.nr_command.specs.Check.{call_of};
 
 use nr_blob::{Blob, Memory};
-use nr_model::command::Operation;
+use nr_model::command::Command;
 
 /// A request whose name was found and whose words are as many as its command asks for.
 #[derive(Debug, Drop)]
 pub struct Cmd {
-    pub command: Operation,
+    pub command: Command,
     /// All words, the name first, as it was sent.
     pub words: Vec<Blob>,
 }
@@ -34,4 +34,14 @@ pub fn copy_words(words: &Vec<Blob>) -> Result<Vec<Blob>, Memory>
         copied.push(word.copy()?)?;
     }
     Ok(copied)
+}
+
+/// The words behind a request's name.
+pub fn arguments(words: &[Blob]) -> &[Blob]
+    ensures { result.now ≡ drop 1 words.now }
+{
+    match words.split_first() {
+        Some((_, arguments)) => arguments,
+        None => words,
+    }
 }

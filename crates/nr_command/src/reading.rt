@@ -3,7 +3,7 @@ ghost use Rattle.nr_command.specs.Check.{Checks};
 
 use crate::command::Cmd;
 use crate::table::{arity_ok, lookup};
-use nr_model::command::Operation;
+use nr_model::command::Command;
 use nr_resp::Frame;
 
 /// Why a request is no command. It hands the request back.
@@ -12,7 +12,7 @@ pub enum CmdError {
     /// No command has its name.
     Unknown(Frame),
     /// The command takes more words, or fewer.
-    Arity(Operation, Frame),
+    Arity(Command, Frame),
 }
 
 /// The command of a request: its name is looked up, and then its words are counted.

@@ -1,51 +1,62 @@
 // The one table of commands that are served: a macro holds each row once, and look-ups, names and counts of words are read from it.
 ghost use Rattle.std.specs.Prelude.{◌≡◌, option_map};
 ghost use Rattle.nr_model.specs.Commands as table;
-ghost use Rattle.nr_model.specs.Commands.{named, served, operation_row};
+ghost use Rattle.nr_model.specs.Commands.{named, served, row_of};
 ghost use Rattle.nr_model.specs.Commands.Shape as shape;
-ghost use Rattle.nr_model.specs.declared.command.Command.TheVariants.{Perform};
+ghost use Rattle.nr_model.specs.declared.command.Command.TheVariants as commands;
 
 use nr_model::command::{
-    Change, KeysChange, Look, Operation, ServerChange, ServerLook, StringsChange, StringsLook,
+    Change, Command, KeysChange, Kind, Look, Operation, ServerChange, ServerLook, Session,
+    StringsChange, StringsLook,
 };
 
-// The rows of a section, by the length of the name: the command, its name in lower case, and how many words it takes.
+// The rows of a section: the command, its name in lower case, and how many words it takes.
 macro_rules! rows {
     (ServerLook => $with:ident!($($arguments:tt)*)) => {
-        $with!(ServerLook, $($arguments)*; 4: { Ping, "ping", at_least 1; Echo, "echo", exactly 2 })
+        $with!(ServerLook, $($arguments)*; Ping, "ping", at_least 1; Echo, "echo", exactly 2)
     };
     (ServerChange => $with:ident!($($arguments:tt)*)) => {
-        $with!(ServerChange, $($arguments)*; 6: { Select, "select", exactly 2 })
+        $with!(ServerChange, $($arguments)*; Select, "select", exactly 2)
     };
     (KeysChange => $with:ident!($($arguments:tt)*)) => {
-        $with!(KeysChange, $($arguments)*; 3: { Del, "del", at_least 2 })
+        $with!(KeysChange, $($arguments)*; Del, "del", at_least 2)
     };
     (StringsLook => $with:ident!($($arguments:tt)*)) => {
-        $with!(StringsLook, $($arguments)*; 3: { Get, "get", exactly 2 })
+        $with!(StringsLook, $($arguments)*; Get, "get", exactly 2)
     };
     (StringsChange => $with:ident!($($arguments:tt)*)) => {
-        $with!(StringsChange, $($arguments)*; 3: { Set, "set", at_least 3 })
+        $with!(StringsChange, $($arguments)*; Set, "set", at_least 3)
+    };
+    (Session => $with:ident!($($arguments:tt)*)) => {
+        $with!(Session, $($arguments)*;
+            Multi, "multi", exactly 1;
+            Exec, "exec", exactly 1;
+            Discard, "discard", exactly 1;
+            Watch, "watch", at_least 2;
+            Unwatch, "unwatch", exactly 1;
+            Quit, "quit", at_least 1;
+            Subscribe(Kind::Channels), "subscribe", at_least 2;
+            Subscribe(Kind::Patterns), "psubscribe", at_least 2;
+            Unsubscribe(Kind::Channels), "unsubscribe", at_least 1;
+            Unsubscribe(Kind::Patterns), "punsubscribe", at_least 1;
+            Publish, "publish", exactly 3;
+            Pubsub, "pubsub", at_least 2)
     };
 }
 
 macro_rules! find {
-    ($section:ident, $word:ident; $($len:literal: { $($id:ident, $name:literal, $test:ident $count:literal);* }),*) => {
-        match $word.len() {
-            $($len => {
-                $(if $word.eq_ignore_ascii_case($name.as_bytes()) {
-                    return Some($section::$id);
-                })*
-                None
-            })*
-            _ => None,
-        }
-    };
+    ($section:ident, $word:ident; $($id:ident $(($of:path))?, $name:literal, $test:ident $count:literal);*) => {{
+        $(if $word.eq_ignore_ascii_case($name.as_bytes()) {
+            return Some($section::$id $(($of))?);
+        })*
+        None
+    }};
 }
 
 macro_rules! name {
-    ($section:ident, $command:ident; $($len:literal: { $($id:ident, $name:literal, $test:ident $count:literal);* }),*) => {
+    ($section:ident, $command:ident; $($id:ident $(($of:path))?, $name:literal, $test:ident $count:literal);*) => {
         match $command {
-            $($($section::$id => $name,)*)*
+            $($section::$id $(($of))? => $name,)*
         }
     };
 }
@@ -60,19 +71,35 @@ macro_rules! is_count {
 }
 
 macro_rules! arity_ok {
-    ($section:ident, $command:ident, $words:ident; $($len:literal: { $($id:ident, $name:literal, $test:ident $count:literal);* }),*) => {
+    ($section:ident, $command:ident, $words:ident; $($id:ident $(($of:path))?, $name:literal, $test:ident $count:literal);*) => {
         match $command {
-            $($($section::$id => is_count!($test $count, $words),)*)*
+            $($section::$id $(($of))? => is_count!($test $count, $words),)*
         }
     };
 }
 
-/// The command of a name, whatever the case of its ASCII letters. A section's names are compared by their length first.
-pub fn lookup(word: &[u8]) -> Option<Operation>
-    ensures { option_map Perform result ≡ named served word.now }
+/// The command of a name, whatever the case of its ASCII letters. It compares lengths, and few of the bytes.
+pub fn lookup(word: &[u8]) -> Option<Command>
+    ensures { result ≡ named served word.now }
+{
+    if let Some(operation) = operation(word) {
+        return Some(Command::Perform(operation));
+    }
+    if let Some(command) = session(word) {
+        return Some(Command::Session(command));
+    }
+    None
+}
+
+// The commands that are performed on the keyspace.
+fn operation(word: &[u8]) -> Option<Operation>
+    ensures { option_map commands.Perform result ≡ named table.operations_served word.now }
 {
     if let Some(command) = server_look(word) {
         return Some(Operation::Look(Look::Server(command)));
+    }
+    if let Some(command) = server_change(word) {
+        return Some(Operation::Change(Change::Server(command)));
     }
     if let Some(command) = keys_change(word) {
         return Some(Operation::Change(Change::Keys(command)));
@@ -90,6 +117,12 @@ fn server_look(word: &[u8]) -> Option<ServerLook>
     ensures { option_map table.server_look result ≡ named table.server_looks_served word.now }
 {
     rows!(ServerLook => find!(word))
+}
+
+fn server_change(word: &[u8]) -> Option<ServerChange>
+    ensures { option_map table.server_change result ≡ named table.server_changes_served word.now }
+{
+    rows!(ServerChange => find!(word))
 }
 
 fn keys_change(word: &[u8]) -> Option<KeysChange>
@@ -110,11 +143,26 @@ fn strings_change(word: &[u8]) -> Option<StringsChange>
     rows!(StringsChange => find!(word))
 }
 
+fn session(word: &[u8]) -> Option<Session>
+    ensures { option_map commands.Session result ≡ named table.sessions_served word.now }
+{
+    rows!(Session => find!(word))
+}
+
 /// A command's name, in lower case.
-pub fn name(command: Operation) -> &'static str
-    ensures { result.now ≡ (operation_row command).name }
+pub fn name(command: Command) -> &'static str
+    ensures { result.now ≡ (row_of command).name }
 {
     match command {
+        Command::Perform(operation) => operation_name(operation),
+        Command::Session(command) => rows!(Session => name!(command)),
+    }
+}
+
+fn operation_name(operation: Operation) -> &'static str
+    ensures { result.now ≡ (table.operation_row operation).name }
+{
+    match operation {
         Operation::Look(Look::Server(command)) => rows!(ServerLook => name!(command)),
         Operation::Look(Look::Strings(command)) => rows!(StringsLook => name!(command)),
         Operation::Change(Change::Server(command)) => rows!(ServerChange => name!(command)),
@@ -124,10 +172,19 @@ pub fn name(command: Operation) -> &'static str
 }
 
 /// Whether a command takes so many words, its name counted.
-pub fn arity_ok(command: Operation, words: usize) -> bool
-    ensures { result ≡ shape.arity_ok (operation_row command).arity words }
+pub fn arity_ok(command: Command, words: usize) -> bool
+    ensures { result ≡ shape.arity_ok (row_of command).arity words }
 {
     match command {
+        Command::Perform(operation) => operation_arity_ok(operation, words),
+        Command::Session(command) => rows!(Session => arity_ok!(command, words)),
+    }
+}
+
+fn operation_arity_ok(operation: Operation, words: usize) -> bool
+    ensures { result ≡ shape.arity_ok (table.operation_row operation).arity words }
+{
+    match operation {
         Operation::Look(Look::Server(command)) => rows!(ServerLook => arity_ok!(command, words)),
         Operation::Look(Look::Strings(command)) => rows!(StringsLook => arity_ok!(command, words)),
         Operation::Change(Change::Server(command)) => {

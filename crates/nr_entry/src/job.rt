@@ -4,24 +4,60 @@ ghost use Rattle.nr_model.specs.Keyspace.{last_moment};
 
 use crate::conn::ConnId;
 use nr_blob::{Blob, Memory};
-use nr_command::{Cmd, copy_words};
-use nr_model::command::{Change, Look};
+use nr_command::copy_words;
+use nr_model::command::{Change, Kind, Look, Operation};
 use nr_resp::Reply;
+
+/// A command that a transaction may hold.
+#[derive(Clone, Copy, Debug, PartialEq, Eq)]
+pub enum Queueable {
+    Perform(Operation),
+    Unwatch,
+    Publish,
+    Pubsub,
+}
+
+/// A command of a transaction, with all words of its request.
+#[derive(Debug, Drop)]
+pub struct Queued {
+    pub command: Queueable,
+    pub words: Vec<Blob>,
+}
 
 /// The commands of a transaction.
 #[derive(Debug, Drop)]
 pub enum Transaction {
     /// To be run one after the other.
-    Queued(Vec<Cmd>),
+    Queued(Vec<Queued>),
     /// Refused, since a request in it was faulty.
     Spoiled,
+}
+
+/// A command that speaks of connections: of subscriptions, of watches, or to subscribers.
+#[derive(Clone, Copy, Debug, PartialEq, Eq)]
+pub enum SessionUpdate {
+    Subscribe(Kind),
+    Unsubscribe(Kind),
+    Publish,
+    Watch,
+    Unwatch,
+    /// DISCARD, which ended a transaction.
+    Discard,
 }
 
 /// An update: it takes a place in the log.
 #[derive(Debug, Drop)]
 pub enum Update {
     /// A command that may change the keyspace, with all words of its request.
-    Change { command: Change, words: Vec<Blob> },
+    Change {
+        command: Change,
+        words: Vec<Blob>,
+    },
+    /// A command that speaks of connections, with all words of its request.
+    Session {
+        command: SessionUpdate,
+        words: Vec<Blob>,
+    },
     /// EXEC.
     Exec(Transaction),
     /// The connection's end, with a last reply or none.
@@ -33,6 +69,8 @@ pub enum Update {
 pub enum Read {
     /// A command that only looks, with all words of its request.
     Look { command: Look, words: Vec<Blob> },
+    /// PUBSUB, with all words of its request.
+    Pubsub { words: Vec<Blob> },
     /// A reply that needs no state.
     Local(Reply),
 }
@@ -54,6 +92,20 @@ pub struct Job {
     pub moment: u64,
     pub kind: JobKind,
     pub ghost in_time: { moment ≤ last_moment },
+}
+
+impl Queued {
+    ghost use Rattle.nr_entry.specs.Kinds.{queued_call};
+
+    /// The same command once more.
+    pub fn copy(&self) -> Result<Queued, Memory>
+        ensures { IfOk result (λ copied. queued_call copied ≡ queued_call self.now) }
+    {
+        Ok(Queued {
+            command: self.command,
+            words: copy_words(&self.words)?,
+        })
+    }
 }
 
 impl Transaction {
@@ -88,6 +140,10 @@ impl Update {
                 command: *command,
                 words: copy_words(words)?,
             }),
+            Update::Session { command, words } => Ok(Update::Session {
+                command: *command,
+                words: copy_words(words)?,
+            }),
             Update::Exec(transaction) => Ok(Update::Exec(transaction.copy()?)),
             Update::Close(None) => Ok(Update::Close(None)),
             Update::Close(Some(reply)) => Ok(Update::Close(Some(reply.copy()?))),
@@ -107,12 +163,16 @@ impl Read {
                 command: *command,
                 words: copy_words(words)?,
             }),
+            Read::Pubsub { words } => Ok(Read::Pubsub {
+                words: copy_words(words)?,
+            }),
             Read::Local(reply) => Ok(Read::Local(reply.copy()?)),
         }
     }
 }
 
 impl JobKind {
+    ghost use Rattle.nr_model.specs.Items.{is_end};
     ghost use Rattle.nr_entry.specs.Kinds.{deed_of};
 
     /// The same once more.
@@ -122,6 +182,16 @@ impl JobKind {
         match self {
             JobKind::Update(update) => Ok(JobKind::Update(update.copy()?)),
             JobKind::Read(read) => Ok(JobKind::Read(read.copy()?)),
+        }
+    }
+
+    /// Whether it ends its connection.
+    pub fn is_end(&self) -> bool
+        ensures { result ≡ is_end (deed_of self.now) }
+    {
+        match self {
+            JobKind::Update(Update::Close(_)) => true,
+            JobKind::Update(_) | JobKind::Read(_) => false,
         }
     }
 }

@@ -4,16 +4,14 @@ use Rattle.std.specs.Prelude.{Option, nat_lt, if◌then◌else◌}
 use Rattle.nr_model.specs.Bytes.{Bytes}
 use Rattle.nr_model.specs.Numbers.{int_value}
 use Rattle.nr_model.specs.Replies.{Reply}
-use Rattle.nr_model.specs.Keyspace.{Keyspace, how_many_databases}
+use Rattle.nr_model.specs.Keyspace.{Key, Keyspace, how_many_databases}
 use Rattle.nr_model.specs.Commands.Shape.{Done, staying, unchanged, refused}
 use Rattle.nr_model.specs.Commands.Texts.{ok}
 use Rattle.nr_model.specs.declared.refused.Refused.TheVariants.{NoSuchDatabase}
 use Rattle.nr_model.specs.Commands.Server.{select, select_read, select_number, change}
 use Rattle.nr_model.specs.declared.command.ServerChange.{ServerChange}
 use Rattle.nr_model.specs.declared.command.ServerChange.TheVariants.{Select}
-use Rattle.nr_exec.specs.Touched.{Told}
 use Rattle.nr_exec.specs.Done.{IsDone, Selects}
-use Rattle.nr_exec.proofs.Touching.{touches_none}
 
 -- the keyspace and whoever is told stay
 abbrev Stays : Keyspace → Done → Type 0
@@ -36,12 +34,12 @@ select_stays : (keyspace : Keyspace) (database : ℕ) (words : List Bytes) → S
 select_stays keyspace database [] = (refl, refl)
 select_stays keyspace database (index ∷ words) = read_stays keyspace database (int_value index) words
 
-pub select_done : (command : ServerChange) (now : ℕ) (reply : Reply) (keyspace : Keyspace) (before database : ℕ) (told : Told) (words : List Bytes) → Selects reply database (select keyspace before words)
-    → IsDone reply keyspace database told told (change command now keyspace before words)
-select_done Select now reply keyspace before database told words selects =
+pub select_done : {T : Type 0} (after : T → Key → T) (command : ServerChange) (now : ℕ) (reply : Reply) (keyspace : Keyspace) (before database : ℕ) (told : T) (words : List Bytes) → Selects reply database (select keyspace before words)
+    → IsDone after reply keyspace database told told (change command now keyspace before words)
+select_done after Select now reply keyspace before database told words selects =
     let stays = select_stays keyspace before words in record {
       replied = selects.replied;
       left = stays.0;
       selected = selects.selected;
-      touched = rw stays.1 (touches_none told);
+      touched = rw stays.1 refl;
     }

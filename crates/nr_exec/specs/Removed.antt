@@ -2,10 +2,10 @@
 use Rattle.std.specs.Prelude.{◌≡◌, Bool, cond, [], ◌∷◌}
 use Rattle.std.specs.FinMap as map
 use Rattle.nr_model.specs.Keyspace.{Key, Keyspace}
-use Rattle.nr_exec.specs.Touched.{Told, Touches}
+use Rattle.nr_exec.specs.Touched.{Touches}
 
 -- it is taken out, and told of, exactly where it was there
-pub record Removes (removed : Bool) (before after : Keyspace) (told told' : Told) (key : Key) : Type 0 where
+pub record Removes {T : Type 0} (telling : T → Key → T) (removed : Bool) (before after : Keyspace) (told told' : T) (key : Key) : Type 0 where
   pub was_there : removed ≡ map.contains_key before key
   pub keyspace : after ≡ cond removed (map.remove before key) before
-  pub touched : Touches told told' (cond removed (key ∷ []) [])
+  pub touched : Touches telling told told' (cond removed (key ∷ []) [])

@@ -12,6 +12,7 @@ use crate::failure::Failure;
 use crate::touched::Touched;
 use crate::{keys, server, strings};
 use nr_blob::{Blob, Memory};
+use nr_command::arguments;
 use nr_keyspace::{Db, Keyspace};
 use nr_model::command::{Change, Look};
 use nr_resp::{Reply, Shown};
@@ -44,7 +45,7 @@ fn look_in_section<'k>(
     ensures refused { IfErr result (λ failure. IfRefused failure
         (λ reply. reply ≡ commands.look command now (live keyspace.now now) database (drop 1 words.now))) }
 {
-    let arguments = Arguments::new(behind_name(words));
+    let arguments = Arguments::new(arguments(words));
     match command {
         Look::Server(command) => server::look(command, arguments),
         Look::Strings(command) => strings::look(keyspace, now, database, command, arguments),
@@ -62,7 +63,7 @@ pub fn change<T: Touched>(
     touched: &mut T,
 ) -> Result<Reply, Memory>
     ensures { IfOk result
-        (λ reply. IsDone (reply_of reply) keyspace.new database.new (T.told touched.old) (T.told touched.new)
+        (λ reply. IsDone T.after (reply_of reply) keyspace.new database.new touched.old touched.new
         (commands.change command now (live keyspace.old now) database.old (drop 1 words.now))) }
 {
     keyspace.sweep(now);
@@ -83,13 +84,13 @@ fn change_in_section<T: Touched>(
 ) -> Result<Reply, Failure>
     requires { live keyspace.old now ≡ keyspace.old }
     ensures ok { IfOk result
-        (λ reply. IsDone (reply_of reply) keyspace.new database.new (T.told touched.old) (T.told touched.new)
+        (λ reply. IsDone T.after (reply_of reply) keyspace.new database.new touched.old touched.new
         (commands.change command now keyspace.old database.old (drop 1 words.now))) }
     ensures refused { IfErr result (λ failure. IfRefused failure
-        (λ reply. IsDone reply keyspace.new database.new (T.told touched.old) (T.told touched.new)
+        (λ reply. IsDone T.after reply keyspace.new database.new touched.old touched.new
         (commands.change command now keyspace.old database.old (drop 1 words.now)))) }
 {
-    let arguments = Arguments::new(behind_name(words));
+    let arguments = Arguments::new(arguments(words));
     match command {
         Change::Server(command) => server::change(keyspace, database, command, arguments, touched),
         Change::Keys(command) => keys::change(
@@ -98,15 +99,5 @@ fn change_in_section<T: Touched>(
         Change::Strings(command) => strings::change(
             keyspace, *database, command, arguments, touched,
         ),
-    }
-}
-
-// The words behind the name.
-fn behind_name(words: &[Blob]) -> &[Blob]
-    ensures { result.now ≡ drop 1 words.now }
-{
-    match words.split_first() {
-        Some((_, arguments)) => arguments,
-        None => words,
     }
 }

@@ -28,10 +28,10 @@ pub(crate) fn change<T: Touched>(
 ) -> Result<Reply, Failure>
     requires { live keyspace.old now ≡ keyspace.old }
     ensures ok { IfOk result
-        (λ reply. IsDone (reply_of reply) keyspace.new database (T.told touched.old) (T.told touched.new)
+        (λ reply. IsDone T.after (reply_of reply) keyspace.new database touched.old touched.new
         (staying database (keys.change command now keyspace.old database arguments.entry.words.now))) }
     ensures refused { IfErr result (λ failure. IfRefused failure
-        (λ reply. IsDone reply keyspace.new database (T.told touched.old) (T.told touched.new)
+        (λ reply. IsDone T.after reply keyspace.new database touched.old touched.new
         (staying database (keys.change command now keyspace.old database arguments.entry.words.now)))) }
 {
     match command {
@@ -49,7 +49,7 @@ fn del<T: Touched>(
 ) -> Result<Reply, Memory>
     requires { live keyspace.old now ≡ keyspace.old }
     ensures { IfOk result
-        (λ reply. IsDone (reply_of reply) keyspace.new database (T.told touched.old) (T.told touched.new)
+        (λ reply. IsDone T.after (reply_of reply) keyspace.new database touched.old touched.new
         (staying database (keys.del keyspace.old database names.now))) }
 {
     let mut removed: usize = 0;
@@ -71,7 +71,7 @@ fn remove<T: Touched>(
 ) -> Result<bool, Memory>
     requires { live keyspace.old now ≡ keyspace.old }
     ensures removed { IfOk result
-        (λ removed. Removes removed keyspace.old keyspace.new (T.told touched.old) (T.told touched.new) (key_of database name.now)) }
+        (λ removed. Removes T.after removed keyspace.old keyspace.new touched.old touched.new (key_of database name.now)) }
     ensures live { OnOk result (live keyspace.new now ≡ keyspace.new) }
 {
     if keyspace.remove(now, database, name.bytes()).is_none() {

@@ -39,10 +39,10 @@ pub(crate) fn change<T: Touched>(
     touched: &T,
 ) -> Result<Reply, Failure>
     ensures ok { (now : ℕ) → IfOk result
-        (λ reply. IsDone (reply_of reply) keyspace.now database.new (T.told touched.now) (T.told touched.now)
+        (λ reply. IsDone T.after (reply_of reply) keyspace.now database.new touched.now touched.now
         (server.change command now keyspace.now database.old arguments.entry.words.now)) }
     ensures refused { (now : ℕ) → IfErr result (λ failure. IfRefused failure
-        (λ reply. IsDone reply keyspace.now database.new (T.told touched.now) (T.told touched.now)
+        (λ reply. IsDone T.after reply keyspace.now database.new touched.now touched.now
         (server.change command now keyspace.now database.old arguments.entry.words.now))) }
 {
     match command {

@@ -47,10 +47,10 @@ pub(crate) fn change<T: Touched>(
     touched: &mut T,
 ) -> Result<Reply, Failure>
     ensures ok { (now : ℕ) → IfOk result
-        (λ reply. IsDone (reply_of reply) keyspace.new database (T.told touched.old) (T.told touched.new)
+        (λ reply. IsDone T.after (reply_of reply) keyspace.new database touched.old touched.new
         (staying database (strings.change command now keyspace.old database arguments.entry.words.now))) }
     ensures refused { (now : ℕ) → IfErr result (λ failure. IfRefused failure
-        (λ reply. IsDone reply keyspace.new database (T.told touched.old) (T.told touched.new)
+        (λ reply. IsDone T.after reply keyspace.new database touched.old touched.new
         (staying database (strings.change command now keyspace.old database arguments.entry.words.now)))) }
 {
     match command {
@@ -94,10 +94,10 @@ fn set<T: Touched>(
     touched: &mut T,
 ) -> Result<Reply, Failure>
     ensures ok { IfOk result
-        (λ reply. IsDone (reply_of reply) keyspace.new database (T.told touched.old) (T.told touched.new)
+        (λ reply. IsDone T.after (reply_of reply) keyspace.new database touched.old touched.new
         (staying database (strings.set keyspace.old database arguments.entry.words.now))) }
     ensures refused { IfErr result (λ failure. IfRefused failure
-        (λ reply. IsDone reply keyspace.new database (T.told touched.old) (T.told touched.new)
+        (λ reply. IsDone T.after reply keyspace.new database touched.old touched.new
         (staying database (strings.set keyspace.old database arguments.entry.words.now)))) }
 {
     let name = arguments.word()?;
@@ -116,7 +116,7 @@ fn store<T: Touched>(
     touched: &mut T,
 ) -> Result<(), Memory>
     ensures keyspace { OnOk result (keyspace.new ≡ map.insert keyspace.old (key_of database name.now) (record { value = model.Text text.now; deadline = None })) }
-    ensures touched { OnOk result (Touches (T.told touched.old) (T.told touched.new) (key_of database name.now ∷ [])) }
+    ensures touched { OnOk result (Touches T.after touched.old touched.new (key_of database name.now ∷ [])) }
 {
     let value = Value::String(text.copy()?);
     keyspace.put(database, name.copy()?, value, None)?;

@@ -1,4 +1,4 @@
-//! Glob-style patterns, read where they stand and matched in no memory. No command asks for them yet.
+//! Glob-style patterns, read where they stand and matched in no memory..
 #![tactic(auto)]
 
 mod classes;

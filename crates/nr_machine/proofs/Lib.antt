@@ -1,6 +1,5 @@
-pub mod Acted
+pub mod Behind
+pub mod DatabasesKept
 pub mod Entries
-pub mod Folds
-pub mod Kept
-pub mod Nodes
-pub mod Progressed
+pub mod Transactions
+pub mod Watched

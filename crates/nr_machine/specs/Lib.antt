@@ -1,4 +1,6 @@
+pub mod Codes
 pub mod Machines
-pub mod Progressed
-pub mod Kept
-pub mod Emitted
+pub mod Placed
+pub mod Stored
+pub mod Steps
+pub mod Ran

@@ -1,13 +1,11 @@
-//! One sequential Redis: its keyspace, and what it emits.
+//! One sequential Redis: its state, and what it emits.
 #![tactic(auto)]
 
-pub use emissions::{Emission, Emissions};
 pub use machine::Machine;
-pub use sink::{Nowhere, Sink};
 
-mod answers;
-mod emissions;
+mod answering;
+mod databases;
 mod machine;
-mod performing;
-mod progress;
-mod sink;
+mod running;
+mod state;
+mod watching;

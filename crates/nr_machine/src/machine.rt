@@ -1,61 +1,59 @@
 // The machine: it applies the updates of entries, looks for reads, and emits. It knows commands by `change` and `look` alone.
 ghost use Rattle.std.specs.Prelude.{◌≡◌, ℕ, true, false, take, OnOk, OnErr, IfOk, IsErr};
 ghost use Rattle.nr_model.specs.Entries.{entry_items};
-ghost use Rattle.nr_model.specs.Items.{is_update};
 ghost use Rattle.nr_model.specs.Sequential.{for_node};
-ghost use Rattle.nr_model.specs.States.{opening, stepped, emitted_in, after_all, emitted_all};
+ghost use Rattle.nr_model.specs.Items.{is_update};
+ghost use Rattle.nr_model.specs.Servers.{fresh, stepped, emitted_in, after_all, emitted_all};
 ghost use Rattle.nr_entry.specs.Jobs.{connection_of, items_of};
 ghost use Rattle.nr_entry.specs.Kinds.{deed_of, read_deed};
-ghost use Rattle.nr_machine.specs.Emitted.{all_after, item_at};
+ghost use Rattle.nr_emission.specs.Emitted.{all_after};
+ghost use Rattle.nr_machine.specs.Placed.{item_at};
 
-use crate::answers::{answer_read, execute};
-use crate::sink::Sink;
+use crate::state::State;
 use nr_blob::Memory;
-use nr_entry::{ConnId, Entry, Job, Read};
+use nr_emission::Sink;
+use nr_entry::{ConnId, Entry, Job, JobKind, Read};
 use nr_keyspace::Keyspace;
 use std::alloc::Global;
 use std::cmp;
 use std::hash::RandomState;
 use std::marker::Model;
 
-/// One sequential Redis: its keyspace, and the greatest moment of the updates so far, in milliseconds. Once memory ran out
-/// in an update it has failed, and refuses everything from then on.
+/// One sequential Redis: its keys, and what it remembers of connections. Once memory ran out in an update it has failed, and refuses
+/// everything from then on.
 #[derive(Drop)]
 pub struct Machine {
-    keyspace: Keyspace,
-    logged: u64,
+    state: State,
     has_failed: bool,
 }
 
 impl Model for Machine {
-    ghost use Rattle.nr_machine.specs.Machines.{MachineState, standing_code};
+    ghost use Rattle.nr_machine.specs.Machines.{MachineState, coded_machine};
 
     ghost Value = { MachineState };
 
-    ghost coded = { standing_code };
+    ghost coded = { coded_machine };
 
-    ghost view = { λ m. record { state = record { keyspace = m.keyspace; logged = m.logged }; failed = m.has_failed } };
+    ghost view = { λ m. record { state = m.state; failed = m.has_failed } };
 }
 
 impl Machine {
-    /// No key, and no moment. Strangers choose the keys, so the hasher takes a seed of its own.
+    /// No key, no connection, and no moment. Strangers choose the keys, so the hasher takes a seed of its own.
     pub fn new(alloc: Global, keys: RandomState) -> Result<Machine, Memory>
-        ensures { IfOk result (λ machine. machine ≡ record { state = opening; failed = false }) }
+        ensures { IfOk result (λ machine. machine ≡ record { state = fresh; failed = false }) }
     {
         Ok(Machine {
-            keyspace: Keyspace::new(alloc, keys)?,
-            logged: 0,
+            state: State::new(alloc, keys)?,
             has_failed: false,
         })
     }
 
-    /// The same machine once more. Linear in what is stored.
+    /// The same machine once more. Linear in what is stored and remembered.
     pub fn copy(&self) -> Result<Machine, Memory>
         ensures { IfOk result (λ machine. machine ≡ self.now) }
     {
         Ok(Machine {
-            keyspace: self.keyspace.copy()?,
-            logged: self.logged,
+            state: self.state.copy()?,
             has_failed: self.has_failed,
         })
     }
@@ -64,7 +62,7 @@ impl Machine {
     pub fn keyspace(&self) -> &Keyspace
         ensures { result.now ≡ self.now.state.keyspace }
     {
-        &self.keyspace
+        &self.state.keyspace
     }
 
     /// An entry's updates, one after the other, at the entry's moment or that of the updates so far, whichever is later.
@@ -80,8 +78,6 @@ impl Machine {
         ensures applied { OnOk result (self.new ≡ record { state = after_all self.old.state (entry_items (items_of entry.now.jobs.items)); failed = false }) }
         ensures emitted { OnOk result (out.new
             ≡ all_after S.after out.old (for_node node (emitted_all self.old.state (entry_items (items_of entry.now.jobs.items))))) }
-        ensures own { node ≡ entry.now.node → OnOk result (out.new
-            ≡ all_after S.after out.old (emitted_all self.old.state (entry_items (items_of entry.now.jobs.items)))) }
         ensures partly { OnErr result ((n : ℕ) × (out.new
             ≡ all_after S.after out.old (take n (for_node node (emitted_all self.old.state (entry_items (items_of entry.now.jobs.items))))))) }
         ensures failed { OnErr result (self.new.failed ≡ true) }
@@ -110,13 +106,19 @@ impl Machine {
         requires { is_update (deed_of job.now.kind) ≡ true }
         ensures applied { OnOk result (self.new ≡ record { state = stepped self.old.state (item_at job.now moment); failed = self.old.failed }) }
         ensures emitted { OnOk result (out.new ≡ all_after S.after out.old (for_node node (emitted_in self.old.state (item_at job.now moment)))) }
+        ensures partly { OnErr result ((n : ℕ) × (out.new
+            ≡ all_after S.after out.old (take n (for_node node (emitted_in self.old.state (item_at job.now moment)))))) }
         ensures failed { OnErr result (self.new.failed ≡ self.old.failed) }
-        ensures unchanged { OnErr result (out.new ≡ out.old) }
     {
-        let now = cmp::max(moment, self.logged);
-        execute(alloc, &mut self.keyspace, now, node, job, out)?;
-        self.logged = now;
-        Ok(())
+        let now = cmp::max(moment, self.state.logged);
+        match &job.kind {
+            JobKind::Update(update) => {
+                self.state.update(alloc, now, node, job.conn, update, out)?;
+                self.state.logged = now;
+                Ok(())
+            }
+            JobKind::Read(_) => unreachable!(),
+        }
     }
 
     /// A read of a connection, at a moment or that of the updates so far, whichever is later: a command that only looks, or a reply
@@ -136,8 +138,8 @@ impl Machine {
         if self.has_failed {
             return Err(Memory);
         }
-        let now = cmp::max(now, self.logged);
-        answer_read(&self.keyspace, now, conn, read, out)?;
+        let now = cmp::max(now, self.state.logged);
+        self.state.read(now, conn, read, out)?;
         Ok(())
     }
 }

@@ -1,5 +1,5 @@
 -- Conversations: cut anywhere, transactions read back, and what is held.
-use Rattle.std.proofs.Common.{◌≡◌, Bool, true, false, cond, inl, inr, List, [], ◌∷◌, ◌++◌, map, refl, ap, sym, ◌∙◌, subst, append_assoc}
+use Rattle.std.proofs.Common.{◌≡◌, ℕ, suc, ◌+◌, ◌≤◌, Bool, true, false, cond, inl, inr, List, [], ◌∷◌, ◌++◌, length, map, refl, ap, sym, ◌∙◌, subst, append_assoc, append-nil, arith}
 use Rattle.std.specs.Prelude.{◌⊎◌, ◌||◌, filter, flat_map, fold, Option, Some, None, unwrap_or}
 use Rattle.std.specs.List.{list_any}
 use Rattle.std.specs.FinMap as finmap
@@ -14,11 +14,10 @@ use Rattle.nr_model.specs.declared.command.ServerLook.TheVariants.{Ping, Echo}
 use Rattle.nr_model.specs.declared.command.Session.TheVariants.{Multi, Exec, Discard, Watch, Unwatch, Quit, Subscribe, Unsubscribe, Publish, Pubsub}
 use Rattle.nr_model.specs.Names.{Held, holding_none}
 use Rattle.nr_model.specs.Items.{Connection, connection_cmp, same_connection, Call, Deed, Run, Abort, Item, Sequence, is_end}
-use Rattle.nr_model.specs.Modes.{Transaction, Mode, plain, is_subscribed, Reading, Unknown, WrongArity, Known, reading, Answer, answer, reading_answer, known_answer, when_subscribed, by_itself, in_transaction, unsubscribed_answer, Conversation, conversation, first_deed}
-use Rattle.nr_model.specs.Conversations.{followed_by, command_closes, closes, command_queued, queued_by, command_spoils, spoils, begins, IsOpen, own_deeds, ConversationLaw}
+use Rattle.nr_model.specs.Modes.{Transaction, Mode, plain, is_subscribed, Reading, Unknown, WrongArity, Known, reading, Answer, answer, reading_answer, known_answer, when_subscribed, by_itself, in_transaction, unsubscribed_answer, Conversation, conversation, first_deed, last_deed}
+use Rattle.nr_model.specs.Conversations.{followed_by, with_answer, command_closes, closes, command_queued, queued_by, command_spoils, spoils, begins, IsOpen, own_deeds, ConversationLaw}
 use Rattle.nr_model.specs.Servers.{Server, fresh, held_in, stepped, after_all}
-use Rattle.nr_model.proofs.Agreement.{append-nil}
-use Rattle.nr_model.proofs.Ordered.{or_false, or_assoc}
+use Rattle.nr_model.proofs.Ordered.{or_false, or_true, or_assoc}
 use Rattle.nr_model.proofs.Subscribed.{own_deed, held-deed, same-is}
 use Rattle.nr_model.proofs.Serving.{server_is_redis}
 
@@ -35,7 +34,7 @@ join_first : (ends : Bool) (a : Answer) (c : Conversation) (more : Mode → Conv
 join_first true a c more = refl
 join_first false a c more = join_fields a c.deeds c.mode c.ended (more c.mode)
 
-joined : (table : List Command) (mode : Mode) (frames more : List Frame) (fault : Option Fault)
+pub joined : (table : List Command) (mode : Mode) (frames more : List Frame) (fault : Option Fault)
     → conversation table mode (frames ++ more) fault ≡ followed_by (conversation table mode frames None) (conversation table (conversation table mode frames None).mode more fault)
 joined table mode [] more fault = refl
 joined table mode (frame ∷ frames) more fault =
@@ -55,10 +54,6 @@ extended t r = record { queued = t.queued ++ queued_by r; spoiled = t.spoiled ||
 
 abbrev begun : Transaction
 begun = record { queued = []; spoiled = false }
-
-or_true : (a : Bool) → (a || true) ≡ true
-or_true true = refl
-or_true false = refl
 
 as_it_was : (t : Transaction) (h : Held) → within t h ≡ within (record { queued = t.queued ++ []; spoiled = t.spoiled || false }) h
 as_it_was t h = λ i. record { transaction = Some (record { queued = (sym (append-nil t.queued)) i; spoiled = (sym (or_false t.spoiled)) i }); held = h }
@@ -196,6 +191,117 @@ not_ended table mode frame frames e =
     let more = conversation table a.mode frames None in
     by_end (is_end a.deed) a more e
 
+-- what a conversation asked for stays first, whatever follows
+followed_begins : (deeds : List Deed) (mode : Mode) (ended : Bool) (more : Conversation)
+    → (left : List Deed) × (deeds ++ left ≡ (followed_by (record { deeds = deeds; mode = mode; ended = ended }) more).deeds)
+followed_begins deeds mode true more = ([], append-nil deeds)
+followed_begins deeds mode false more = (more.deeds, refl)
+
+pub deeds_begin : (table : List Command) (mode : Mode) (frames more : List Frame) (fault : Option Fault)
+    → (left : List Deed) × ((conversation table mode frames None).deeds ++ left ≡ (conversation table mode (frames ++ more) fault).deeds)
+deeds_begin table mode frames more fault =
+    let c = conversation table mode frames None in
+    let begun = followed_begins c.deeds c.mode c.ended (conversation table c.mode more fault) in
+    (begun.0, begun.1 ∙ sym (ap (λ (x : Conversation). x.deeds) (joined table mode frames more fault)))
+
+-- while it goes on, both parts count; behind an end nothing does
+abbrev pub together : Conversation → Conversation → Conversation
+together c more = record { deeds = c.deeds ++ more.deeds; mode = more.mode; ended = more.ended }
+
+pub joined_on : (table : List Command) (mode : Mode) (frames more : List Frame) (fault : Option Fault) → (conversation table mode frames None).ended ≡ false
+    → conversation table mode (frames ++ more) fault
+    ≡ together (conversation table mode frames None) (conversation table (conversation table mode frames None).mode more fault)
+joined_on table mode frames more fault on =
+    let c = conversation table mode frames None in
+    joined table mode frames more fault ∙ ap (λ b. cond b c (together c (conversation table c.mode more fault))) on
+
+pub joined_over : (table : List Command) (mode : Mode) (frames more : List Frame) (fault : Option Fault) → (conversation table mode frames None).ended ≡ true
+    → conversation table mode (frames ++ more) fault ≡ conversation table mode frames None
+joined_over table mode frames more fault over =
+    let c = conversation table mode frames None in
+    joined table mode frames more fault ∙ ap (λ b. cond b c (together c (conversation table c.mode more fault))) over
+
+-- a fault ends it
+first_ends : (b : Bool) (a : Answer) (more : Conversation) → more.ended ≡ true → (first_by b a more).ended ≡ true
+first_ends true a more e = refl
+first_ends false a more e = e
+
+pub fault_ends : (table : List Command) (mode : Mode) (frames : List Frame) (fault : Fault) → (conversation table mode frames (Some fault)).ended ≡ true
+fault_ends table mode [] fault = refl
+fault_ends table mode (frame ∷ frames) fault =
+    let a = answer table mode frame in
+    first_ends (is_end a.deed) a (conversation table a.mode frames (Some fault)) (fault_ends table a.mode frames fault)
+
+-- so one that goes on stands under none
+pub no_fault : (table : List Command) (mode : Mode) (frames : List Frame) (fault : Option Fault) → (conversation table mode frames fault).ended ≡ false → fault ≡ None
+no_fault table mode frames None on = refl
+no_fault table mode frames (Some fault) on = absurd (cc (on, fault_ends table mode frames fault))
+
+-- one request more
+one_by : (b : Bool) (c : Conversation) (a : Answer)
+    → together c (first_by b a (record { deeds = []; mode = a.mode; ended = false })) ≡ record { deeds = c.deeds ++ a.deed ∷ []; mode = a.mode; ended = b }
+one_by true c a = refl
+one_by false c a = refl
+
+pub one_further : (table : List Command) (mode : Mode) (frames : List Frame) (frame : Frame) → (conversation table mode frames None).ended ≡ false
+    → conversation table mode (frames ++ frame ∷ []) None
+    ≡ with_answer (conversation table mode frames None) (answer table (conversation table mode frames None).mode frame)
+one_further table mode frames frame on =
+    let c = conversation table mode frames None in
+    let a = answer table c.mode frame in
+    joined_on table mode frames (frame ∷ []) None on ∙ one_by (is_end a.deed) c a
+
+-- the first of the requests that are left
+further_by : (b : Bool) (deeds : List Deed) (a : Answer) (more : Conversation)
+    → together (record { deeds = deeds; mode = a.mode; ended = false }) (first_by b a more)
+    ≡ followed_by (record { deeds = deeds ++ a.deed ∷ []; mode = a.mode; ended = b }) more
+further_by true deeds a more = refl
+further_by false deeds a more = λ i. record { deeds = sym (append_assoc deeds (a.deed ∷ []) more.deeds) i; mode = more.mode; ended = more.ended }
+
+pub first_further : (table : List Command) (c : Conversation) (frame : Frame) (frames : List Frame) (fault : Option Fault) → c.ended ≡ false
+    → followed_by c (conversation table c.mode (frame ∷ frames) fault)
+    ≡ followed_by (with_answer c (answer table c.mode frame)) (conversation table (answer table c.mode frame).mode frames fault)
+first_further table c frame frames fault on =
+    let a = answer table c.mode frame in
+    let more = conversation table a.mode frames fault in
+    ap (λ b. cond b c (together c (first_by (is_end a.deed) a more))) on ∙ further_by (is_end a.deed) c.deeds a more
+
+-- how many deeds
+pub deeds_count : (table : List Command) (mode : Mode) (frames : List Frame) → (conversation table mode frames None).ended ≡ false
+    → length (conversation table mode frames None).deeds ≡ length frames
+deeds_count table mode [] on = refl
+deeds_count table mode (frame ∷ frames) on =
+    let a = answer table mode frame in
+    let more = conversation table a.mode frames None in
+    let e = not_ended table mode frame frames on in
+    let next = goes_on table mode frame frames e in
+    ap (λ b. length (first_by b a more).deeds) e ∙ ap suc (deeds_count table a.mode frames (sym next.1 ∙ on))
+
+last_mode : (fault : Option Fault) (mode other : Mode) → length (last_deed fault mode).deeds ≡ length (last_deed fault other).deeds
+last_mode None mode other = refl
+last_mode (Some fault) mode other = refl
+
+pub last_at_most : (fault : Option Fault) (mode : Mode) → length (last_deed fault mode).deeds ≤ 1
+last_at_most None mode = omega arith
+last_at_most (Some fault) mode = omega arith
+
+first_most : (b : Bool) (a : Answer) (more : Conversation) (n : ℕ) → length more.deeds ≤ n → length (first_by b a more).deeds ≤ suc n
+first_most true a more n h = omega arith
+first_most false a more n h = omega (arith, h)
+
+pub deeds_at_most : (table : List Command) (mode : Mode) (frames : List Frame) (fault : Option Fault)
+    → length (conversation table mode frames fault).deeds ≤ length frames + length (last_deed fault mode).deeds
+deeds_at_most table mode [] fault = omega arith
+deeds_at_most table mode (frame ∷ frames) fault =
+    let a = answer table mode frame in
+    let more = conversation table a.mode frames fault in
+    let n = length frames + length (last_deed fault mode).deeds in
+    let fewer : length more.deeds ≤ n =
+    subst (λ k. length more.deeds ≤ length frames + k) (last_mode fault a.mode mode) (deeds_at_most table a.mode frames fault) in
+    let most : length (first_by (is_end a.deed) a more).deeds ≤ suc n = first_most (is_end a.deed) a more n fewer in
+    omega (arith, most)
+
+-- requests that close no transaction
 along : (table : List Command) (frames : List Frame) (t : Transaction) (h : Held) → is_subscribed (outside h) ≡ false → list_any (λ frame. closes (reading table frame)) frames ≡ false
     → (conversation table (within t h) frames None).mode ≡ within (extended_by table t frames) h
 along table [] t h un none = λ i. within (sym (extended_none table t) i) h
@@ -460,6 +566,9 @@ sequence_holds s (item ∷ items) c =
 pub conversation_is : ConversationLaw
 conversation_is = record {
   joins = λ table mode frames more fault. joined table mode frames more fault;
+  one_more = λ table mode frames frame on. one_further table mode frames frame on;
+  counts = λ table mode frames on. deeds_count table mode frames on;
+  at_most = λ table mode frames fault. deeds_at_most table mode frames fault;
   transactions = λ table frames t on. (opened table frames t on, opens table frames t on);
   holds = λ table frames items c on same.
       server_is_redis.held items c

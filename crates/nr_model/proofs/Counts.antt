@@ -1,8 +1,13 @@
--- How many frames bytes can hold.
-use Rattle.std.proofs.Common.{ℕ, zero, suc, ◌+◌, ◌<◌, ◌≤◌, List, [], ◌∷◌, length, arith}
+-- How many frames bytes can hold, and how many deeds they ask for.
+use Rattle.std.proofs.Common.{◌≡◌, ℕ, zero, suc, ◌+◌, ◌<◌, ◌≤◌, List, [], ◌∷◌, length, ap, arith, false}
 use Rattle.nr_model.specs.Bytes.{Bytes}
 use Rattle.nr_model.specs.Requests.{Front, Whole, Faulty, Partial, request_at, Framing, with_request, unfinished, broken, frames_within, framing_of}
+use Rattle.std.specs.Prelude.{Option}
+use Rattle.nr_model.specs.declared.fault.Fault.{Fault}
+use Rattle.nr_model.specs.declared.command.Command.{Command}
+use Rattle.nr_model.specs.Modes.{Mode, last_deed, framed_conversation}
 use Rattle.nr_model.proofs.Fronts.{Leaves, request_leaves}
+use Rattle.nr_model.proofs.Conversing.{no_fault, deeds_at_most, last_at_most}
 
 -- the frames, and the bytes of the rest
 abbrev counted : Framing → ℕ
@@ -39,3 +44,18 @@ frames_and_rest_le_bytes bytes = within (length bytes) bytes
 -- no more frames than bytes
 pub frames_le_bytes : (bytes : Bytes) → length (framing_of bytes).frames ≤ length bytes
 frames_le_bytes bytes = omega (arith, frames_and_rest_le_bytes bytes)
+
+-- no more deeds than bytes, but for one
+pub deeds_le_bytes : (table : List Command) (mode : Mode) (bytes : Bytes) → length (framed_conversation table mode (framing_of bytes)).deeds ≤ suc (length bytes)
+deeds_le_bytes table mode bytes =
+    let framing = framing_of bytes in
+    omega (arith, frames_le_bytes bytes, deeds_at_most table mode framing.frames framing.fault, last_at_most framing.fault mode)
+
+-- while a connection goes on, each deed takes a byte at least, and the rest has the others
+pub deeds_and_rest_le_bytes : (table : List Command) (mode : Mode) (bytes : Bytes) → (framed_conversation table mode (framing_of bytes)).ended ≡ false
+    → length (framed_conversation table mode (framing_of bytes)).deeds + length (framing_of bytes).rest ≤ length bytes
+deeds_and_rest_le_bytes table mode bytes on =
+    let framing = framing_of bytes in
+    let none : length (last_deed framing.fault mode).deeds ≡ 0 =
+    ap (λ (fault : Option Fault). length (last_deed fault mode).deeds) (no_fault table mode framing.frames framing.fault on) in
+    omega (arith, frames_and_rest_le_bytes bytes, deeds_at_most table mode framing.frames framing.fault, none)

@@ -1,5 +1,5 @@
 -- Lists in an order, each item once: two with the same items are equal.
-use Rattle.std.proofs.Common.{◌≡◌, Bool, true, false, cond, List, [], ◌∷◌, ◌++◌, map, refl, ap, sym, ◌∙◌, subst}
+use Rattle.std.proofs.Common.{◌≡◌, Bool, true, false, cond, List, [], ◌∷◌, map, refl, ap, sym, ◌∙◌, subst}
 use Rattle.std.specs.Prelude.{◌&&◌, ◌||◌, filter, flat_map, fold, Option, Some, None, is_some, T}
 use Rattle.std.specs.List.{list_any}
 use Rattle.std.specs.declared.cmp.Ordering.{Ordering}
@@ -8,6 +8,7 @@ use Rattle.std.specs.Ordering.{eq_by_cmp, is_eq}
 use Rattle.std.specs.Cmp.{IsTotalOrder}
 use Rattle.std.specs.FinMap.{IsAntisymmetric}
 use Rattle.std.specs.FinMap.Entries as entries
+use Rattle.std.proofs.lemmas.List.Folds.{list_any-append}
 use Rattle.nr_model.specs.Names.{put, in_order}
 
 -- an item stands in a list
@@ -46,17 +47,17 @@ pub or_false : (a : Bool) → (a || false) ≡ a
 or_false true = refl
 or_false false = refl
 
+pub or_true : (a : Bool) → (a || true) ≡ true
+or_true true = refl
+or_true false = refl
+
 pub or_assoc : (a b c : Bool) → ((a || b) || c) ≡ (a || (b || c))
 or_assoc true b c = refl
 or_assoc false b c = refl
 
-pub any-append : {A : Type 0} (p : A → Bool) (xs ys : List A) → list_any p (xs ++ ys) ≡ (list_any p xs || list_any p ys)
-any-append p [] ys = refl
-any-append p (x ∷ xs) ys = ap (λ b. p x || b) (any-append p xs ys) ∙ sym (or_assoc (p x) (list_any p xs) (list_any p ys))
-
 pub has-flat_map : {A K : Type 0} (R : K → K → Ordering) (q : K) (f : A → List K) (xs : List A) → has R q (flat_map f xs) ≡ list_any (λ x. has R q (f x)) xs
 has-flat_map R q f [] = refl
-has-flat_map R q f (x ∷ xs) = any-append (eq_by_cmp R q) (f x) (flat_map f xs) ∙ ap (λ b. has R q (f x) || b) (has-flat_map R q f xs)
+has-flat_map R q f (x ∷ xs) = list_any-append (eq_by_cmp R q) (f x) (flat_map f xs) ∙ ap (λ b. has R q (f x) || b) (has-flat_map R q f xs)
 
 marked-filter : {K : Type 0} (R : K → K → Ordering) (p : K → Bool) (xs : List K) → marked (filter p xs) ≡ entries.where_key R p (marked xs)
 marked-filter R p [] = refl
@@ -70,10 +71,10 @@ marked-filter R p (x ∷ xs) =
 pub ordered-filter : {K : Type 0} (R : K → K → Ordering) (p : K → Bool) (xs : List K) → IsOrdered R xs → IsOrdered R (filter p xs)
 ordered-filter R p xs h = subst (λ es. T (entries.is_sorted R es)) (sym (marked-filter R p xs)) (entries.is_sorted-where_key R p (marked xs) h)
 
-finmap_equal : (r : Ordering) → is_eq r ≡ true → r ≡ Equal
-finmap_equal Less h = absurd (cc)
-finmap_equal Equal h = refl
-finmap_equal Greater h = absurd (cc)
+pub equal_from : (r : Ordering) → is_eq r ≡ true → r ≡ Equal
+equal_from Less h = absurd (cc)
+equal_from Equal h = refl
+equal_from Greater h = absurd (cc)
 
 no_more : (a : Bool) → false ≡ (a && false)
 no_more true = refl
@@ -134,7 +135,7 @@ module _ {K : Type 0} (R : K → K → Ordering) (o : IsTotalOrder R) where
 
   module _ (exact : IsAntisymmetric R) where
     pub tied-is : (x y : K) → eq_by_cmp R x y ≡ true → x ≡ y
-    tied-is x y h = exact x y (finmap_equal (R x y) h)
+    tied-is x y h = exact x y (equal_from (R x y) h)
 
     pub has-filter : (q : K) (p : K → Bool) (xs : List K) → has R q (filter p xs) ≡ (p q && has R q xs)
     has-filter q p [] = no_more (p q)

@@ -1,6 +1,6 @@
 -- The server that goes from state to state agrees with the sequential Redis, which looks back.
-use Rattle.std.proofs.Common.{◌≡◌, ℕ, Bool, true, false, not, cond, inl, inr, List, [], ◌∷◌, ◌++◌, map, max, refl, ap, sym, ◌∙◌, subst, append_assoc}
-use Rattle.std.specs.Prelude.{◌&&◌, ◌||◌, ◌==◌, filter, flat_map, Option, Some, None, unwrap_or, is_some, T}
+use Rattle.std.proofs.Common.{◌≡◌, ℕ, Bool, true, false, not, cond, inl, inr, List, [], ◌∷◌, ◌++◌, map, max, refl, ap, sym, ◌∙◌, subst, append_assoc, append-nil}
+use Rattle.std.specs.Prelude.{◌&&◌, ◌||◌, ◌==◌, filter, flat_map, reverse, Option, Some, None, unwrap_or, is_some, T}
 use Rattle.std.specs.List.{list_any}
 use Rattle.std.specs.Ordering.{eq_by_cmp, is_lt}
 use Rattle.std.specs.declared.cmp.Ordering.{Ordering}
@@ -9,8 +9,10 @@ use Rattle.std.specs.Cmp.Lexicographic.{nat_list_cmp_total}
 use Rattle.std.specs.FinMap as finmap
 use Rattle.std.specs.FinSet as finset
 use Rattle.std.specs.FinMap.Entries as entries
-use Rattle.std.proofs.lemmas.Bool.{cases_Bool, or_left}
+use Rattle.std.proofs.lemmas.Bool.{cases_Bool, or_left, or_right}
 use Rattle.std.proofs.lemmas.Map.Lookups.{exact_bytes}
+use Rattle.std.proofs.lemmas.List.{reverse-append}
+use Rattle.std.proofs.lemmas.List.Concat.{flat_map-append}
 use Rattle.nr_model.specs.Bytes.{Bytes}
 use Rattle.nr_model.specs.Keyspace.{Key, byte_cmp}
 use Rattle.nr_model.specs.Names.{in_order, Held, holding_none, held}
@@ -21,12 +23,11 @@ use Rattle.nr_model.specs.declared.command.Session.TheVariants as sessions
 use Rattle.nr_model.specs.declared.command.Kind.{Kind}
 use Rattle.nr_model.specs.declared.command.Kind.TheVariants.{Channels, Patterns}
 use Rattle.nr_model.specs.Items.{Connection, connection_cmp, same_connection, arguments, Deed, Say, Act, Run, Abort, End, Item, Sequence, is_update}
-use Rattle.nr_model.specs.Sequential.Events.{Event, Past, keyspace_after, database_of, logged_moment, now_of}
+use Rattle.nr_model.specs.Sequential.Events.{Emission, Event, Past, keyspace_after, database_of, logged_moment, now_of}
 use Rattle.nr_model.specs.Sequential.Subscribers.{same_kind, names, command_says, deed_says, item_says, said_or, is_subscriber, command_names, deed_names, known_names, known_connections, held_of, subscribers, is_held, names_held}
 use Rattle.nr_model.specs.Sequential.Watches.{is_spoiled, forgets, watched_keys, is_broken}
 use Rattle.nr_model.specs.Sequential.{Found, Progress, start, done_by, database_left, emissions_of, found_after, event_of, past_from}
 use Rattle.nr_model.specs.Servers.{Watch, Server, watches_in, has_gone, is_spoiled_in, fresh, database_in, held_in, subscribers_in, names_in, found_in, with_database, watch_of, watches_behind, touched_by, touched_behind, now_in, progress_in, stepped, emitted_in, after_all, emitted_all, IsRedis}
-use Rattle.nr_model.proofs.Agreement.{emitted_by, one_more, append-nil}
 use Rattle.nr_model.proofs.Ordered.{has, IsOrdered, has-filter, ordered-filter, ordered-in_order, has-in_order, has-flat_map, same_ordered, tied-is, or_false}
 use Rattle.nr_model.proofs.Subscribed.{connection_total, connection_exact, tied_back, same-is, names-has, holds, ordered_of, AllOrdered, all_ordered, holds-deed, ordered-deed, none_ordered}
 use Rattle.nr_model.proofs.Watched.{spoiled_with, is_broken_by, spoiled-behind}
@@ -44,10 +45,6 @@ record Agrees (past : Past) (s : Server) : Type 0 where
 implies_and : (a b : Bool) → (a ≡ true → b ≡ true) → (a && b) ≡ a
 implies_and true b h = h refl
 implies_and false b h = refl
-
-or_right : (a b : Bool) → b ≡ true → (a || b) ≡ true
-or_right true b h = refl
-or_right false b h = h
 
 or_both : (a b c : Bool) → (a || b) ≡ true → (b ≡ true → c ≡ true) → (a || c) ≡ true
 or_both true b c h k = refl
@@ -304,6 +301,16 @@ agrees_on past s item a =
       },
       ap (emissions_of c) same,
     )
+
+-- what a past emitted
+abbrev emitted_by : Past → List Emission
+emitted_by past = flat_map (λ (event : Event). event.emitted) (reverse past)
+
+one_more : (event : Event) (past : Past) → emitted_by (event ∷ past) ≡ emitted_by past ++ event.emitted
+one_more event past =
+    ap (flat_map (λ (e : Event). e.emitted)) (reverse-append (event ∷ []) past)
+    ∙ flat_map-append (λ (e : Event). e.emitted) (reverse past) (event ∷ [])
+    ∙ ap (λ xs. emitted_by past ++ xs) (append-nil event.emitted)
 
 -- a whole sequence further
 agrees_along : (items : Sequence) (past : Past) (s : Server) → Agrees past s

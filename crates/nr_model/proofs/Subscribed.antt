@@ -20,7 +20,7 @@ use Rattle.nr_model.specs.declared.command.Kind.TheVariants.{Channels, Patterns}
 use Rattle.nr_model.specs.Items.{Connection, connection_cmp, same_connection, arguments, Deed, Say, Act, Run, Abort, End}
 use Rattle.nr_model.specs.Sequential.Subscribers.{same_kind, names, names_or_all, when, command_says, deed_says, said_or}
 use Rattle.nr_model.specs.Servers.{held_in, with_held_by, held_behind_command, held_behind}
-use Rattle.nr_model.proofs.Ordered.{has, IsOrdered, ordered-put, has-put, ordered-filter, has-filter}
+use Rattle.nr_model.proofs.Ordered.{has, IsOrdered, equal_from, ordered-put, has-put, ordered-filter, has-filter}
 
 pub connection_total : IsTotalOrder connection_cmp
 connection_total = then_total (on_total (λ (c : Connection). c.node) nat_cmp_total) (on_total (λ (c : Connection). c.serial) nat_cmp_total)
@@ -271,11 +271,6 @@ held_changed all c d h =
       | false ↦ λ e. inserted all c d h
     ] in
     at (how_many_held h == 0) refl
-
-equal_from : (r : Ordering) → is_eq r ≡ true → r ≡ Equal
-equal_from Less h = absurd (cc)
-equal_from Equal h = refl
-equal_from Greater h = absurd (cc)
 
 pub same-is : (c d : Connection) → same_connection c d ≡ true → c ≡ d
 same-is c d e = connection_exact c d (equal_from (connection_cmp c d) (sym (same-tied c d) ∙ e))

@@ -1,15 +1,16 @@
 -- Watches, item by item, are spoiled where the past says so.
-use Rattle.std.proofs.Common.{◌≡◌, ℕ, Bool, true, false, not, cond, List, [], ◌∷◌, ◌++◌, map, refl, ap, sym, ◌∙◌}
+use Rattle.std.proofs.Common.{◌≡◌, ℕ, Bool, true, false, not, cond, List, [], ◌∷◌, ◌++◌, map, refl, ap, sym, ◌∙◌, append-nil}
 use Rattle.std.specs.Prelude.{◌&&◌, ◌||◌, filter, Option, Some, None, unwrap_or, is_some}
 use Rattle.std.specs.List.{list_any}
 use Rattle.std.specs.FinMap as finmap
 use Rattle.std.specs.FinSet as finset
+use Rattle.std.proofs.lemmas.List.Folds.{list_any-append}
 use Rattle.nr_model.specs.Keyspace.{Key, Stored, is_live_at}
 use Rattle.nr_model.specs.Items.{Connection, connection_cmp, same_connection, Deed}
 use Rattle.nr_model.specs.Sequential.Events.{Event}
 use Rattle.nr_model.specs.Sequential.Watches.{same_key, forgets, watched_keys, has_passed, is_broken}
 use Rattle.nr_model.specs.Servers.{Watch, watches_in, has_gone, watched_deadline, watch_of, watches_added, watches_behind, watches_one, touched_by, touched_behind}
-use Rattle.nr_model.proofs.Ordered.{has-filter, any-append, or_false}
+use Rattle.nr_model.proofs.Ordered.{has-filter, or_false, or_true}
 use Rattle.nr_model.proofs.Subscribed.{connection_total, connection_exact, tied_back, same-is}
 
 abbrev Watching : Type 0
@@ -37,10 +38,6 @@ and_true false = refl
 and_false : (a : Bool) → (a && false) ≡ false
 and_false true = refl
 and_false false = refl
-
-or_true : (a : Bool) → (a || true) ≡ true
-or_true true = refl
-or_true false = refl
 
 or_swap : (a b : Bool) → (a || b) ≡ (b || a)
 or_swap true true = refl
@@ -87,10 +84,6 @@ put_in watches c d ws =
     ap (λ o. unwrap_or o []) (finmap.get-insert connection_total watches c ws d ∙ ap (λ b. cond b (Some ws) (finmap.get watches d)) (tied_back d c))
     ∙ elim (same_connection c d) as (λ b. unwrap_or (cond b (Some ws) (finmap.get watches d)) [] ≡ cond b ws (watches_in watches d)) [ true ↦ refl | false ↦ refl ]
 
-append-nil : {A : Type 0} (xs : List A) → xs ++ [] ≡ xs
-append-nil [] = refl
-append-nil (x ∷ xs) = ap (λ ys. x ∷ ys) (append-nil xs)
-
 added : (watches : Watching) (c d : Connection) (begun : List Watch) → watches_in (watches_added watches c begun) d ≡ cond (same_connection c d) (watches_in watches d ++ begun) (watches_in watches d)
 added watches c d [] = elim (same_connection c d) as (λ b. watches_in watches d ≡ cond b (watches_in watches d ++ []) (watches_in watches d)) [ true ↦ sym (append-nil (watches_in watches d)) | false ↦ refl ]
 added watches c d (w ∷ ws) =
@@ -123,7 +116,7 @@ parts false false false m n = refl
 in_parts : (now : ℕ) (keys more : List Key) (ws : List Watch) → list_any (is_broken_by now (keys ++ more)) ws ≡ (list_any (is_broken_by now keys) ws || watches_one more ws)
 in_parts now keys more [] = refl
 in_parts now keys more (w ∷ ws) =
-    (λ i. (has_gone now w.deadline || any-append (same_key w.key) keys more i) || in_parts now keys more ws i)
+    (λ i. (has_gone now w.deadline || list_any-append (same_key w.key) keys more i) || in_parts now keys more ws i)
     ∙ parts (has_gone now w.deadline) (list_any (same_key w.key) keys) (list_any (same_key w.key) more) (list_any (is_broken_by now keys) ws) (watches_one more ws)
 
 -- by whether the item is the connection's, and whether it forgets
@@ -145,7 +138,7 @@ behind_is watches e c false begun now keys new is =
     let ws = watches_in watches c in
     ap (list_any (is_broken_by now keys)) (added watches e c begun)
     ∙ elim (same_connection e c) as (λ b. list_any (is_broken_by now keys) (cond b (ws ++ begun) ws) ≡ cond b (list_any (is_broken_by now keys) ws || new) (list_any (is_broken_by now keys) ws)) [
-      | true ↦ any-append (is_broken_by now keys) ws begun ∙ ap (λ b. list_any (is_broken_by now keys) ws || b) is
+      | true ↦ list_any-append (is_broken_by now keys) ws begun ∙ ap (λ b. list_any (is_broken_by now keys) ws || b) is
       | false ↦ refl
     ]
 

@@ -10,7 +10,6 @@ use Rattle.nr_model.specs.Commands.{served}
 use Rattle.nr_model.specs.Modes.{framed_conversation, plain}
 use Rattle.nr_model.specs.Items.{Connection, same_connection, Item}
 use Rattle.nr_model.specs.Sequential.{emitted_for}
-use Rattle.nr_model.specs.States.{opening}
 use Rattle.nr_model.specs.Entries.{Jobs, entry_jobs, left_by_entry, read_jobs, left_by_reads}
 use Rattle.nr_model.specs.Worlds.{Entry, Reads, Closing, World, fresh, sequence_of, exists, is_closed, fed_to, close_job, own_jobs, handed_to}
 use Rattle.nr_model.specs.Explains.{jobs_executed}
@@ -18,10 +17,9 @@ use Rattle.nr_model.specs.Explained.{IsAbsent}
 use Rattle.nr_model.proofs.WorldsLists.{same_is}
 use Rattle.nr_model.proofs.WorldsTaken.{entry_apart, reads_apart}
 use Rattle.nr_model.proofs.WorldsSteps.{Keeps, with_opened}
-use Rattle.nr_model.proofs.WorldsPlain.{all_plain}
 use Rattle.nr_model.proofs.WorldsAsked.{all_of, done_apart, fed_apart, fed_to_other, closed_apart}
-use Rattle.nr_model.proofs.WorldsEmitted.{emitted_for-is, silent, own_numbers}
-use Rattle.nr_model.proofs.WorldsGiven.{IsGiven, unread}
+use Rattle.nr_model.proofs.WorldsEmitted.{silent, own_numbers}
+use Rattle.nr_model.proofs.WorldsGiven.{AreGiven, unread}
 
 -- the bytes, the close and the jobs of a connection
 pub record IsUntouched (world : World) (c : Connection) : Type 0 where
@@ -129,14 +127,12 @@ unfolding framing_of frames_within
 rest_of_none = refl
 
 -- so it has nothing else
-pub is_absent : (world : World) → AreUntouched world → IsGiven world → (c : Connection) → exists world c ≡ false → IsAbsent world c
+pub is_absent : (world : World) → AreUntouched world → AreGiven world → (c : Connection) → exists world c ≡ false → IsAbsent world c
 is_absent world untouched given c absent =
     let u = untouched c absent in
     let jobs = nothing_in (own_jobs c (jobs_executed world)) (own_jobs c world.waiting) u.jobs in
-    let alone = all_plain world.executed given.plain.executed in
-    let silence : emitted_for c (sequence_of world) ≡ [] =
-    emitted_for-is c (sequence_of world) alone ∙ silent c opening (sequence_of world) alone (no_items world c jobs.0) in
-    let b = given.begins c in
+    let silence : emitted_for c (sequence_of world) ≡ [] = silent c (sequence_of world) (no_items world c jobs.0) in
+    let b = given c in
     let bytes = nothing_in (handed_to c world.handed) b.0 (b.1 ∙ silence) in
     record {
       fed = u.text;

@@ -3,7 +3,7 @@
 use Rattle.std.proofs.Common.{◌≡◌, ℕ, suc, ◌+◌, ◌-◌, ◌≤◌, Bool, true, false, not, cond, inl, inr, [], ◌∷◌, ◌++◌, length, drop, refl, ap, sym, ◌∙◌, subst, arith, append_assoc}
 use Rattle.std.specs.Prelude.{◌&&◌, ◌||◌, ◌==◌, filter, option_to_list, Option, Some, None}
 use Rattle.std.specs.List.{list_any}
-use Rattle.std.proofs.lemmas.Bool.{cases_Bool, ne_eqb}
+use Rattle.std.proofs.lemmas.Bool.{cases_Bool, ne_eqb, or_left, or_right}
 use Rattle.std.proofs.lemmas.List.{append-nil, length-append, length-drop, take_at}
 use Rattle.std.proofs.lemmas.List.Concat.{flat_map-append}
 use Rattle.std.proofs.lemmas.List.Elements.{filter-append}
@@ -17,7 +17,7 @@ use Rattle.nr_model.specs.Modes.{deeds_by}
 use Rattle.nr_model.specs.Entries.{Jobs, entry_jobs, left_by_entry, read_jobs, left_by_reads}
 use Rattle.nr_model.specs.Worlds.{Executed, Entry, Reads, executed_jobs, Feeding, Closing, World, fresh, is_closed, fed_to, asked_by, jobs_from, new_jobs, fed, own_jobs, close_number, close_job, closed}
 use Rattle.nr_model.specs.Explains.{jobs_executed, jobs_of_feeds, cut_by, closing_job, asked_jobs}
-use Rattle.nr_model.proofs.WorldsLists.{same_is, same_self, or_left, or_right, filter-keeps, filter-drops, CountsFrom, CountsFrom-append, CountsFrom-front, CountsFrom-next, jobs_from-counts, length-jobs_from, own_jobs_from, no_jobs_from}
+use Rattle.nr_model.proofs.WorldsLists.{same_is, same_self, filter-keeps, filter-drops, CountsFrom, CountsFrom-append, CountsFrom-front, CountsFrom-next, jobs_from-counts, length-jobs_from, own_jobs_from, no_jobs_from}
 use Rattle.nr_model.proofs.WorldsTaken.{entry_apart, reads_apart}
 use Rattle.nr_model.proofs.WorldsSteps.{Keeps, with_done}
 use Rattle.nr_model.proofs.WorldsGrow.{deeds_grow, fed_to-append, jobs_of_feeds-append, own_feed, other_feed, own_bytes, other_bytes, closing_none, closing_first, closing_other}

@@ -1,22 +1,20 @@
 -- Each connection was handed a beginning of what the sequential Redis emits for it, and the rest waits unless a close cut it.
-use Rattle.std.proofs.Common.{◌≡◌, Bool, true, false, cond, inl, inr, [], ◌∷◌, ◌++◌, length, drop, refl, ap, sym, ◌∙◌, subst, append_assoc}
-use Rattle.std.specs.List.{AllByRecursion}
+use Rattle.std.proofs.Common.{◌≡◌, Bool, true, false, cond, inl, inr, [], ◌∷◌, ◌++◌, length, drop, refl, ap, sym, ◌∙◌, append_assoc}
 use Rattle.std.proofs.lemmas.Bool.{cases_Bool}
 use Rattle.std.proofs.lemmas.List.{append-nil, drop_at}
 use Rattle.std.proofs.lemmas.List.Concat.{flat_map-append}
 use Rattle.nr_model.specs.Bytes.{Bytes}
 use Rattle.nr_model.specs.Items.{Connection, Sequence}
 use Rattle.nr_model.specs.Sequential.{bytes_for, emitted_for, past_from}
-use Rattle.nr_model.specs.States.{opening, after_all, emitted_all}
+use Rattle.nr_model.specs.Servers as servers
+use Rattle.nr_model.specs.Servers.{after_all, emitted_all}
 use Rattle.nr_model.specs.Entries.{Jobs, entry_jobs, left_by_entry, read_jobs, left_by_reads}
 use Rattle.nr_model.specs.Worlds.{Executed, Entry, Reads, executed_items, World, fresh, sequence_of, exists, is_closed, handed_to, waiting_for, collected}
 use Rattle.nr_model.specs.Explains.{IsBeginningOf, account_of}
 use Rattle.nr_model.specs.Explained.{Runs, state_of}
-use Rattle.nr_model.proofs.WorldsPlain.{IsFormed, IsPlainWorld, keeps_plain, fresh_plain, all_plain, entry_formed, look_formed}
 use Rattle.nr_model.proofs.WorldsSteps.{Keeps, with_done, gathered}
 use Rattle.nr_model.proofs.WorldsEmitted.{after_all-append, emitted_for-more}
 use Rattle.nr_model.proofs.WorldsHanded.{handed_to-append, collected_for, collected_none}
-use Rattle.nr_model.proofs.WorldsLists.{All-append}
 
 -- what a connection was handed begins what is emitted for it
 abbrev pub Begins : World → Connection → Type 0
@@ -54,9 +52,8 @@ account_begins world c b =
     ]
 
 -- so with each connection
-pub record IsGiven (world : World) : Type 0 where
-  pub plain : IsPlainWorld world
-  pub begins : (c : Connection) → Begins world c
+abbrev pub AreGiven : World → Type 0
+AreGiven world = (c : Connection) → Begins world c
 
 -- once something more was executed
 pub sequence_more : (world : World) (left : Jobs) (done : Executed) → sequence_of (with_done world left done) ≡ sequence_of world ++ executed_items done
@@ -64,34 +61,29 @@ sequence_more world left done = flat_map-append executed_items world.executed (d
     ∙ ap (λ (items : Sequence). sequence_of world ++ items) (append-nil (executed_items done))
 
 -- what it emits
-emits_more : (world : World) (left : Jobs) (done : Executed) (c : Connection) → IsPlainWorld world → IsFormed done
+emits_more : (world : World) (left : Jobs) (done : Executed) (c : Connection)
     → emitted_for c (sequence_of (with_done world left done))
     ≡ emitted_for c (sequence_of world) ++ bytes_for c (emitted_all (state_of world) (executed_items done))
-emits_more world left done c plain formed =
-    let more = sequence_more world left done in
-    let all = all_plain (with_done world left done).executed (All-append IsFormed world.executed (done ∷ []) plain.executed (formed, tt)) in
-    ap (emitted_for c) more
-    ∙ emitted_for-more c (sequence_of world) (executed_items done) (all_plain world.executed plain.executed) (subst (AllByRecursion _) more all)
+emits_more world left done c = ap (emitted_for c) (sequence_more world left done) ∙ emitted_for-more c (sequence_of world) (executed_items done)
 
 -- what was handed begins it still
-done_begins : (world : World) (left : Jobs) (done : Executed) (c : Connection) → IsPlainWorld world → IsFormed done → Begins world c
-    → Begins (with_done world left done) c
-done_begins world left done c plain formed b =
+done_begins : (world : World) (left : Jobs) (done : Executed) (c : Connection) → Begins world c → Begins (with_done world left done) c
+done_begins world left done c b =
     let new = bytes_for c (emitted_all (state_of world) (executed_items done)) in
-    (b.0 ++ new, sym (append_assoc (handed_to c world.handed) b.0 new) ∙ ap (λ (w : Bytes). w ++ new) b.1 ∙ sym (emits_more world left done c plain formed))
+    (b.0 ++ new, sym (append_assoc (handed_to c world.handed) b.0 new) ∙ ap (λ (w : Bytes). w ++ new) b.1 ∙ sym (emits_more world left done c))
 
 -- what was executed moves the state, and what waits
-pub done_runs : (world : World) (left : Jobs) (done : Executed) → IsGiven world → IsFormed done → Runs world (executed_items done) (with_done world left done)
+pub done_runs : (world : World) (left : Jobs) (done : Executed) → AreGiven world → Runs world (executed_items done) (with_done world left done)
 unfolding done_begins
-done_runs world left done g formed =
+done_runs world left done given =
     let more = sequence_more world left done in
     let new = λ (c : Connection). bytes_for c (emitted_all (state_of world) (executed_items done)) in
     record {
       sequence = more;
-      state = ap (after_all opening) more ∙ after_all-append opening (sequence_of world) (executed_items done);
+      state = ap (after_all servers.fresh) more ∙ after_all-append servers.fresh (sequence_of world) (executed_items done);
       waits = λ c on.
-          unread (with_done world left done) c (done_begins world left done c g.plain formed (g.begins c)) on
-          ∙ ap (λ (w : Bytes). w ++ new c) (sym (unread world c (g.begins c) on));
+          unread (with_done world left done) c (done_begins world left done c (given c)) on
+          ∙ ap (λ (w : Bytes). w ++ new c) (sym (unread world c (given c) on));
     }
 
 -- once the bytes were collected
@@ -127,27 +119,17 @@ gathered_still world c b on absent none =
     unread (gathered world) c (b.0, ap (λ (w : Bytes). w ++ b.0) (handed_none world c absent) ∙ b.1) on ∙ sym (unread world c b on) ∙ none
 
 -- at first
-pub fresh_given : IsGiven fresh
+pub fresh_given : AreGiven fresh
 unfolding past_from
-fresh_given = record { plain = fresh_plain; begins = λ c. ([], refl) }
+fresh_given c = ([], refl)
 
 -- after each step
-pub keeps_given : Keeps IsGiven
+pub keeps_given : Keeps AreGiven
 keeps_given = record {
-  opens = λ world g. record { plain = keeps_plain.opens world g.plain; begins = g.begins };
-  feeds = λ world c time bytes here on g. record { plain = keeps_plain.feeds world c time bytes here on g.plain; begins = g.begins };
-  applies = λ world g.
-      record {
-        plain = keeps_plain.applies world g.plain;
-        begins = λ c. done_begins world (left_by_entry world.waiting) (Entry (entry_jobs world.waiting)) c g.plain
-            (entry_formed world.waiting g.plain.waiting) (g.begins c);
-      };
-  looks = λ world g.
-      record {
-        plain = keeps_plain.looks world g.plain;
-        begins = λ c. done_begins world (left_by_reads world.waiting) (Reads (read_jobs world.waiting)) c g.plain
-            (look_formed world.waiting g.plain.waiting) (g.begins c);
-      };
-  collects = λ world g. record { plain = keeps_plain.collects world g.plain; begins = λ c. gathered_begins world c (g.begins c) };
-  closes = λ world c time here on g. record { plain = keeps_plain.closes world c time here on g.plain; begins = g.begins };
+  opens = λ world given. given;
+  feeds = λ world c time bytes here on given. given;
+  applies = λ world given c. done_begins world (left_by_entry world.waiting) (Entry (entry_jobs world.waiting)) c (given c);
+  looks = λ world given c. done_begins world (left_by_reads world.waiting) (Reads (read_jobs world.waiting)) c (given c);
+  collects = λ world given c. gathered_begins world c (given c);
+  closes = λ world c time here on given. given;
 }

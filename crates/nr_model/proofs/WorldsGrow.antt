@@ -1,33 +1,24 @@
 -- More bytes ask for no fewer deeds, and the jobs that the bytes of a connection ask for come feed by feed.
-use Rattle.std.proofs.Common.{◌≡◌, ℕ, ◌+◌, ◌≤◌, Bool, true, false, cond, List, [], ◌∷◌, ◌++◌, length, map, drop, refl, ap, sym, ◌∙◌, subst, arith, append_assoc}
+use Rattle.std.proofs.Common.{◌≡◌, ◌+◌, ◌≤◌, Bool, true, false, cond, List, [], ◌∷◌, ◌++◌, length, drop, refl, ap, sym, ◌∙◌, subst, arith, append_assoc}
 use Rattle.std.specs.Prelude.{Option, Some, None, ◌||◌}
 use Rattle.std.specs.List.{list_any}
-use Rattle.std.proofs.lemmas.List.{append-nil, length-append, length-map}
+use Rattle.std.proofs.lemmas.List.{append-nil, length-append}
 use Rattle.nr_model.specs.declared.fault.Fault.{Fault}
 use Rattle.nr_model.specs.Bytes.{Bytes}
 use Rattle.nr_model.specs.Requests.{Frame, Framing, framing_of}
 use Rattle.nr_model.specs.Requests.Laws.{continued, with_frames}
 use Rattle.nr_model.specs.Commands.{served}
 use Rattle.nr_model.specs.Items.{Connection, same_connection, Deed, Item}
-use Rattle.nr_model.specs.Modes.{plain, framed_conversation, last_deed, deeds_by, Conversation}
-use Rattle.nr_model.specs.Served.{served_deed}
+use Rattle.nr_model.specs.Modes.{plain, framed_conversation, conversation, deeds_by}
 use Rattle.nr_model.specs.Entries.{Jobs}
 use Rattle.nr_model.specs.Worlds.{Feeding, Closing, fed_to, jobs_from}
 use Rattle.nr_model.specs.Explains.{jobs_of_feeds, closing_job}
 use Rattle.nr_model.proofs.Cuts.{cut_law}
-use Rattle.nr_model.proofs.ServedDeeds.{served_is_plain}
+use Rattle.nr_model.proofs.Conversing.{deeds_begin}
 
 -- the deeds of a framing
 abbrev deeds_of : Framing → List Deed
 deeds_of framing = (framed_conversation served plain framing).deeds
-
--- how many they are
-count : (framing : Framing) → length (deeds_of framing) ≡ length framing.frames + length (last_deed framing.fault plain).deeds
-count framing =
-    let last = (last_deed framing.fault plain).deeds in
-    ap (λ (s : Conversation). length s.deeds) (served_is_plain.conversations framing.frames framing.fault)
-    ∙ length-append (map served_deed framing.frames) last
-    ∙ ap (λ (n : ℕ). n + length last) (length-map framing.frames served_deed)
 
 -- no fewer behind more bytes
 grow_on : (frames : List Frame) (fault : Option Fault) (rest more : Bytes)
@@ -36,8 +27,10 @@ grow_on : (frames : List Frame) (fault : Option Fault) (rest more : Bytes)
 grow_on frames (Some fault) rest more = omega arith
 grow_on frames None rest more =
     let next = framing_of (rest ++ more) in
-    let all = with_frames frames next in
-    omega (arith, count (record { frames = frames; fault = None; rest = rest }), count all, length-append frames next.frames)
+    let begun = deeds_begin served plain frames next.frames next.fault in
+    let deeds = (conversation served plain frames None).deeds in
+    let all : length deeds + length begun.0 ≡ length (deeds_of (with_frames frames next)) = sym (length-append deeds begun.0) ∙ ap length begun.1 in
+    omega (arith, all)
 
 -- more bytes ask for no fewer deeds
 pub deeds_grow : (bytes more : Bytes) → length (deeds_by served bytes) ≤ length (deeds_by served (bytes ++ more))

@@ -1,37 +1,17 @@
 -- Lists of jobs, and numbers that count up.
-use Rattle.std.proofs.Common.{◌≡◌, ℕ, zero, suc, ◌+◌, Bool, true, false, cond, List, [], ◌∷◌, ◌++◌, length, map, take, drop, refl, ap, ◌∙◌, subst, arith}
-use Rattle.std.specs.Prelude.{filter, ◌||◌, ◌&&◌}
+use Rattle.std.proofs.Common.{◌≡◌, ℕ, zero, suc, ◌+◌, Bool, true, false, cond, List, [], ◌∷◌, ◌++◌, length, map, take, refl, ap, ◌∙◌, subst, arith}
+use Rattle.std.specs.Prelude.{filter}
 use Rattle.std.specs.List.{AllByRecursion, range_with_len}
-use Rattle.std.proofs.lemmas.Bool.{and_parts, eqb-true, eq-eqb}
+use Rattle.std.proofs.lemmas.Bool.{and_from, eq-eqb}
 use Rattle.std.proofs.Common.{eqb}
 use Rattle.nr_model.specs.Items.{Connection, same_connection, Deed, Item}
 use Rattle.nr_model.specs.Entries.{Jobs}
 use Rattle.nr_model.specs.Worlds.{own_jobs, jobs_from}
-
--- the same connection is equal
-pub same_is : (a b : Connection) → same_connection a b ≡ true → a ≡ b
-same_is a b e =
-    let both = and_parts (eqb a.node b.node) (eqb a.serial b.serial) e in
-    let node : a.node ≡ b.node = eqb-true a.node b.node both.0 in
-    let serial : a.serial ≡ b.serial = eqb-true a.serial b.serial both.1 in
-    λ i. record { node = node i; serial = serial i }
-
--- both of two tests
-both_true : (a b : Bool) → a ≡ true → b ≡ true → (a && b) ≡ true
-both_true a b d e = ap (λ (m : Bool). m && b) d ∙ e
+pub use Rattle.nr_model.proofs.Subscribed.{same-is as same_is}
 
 -- a connection is the same as itself
 pub same_self : (a : Connection) → same_connection a a ≡ true
-same_self a = both_true (eqb a.node a.node) (eqb a.serial a.serial) (eq-eqb a.node a.node refl) (eq-eqb a.serial a.serial refl)
-
--- one of two tests
-pub or_left : (a b : Bool) → a ≡ true → (a || b) ≡ true
-or_left a b e = ap (λ (m : Bool). m || b) e
-
--- the other
-pub or_right : (a b : Bool) → b ≡ true → (a || b) ≡ true
-or_right true b e = refl
-or_right false b e = e
+same_self a = and_from (eqb a.node a.node) (eqb a.serial a.serial) (eq-eqb a.node a.node refl) (eq-eqb a.serial a.serial refl)
 
 -- all of some lists
 pub All-append : {A : Type 0} (P : A → Type 0) (xs ys : List A) → AllByRecursion P xs → AllByRecursion P ys → AllByRecursion P (xs ++ ys)
@@ -45,13 +25,6 @@ All-take P zero (x ∷ xs) a = tt
 All-take P (suc n) [] a = tt
 All-take P (suc n) (x ∷ xs) a = (a.0, All-take P n xs a.1)
 
--- all of the rest
-pub All-drop : {A : Type 0} (P : A → Type 0) (n : ℕ) (xs : List A) → AllByRecursion P xs → AllByRecursion P (drop n xs)
-All-drop P zero [] a = tt
-All-drop P zero (x ∷ xs) a = a
-All-drop P (suc n) [] a = tt
-All-drop P (suc n) (x ∷ xs) a = All-drop P n xs a.1
-
 -- a filter at one element
 pub filter-keeps : {A : Type 0} (test : A → Bool) (x : A) (xs : List A) → test x ≡ true → filter test (x ∷ xs) ≡ x ∷ filter test xs
 filter-keeps test x xs e = ap (λ (b : Bool). cond b (x ∷ filter test xs) (filter test xs)) e
@@ -59,13 +32,6 @@ filter-keeps test x xs e = ap (λ (b : Bool). cond b (x ∷ filter test xs) (fil
 -- and one that it drops
 pub filter-drops : {A : Type 0} (test : A → Bool) (x : A) (xs : List A) → test x ≡ false → filter test (x ∷ xs) ≡ filter test xs
 filter-drops test x xs e = ap (λ (b : Bool). cond b (x ∷ filter test xs) (filter test xs)) e
-
--- all of what a filter keeps
-pub All-filter : {A : Type 0} (P : A → Type 0) (test : A → Bool) (xs : List A) → AllByRecursion P xs → AllByRecursion P (filter test xs)
-All-filter P test [] a = tt
-All-filter P test (x ∷ xs) a =
-    let more = All-filter P test xs a.1 in
-    elim (test x) as (λ b. AllByRecursion P (cond b (x ∷ filter test xs) (filter test xs))) [ true ↦ (a.0, more) | false ↦ more ]
 
 -- none of a list
 pub take_none : {A : Type 0} (xs : List A) → take zero xs ≡ []

@@ -8,7 +8,7 @@ use Rattle.nr_model.specs.Items.{Deed, Item, Sequence, is_update}
 use Rattle.nr_model.specs.Entries.{Jobs, entry_moment, entry_items}
 use Rattle.nr_model.specs.Worlds.{Executed, Entry, Reads, executed_items}
 use Rattle.nr_model.specs.Explains.{logged_part, Placed, placed_all, placed_from, reads_in}
-use Rattle.nr_model.proofs.WorldsPlain.{AreUpdates, AreReads, IsFormed, All-at_moment}
+use Rattle.nr_model.proofs.WorldsFormed.{AreUpdates, AreReads, IsFormed, All-at_moment}
 
 -- a filter keeps all that pass
 all_kept : {A : Type 0} (test : A → Bool) (xs : List A) → AllByRecursion (λ x. test x ≡ true) xs → filter test xs ≡ xs
@@ -27,9 +27,9 @@ updates item = is_update item.deed
 -- the updates of what was executed at once
 logged_one : (done : Executed) → IsFormed done → filter updates (executed_items done) ≡ logged_part done
 -- the updates of what was executed at once
-logged_one (Entry jobs) formed = all_kept updates (entry_items jobs) (All-at_moment (λ (deed : Deed). is_update deed ≡ true) (entry_moment jobs) jobs formed.0)
+logged_one (Entry jobs) formed = all_kept updates (entry_items jobs) (All-at_moment (λ (deed : Deed). is_update deed ≡ true) (entry_moment jobs) jobs formed)
 -- the updates of what was executed at once
-logged_one (Reads jobs) formed = none_kept updates jobs formed.0
+logged_one (Reads jobs) formed = none_kept updates jobs formed
 
 -- the updates of all that was executed
 pub all_logged : (all : List Executed) → AllByRecursion IsFormed all → filter updates (flat_map executed_items all) ≡ flat_map logged_part all
@@ -64,6 +64,6 @@ placed n (job ∷ jobs) items a =
 -- the reads of all that was executed
 pub all_placed : (n : ℕ) (all : List Executed) → AllByRecursion IsFormed all → reads_in n (flat_map executed_items all) ≡ placed_from n all
 all_placed n [] formed = refl
-all_placed n (Entry jobs ∷ all) formed = passed n (entry_moment jobs) jobs (flat_map executed_items all) formed.0.0 ∙ all_placed (n + length jobs) all formed.1
+all_placed n (Entry jobs ∷ all) formed = passed n (entry_moment jobs) jobs (flat_map executed_items all) formed.0 ∙ all_placed (n + length jobs) all formed.1
 all_placed n (Reads jobs ∷ all) formed =
-    placed n jobs (flat_map executed_items all) formed.0.0 ∙ ap (λ (ps : List Placed). placed_all n jobs ++ ps) (all_placed n all formed.1)
+    placed n jobs (flat_map executed_items all) formed.0 ∙ ap (λ (ps : List Placed). placed_all n jobs ++ ps) (all_placed n all formed.1)

@@ -2,13 +2,13 @@
 use Rattle.std.proofs.Common.{◌≡◌, ℕ, zero, suc, ◌≤◌, Bool, true, false, not, cond, inl, inr, List, [], ◌∷◌, ◌++◌, length, take, refl, ap, sym, ◌∙◌, subst, arith}
 use Rattle.std.specs.Prelude.{filter, ◌||◌, ◌&&◌}
 use Rattle.std.specs.List.{AllByRecursion, list_any}
-use Rattle.std.proofs.lemmas.Bool.{cases_Bool, and_parts, and_cases, and_right, not-false}
+use Rattle.std.proofs.lemmas.Bool.{cases_Bool, and_parts, and_cases, and_right, or_left, or_right, not-false}
 use Rattle.std.proofs.lemmas.List.{take_all}
 use Rattle.std.proofs.lemmas.List.Folds.{list_any-append}
 use Rattle.nr_model.specs.Items.{Connection, same_connection, Item, is_update}
 use Rattle.nr_model.specs.Entries.{Jobs, leading, not_leading, left_after, leads_as_update, leads_as_read, has_read_of, has_update_of, entry_jobs, left_by_entry, read_jobs, left_by_reads, most_entry_jobs}
 use Rattle.nr_model.specs.Worlds.{own_jobs}
-use Rattle.nr_model.proofs.WorldsLists.{same_is, same_self, or_left, or_right, filter-keeps, filter-drops, take_none, All-take}
+use Rattle.nr_model.proofs.WorldsLists.{same_is, same_self, filter-keeps, filter-drops, take_none, All-take}
 
 -- a job that doesn't lead stops the later jobs of its connection
 record Stops (leads : Jobs → Item → Bool) (blocks : Connection → Jobs → Bool) : Type 0 where
@@ -158,43 +158,6 @@ reads_apart c jobs =
     apart leads_as_read has_update_of (stops_by reads updates (λ job e. not-false (is_update job.deed) e)) c room [] jobs
     ∙ ap (λ (js : Jobs). own_jobs c js ++ own_jobs c (left_after leads_as_read room [] jobs)) all
     ∙ ap (λ (js : Jobs). own_jobs c (read_jobs jobs) ++ own_jobs c js) left
-
--- what holds of all that wait holds of those that are taken, and of those that are left
-All-leading : (P : Item → Type 0) (leads : Jobs → Item → Bool) (before jobs : Jobs) → AllByRecursion P jobs → AllByRecursion P (leading leads before jobs)
-All-leading P leads before [] a = tt
-All-leading P leads before (x ∷ jobs) a =
-    let more = All-leading P leads (before ++ x ∷ []) jobs a.1 in
-    let rest = leading leads (before ++ x ∷ []) jobs in
-    elim (leads before x) as (λ m. AllByRecursion P (cond m (x ∷ rest) rest)) [ true ↦ (a.0, more) | false ↦ more ]
-
--- of those that are left
-All-left : (P : Item → Type 0) (leads : Jobs → Item → Bool) (room : ℕ) (before jobs : Jobs) → AllByRecursion P jobs
-    → AllByRecursion P (left_after leads room before jobs)
-All-left P leads room before [] a = tt
-All-left P leads zero before (x ∷ jobs) a = a
-All-left P leads (suc room) before (x ∷ jobs) a =
-    let after = before ++ x ∷ [] in
-    elim (leads before x) as (λ m. AllByRecursion P (elim m [ true ↦ left_after leads room after jobs | false ↦ x ∷ left_after leads (suc room) after jobs ])) [
-      | true ↦ All-left P leads room after jobs a.1
-      | false ↦ (a.0, All-left P leads (suc room) after jobs a.1)
-    ]
-
--- of the jobs of an entry
-pub All-entry : (P : Item → Type 0) (jobs : Jobs) → AllByRecursion P jobs → AllByRecursion P (entry_jobs jobs)
-All-entry P jobs a = All-take P most_entry_jobs (leading leads_as_update [] jobs) (All-leading P leads_as_update [] jobs a)
-
--- of those that it leaves
-pub All-left_by_entry : (P : Item → Type 0) (jobs : Jobs) → AllByRecursion P jobs → AllByRecursion P (left_by_entry jobs)
-All-left_by_entry P jobs a = All-left P leads_as_update most_entry_jobs [] jobs a
-
--- of the reads of a look
-pub All-reads : (P : Item → Type 0) (jobs : Jobs) → AllByRecursion P jobs → AllByRecursion P (read_jobs jobs)
-All-reads P jobs a = All-leading P leads_as_read [] jobs a
-
--- of those that it leaves
-pub All-left_by_reads : (P : Item → Type 0) (jobs : Jobs) → AllByRecursion P jobs → AllByRecursion P (left_by_reads jobs)
-All-left_by_reads P jobs a = subst (AllByRecursion P) (left_by_all leads_as_read (length jobs) [] jobs (omega arith))
-    (All-left P leads_as_read (length jobs) [] jobs a)
 
 -- those that lead are of the kind
 kind_leads : (kind : Item → Bool) (leads : Jobs → Item → Bool) → ((before : Jobs) (job : Item) → leads before job ≡ true → kind job ≡ true)

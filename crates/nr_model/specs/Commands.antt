@@ -134,6 +134,9 @@ strings_change command = commands.Perform (operations.Change (changes.Strings co
 abbrev pub server_looks_served : List Command
 server_looks_served = server_look server_looks.Ping ∷ server_look server_looks.Echo ∷ []
 
+abbrev pub server_changes_served : List Command
+server_changes_served = server_change server_changes.Select ∷ []
+
 abbrev pub keys_changes_served : List Command
 keys_changes_served = keys_change keys_changes.Del ∷ []
 
@@ -143,23 +146,22 @@ strings_looks_served = strings_look strings_looks.Get ∷ []
 abbrev pub strings_changes_served : List Command
 strings_changes_served = strings_change strings_changes.Set ∷ []
 
--- the commands that speak of connections
-abbrev pub session_commands : List Command
-session_commands =
-    commands.Session sessions.Quit ∷ server_change server_changes.Select ∷ commands.Session sessions.Multi ∷ commands.Session sessions.Exec
-    ∷ commands.Session sessions.Discard
-    ∷ commands.Session sessions.Watch ∷ commands.Session sessions.Unwatch ∷ commands.Session (sessions.Subscribe kinds.Channels)
-    ∷ commands.Session (sessions.Subscribe kinds.Patterns)
-    ∷ commands.Session (sessions.Unsubscribe kinds.Channels) ∷ commands.Session (sessions.Unsubscribe kinds.Patterns) ∷ commands.Session sessions.Publish
-    ∷ commands.Session sessions.Pubsub ∷ []
+-- those that are performed on the keyspace
+abbrev pub operations_served : List Command
+operations_served = server_looks_served ++ server_changes_served ++ keys_changes_served ++ strings_looks_served ++ strings_changes_served
+
+-- and those that speak of connections
+abbrev pub sessions_served : List Command
+sessions_served =
+    commands.Session sessions.Multi ∷ commands.Session sessions.Exec ∷ commands.Session sessions.Discard ∷ commands.Session sessions.Watch
+    ∷ commands.Session sessions.Unwatch ∷ commands.Session sessions.Quit
+    ∷ commands.Session (sessions.Subscribe kinds.Channels) ∷ commands.Session (sessions.Subscribe kinds.Patterns)
+    ∷ commands.Session (sessions.Unsubscribe kinds.Channels) ∷ commands.Session (sessions.Unsubscribe kinds.Patterns)
+    ∷ commands.Session sessions.Publish ∷ commands.Session sessions.Pubsub ∷ []
 
 -- the commands whose names are served; another name is an unknown command
 abbrev pub served : List Command
-served = server_looks_served ++ keys_changes_served ++ strings_looks_served ++ strings_changes_served
-
--- all commands
-abbrev pub all_commands : List Command
-all_commands = served ++ session_commands
+served = operations_served ++ sessions_served
 
 -- the command of a name among these, whatever the case of its ASCII letters
 abbrev pub named : List Command → Bytes → Option Command

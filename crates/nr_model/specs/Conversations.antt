@@ -1,20 +1,24 @@
--- What holds of the conversation of a connection: it can be cut anywhere; where a transaction is open, when it was begun, what was queued and
--- what spoiled it can be read back from the requests; and what it holds is what its subscribers say.
-use Rattle.std.specs.Prelude.{◌≡◌, ◌↔◌, Bool, true, false, cond, List, [], ◌∷◌, ◌++◌, map, filter, flat_map, Option, Some, None}
+-- What holds of the conversation of a connection: it can be cut anywhere, and each request has one deed; where a transaction is open, when it
+-- was begun, what was queued and what spoiled it can be read back from the requests; and what it holds is what its subscribers say.
+use Rattle.std.specs.Prelude.{◌≡◌, ◌↔◌, ◌+◌, ◌≤◌, Bool, true, false, cond, List, [], ◌∷◌, ◌++◌, length, map, filter, flat_map, Option, Some, None}
 use Rattle.std.specs.List.{list_any}
 use Rattle.nr_model.specs.Requests.{Frame}
 use Rattle.nr_model.specs.declared.fault.Fault.{Fault}
 use Rattle.nr_model.specs.declared.command.Command.{Command}
 use Rattle.nr_model.specs.declared.command.Command.TheVariants.{Perform, Session}
 use Rattle.nr_model.specs.declared.command.Session.TheVariants.{Multi, Exec, Discard, Unwatch, Quit, Subscribe, Unsubscribe, Publish, Pubsub}
-use Rattle.nr_model.specs.Items.{Connection, same_connection, Call, Deed, Item, Sequence}
-use Rattle.nr_model.specs.Modes.{Transaction, Mode, plain, is_subscribed, Reading, Unknown, WrongArity, Known, reading, Conversation, conversation}
+use Rattle.nr_model.specs.Items.{Connection, same_connection, Call, Deed, is_end, Item, Sequence}
+use Rattle.nr_model.specs.Modes.{Transaction, Mode, plain, is_subscribed, Reading, Unknown, WrongArity, Known, reading, Answer, answer, Conversation, conversation, last_deed}
 use Rattle.nr_model.specs.Sequential.Subscribers.{held_of}
 use Rattle.nr_model.specs.Sequential.{past_of}
 
 -- a conversation, and what follows in the mode that it left, unless it ended
 abbrev pub followed_by : Conversation → Conversation → Conversation
 followed_by c more = cond c.ended c (record { deeds = c.deeds ++ more.deeds; mode = more.mode; ended = more.ended })
+
+-- a conversation that goes on, and what its next request asks for
+abbrev pub with_answer : Conversation → Answer → Conversation
+with_answer c a = record { deeds = c.deeds ++ a.deed ∷ []; mode = a.mode; ended = is_end a.deed }
 
 -- how requests are read by which a transaction ends: its connection's end too
 abbrev pub command_closes : Command → Bool
@@ -74,6 +78,15 @@ pub record ConversationLaw : Type 0 where
   -- requests in two parts
   pub joins : (table : List Command) (mode : Mode) (frames more : List Frame) (fault : Option Fault)
       → conversation table mode (frames ++ more) fault ≡ followed_by (conversation table mode frames None) (conversation table (conversation table mode frames None).mode more fault)
+  -- one request more
+  pub one_more : (table : List Command) (mode : Mode) (frames : List Frame) (frame : Frame) → (conversation table mode frames None).ended ≡ false
+      → conversation table mode (frames ++ frame ∷ []) None
+      ≡ with_answer (conversation table mode frames None) (answer table (conversation table mode frames None).mode frame)
+  -- each request has one deed while the connection goes on, a fault one more, and nothing follows an end
+  pub counts : (table : List Command) (mode : Mode) (frames : List Frame) → (conversation table mode frames None).ended ≡ false
+      → length (conversation table mode frames None).deeds ≡ length frames
+  pub at_most : (table : List Command) (mode : Mode) (frames : List Frame) (fault : Option Fault)
+      → length (conversation table mode frames fault).deeds ≤ length frames + length (last_deed fault mode).deeds
   -- a transaction is open exactly where the requests say so
   pub transactions : (table : List Command) (frames : List Frame) (t : Transaction) → (conversation table plain frames None).ended ≡ false
       → ((conversation table plain frames None).mode.transaction ≡ Some t) ↔ IsOpen table frames t

@@ -1,38 +1,44 @@
--- What holds of every world of one node that steps lead to, and how each step moves what is fed, what waits and the machine's state.
+-- What holds of every world of one node that steps lead to, and how each step moves what is fed, what waits and the server's state.
 use Rattle.std.specs.Prelude.{◌≡◌, ℕ, ◌+◌, true, false, List, [], ◌∷◌, ◌++◌, length}
 use Rattle.nr_model.specs.Bytes.{Bytes}
 use Rattle.nr_model.specs.Requests.{Framing, framing_of}
 use Rattle.nr_model.specs.Keyspace.{moment}
 use Rattle.nr_model.specs.Commands.{served}
 use Rattle.nr_model.specs.Items.{Connection, same_connection, Sequence}
-use Rattle.nr_model.specs.Modes.{Conversation, framed_conversation, plain}
+use Rattle.nr_model.specs.Modes.{Mode, Conversation, framed_conversation, plain}
 use Rattle.nr_model.specs.Sequential.{redis, emit, bytes_for, emitted_for}
-use Rattle.nr_model.specs.States.{State, opening, after_all, emitted_all, ArePlain}
+use Rattle.nr_model.specs.Servers.{Server, fresh, after_all, emitted_all}
 use Rattle.nr_model.specs.Entries.{entry_jobs, entry_items, read_jobs}
 use Rattle.nr_model.specs.Worlds.{Setup, Step, Open, Feed, Apply, Look, Collect, Close, World, sequence_of, exists, is_closed, fed_to, asked_by, jobs_from, new_jobs, fed, own_jobs, handed_to, waiting_for, collected, effect, after_step, world_after}
 use Rattle.nr_model.specs.Explains.{Explains, IsAccounted, jobs_executed}
 
--- the machine's state behind all that was executed
-abbrev pub state_of : World → State
-state_of world = after_all opening (sequence_of world)
+-- the server behind all that was executed
+abbrev pub state_of : World → Server
+state_of world = after_all fresh (sequence_of world)
+
+-- the mode that a connection's bytes left it in
+abbrev pub mode_of : World → Connection → Mode
+mode_of world c = (asked_by world c).mode
 
 -- the bytes of a connection behind its last whole request
 abbrev pub rest_of : World → Connection → Bytes
 rest_of world c = (framing_of (fed_to c world.fed)).rest
 
--- the frames of that rest and of more bytes behind it, and what they ask for
+-- the frames of that rest and of more bytes behind it, and what they ask for in that mode
 abbrev pub framed_next : World → Connection → Bytes → Framing
 framed_next world c bytes = framing_of (rest_of world c ++ bytes)
 
 abbrev pub asked_next : World → Connection → Bytes → Conversation
-asked_next world c bytes = framed_conversation served plain (framed_next world c bytes)
+asked_next world c bytes = framed_conversation served (mode_of world c) (framed_next world c bytes)
 
--- A feed of a connection that hasn't ended: the rest and the new bytes decide what it adds.
+-- A feed of a connection that hasn't ended: the mode, the rest and the new bytes decide what it adds.
 pub record IsFed (world : World) (c : Connection) (time : ℕ) (bytes : Bytes) : Type 0 where
   -- the jobs, numbered on
   pub jobs : new_jobs world c time bytes ≡ jobs_from c (length (asked_by world c).deeds) (moment time) (asked_next world c bytes).deeds
   -- the number of the next job
   pub next : length (asked_by (fed world c time bytes) c).deeds ≡ length (asked_by world c).deeds + length (asked_next world c bytes).deeds
+  -- the new mode
+  pub mode : (asked_by (fed world c time bytes) c).mode ≡ (asked_next world c bytes).mode
   -- whether the connection ended
   pub ended : (asked_by (fed world c time bytes) c).ended ≡ (asked_next world c bytes).ended
   -- the new rest
@@ -79,12 +85,9 @@ pub record IsExplained (world : World) : Type 0 where
   pub explains : Explains (sequence_of world) world
   -- one sequential Redis along that sequence answers each connection as it was answered
   pub accounts : IsAccounted (sequence_of world) world
-  -- all that was executed, and all that waits, needs the keyspace alone
-  pub executed : ArePlain (sequence_of world)
-  pub waiting : ArePlain world.waiting
-  -- so the sequential Redis is the machine
+  -- so the sequential Redis is the server that goes from state to state
   pub keyspace : redis (sequence_of world) ≡ (state_of world).keyspace
-  pub emissions : emit (sequence_of world) ≡ emitted_all opening (sequence_of world)
+  pub emissions : emit (sequence_of world) ≡ emitted_all fresh (sequence_of world)
   -- nothing waits for a closed connection
   pub cut : (c : Connection) → is_closed world c ≡ true → waiting_for world c ≡ []
   pub absent : (c : Connection) → exists world c ≡ false → IsAbsent world c

@@ -9,9 +9,7 @@ pub mod Items
 pub mod Names
 pub mod Strings
 pub mod Modes
-pub mod Served
 pub mod Sequential
-pub mod States
 pub mod Servers
 pub mod Conversations
 pub mod Entries

@@ -113,6 +113,10 @@ when_subscribed (Session (Subscribe kind)) call mode = subscribes kind call mode
 when_subscribed (Session (Unsubscribe kind)) call mode = unsubscribes kind call mode
 when_subscribed _ call mode = denies (not_while_subscribed (row_of call.command).name) mode
 
+-- `+QUEUED`
+abbrev pub queued_reply : Reply
+queued_reply = Simple (codes "QUEUED")
+
 -- a connection in a transaction: what isn't refused or ends it is queued
 abbrev pub in_transaction : Command → Call → Transaction → Mode → Answer
 in_transaction (Session Multi) call t mode = denies (codes "ERR MULTI calls can not be nested") mode
@@ -122,7 +126,7 @@ in_transaction (Session Discard) call t mode = asks (Act call) (closed mode)
 in_transaction (Session Quit) call t mode = quits mode
 in_transaction (Session (Subscribe kind)) call t mode = denies (not_in_transaction (row_of call.command).name) (spoiled mode)
 in_transaction (Session (Unsubscribe kind)) call t mode = denies (not_in_transaction (row_of call.command).name) (spoiled mode)
-in_transaction _ call t mode = says (Simple (codes "QUEUED")) (with_queued mode t call)
+in_transaction _ call t mode = says queued_reply (with_queued mode t call)
 
 -- a connection with neither
 abbrev pub by_itself : Command → Call → Mode → Answer

@@ -124,11 +124,12 @@ impl Outbox {
         self.is_cut = true;
     }
 
-    /// Hands out at most so many of the first bytes that wait, or `None` where nothing waits. Linear in them; where all are handed out
-    /// nothing is copied.
+    /// Hands out at most so many of the first bytes that wait, and at least one, or `None` where nothing waits. Linear in them; where all
+    /// are handed out nothing is copied. Where memory runs out nothing is changed.
     pub fn take_piece(&mut self, alloc: Global, most: usize) -> Result<Option<Piece>, Memory>
         requires { 0 < most }
         ensures piece { IfOk result (λ piece. IfSome piece (λ piece. (connection_of piece.conn ≡ self.old.connection) × (piece.from ≡ self.old.handed) × (piece.bytes.items ≡ take most self.old.waiting))) }
+        ensures some { IfOk result (λ piece. IfSome piece (λ piece. 0 < length piece.bytes.items)) }
         ensures none { IfOk result (λ piece. IfNone piece (self.old.waiting ≡ [])) }
         ensures left { OnOk result (self.new ≡ handing most self.old) }
         ensures err { OnErr result (self.new ≡ self.old) }

@@ -29,6 +29,13 @@ pub enum Reply {
 }
 
 impl Reply {
+    /// An array of replies, in their order.
+    pub fn array(replies: Vec<Reply>) -> Reply
+        ensures { reply_of result ≡ model.array (map reply_of replies.items) }
+    {
+        Reply::Array(replies)
+    }
+
     /// Appends the reply's bytes, or nothing where memory runs out.
     pub fn write(&self, out: &mut Vec<u8>) -> Result<(), Memory>
         ensures ok { OnOk result (out.new.items ≡ out.old.items ++ reply_text (reply_of self.now)) }

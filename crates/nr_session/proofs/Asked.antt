@@ -1,115 +1,65 @@
--- What a piece asks for, by the fault that it ends with.
-use Rattle.std.proofs.Common.{◌≡◌, ℕ, zero, suc, ◌+◌, ◌≤◌, true, false, List, [], ◌∷◌, ◌++◌, length, take, refl, ap, sym, ◌∙◌, append_assoc, arith, length-append}
-use Rattle.std.specs.Prelude.{map, None, Some}
-use Rattle.std.proofs.lemmas.List.{length-map, take_at}
+-- What a piece asks for, by the frames before a refusal, and by the fault that it ends with.
+use Rattle.std.proofs.Common.{◌≡◌, ℕ, zero, suc, ◌+◌, ◌≤◌, true, false, List, [], ◌∷◌, ◌++◌, length, take, drop, refl, ap, sym, ◌∙◌, append-nil, append_assoc, arith, length-append}
+use Rattle.std.specs.Prelude.{None, Some}
+use Rattle.std.proofs.lemmas.List.{take_at}
 use Rattle.nr_model.specs.Bytes.{Bytes}
 use Rattle.nr_model.specs.declared.fault.Fault.{Fault}
+use Rattle.nr_model.specs.Commands.{served}
 use Rattle.nr_model.specs.Requests.{Frame, framing_of, fault_text}
 use Rattle.nr_model.specs.Replies.{Error}
 use Rattle.nr_model.specs.Items.{Connection, Item, Deed, End}
-use Rattle.nr_model.specs.Modes.{plain, last_deed}
-use Rattle.nr_model.specs.Served.{served_deed}
+use Rattle.nr_model.specs.Modes.{Mode, conversation}
 use Rattle.nr_model.specs.Worlds.{jobs_from}
-use Rattle.nr_model.proofs.ServedDeeds.{served_is_plain}
-use Rattle.nr_model.proofs.Counts.{frames_le_bytes, frames_and_rest_le_bytes}
+use Rattle.nr_model.proofs.Conversing.{deeds_begin, joined_on, joined_over}
+use Rattle.nr_model.proofs.Counts.{frames_le_bytes, deeds_and_rest_le_bytes}
 use Rattle.nr_resp.specs.Stream.{RanOut}
 use Rattle.nr_session.proofs.Fronts.{adds_all}
-use Rattle.nr_session.specs.SessionState.{framed, asked, request_jobs, IsFrontOf, AddsFront}
-
-append_nil : {A : Type 0} (xs : List A) → xs ++ [] ≡ xs
-append_nil [] = refl
-append_nil (x ∷ xs) = ap (λ ys. x ∷ ys) (append_nil xs)
-
-pub deeds_whole : (rest piece : Bytes) → (framed rest piece).fault ≡ None → (asked rest piece).deeds ≡ map served_deed (framed rest piece).frames
-deeds_whole rest piece e =
-    ap (λ c. c.deeds) (served_is_plain.conversations (framed rest piece).frames (framed rest piece).fault)
-    ∙ ap (λ fault. map served_deed (framed rest piece).frames ++ (last_deed fault plain).deeds) e ∙ append_nil _
-
-pub ended_whole : (rest piece : Bytes) → (framed rest piece).fault ≡ None → (asked rest piece).ended ≡ false
-ended_whole rest piece e =
-    ap (λ c. c.ended) (served_is_plain.conversations (framed rest piece).frames (framed rest piece).fault) ∙ ap (λ fault. (last_deed fault plain).ended) e
-
-pub deeds_broken : (rest piece : Bytes) (fault : Fault) → (framed rest piece).fault ≡ Some fault
-    → (asked rest piece).deeds ≡ map served_deed (framed rest piece).frames ++ End (Some (Error (fault_text fault))) ∷ []
-deeds_broken rest piece fault e =
-    ap (λ c. c.deeds) (served_is_plain.conversations (framed rest piece).frames (framed rest piece).fault)
-    ∙ ap (λ fault. map served_deed (framed rest piece).frames ++ (last_deed fault plain).deeds) e
-
-pub ended_broken : (rest piece : Bytes) (fault : Fault) → (framed rest piece).fault ≡ Some fault → (asked rest piece).ended ≡ true
-ended_broken rest piece fault e =
-    ap (λ c. c.ended) (served_is_plain.conversations (framed rest piece).frames (framed rest piece).fault) ∙ ap (λ fault. (last_deed fault plain).ended) e
+use Rattle.nr_session.specs.SessionState.{framed, asked, requested, request_jobs, IsFrontOf, AddsFront}
 
 -- no more frames than bytes
-pub few_frames : (rest piece : Bytes) → length (framed rest piece).frames ≤ length rest + length piece
+few_frames : (rest piece : Bytes) → length (framed rest piece).frames ≤ length rest + length piece
 few_frames rest piece = omega (arith, frames_le_bytes (rest ++ piece), length-append rest piece)
 
--- nor more frames and bytes of the rest
-pub few_frames_and_rest : (rest piece : Bytes) → length (framed rest piece).frames + length (framed rest piece).rest ≤ length rest + length piece
-few_frames_and_rest rest piece = omega (arith, frames_and_rest_le_bytes (rest ++ piece), length-append rest piece)
+-- nor more deeds and bytes of the rest, while the connection goes on
+pub few_deeds_and_rest : (mode : Mode) (rest piece : Bytes) → (asked mode rest piece).ended ≡ false
+    → length (asked mode rest piece).deeds + length (framed rest piece).rest ≤ length rest + length piece
+few_deeds_and_rest mode rest piece on = omega (arith, deeds_and_rest_le_bytes served mode (rest ++ piece) on, length-append rest piece)
 
 -- jobs of deeds behind others
-pub jobs_append : (c : Connection) (number moment : ℕ) (ds es : List Deed)
+jobs_append : (c : Connection) (number moment : ℕ) (ds es : List Deed)
     → jobs_from c number moment (ds ++ es) ≡ jobs_from c number moment ds ++ jobs_from c (number + length ds) moment es
 jobs_append c number moment [] es = ap (λ n. jobs_from c n moment es) (omega arith)
 jobs_append c number moment (d ∷ ds) es =
     ap (λ js. record { connection = c; number = number; moment = moment; deed = d } ∷ js)
     (jobs_append c (number + 1) moment ds es ∙ ap (λ n. jobs_from c (number + 1) moment ds ++ jobs_from c n moment es) (omega arith))
 
--- a front of the frames' jobs is that front's jobs
-pub jobs_take : (c : Connection) (number moment n : ℕ) (frames : List (List Bytes))
-    → request_jobs c number moment (take n frames) ≡ take n (request_jobs c number moment frames)
-jobs_take c number moment zero frames = refl
-jobs_take c number moment (suc n) [] = refl
-jobs_take c number moment (suc n) (f ∷ fs) =
-    ap (λ js. record { connection = c; number = number; moment = moment; deed = served_deed f } ∷ js) (jobs_take c (number + 1) moment n fs)
+length-jobs : (c : Connection) (number moment : ℕ) (ds : List Deed) → length (jobs_from c number moment ds) ≡ length ds
+length-jobs c number moment [] = refl
+length-jobs c number moment (d ∷ ds) = ap suc (length-jobs c (number + 1) moment ds)
 
--- a front of a front is a front
-take_within : {A : Type 0} (m n : ℕ) (xs : List A) → m ≤ length (take n xs) → take m (take n xs) ≡ take m xs
-take_within zero n xs h = refl
-take_within (suc m) zero xs h = absurd (omega arith)
-take_within (suc m) (suc n) [] h = absurd (omega arith)
-take_within (suc m) (suc n) (x ∷ xs) h = ap (λ ys. x ∷ ys) (take_within m n xs (omega arith))
-
+-- a front, and what is behind it
 take_whole : {A : Type 0} (xs : List A) → xs ≡ take (length xs) xs
 take_whole [] = refl
 take_whole (x ∷ xs) = ap (λ ys. x ∷ ys) (take_whole xs)
 
-pub front_whole : (xs ys : List (List Bytes)) → xs ≡ ys → IsFrontOf xs ys
+pub front_whole : (xs ys : List Frame) → xs ≡ ys → IsFrontOf xs ys
 front_whole xs ys e = (length ys, e ∙ take_whole ys)
+
+both_parts : {A : Type 0} (n : ℕ) (xs : List A) → take n xs ++ drop n xs ≡ xs
+both_parts zero xs = refl
+both_parts (suc n) [] = refl
+both_parts (suc n) (x ∷ xs) = ap (λ ys. x ∷ ys) (both_parts n xs)
+
+parted : (some all : List Frame) (f : IsFrontOf some all) → some ++ drop f.0 all ≡ all
+parted some all f = ap (λ s. s ++ drop f.0 all) f.1 ∙ both_parts f.0 all
 
 length-take-le-any : {A : Type 0} (n : ℕ) (xs : List A) → length (take n xs) ≤ length xs
 length-take-le-any zero xs = omega arith
 length-take-le-any (suc n) [] = omega arith
 length-take-le-any (suc n) (x ∷ xs) = omega (arith, length-take-le-any n xs)
 
-pub front_few : (rest piece : Bytes) (frames : List (List Bytes)) → IsFrontOf frames (framed rest piece).frames → length frames ≤ length rest + length piece
+pub front_few : (rest piece : Bytes) (frames : List Frame) → IsFrontOf frames (framed rest piece).frames → length frames ≤ length rest + length piece
 front_few rest piece frames f = omega (arith, few_frames rest piece, ap length f.1, length-take-le-any f.0 (framed rest piece).frames)
-
--- the jobs that were added for a front of the frames are the first of those for all
-pub of_all : (c : Connection) (number number' moment : ℕ) (old now : List Item) (some all : List (List Bytes)) → IsFrontOf some all
-    → AddsFront old now number number' (request_jobs c number moment some) → AddsFront old now number number' (request_jobs c number moment all)
-of_all c number number' moment old now some all f h =
-    let jobs = request_jobs c number moment all in
-    let cut : request_jobs c number moment some ≡ take f.0 jobs = ap (request_jobs c number moment) f.1 ∙ jobs_take c number moment f.0 all in
-    let within : h.count ≤ length (take f.0 jobs) = omega (arith, h.few, ap length cut) in record {
-      count = h.count;
-      few = omega (arith, within, length-take-le-any f.0 jobs);
-      added = h.added ∙ ap (λ js. old ++ take h.count js) cut ∙ ap (λ js. old ++ js) (take_within h.count f.0 jobs within);
-      numbered = h.numbered;
-    }
-
-length-jobs : (c : Connection) (number moment : ℕ) (ds : List Deed) → length (jobs_from c number moment ds) ≡ length ds
-length-jobs c number moment [] = refl
-length-jobs c number moment (d ∷ ds) = ap suc (length-jobs c (number + 1) moment ds)
-
--- so they are where those of all these frames were added
-pub all_added : (c : Connection) (number number' moment count : ℕ) (old now : List Item) (some all : List (List Bytes)) → IsFrontOf some all
-    → now ≡ old ++ request_jobs c number moment some → number' ≡ number + count
-    → length some ≡ count → AddsFront old now number number' (request_jobs c number moment all)
-all_added c number number' moment count old now some all f added numbered counted =
-    of_all c number number' moment old now some all f
-    (adds_all old now (request_jobs c number moment some) number number' added
-    (numbered ∙ omega (arith, counted, length-jobs c number moment (map served_deed some), length-map some served_deed)))
 
 -- the frames before a refusal are the first of all
 pub ran_out_front : (bytes held : Bytes) (frames frames' : List Frame) → frames ≡ [] → RanOut bytes held frames frames'
@@ -120,16 +70,60 @@ ran_out_front bytes held frames frames' none ran = (
       ∙ sym (ap (λ f. take (length ran.1.added) f.frames) ran.1.same ∙ take_at ran.1.added (framing_of (held ++ ran.0)).frames (length ran.1.added) refl),
 )
 
--- the jobs of requests, and behind them a fault's
-pub fault_jobs : (c : Connection) (next moment len : ℕ) (old mid new : List Item) (frames : List (List Bytes)) (ds : List Deed) (last close : Deed)
-    → mid ≡ old ++ request_jobs c next moment frames → new ≡ mid ++ jobs_from c (next + len) moment (close ∷ []) → len ≡ length frames → close ≡ last
-    → ds ≡ map served_deed frames ++ last ∷ [] → new ≡ old ++ jobs_from c next moment ds
-fault_jobs c next moment len old mid new frames ds last close requests ends count same all =
-    let jobs = request_jobs c next moment frames in
-    let number : next + len ≡ next + length (map served_deed frames) = omega (arith, count, length-map frames served_deed) in
-    ends ∙ ap (λ js. js ++ jobs_from c (next + len) moment (close ∷ [])) requests ∙ append_assoc old jobs _
-    ∙ ap (λ js. old ++ js)
-    (ap (λ d. jobs ++ jobs_from c (next + len) moment (d ∷ [])) same
-    ∙ ap (λ n. jobs ++ jobs_from c n moment (last ∷ [])) number
-    ∙ sym (jobs_append c next moment (map served_deed frames) (last ∷ [])))
-    ∙ ap (λ xs. old ++ jobs_from c next moment xs) (sym all)
+-- what the first of the frames ask for is the first of what all ask for
+jobs_begin : (c : Connection) (number moment : ℕ) (mode : Mode) (some all : List Frame) → IsFrontOf some all
+    → (left : List Item) × (request_jobs c number moment mode some ++ left ≡ request_jobs c number moment mode all)
+jobs_begin c number moment mode some all f =
+    let begin = deeds_begin served mode some (drop f.0 all) None in
+    let whole : (requested mode some).deeds ++ begin.0 ≡ (requested mode all).deeds = begin.1 ∙ ap (λ frames. (requested mode frames).deeds) (parted some all f) in
+    (jobs_from c (number + length (requested mode some).deeds) moment begin.0, sym (jobs_append c number moment (requested mode some).deeds begin.0) ∙ ap (jobs_from c number moment) whole)
+
+take_begin : {A : Type 0} (m : ℕ) (some left : List A) → m ≤ length some → take m (some ++ left) ≡ take m some
+take_begin zero some left h = refl
+take_begin (suc m) [] left h = absurd (omega arith)
+take_begin (suc m) (x ∷ some) left h = ap (λ ys. x ∷ ys) (take_begin m some left (omega arith))
+
+-- so the jobs that were added for them are the first of those for all
+pub of_all : (c : Connection) (number number' moment : ℕ) (mode : Mode) (old now : List Item) (some all : List Frame) → IsFrontOf some all
+    → AddsFront old now number number' (request_jobs c number moment mode some) → AddsFront old now number number' (request_jobs c number moment mode all)
+of_all c number number' moment mode old now some all f h =
+    let jobs = request_jobs c number moment mode some in
+    let begin = jobs_begin c number moment mode some all f in record {
+      count = h.count;
+      few = omega (arith, h.few, ap length begin.1, length-append jobs begin.0);
+      added = h.added ∙ ap (λ js. old ++ js) (sym (take_begin h.count jobs begin.0 h.few) ∙ ap (take h.count) begin.1);
+      numbered = h.numbered;
+    }
+
+pub all_added : (c : Connection) (number number' moment : ℕ) (mode : Mode) (old now : List Item) (some all : List Frame) → IsFrontOf some all
+    → now ≡ old ++ request_jobs c number moment mode some → number' ≡ number + length (requested mode some).deeds
+    → AddsFront old now number number' (request_jobs c number moment mode all)
+all_added c number number' moment mode old now some all f added numbered =
+    of_all c number number' moment mode old now some all f
+    (adds_all old now (request_jobs c number moment mode some) number number' added (omega (arith, numbered, length-jobs c number moment (requested mode some).deeds)))
+
+-- where one of the first frames ends the connection, the others and a fault ask for nothing
+pub over : (mode : Mode) (rest piece : Bytes) (some : List Frame) → IsFrontOf some (framed rest piece).frames → (requested mode some).ended ≡ true → asked mode rest piece ≡ requested mode some
+over mode rest piece some f ended =
+    ap (λ frames. conversation served mode frames (framed rest piece).fault) (sym (parted some (framed rest piece).frames f))
+    ∙ joined_over served mode some (drop f.0 (framed rest piece).frames) (framed rest piece).fault ended
+
+-- where none does, a fault ends it
+pub broken : (mode : Mode) (rest piece : Bytes) (fault : Fault) → (framed rest piece).fault ≡ Some fault → (requested mode (framed rest piece).frames).ended ≡ false
+    → asked mode rest piece
+    ≡ record { deeds = (requested mode (framed rest piece).frames).deeds ++ End (Some (Error (fault_text fault))) ∷ []; mode = (requested mode (framed rest piece).frames).mode; ended = true }
+broken mode rest piece fault is on =
+    let frames = (framed rest piece).frames in
+    ap (conversation served mode frames) is
+    ∙ ap (λ fs. conversation served mode fs (Some fault)) (sym (append-nil frames))
+    ∙ joined_on served mode frames [] (Some fault) on
+
+-- its job stands behind theirs
+pub fault_jobs : (c : Connection) (next next' moment : ℕ) (mode : Mode) (old mid new : List Item) (frames : List Frame) (last : Deed)
+    → mid ≡ old ++ request_jobs c next moment mode frames → next' ≡ next + length (requested mode frames).deeds → new ≡ mid ++ jobs_from c next' moment (last ∷ [])
+    → new ≡ old ++ jobs_from c next moment ((requested mode frames).deeds ++ last ∷ [])
+fault_jobs c next next' moment mode old mid new frames last requests numbered end =
+    end ∙ ap (λ (js : List Item). js ++ jobs_from c next' moment (last ∷ [])) requests
+    ∙ append_assoc old (request_jobs c next moment mode frames) _
+    ∙ ap (λ (n : ℕ). old ++ (request_jobs c next moment mode frames ++ jobs_from c n moment (last ∷ []))) numbered
+    ∙ ap (λ (js : List Item). old ++ js) (sym (jobs_append c next moment (requested mode frames).deeds (last ∷ [])))

@@ -1,2 +1,3 @@
-pub mod Fronts
 pub mod Asked
+pub mod Fronts
+pub mod Going

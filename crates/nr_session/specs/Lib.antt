@@ -1,1 +1,3 @@
+pub mod Coded
+pub mod Lives
 pub mod SessionState

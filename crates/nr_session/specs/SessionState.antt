@@ -1,34 +1,51 @@
 -- What contracts see of a session, and the front of the jobs that is there where memory ran out.
-use Rattle.std.specs.Prelude.{◌≡◌, ℕ, ◌+◌, ◌≤◌, Bool, List, ◌++◌, length, map, take}
+use Rattle.std.specs.Prelude.{◌≡◌, ℕ, ◌+◌, ◌≤◌, Bool, List, ◌++◌, length, take, None, refl}
+use Rattle.std.specs.Coded.{Coded, code_by, coded×, coded_ℕ, coded_bool}
 use Rattle.nr_model.specs.Bytes.{Bytes}
 use Rattle.nr_model.specs.Commands.{served}
-use Rattle.nr_model.specs.Requests.{Framing, framing_of}
+use Rattle.nr_model.specs.Requests.{Frame, Framing, framing_of}
+use Rattle.nr_model.specs.Keyspace.{coded_bytes}
 use Rattle.nr_model.specs.Items.{Connection, Item}
-use Rattle.nr_model.specs.Modes.{Conversation, framed_conversation, plain}
-use Rattle.nr_model.specs.Served.{served_deed}
+use Rattle.nr_model.specs.Modes.{Mode, Conversation, conversation, framed_conversation}
 use Rattle.nr_model.specs.Worlds.{jobs_from}
+use Rattle.nr_session.specs.Coded.{coded_mode}
 
--- the connection, the bytes since its last whole request, the number of its next job, whether it ended, and whether it gave an end then
+abbrev pub coded_connection : Coded Connection
+coded_connection = code_by (ℕ × ℕ) (coded× coded_ℕ coded_ℕ) (λ c. (c.node, c.serial)) (λ p. record { node = p.0; serial = p.1 }) (λ _. refl)
+
+-- the connection, the bytes since its last whole request, the mode that the requests left, the number of its next job, whether it ended, and
+-- whether it gave an end then
 pub record SessionState : Type 0 where
   pub connection : Connection
   pub rest : Bytes
+  pub mode : Mode
   pub next : ℕ
   pub ended : Bool
   pub gave_end : Bool
 
--- the frames of the rest and a piece behind it, and what they ask for
+abbrev pub coded_session : Coded SessionState
+coded_session =
+    code_by (Connection × (Bytes × (Mode × (ℕ × (Bool × Bool)))))
+    (coded× coded_connection (coded× coded_bytes (coded× coded_mode (coded× coded_ℕ (coded× coded_bool coded_bool)))))
+    (λ s. (s.connection, (s.rest, (s.mode, (s.next, (s.ended, s.gave_end))))))
+    (λ p. record { connection = p.0; rest = p.1.0; mode = p.1.1.0; next = p.1.1.1.0; ended = p.1.1.1.1.0; gave_end = p.1.1.1.1.1 }) (λ _. refl)
+
+-- the frames of the rest and a piece behind it, and what they ask for in a mode
 abbrev pub framed : Bytes → Bytes → Framing
 framed rest piece = framing_of (rest ++ piece)
 
-abbrev pub asked : Bytes → Bytes → Conversation
-asked rest piece = framed_conversation served plain (framed rest piece)
+abbrev pub asked : Mode → Bytes → Bytes → Conversation
+asked mode rest piece = framed_conversation served mode (framed rest piece)
 
--- the jobs of the frames alone, without a fault's
-abbrev pub request_jobs : Connection → ℕ → ℕ → List (List Bytes) → List Item
-request_jobs c next moment frames = jobs_from c next moment (map served_deed frames)
+-- what the frames alone ask for, without a fault
+abbrev pub requested : Mode → List Frame → Conversation
+requested mode frames = conversation served mode frames None
+
+abbrev pub request_jobs : Connection → ℕ → ℕ → Mode → List Frame → List Item
+request_jobs c next moment mode frames = jobs_from c next moment (requested mode frames).deeds
 
 -- the first of these frames
-abbrev pub IsFrontOf : List (List Bytes) → List (List Bytes) → Type 0
+abbrev pub IsFrontOf : List Frame → List Frame → Type 0
 IsFrontOf some all = (n : ℕ) × (some ≡ take n all)
 
 -- the first of all jobs were added, and the next number stands behind them

@@ -4,5 +4,6 @@
 pub use session::{Session, SessionError};
 
 mod jobs;
-mod requests;
+mod mode;
 mod session;
+mod texts;

@@ -6,10 +6,12 @@ ghost use Rattle.nr_model.specs.Worlds.{jobs_from};
 ghost use Rattle.nr_resp.specs.Frames.{frames_seen};
 ghost use Rattle.nr_resp.specs.Stream.{open_at};
 ghost use Rattle.nr_entry.specs.Jobs.{connection_of, item_of, items_of};
+ghost use Rattle.nr_model.specs.Modes.{plain};
 ghost use Rattle.nr_session.specs.SessionState.{framed, asked, request_jobs, IsFrontOf, AddsFront};
 
 use crate::jobs::{push_close, push_jobs};
-use crate::requests::fault_reply;
+use crate::mode::Mode;
+use crate::texts::fault_reply;
 use nr_blob::Memory;
 use nr_entry::{ConnId, Job, JobKind, Update};
 use nr_model::fault::Fault;
@@ -38,6 +40,7 @@ fn feed_requests(
     alloc: Global,
     conn: ConnId,
     reader: &mut Reader,
+    mode: &mut Mode,
     next: &mut u64,
     moment: u64,
     piece: &[u8],
@@ -47,17 +50,20 @@ fn feed_requests(
     requires fits { next.old + (length reader.old.rest + length piece.now) + 1 < 2 ^ 64 }
     requires in_time { moment ≤ last_moment }
     ensures jobs { OnOk result (items_of jobs.new.items ≡ items_of jobs.old.items
-        ++ jobs_from (connection_of conn) next.old moment (asked reader.old.rest piece.now).deeds) }
-    ensures next { OnOk result (next.new ≡ next.old + length (asked reader.old.rest piece.now).deeds) }
-    ensures ended { IfOk result (λ ended. ended ≡ (asked reader.old.rest piece.now).ended) }
+        ++ jobs_from (connection_of conn) next.old moment (asked mode.old reader.old.rest piece.now).deeds) }
+    ensures next { OnOk result (next.new ≡ next.old + length (asked mode.old reader.old.rest piece.now).deeds) }
+    ensures mode { OnOk result (mode.new ≡ (asked mode.old reader.old.rest piece.now).mode) }
+    ensures ended { IfOk result (λ ended. ended ≡ (asked mode.old reader.old.rest piece.now).ended) }
     ensures rest { IfOk result (λ ended. ended ≡ false → reader.new ≡ open_at (framed reader.old.rest piece.now).rest) }
     ensures numbers { IfOk result (λ ended. ended ≡ false → next.new + length reader.new.rest ≤ next.old + (length reader.old.rest + length piece.now)) }
     ensures err { OnErr result (AddsFront (items_of jobs.old.items) (items_of jobs.new.items) next.old next.new
-        (request_jobs (connection_of conn) next.old moment (framed reader.old.rest piece.now).frames)) }
+        (request_jobs (connection_of conn) next.old moment mode.old (framed reader.old.rest piece.now).frames)) }
 {
     let mut frames = Vec::new(alloc);
     let fed = read(reader, piece, &mut frames);
-    push_jobs(alloc, conn, next, moment, &mut frames, jobs)?;
+    if push_jobs(conn, mode, next, moment, &mut frames, jobs)? {
+        return Ok(true);
+    }
     match fed? {
         None => Ok(false),
         Some(fault) => {
@@ -77,40 +83,55 @@ pub enum SessionError {
     Memory,
 }
 
+// Where a connection is in its life.
+#[derive(Clone, Copy, Debug, PartialEq, Eq)]
+enum Life {
+    /// It takes bytes.
+    Open,
+    /// It has ended, and its end is among its jobs.
+    GaveEnd,
+    /// It was closed or ran out of memory, and its end isn't among its jobs.
+    Cut,
+}
+
 /// The session of a connection: it turns the bytes that come into jobs.
 #[derive(Drop)]
 pub struct Session {
     alloc: Global,
     conn: ConnId,
     reader: Reader,
+    mode: Mode,
     next: u64,
-    ended: bool,
-    gave_end: bool,
+    life: Life,
 }
 
 impl Model for Session {
-    ghost use Rattle.std.specs.Prelude.{◌≡◌, false, None};
+    ghost use Rattle.std.specs.Prelude.{◌≡◌, None};
     ghost use Rattle.nr_entry.specs.Jobs.{connection_of};
-    ghost use Rattle.nr_session.specs.SessionState.{SessionState};
+    ghost use Rattle.nr_session.specs.declared.session.Life.TheVariants.{Open};
+    ghost use Rattle.nr_session.specs.SessionState.{SessionState, coded_session};
+    ghost use Rattle.nr_session.specs.Lives.{has_ended, gave_end};
 
     ghost Value = { SessionState };
 
-    ghost view = { λ s. record { connection = connection_of s.conn; rest = s.reader.rest; next = s.next; ended = s.ended; gave_end = s.gave_end } };
+    ghost coded = { coded_session };
 
-    ghost invariant = { λ s. s.ended ≡ false → s.reader.closed ≡ None };
+    ghost view = { λ s. record { connection = connection_of s.conn; rest = s.reader.rest; mode = s.mode; next = s.next; ended = has_ended s.life; gave_end = gave_end s.life } };
+
+    ghost invariant = { λ s. s.life ≡ Open → s.reader.closed ≡ None };
 }
 
 impl Session {
     pub fn new(alloc: Global, conn: ConnId) -> Self
-        ensures { result ≡ record { connection = connection_of conn; rest = []; next = 0; ended = false; gave_end = false } }
+        ensures { result ≡ record { connection = connection_of conn; rest = []; mode = plain; next = 0; ended = false; gave_end = false } }
     {
         Session {
             alloc,
             conn,
             reader: Reader::new(alloc),
+            mode: Mode::new(alloc),
             next: 0,
-            ended: false,
-            gave_end: false,
+            life: Life::Open,
         }
     }
 
@@ -118,7 +139,7 @@ impl Session {
     pub fn has_ended(&self) -> bool
         ensures { result ≡ self.now.ended }
     {
-        self.ended
+        self.life != Life::Open
     }
 
     /// Takes bytes, and adds the jobs that they ask for, numbered on, each at the moment, in milliseconds, at most 2^53. A fault's error is
@@ -137,10 +158,11 @@ impl Session {
         requires fits { self.old.ended ≡ false → self.old.next + (length self.old.rest + length bytes.now) + 1 < 2 ^ 64 }
         requires in_time { moment ≤ last_moment }
         ensures jobs { OnOk result (items_of jobs.new.items ≡ items_of jobs.old.items
-            ++ jobs_from self.old.connection self.old.next moment (asked self.old.rest bytes.now).deeds) }
-        ensures next { OnOk result (self.new.next ≡ self.old.next + length (asked self.old.rest bytes.now).deeds) }
-        ensures goes_on { OnOk result (self.new.ended ≡ (asked self.old.rest bytes.now).ended) }
-        ensures gave_end { self.new.gave_end ≡ (if is_ok result then (asked self.old.rest bytes.now).ended else self.old.gave_end) }
+            ++ jobs_from self.old.connection self.old.next moment (asked self.old.mode self.old.rest bytes.now).deeds) }
+        ensures next { OnOk result (self.new.next ≡ self.old.next + length (asked self.old.mode self.old.rest bytes.now).deeds) }
+        ensures mode { OnOk result (self.new.mode ≡ (asked self.old.mode self.old.rest bytes.now).mode) }
+        ensures goes_on { OnOk result (self.new.ended ≡ (asked self.old.mode self.old.rest bytes.now).ended) }
+        ensures gave_end { self.new.gave_end ≡ (if is_ok result then (asked self.old.mode self.old.rest bytes.now).ended else self.old.gave_end) }
         ensures rest { OnOk result (self.new.ended ≡ false → self.new.rest ≡ (framed self.old.rest bytes.now).rest) }
         ensures numbers { OnOk result (self.new.ended ≡ false
             → self.new.next + length self.new.rest ≤ self.old.next + (length self.old.rest + length bytes.now)) }
@@ -150,27 +172,28 @@ impl Session {
         ensures unchanged { result ≡ Err SessionError.Ended → (self.new ≡ self.old) × (jobs.new.items ≡ jobs.old.items) }
         ensures memory { result ≡ Err SessionError.Memory → (self.new.ended ≡ true)
             × AddsFront (items_of jobs.old.items) (items_of jobs.new.items) self.old.next self.new.next
-            (request_jobs self.old.connection self.old.next moment (framed self.old.rest bytes.now).frames) }
+            (request_jobs self.old.connection self.old.next moment self.old.mode (framed self.old.rest bytes.now).frames) }
     {
-        if self.ended {
+        if self.has_ended() {
             return Err(SessionError::Ended);
         }
         match feed_requests(
             self.alloc,
             self.conn,
             &mut self.reader,
+            &mut self.mode,
             &mut self.next,
             moment,
             bytes,
             jobs,
         ) {
-            Ok(ended) => {
-                self.ended = ended;
-                self.gave_end = ended;
+            Ok(true) => {
+                self.life = Life::GaveEnd;
                 Ok(())
             }
-            Err(_) => {
-                self.ended = true;
+            Ok(false) => Ok(()),
+            Err(Memory) => {
+                self.life = Life::Cut;
                 Err(SessionError::Memory)
             }
         }
@@ -185,9 +208,11 @@ impl Session {
             ≡ record { connection = self.old.connection; number = unwrap_or dropped self.old.next; moment = moment; deed = End None }) }
         ensures ended { self.new ≡ record self.old { ended = true } }
     {
-        self.ended = true;
-        if self.gave_end && dropped.is_none() {
+        if self.life == Life::GaveEnd && dropped.is_none() {
             return None;
+        }
+        if self.life == Life::Open {
+            self.life = Life::Cut;
         }
         Some(Job {
             conn: self.conn,

@@ -31,7 +31,7 @@ slots_sync =
     view_sync Slots.TheInside.the_row _ _ _ _ (declared_sync Slots.TheInside.the_type (in_table, (search sent, tt)))
 
 pub worker_send : IsSend WorkerSeat.the_row
-worker_send = search (sent, seat.the_send) depth 60 fits 100000
+worker_send = view_send WorkerSeat.TheInside.the_row _ _ _ _ (declared_send WorkerSeat.TheInside.the_type (seat.the_send (Option.the_row Parcel.the_row) View.the_row parcel_send, (search sent, (search sent, tt))))
 
 pub combiner_send : IsSend CombinerSeat.the_row
-combiner_send = search (sent, seat.the_send) depth 60 fits 100000
+combiner_send = view_send CombinerSeat.TheInside.the_row _ _ _ _ (declared_send CombinerSeat.TheInside.the_type (seat.the_send (Option.the_row Parcel.the_row) View.the_row parcel_send, (search sent, tt)))

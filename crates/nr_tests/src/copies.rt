@@ -1,7 +1,6 @@
 // Copies of jobs and replies, which no command asks for yet: that a copy is equal stands in its contract, that there is one is tried here.
 use nr_blob::{Blob, Memory};
-use nr_command::Cmd;
-use nr_entry::{ConnId, Job, JobKind, Read, Transaction, Update};
+use nr_entry::{ConnId, Job, JobKind, Queueable, Queued, Read, SessionUpdate, Transaction, Update};
 use nr_model::command::{Change, Look, Operation, StringsChange, StringsLook};
 use nr_resp::Reply;
 use std::alloc::Global;
@@ -27,8 +26,8 @@ fn nested(alloc: Global) -> Result<Reply, Memory> {
 fn each_kind_is_copied(rt: HostRuntime) -> Result<(), Fail> {
     let alloc = rt.alloc();
     let queued = vec![in alloc;
-        Cmd {
-            command: Operation::Look(Look::Strings(StringsLook::Get)),
+        Queued {
+            command: Queueable::Perform(Operation::Look(Look::Strings(StringsLook::Get))),
             words: words(alloc)?,
         },
     ]?;
@@ -37,12 +36,19 @@ fn each_kind_is_copied(rt: HostRuntime) -> Result<(), Fail> {
             command: Change::Strings(StringsChange::Set),
             words: words(alloc)?,
         }),
+        JobKind::Update(Update::Session {
+            command: SessionUpdate::Watch,
+            words: words(alloc)?,
+        }),
         JobKind::Update(Update::Exec(Transaction::Queued(queued))),
         JobKind::Update(Update::Exec(Transaction::Spoiled)),
         JobKind::Update(Update::Close(Some(nested(alloc)?))),
         JobKind::Update(Update::Close(None)),
         JobKind::Read(Read::Look {
             command: Look::Strings(StringsLook::Get),
+            words: words(alloc)?,
+        }),
+        JobKind::Read(Read::Pubsub {
             words: words(alloc)?,
         }),
         JobKind::Read(Read::Local(nested(alloc)?)),

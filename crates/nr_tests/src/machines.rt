@@ -1,49 +1,49 @@
-// A machine's transactions and copies, which no command reaches yet.
+// A machine's copy, and what it emits as a list, which no row reaches: that each call succeeds is tried here.
 use nr_blob::{Blob, Memory};
-use nr_command::Cmd;
-use nr_entry::{ConnId, Entry, Job, JobKind, Transaction, Update};
-use nr_machine::{Emissions, Machine};
-use nr_model::command::{Change, Look, Operation, StringsChange, StringsLook};
+use nr_emission::Emissions;
+use nr_entry::{ConnId, Entry, Job, JobKind, SessionUpdate, Update};
+use nr_machine::Machine;
+use nr_model::command::Kind;
 use std::alloc::Global;
 use std::hash::RandomState;
 use std::test::Fail;
 
-const GET: Operation = Operation::Look(Look::Strings(StringsLook::Get));
-
-const SET: Operation = Operation::Change(Change::Strings(StringsChange::Set));
-
-// The name of a key or a value behind a command of so many words.
-fn cmd(alloc: Global, command: Operation, count: usize) -> Result<Cmd, Memory> {
+// So many words, each the name of a channel or a message.
+fn words(alloc: Global, count: usize) -> Result<Vec<Blob>, Memory> {
     let mut words = Vec::new(alloc);
     for _ in 0..count {
         words.push(Blob::from_slice(alloc, b"k")?)?;
     }
-    Ok(Cmd { command, words })
+    Ok(words)
 }
 
-// An entry of one transaction of these commands, and one that was spoiled.
-fn transactions(alloc: Global, queued: Vec<Cmd>) -> Result<Entry, Memory> {
-    let conn = ConnId { node: 3, serial: 1 };
-    let whole = Job {
-        conn,
+// An entry in which one connection subscribes to a channel, and another publishes there.
+fn publishing(alloc: Global) -> Result<Entry, Memory> {
+    let subscribe = Job {
+        conn: ConnId { node: 3, serial: 1 },
         number: 0,
         moment: 7,
-        kind: JobKind::Update(Update::Exec(Transaction::Queued(queued))),
+        kind: JobKind::Update(Update::Session {
+            command: SessionUpdate::Subscribe(Kind::Channels),
+            words: words(alloc, 2)?,
+        }),
     };
-    let spoiled = Job {
-        conn,
-        number: 1,
+    let publish = Job {
+        conn: ConnId { node: 3, serial: 2 },
+        number: 0,
         moment: 7,
-        kind: JobKind::Update(Update::Exec(Transaction::Spoiled)),
+        kind: JobKind::Update(Update::Session {
+            command: SessionUpdate::Publish,
+            words: words(alloc, 3)?,
+        }),
     };
-    Ok(Entry::new(3, vec![in alloc; whole, spoiled]?))
+    Ok(Entry::new(3, vec![in alloc; subscribe, publish]?))
 }
 
 #[test]
-fn a_transaction_runs_whole_or_not_at_all(rt: HostRuntime) -> Result<(), Fail> {
+fn a_copy_sends_messages(rt: HostRuntime) -> Result<(), Fail> {
     let alloc = rt.alloc();
-    let queued = vec![in alloc; cmd(alloc, GET, 2)?, cmd(alloc, SET, 3)?]?;
-    let entry = transactions(alloc, queued)?;
+    let entry = publishing(alloc)?;
     let mut machine = Machine::new(alloc, RandomState::new(&rt)?)?.copy()?;
     let mut emissions = Emissions::new(alloc);
     machine.apply(alloc, &entry, entry.node, &mut emissions)?;
@@ -52,7 +52,7 @@ fn a_transaction_runs_whole_or_not_at_all(rt: HostRuntime) -> Result<(), Fail> {
         bytes.extend_from_slice(&emission.bytes)?;
     }
     let expected =
-        b"*2\r\n$-1\r\n+OK\r\n-EXECABORT Transaction discarded because of previous errors.\r\n";
+        b"*3\r\n$9\r\nsubscribe\r\n$1\r\nk\r\n:1\r\n*3\r\n$7\r\nmessage\r\n$1\r\nk\r\n$1\r\nk\r\n:1\r\n";
     assert!(rt; bytes.as_slice() == expected.as_slice());
     Ok(())
 }

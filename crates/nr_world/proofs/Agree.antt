@@ -1,7 +1,7 @@
 -- A server that holds a world's clients takes each step as the world does.
-use Rattle.std.proofs.Common.{◌≡◌, ℕ, ◌+◌, ◌-◌, ◌<◌, ◌≤◌, Bool, true, false, cond, ltb, leb, List, [], ◌∷◌, ◌++◌, length, drop, inl, inr, subst, refl, ap, sym, ◌∙◌, arith, length-append}
-use Rattle.std.specs.Prelude.{map, filter, not, ◌&&◌, ◌||◌, ◌==◌, if◌then◌else◌, Option, Some, None, option_to_list, is_none, unwrap_or, nat_le}
-use Rattle.std.proofs.lemmas.Bool.{cases_Bool}
+use Rattle.std.proofs.Common.{◌≡◌, ℕ, ◌+◌, ◌-◌, ◌<◌, ◌≤◌, Bool, true, false, cond, ltb, leb, List, [], ◌∷◌, ◌++◌, length, inl, inr, subst, refl, ap, sym, ◌∙◌, arith, length-append}
+use Rattle.std.specs.Prelude.{map, filter, not, ◌&&◌, ◌||◌, ◌==◌, Option, Some, None, option_to_list, is_none, unwrap_or, nat_le}
+use Rattle.std.proofs.lemmas.Bool.{cases_Bool, or_parts, not-false}
 use Rattle.std.proofs.Math.Dec.{eqb-suc-zero}
 use Rattle.nr_world.proofs.Delivered.{same_either}
 use Rattle.nr_model.specs.Commands.{served}
@@ -10,13 +10,15 @@ use Rattle.std.proofs.lemmas.List.Folds.{list_any-append}
 use Rattle.nr_model.specs.Bytes.{Bytes}
 use Rattle.nr_model.specs.Keyspace.{moment}
 use Rattle.nr_model.specs.Items.{Connection, same_connection, Item, End}
-use Rattle.nr_model.specs.Modes.{Conversation, framed_conversation, plain}
-use Rattle.nr_model.specs.Sequential.{bytes_for, emitted_for}
-use Rattle.nr_model.specs.States.{State, emitted_all}
+use Rattle.nr_model.specs.Modes.{Mode, Conversation, framed_conversation, plain}
+use Rattle.nr_model.specs.Sequential.{bytes_for}
+use Rattle.nr_model.specs.Servers.{Server, emitted_all}
 use Rattle.nr_model.specs.Entries.{Jobs, entry_jobs, read_jobs, entry_items}
-use Rattle.nr_model.specs.Worlds.{Setup, Step, Open, Feed, Apply, Look, Collect, Close, Reason, sequence_of, handed_to, Outcome, Opened, Done, NoSuch, Ended, TooMany, Nothing, idle_where, Handed, Closing, World, exists, is_closed, asked_by, waiting_for, connections_of, collected, own_jobs, jobs_from, close_number, close_job, fed, closed, effect, outcome, after_step, effect_by, fed_to}
-use Rattle.nr_model.specs.Explained.{IsExplained, IsAbsent, IsFed, Runs, state_of, rest_of, framed_next, asked_next}
+use Rattle.nr_model.specs.Worlds.{Setup, Step, Open, Feed, Apply, Look, Collect, Close, Reason, Outcome, Opened, Done, NoSuch, Ended, TooMany, Nothing, idle_where, Handed, Closing, World, exists, is_closed, asked_by, waiting_for, connections_of, collected, own_jobs, jobs_from, close_number, close_job, fed, closed, effect, outcome, after_step, effect_by, fed_to}
+use Rattle.nr_model.specs.Explained.{IsExplained, IsAbsent, IsFed, Runs, state_of, mode_of, rest_of, asked_next}
 use Rattle.nr_model.specs.Requests.{framing_of}
+use Rattle.nr_model.proofs.Ordered.{or_false, or_true}
+use Rattle.nr_model.proofs.WorldsGiven.{none_waits}
 use Rattle.nr_model.proofs.WorldsLists.{same_is, same_self}
 use Rattle.nr_session.specs.SessionState.{asked}
 use Rattle.nr_world.specs.Clients.{Client, fresh_client, fed_client, closed_client, emptied, replied, delivered, end_of, first_number, collected_clients}
@@ -85,14 +87,10 @@ changed_clients : (world after : World) (change : Client → Client) → after.o
 changed_clients world after change same h =
     serials_changed (client_in world) (client_in after) change 0 world.opened (λ i within. h (of_serial (0 + i))) ∙ ap (λ n. map (client_in after) (serials 0 n)) (sym same)
 
--- nothing waits for a closed connection
-shut_waits : (world : World) (c : Connection) → is_closed world c ≡ true → waiting_for world c ≡ []
-shut_waits world c e = ap (λ (b : Bool). if b then [] else drop (length (handed_to c world.handed)) (emitted_for c (sequence_of world))) e
-
 -- what waits behind items that were executed
 run_output : (world after : World) (items : List Item) (c : Connection) → Runs world items after → is_closed after c ≡ is_closed world c → (closed : Bool) → is_closed world c ≡ closed
     → cond closed (waiting_for world c) (waiting_for world c ++ bytes_for c (emitted_all (state_of world) items)) ≡ waiting_for after c
-run_output world after items c runs same true is = shut_waits world c is ∙ sym (shut_waits after c (same ∙ is))
+run_output world after items c runs same true is = none_waits world c is ∙ sym (none_waits after c (same ∙ is))
 run_output world after items c runs same false is = sym (runs.waits c is)
 
 replied_output : (client : Client) (bytes : Bytes) (closed : Bool) → client.closed ≡ closed → replied bytes client ≡ record client { output = cond closed client.output (client.output ++ bytes) }
@@ -105,10 +103,12 @@ delivered_client world after items c runs same =
     replied_output (client_in world c) (bytes_for c (emitted_all (state_of world) items)) (is_closed world c) refl
     ∙ ap (λ (bytes : Bytes). record (client_in world c) { output = bytes }) (run_output world after items c runs same (is_closed world c) refl)
 
-abbrev live_by_parts : State → List Client → ℕ → Jobs → List Handed → ServerState
+abbrev live_by_parts : Server → List Client → ℕ → Jobs → List Handed → ServerState
 live_by_parts state clients count waiting handed = record { state = state; clients = clients; open_connections = count; waiting = waiting; handed = handed }
 
-live_same : (state state' : State) (clients clients' : List Client) (count count' : ℕ) (waiting waiting' : Jobs) (handed handed' : List Handed) → state ≡ state' → clients ≡ clients' → count ≡ count' → waiting ≡ waiting' → handed ≡ handed'
+live_same : (state state' : Server) (clients clients' : List Client) (count count' : ℕ) (waiting waiting' : Jobs)
+    (handed handed' : List Handed)
+    → state ≡ state' → clients ≡ clients' → count ≡ count' → waiting ≡ waiting' → handed ≡ handed'
     → live_by_parts state clients count waiting handed ≡ live_by_parts state' clients' count' waiting' handed'
 live_same state state' clients clients' count count' waiting waiting' handed handed' a b d e f = λ i. live_by_parts (a i) (b i) (d i) (e i) (f i)
 
@@ -132,15 +132,25 @@ collect_agrees world node worker x =
     (changed_clients world (effect world (Collect node worker)) emptied refl (λ c. ap (λ (bytes : Bytes). record (client_in world c) { output = bytes }) (sym (x.moved.collected node worker c))))
     refl refl (ap (λ (handed : List Handed). world.handed ++ handed) (collected_is world))
 
+-- a client by what its bytes ask for and leave, what waits, and whether it was closed
+abbrev client_of : Connection → Conversation → Bytes → Bytes → Bool → Client
+client_of c asks rest output closed =
+    record {
+      connection = c;
+      rest = cond (asks.ended || closed) [] rest;
+      mode = asks.mode;
+      next = length asks.deeds;
+      ended = asks.ended || closed;
+      gave_end = asks.ended;
+      output = output;
+      closed = closed;
+    }
+
 -- a connection that was never opened
 absent_client : (world : World) (c : Connection) → IsAbsent world c → client_in world c ≡ fresh_client c
-absent_client world c a =
-    ap (λ (k : Conversation). record { connection = c; rest = cond (k.ended || is_closed world c) [] (rest_of world c); next = length k.deeds; ended = k.ended || is_closed world c; gave_end = k.ended; output = waiting_for world c; closed = is_closed world c }) a.asked
-    ∙ ap (λ (b : Bool). record { connection = c; rest = cond b [] (rest_of world c); next = 0; ended = b; gave_end = false; output = waiting_for world c; closed = b }) a.unclosed
-    ∙ ap (λ (rest : Bytes). record { connection = c; rest = rest; next = 0; ended = false; gave_end = false; output = waiting_for world c; closed = false }) a.rest
-    ∙ ap (λ (bytes : Bytes). record { connection = c; rest = []; next = 0; ended = false; gave_end = false; output = bytes; closed = false }) a.waits
+absent_client world c a = λ i. client_of c (a.asked i) (a.rest i) (a.waits i) (a.unclosed i)
 
-unopened : (opened : ℕ) → (0 == 0 && ltb opened opened) ≡ false
+pub unopened : (opened : ℕ) → (0 == 0 && ltb opened opened) ≡ false
 unopened opened = grind (arith, nat_tests)
 
 open_agrees : (world : World) (node worker : ℕ) → IsExplained world → length world.closed ≤ world.opened → server_effect (server_in world) (Open node worker) ≡ server_in (effect world (Open node worker))
@@ -152,19 +162,10 @@ open_agrees world node worker x h =
     (ap (λ (s : Client). (server_in world).clients ++ s ∷ []) fresh_one ∙ sym (serials_push (client_in world) 0 world.opened))
     (omega arith) refl refl
 
-or_false : (b : Bool) → (b || false) ≡ b
-or_false true = refl
-or_false false = refl
-
-or_true : (b : Bool) → (b || true) ≡ true
-or_true true = refl
-or_true false = refl
-
 -- a client by its bytes, what waits, and whether it was closed
 abbrev client_by : Connection → Bytes → Bytes → Bool → Client
 client_by c text output closed =
-    let k = framed_conversation served plain (framing_of text) in
-    record { connection = c; rest = cond (k.ended || closed) [] (framing_of text).rest; next = length k.deeds; ended = k.ended || closed; gave_end = k.ended; output = output; closed = closed }
+    client_of c (framed_conversation served plain (framing_of text)) (framing_of text).rest output closed
 
 -- one connection changes
 one_changed : (world after : World) (c : Connection) (change : Client → Client) → change (client_in world c) ≡ client_in after c → ((d : Connection) → same_connection c d ≡ false → client_in world d ≡ client_in after d)
@@ -176,17 +177,21 @@ one_changed world after c change own others d =
       | inr e ↦ ap (λ b. cond b (change (client_in world d)) (client_in world d)) e ∙ others d (same_either c d ∙ e)
     ]
 
-fed_own : (world : World) (c : Connection) (time : ℕ) (bytes : Bytes) → IsFed world c time bytes → (asked_by world c).ended ≡ false → is_closed world c ≡ false
-    → fed_client bytes (client_in world c) ≡ client_in (fed world c time bytes) c
+-- a client that was fed
+abbrev advanced : Client → Bool → Bool → Mode → ℕ → Bytes → Client
+advanced client ended gave_end mode next rest =
+    record client { rest = cond ended [] rest; mode = mode; next = next; ended = ended; gave_end = gave_end }
+
+fed_own : (world : World) (c : Connection) (time : ℕ) (bytes : Bytes) → IsFed world c time bytes → (asked_by world c).ended ≡ false
+    → is_closed world c ≡ false → fed_client bytes (client_in world c) ≡ client_in (fed world c time bytes) c
 fed_own world c time bytes f on unclosed =
     let going : ((asked_by world c).ended || is_closed world c) ≡ false = ap (λ b. b || is_closed world c) on ∙ unclosed in
     let after = fed world c time bytes in
-    let ends : asked_next world c bytes ≡ asked_next world c bytes = refl in
     let ended : (asked_next world c bytes).ended ≡ ((asked_by after c).ended || is_closed after c) =
-    sym (or_false (asked_next world c bytes).ended) ∙ ap (λ b. b || false) (sym f.ended) ∙ ap (λ b. (asked_by after c).ended || b) (sym unclosed) in
+    sym (or_false (asked_next world c bytes).ended) ∙ ap (λ b. b || false) (sym f.ended)
+    ∙ ap (λ b. (asked_by after c).ended || b) (sym unclosed) in
     ap (λ (b : Bool). fed_client bytes (record (client_in world c) { rest = cond b [] (rest_of world c) })) going
-    ∙ ap (λ (b : Bool). record { connection = c; rest = cond b [] (framed_next world c bytes).rest; next = length (asked_by world c).deeds + length (asked_next world c bytes).deeds; ended = b; gave_end = (asked_next world c bytes).ended; output = waiting_for world c; closed = is_closed world c }) ended
-    ∙ (λ i. record { connection = c; rest = cond ((asked_by after c).ended || is_closed after c) [] (sym f.rest i); next = sym f.next i; ended = (asked_by after c).ended || is_closed after c; gave_end = sym f.ended i; output = waiting_for world c; closed = is_closed world c })
+    ∙ (λ i. advanced (client_in world c) (ended i) (sym f.ended i) (sym f.mode i) (sym f.next i) (sym f.rest i))
 
 feed_agrees : (world : World) (c : Connection) (time : ℕ) (bytes : Bytes) → IsExplained world → exists world c ≡ true → (asked_by world c).ended ≡ false → is_closed world c ≡ false
     → server_effect (server_in world) (Feed c time bytes) ≡ server_in (effect world (Feed c time bytes))
@@ -199,8 +204,9 @@ feed_agrees world c time bytes x here on unclosed =
     (one_changed world (fed world c time bytes) c (fed_client bytes) (fed_own world c time bytes f on unclosed)
     (λ d other. ap (λ (text : Bytes). client_by d text (waiting_for world d) (is_closed world d)) (sym (x.moved.unfed c d time bytes other)))))
     refl
-    (ap (λ (s : Client). world.waiting ++ jobs_from c s.next (moment time) (asked s.rest bytes).deeds) client
-    ∙ ap (λ (b : Bool). world.waiting ++ jobs_from c (length (asked_by world c).deeds) (moment time) (asked (cond b [] (rest_of world c)) bytes).deeds) going
+    (ap (λ (s : Client). world.waiting ++ jobs_from c s.next (moment time) (asked s.mode s.rest bytes).deeds) client
+    ∙ ap (λ (b : Bool). world.waiting
+    ++ jobs_from c (length (asked_by world c).deeds) (moment time) (asked (mode_of world c) (cond b [] (rest_of world c)) bytes).deeds) going
     ∙ ap (λ (jobs : Jobs). world.waiting ++ jobs) (sym f.jobs))
     refl
 
@@ -211,7 +217,7 @@ end_same gave next time c [] = refl
 end_same gave next time c (job ∷ jobs) =
     ap (λ (b : Bool). cond {A = Option Item} (gave && b) None (Some (record { connection = c; number = job.number; moment = time; deed = End None }))) (sym (eqb-suc-zero (length jobs)))
 
-closed_where : (world : World) (c d : Connection) (time : ℕ) → is_closed (closed world c time) d ≡ (is_closed world d || (same_connection c d || false))
+pub closed_where : (world : World) (c d : Connection) (time : ℕ) → is_closed (closed world c time) d ≡ (is_closed world d || (same_connection c d || false))
 closed_where world c d time = list_any-append (λ (k : Closing). same_connection k.connection d) world.closed (record { connection = c; job = close_job world c time } ∷ [])
 
 closed_own : (world : World) (c : Connection) (time : ℕ) → IsExplained world → closed_client (client_in world c) ≡ client_in (closed world c time) c
@@ -222,6 +228,7 @@ closed_own world c time x =
     λ i. record {
       connection = c;
       rest = cond (sym ended i) [] (rest_of world c);
+      mode = mode_of world c;
       next = length (asked_by world c).deeds;
       ended = sym ended i;
       gave_end = (asked_by world c).ended;
@@ -252,14 +259,6 @@ unless : (holds : Bool) (reason : Reason) (otherwise : Outcome) (world : World) 
 unless true reason otherwise world step q = refl
 unless false reason otherwise world step q = q refl
 
-neither : (a b : Bool) → (a || b) ≡ false → (a ≡ false) × (b ≡ false)
-neither true b e = absurd (cc)
-neither false b e = (refl, e)
-
-not_not : (b : Bool) → not b ≡ false → b ≡ true
-not_not true e = refl
-not_not false e = absurd (cc)
-
 by_outcome : (setup : Setup) (world : World) (step : Step) → IsExplained world → length world.closed ≤ world.opened
     → server_by (outcome setup world step) (server_in world) step ≡ server_in (after_step setup world step)
 by_outcome setup world (Open node worker) x h =
@@ -268,7 +267,7 @@ by_outcome setup world (Open node worker) x h =
 by_outcome setup world (Feed c time bytes) x h =
     unless (not (exists world c)) NoSuch _ world (Feed c time bytes) (λ here.
     unless ((asked_by world c).ended || is_closed world c) Ended _ world (Feed c time bytes) (λ on.
-    let both = neither (asked_by world c).ended (is_closed world c) on in feed_agrees world c time bytes x (not_not (exists world c) here) both.0 both.1))
+    let both = or_parts (asked_by world c).ended (is_closed world c) on in feed_agrees world c time bytes x (not-false (exists world c) here) both.0 both.1))
 by_outcome setup world (Apply node) x h =
     unless (not (node == 0)) NoSuch _ world (Apply node) (λ here. unless (length (entry_jobs world.waiting) == 0) Nothing _ world (Apply node) (λ some. apply_agrees world node x))
 by_outcome setup world (Look node) x h =
@@ -276,7 +275,8 @@ by_outcome setup world (Look node) x h =
 by_outcome setup world (Collect node worker) x h =
     unless (not (node == 0 && worker == 0)) NoSuch _ world (Collect node worker) (λ here. unless (length (collected world) == 0) Nothing _ world (Collect node worker) (λ some. collect_agrees world node worker x))
 by_outcome setup world (Close c time) x h =
-    unless (not (exists world c)) NoSuch _ world (Close c time) (λ here. unless (is_closed world c) Ended _ world (Close c time) (λ on. close_agrees world c time x (not_not (exists world c) here)))
+    unless (not (exists world c)) NoSuch _ world (Close c time) (λ here.
+    unless (is_closed world c) Ended _ world (Close c time) (λ on. close_agrees world c time x (not-false (exists world c) here)))
 
 -- the server is where the world is, one step further
 pub steps_agree : (setup : Setup) (world : World) (step : Step) → IsExplained world → length world.closed ≤ world.opened

@@ -1,31 +1,29 @@
 -- What bounds the connections and the jobs of a world.
 use Rattle.std.proofs.Common.{◌≡◌, ℕ, ◌+◌, ◌-◌, ◌<◌, ◌≤◌, ◌≢◌, ◌^◌, Bool, true, false, cond, ltb, List, [], ◌∷◌, ◌++◌, length, inl, inr, refl, ap, sym, ◌∙◌, arith, length-append}
-use Rattle.std.specs.Prelude.{not, fold, ◌&&◌, ◌||◌, ◌==◌, Option, Some, None}
-use Rattle.std.proofs.lemmas.Bool.{cases_Bool, ne_eqb}
+use Rattle.std.specs.Prelude.{not, fold, ◌&&◌, ◌||◌, ◌==◌}
+use Rattle.std.proofs.lemmas.Bool.{cases_Bool, or_parts, ne_eqb}
 use Rattle.std.proofs.lemmas.Bool.Decides.{nat_tests}
-use Rattle.std.proofs.lemmas.List.Folds.{list_any-append}
 use Rattle.nr_model.specs.Bytes.{Bytes}
-use Rattle.nr_model.specs.declared.fault.Fault.{Fault}
 use Rattle.nr_model.specs.Items.{Connection, same_connection, Item}
 use Rattle.nr_model.specs.Entries.{Jobs}
-use Rattle.nr_model.specs.Served.{served_deed}
-use Rattle.std.proofs.lemmas.List.{length-map}
-use Rattle.nr_model.specs.Worlds.{Setup, Step, Open, Feed, Apply, Look, Collect, Close, Outcome, Opened, Done, Idle, Feeding, Closing, World, fresh, exists, is_closed, own_jobs, asked_by, fed_to, close_job, fed, closed, effect, effect_by, outcome, after_step, world_after}
+use Rattle.nr_model.specs.Commands.{served}
+use Rattle.nr_model.specs.Modes.{plain}
+use Rattle.nr_model.specs.Worlds.{Setup, Step, Open, Feed, Apply, Look, Collect, Close, Outcome, Opened, Done, Idle, Feeding, World, fresh, exists, is_closed, own_jobs, asked_by, fed_to, close_job, fed, closed, effect, effect_by, outcome, after_step, world_after}
 use Rattle.nr_model.specs.Explained.{rest_of}
+use Rattle.nr_model.proofs.Counts.{deeds_and_rest_le_bytes}
+use Rattle.nr_model.proofs.Ordered.{or_false, or_true}
 use Rattle.nr_model.proofs.WorldsExplained.{each_is_explained}
 use Rattle.nr_entry.specs.Entry.{are_of}
 use Rattle.nr_model.proofs.WorldsLists.{same_self}
 use Rattle.nr_model.proofs.WorldsSteps.{Keeps, each_world}
 use Rattle.nr_model.proofs.WorldsAbsent.{AreUntouched, fresh_untouched, keeps_untouched}
-use Rattle.nr_session.proofs.Asked.{deeds_whole, ended_broken, few_frames_and_rest}
-use Rattle.nr_session.specs.SessionState.{framed, asked}
 use Rattle.nr_model.specs.Keyspace.{moment}
 use Rattle.nr_world.specs.Clients.{Client}
-use Rattle.nr_world.specs.Agreed.{server_in}
+use Rattle.nr_world.specs.Agreed.{client_in, server_in}
 use Rattle.nr_world.specs.Ready.{bytes_of, bytes_in, IsReady}
 use Rattle.nr_world.proofs.Numbered.{of_serial}
-use Rattle.nr_world.proofs.Serials.{count_of, count_push, count_less, count_some}
-use Rattle.nr_world.proofs.Agree.{client_held, client_where}
+use Rattle.nr_world.proofs.Serials.{serials_numbered, count_of, count_push, count_less, count_some}
+use Rattle.nr_world.proofs.Agree.{client_held, client_where, unopened, closed_where}
 
 -- the connections that aren't closed, and those that are, are all
 abbrev on : World → Connection → Bool
@@ -35,26 +33,12 @@ pub record IsCounted (world : World) : Type 0 where
   untouched : AreUntouched world
   all : length world.closed + count_of (on world) 0 world.opened ≡ world.opened
 
-later : (opened : ℕ) → (0 == 0 && ltb opened opened) ≡ false
-later opened = grind (arith, nat_tests)
-
 opened_counted : (world : World) → IsCounted world → length world.closed + count_of (on world) 0 (world.opened + 1) ≡ world.opened + 1
 opened_counted world p =
-    let next = p.untouched (of_serial world.opened) (later world.opened) in
+    let next = p.untouched (of_serial world.opened) (unopened world.opened) in
     let new : count_of (on world) 0 (world.opened + 1) ≡ count_of (on world) 0 world.opened + 1 =
     count_push (on world) 0 world.opened (ap not (ap (λ n. is_closed world (of_serial n)) (omega arith) ∙ next.on)) in
     omega (arith, p.all)
-
-closed_where : (world : World) (c d : Connection) (time : ℕ) → is_closed (closed world c time) d ≡ (is_closed world d || (same_connection c d || false))
-closed_where world c d time = list_any-append (λ (k : Closing). same_connection k.connection d) world.closed (record { connection = c; job = close_job world c time } ∷ [])
-
-or_false : (b : Bool) → (b || false) ≡ b
-or_false true = refl
-or_false false = refl
-
-or_true : (b : Bool) → (b || true) ≡ true
-or_true true = refl
-or_true false = refl
 
 below : (c : Connection) (opened : ℕ) → (c.node == 0 && ltb c.serial opened) ≡ true → (c ≡ of_serial (0 + c.serial)) × (c.serial < opened)
 below c opened h =
@@ -146,19 +130,9 @@ fresh_total : total [] ≡ 0
 unfolding total
 fresh_total = refl
 
--- the jobs so far and the rest are no more than the bytes
-parts_by : (text : Bytes) (fault : Option Fault) → (framed [] text).fault ≡ fault → (asked [] text).ended ≡ false → length (asked [] text).deeds + length (framed [] text).rest ≤ length text
-parts_by text None is on =
-    omega (arith, few_frames_and_rest [] text, ap length (deeds_whole [] text is), length-map (framed [] text).frames served_deed)
-parts_by text (Some fault) is on = let ended = ended_broken [] text fault is in absurd (cc)
-
 rest_where : (ended : Bool) (rest : Bytes) → length (cond ended [] rest) ≤ length rest
 rest_where true rest = omega arith
 rest_where false rest = omega arith
-
-neither : (a b : Bool) → (a || b) ≡ false → (a ≡ false) × (b ≡ false)
-neither true b e = absurd (cc)
-neither false b e = (refl, e)
 
 -- the jobs that wait are of node 0
 tail_none : (b : Bool) (job : Item) (more : Jobs) → cond b (job ∷ more) more ≡ [] → more ≡ []
@@ -185,11 +159,13 @@ ready setup steps (Feed c time bytes) h = λ is_there going.
     let world = world_after setup steps in
     let here : exists world c ≡ true = sym (client_where world c) ∙ is_there in
     let client = client_held world c here in
-    let both = neither (asked_by world c).ended (is_closed world c) (sym (ap (λ (s : Client). s.ended) client) ∙ going) in
-    let parts = parts_by (fed_to c world.fed) _ refl both.0 in
+    let both = or_parts (asked_by world c).ended (is_closed world c) (sym (ap (λ (s : Client). s.ended) client) ∙ going) in
+    let parts = deeds_and_rest_le_bytes served plain (fed_to c world.fed) both.0 in
     let rest = rest_where ((asked_by world c).ended || is_closed world c) (rest_of world c) in
     omega (arith, h, ap (λ (s : Client). s.next) client, ap (λ (s : Client). length s.rest) client, parts, rest, own_of_total c world.fed, all_total setup steps fresh, fresh_total)
-ready setup steps (Apply node) h = waiting_own setup steps
+ready setup steps (Apply node) h =
+    let world = world_after setup steps in
+    (waiting_own setup steps, serials_numbered (client_in world) 0 world.opened (λ c. refl))
 ready setup steps (Look node) h = tt
 ready setup steps (Collect node worker) h = tt
 ready setup steps (Close c time) h = λ is_there still.

@@ -1,16 +1,18 @@
 -- Emissions that are written to the connections, one after the other.
-use Rattle.std.proofs.Common.{◌≡◌, Bool, true, false, cond, List, [], ◌∷◌, ◌++◌, refl, ap, sym, ◌∙◌, append_assoc, append-nil, arith}
-use Rattle.std.specs.Prelude.{map}
+use Rattle.std.proofs.Common.{◌≡◌, ℕ, ◌+◌, Bool, true, false, cond, inl, inr, List, [], ◌∷◌, ◌++◌, refl, ap, sym, ◌∙◌, append_assoc, append-nil, arith}
+use Rattle.std.specs.Prelude.{map, ◌==◌}
+use Rattle.std.proofs.lemmas.Bool.{cases_Bool}
 use Rattle.std.proofs.lemmas.List.Sums.{fold-append}
 use Rattle.std.proofs.lemmas.Bool.Decides.{nat_tests}
 use Rattle.nr_model.specs.Bytes.{Bytes}
 use Rattle.nr_model.specs.Replies.{reply_text}
 use Rattle.nr_model.specs.Items.{Connection, same_connection}
 use Rattle.nr_model.specs.Sequential.Events.{Emission}
-use Rattle.nr_model.specs.Sequential.{bytes_for}
-use Rattle.nr_machine.specs.Emitted.{all_after}
+use Rattle.nr_model.specs.Sequential.{bytes_for, for_node}
+use Rattle.nr_model.proofs.WorldsLists.{filter-keeps, filter-drops}
+use Rattle.nr_emission.specs.Emitted.{all_after}
 use Rattle.nr_world.specs.Clients.{Client, replied, delivered}
-use Rattle.nr_world.specs.Numbered.{at_client, heard}
+use Rattle.nr_world.specs.Numbered.{IsNumbered, at_client, heard}
 
 pub same_either : (a b : Connection) → same_connection a b ≡ same_connection b a
 same_either a b = grind (arith, nat_tests)
@@ -74,3 +76,33 @@ delivered_append xs ys clients =
     ∙ ap (λ (cs : List Client). all_after heard cs ys) (sym (all_heard xs clients))
     ∙ sym (fold-append heard clients xs ys)
     ∙ all_heard (xs ++ ys) clients
+
+-- a connection of a node gets the bytes that are for its node
+other_node : (a c : Connection) (node : ℕ) → c.node ≡ node → (a.node == node) ≡ false → same_connection a c ≡ false
+other_node a c node here other = grind (arith, nat_tests)
+
+bytes_here : (c : Connection) (node : ℕ) (es : List Emission) → c.node ≡ node → bytes_for c (for_node node es) ≡ bytes_for c es
+bytes_here c node [] here = refl
+bytes_here c node (e ∷ es) here =
+    let test = λ (emission : Emission). emission.connection.node == node in
+    let more = bytes_here c node es here in
+    elim (cases_Bool (test e)) [
+      | inl own ↦ ap (bytes_for c) (filter-keeps test e es own)
+          ∙ ap (λ (bytes : Bytes). cond (same_connection e.connection c) (reply_text e.reply ++ bytes) bytes) more
+      | inr other ↦ ap (bytes_for c) (filter-drops test e es other)
+          ∙ more
+          ∙ sym (ap (λ b. cond b (reply_text e.reply ++ bytes_for c es) (bytes_for c es)) (other_node e.connection c node here other))
+    ]
+
+delivered_here : (n : ℕ) (es : List Emission) (clients : List Client) → IsNumbered n clients
+    → map (delivered (for_node 0 es)) clients ≡ map (delivered es) clients
+delivered_here n es [] h = refl
+delivered_here n es (client ∷ clients) h =
+    let first : delivered (for_node 0 es) client ≡ delivered es client =
+    ap (λ (bytes : Bytes). replied bytes client) (bytes_here client.connection 0 es (ap (λ (c : Connection). c.node) h.0)) in
+    let more = delivered_here (n + 1) es clients h.1 in
+    cc
+
+-- so connections of node 0 hear what they are delivered
+pub node_heard : (es : List Emission) (clients : List Client) → IsNumbered 0 clients → all_after heard clients (for_node 0 es) ≡ map (delivered es) clients
+node_heard es clients h = all_heard (for_node 0 es) clients ∙ delivered_here 0 es clients h

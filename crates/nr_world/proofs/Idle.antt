@@ -1,14 +1,14 @@
 -- Steps that change nothing.
 use Rattle.std.proofs.Common.{◌≡◌, ℕ, suc, Bool, true, false, cond, List, [], ◌∷◌, ◌++◌, length, take, refl, ap, sym, ◌∙◌, append-nil, length-append, arith, eqb, eq-eqb}
 use Rattle.std.specs.Prelude.{map, not, ◌==◌, ◌&&◌}
-use Rattle.std.proofs.lemmas.List.{length-map}
+use Rattle.std.proofs.lemmas.List.{length-map, nil_from_length}
 use Rattle.std.proofs.lemmas.Bool.{eqb-true}
 use Rattle.nr_model.specs.Items.{Item}
 use Rattle.nr_model.specs.Entries.{Jobs, leading, not_leading, left_after, leads_as_update, leads_as_read, entry_jobs, left_by_entry, read_jobs, left_by_reads}
 use Rattle.nr_model.specs.Worlds.{Setup, Step, Apply, Look, Collect, Done, NoSuch, Nothing, idle_where, Handed}
 use Rattle.nr_world.specs.Clients.{Client, emptied, collected_clients}
 use Rattle.nr_world.specs.ServerState.{ServerState, server_by, server_after}
-use Rattle.nr_model.specs.States.{emitted_all, State}
+use Rattle.nr_model.specs.Servers.{Server, emitted_all}
 use Rattle.nr_model.proofs.WorldsTaken.{look_reads}
 use Rattle.nr_entry.specs.Jobs.{item_of, items_of}
 use Rattle.nr_entry.specs.declared.job.Job.{Job}
@@ -22,16 +22,13 @@ idle_either true none server step h = refl
 idle_either false true server step h = refl
 idle_either false false server step h = absurd (cc)
 
-no_items : {A : Type 0} (xs : List A) → length xs ≡ 0 → xs ≡ []
-no_items [] h = refl
-no_items (x ∷ xs) h = absurd (omega arith)
-
 -- a collect where nothing waits
 pub collect_idle : (setup : Setup) (server : ServerState) (node worker : ℕ) (clients : List Client) (handed : List Handed) → clients ≡ map emptied server.clients → handed ≡ server.handed ++ collected_clients server.clients
     → length handed ≡ length server.handed → record server { clients = clients; handed = handed } ≡ server_after setup server (Collect node worker)
 collect_idle setup server node worker clients handed emptied_all all long =
     let none : length (collected_clients server.clients) ≡ 0 = omega (arith, ap length all, length-append server.handed (collected_clients server.clients)) in
-    let same_handed : handed ≡ server.handed = all ∙ ap (λ (more : List Handed). server.handed ++ more) (no_items (collected_clients server.clients) none) ∙ append-nil server.handed in
+    let same_handed : handed ≡ server.handed =
+    all ∙ ap (λ (more : List Handed). server.handed ++ more) (nil_from_length (collected_clients server.clients) none) ∙ append-nil server.handed in
     let same_clients : clients ≡ server.clients = emptied_all ∙ none_waits server.clients none in
     ap (λ (s : List Client). record server { clients = s; handed = handed }) same_clients
     ∙ ap (λ (h : List Handed). record server { handed = h }) same_handed
@@ -98,6 +95,7 @@ pub look_done : (setup : Setup) (server : ServerState) (node : ℕ) (jobs : List
 look_done setup server node jobs count test clients waiting here is fails long taken left all =
     ap (λ (s : List Client). record server { clients = s; waiting = waiting }) all
     ∙ ap (λ (w : Jobs). record server { clients = map (delivered (emitted_all server.state (read_jobs server.waiting))) server.clients; waiting = w }) left
-    ∙ ap (λ (state : State). record server { state = state; clients = map (delivered (emitted_all server.state (read_jobs server.waiting))) server.clients; waiting = left_by_reads server.waiting })
+    ∙ ap (λ (state : Server).
+    record server { state = state; clients = map (delivered (emitted_all server.state (read_jobs server.waiting))) server.clients; waiting = left_by_reads server.waiting })
     (sym (reads_kept server.state (read_jobs server.waiting) (look_reads server.waiting)))
     ∙ sym (done_where (not (node == 0)) (length (read_jobs server.waiting) == 0) server (Look node) (ap (λ n. not (n == 0)) here) (some_taken jobs count test (read_jobs server.waiting) is fails long taken))

@@ -1,7 +1,7 @@
 -- Connections numbered in order, where one of them changes.
-use Rattle.std.proofs.Common.{◌≡◌, ℕ, zero, suc, ◌+◌, ◌<◌, Bool, true, false, cond, ltb, List, [], ◌∷◌, ◌++◌, length, get_or, set, refl, ap, sym, ◌∙◌, subst, arith}
-use Rattle.std.specs.Prelude.{map, ◌&&◌, ◌==◌}
-use Rattle.std.proofs.lemmas.Bool.{ne_eqb}
+use Rattle.std.proofs.Common.{◌≡◌, ℕ, zero, suc, ◌+◌, ◌<◌, true, false, cond, ltb, List, [], ◌∷◌, ◌++◌, length, get_or, set, refl, ap, sym, ◌∙◌, subst, arith}
+use Rattle.std.specs.Prelude.{map, ◌==◌}
+use Rattle.std.proofs.lemmas.Bool.{and_parts, ne_eqb}
 use Rattle.std.proofs.lemmas.Bool.Decides.{nat_tests}
 use Rattle.nr_model.specs.Items.{Connection, same_connection}
 use Rattle.nr_world.specs.Clients.{Client, fresh_client}
@@ -63,17 +63,13 @@ set_as_map n (suc i) c change (first ∷ clients) absent client h within is e =
     let more = set_as_map (n + 1) i c change clients absent client h.1 (omega arith) (of_same (n + suc i) (n + 1 + i) c is (omega arith)) e in
     join _ _ _ _ (sym (ap (λ b. cond b (change first) first) other)) more
 
-both_true : (a b : Bool) → (a && b) ≡ true → (a ≡ true) × (b ≡ true)
-both_true true b h = (refl, h)
-both_true false b h = absurd (cc)
-
 -- a connection that is is_there is that of a serial below their number
 pub client_below : (c : Connection) (clients : List Client) → is_client c clients ≡ true → c.serial < length clients
-client_below c clients h = let both = both_true (c.node == 0) (ltb c.serial (length clients)) h in let t = both.1 in grind (arith, nat_tests)
+client_below c clients h = let both = and_parts (c.node == 0) (ltb c.serial (length clients)) h in let t = both.1 in grind (arith, nat_tests)
 
 pub client_is : (c : Connection) (clients : List Client) → is_client c clients ≡ true → c ≡ of_serial (0 + c.serial)
 client_is c clients h =
-    let both = both_true (c.node == 0) (ltb c.serial (length clients)) h in
+    let both = and_parts (c.node == 0) (ltb c.serial (length clients)) h in
     let t = both.0 in
     let zeroth : c.node ≡ 0 = grind (arith, nat_tests) in
     of_same c.serial (0 + c.serial) c (ap (λ (node : ℕ). record { node = node; serial = c.serial }) zeroth) (omega arith)

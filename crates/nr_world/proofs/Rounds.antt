@@ -2,6 +2,7 @@
 use Rattle.std.proofs.Common.{◌≡◌, ℕ, zero, suc, ◌+◌, ◌<◌, ◌≤◌, Bool, true, false, not, cond, List, [], ◌∷◌, ◌++◌, length, take, ◌⊎◌, inl, inr, refl, ap, sym, ◌∙◌, subst, append-nil, append_assoc, arith}
 use Rattle.std.specs.Prelude.{◌&&◌, ◌||◌, ◌==◌, map, filter}
 use Rattle.std.proofs.lemmas.Bool.{cases_Bool, eqb-true}
+use Rattle.std.proofs.lemmas.List.{nil_from_length}
 use Rattle.nr_model.specs.Items.{Connection, Item, is_update}
 use Rattle.nr_model.specs.Entries.{Jobs, leading, not_leading, left_after, most_entry_jobs, leads_as_update, leads_as_read, entry_jobs, read_jobs}
 use Rattle.nr_model.specs.Worlds.{Step, Apply, Look, Collect, Done, Nothing, idle_where, effect, effect_by, after_step, world_after, Handed, World, exists, handed_to, waiting_for, own_jobs, connections_of, is_some_bytes, collected}
@@ -145,10 +146,6 @@ all_executed v none c =
     sym (append-nil (own_jobs c (jobs_executed (world_of v)))) ∙ ap (λ jobs. own_jobs c (jobs_executed (world_of v)) ++ own_jobs c jobs) (sym none)
     ∙ (each_world AreAsked fresh_asked keeps_asked v.setup (steps_of v.past) c).own
 
-no_items : {A : Type 0} (xs : List A) → length xs ≡ 0 → xs ≡ []
-no_items [] h = refl
-no_items (x ∷ xs) h = absurd (omega arith)
-
 -- jobs were taken where it was done, and else nothing changed
 record Shortens (world next : World) (did : Bool) : Type 0 where
   done : did ≡ true → length next.waiting < length world.waiting
@@ -203,7 +200,7 @@ collect_empties world next did x g =
       | inr f ↦ let is = (g.idle f).0 in
           record {
             waiting = ap (λ (w : World). length w.waiting) is;
-            empty = ap collected is ∙ no_items (collected world) (g.idle f).1;
+            empty = ap collected is ∙ nil_from_length (collected world) (g.idle f).1;
             done = λ t. absurd (cc (t, f));
             idle = λ _. is;
           }

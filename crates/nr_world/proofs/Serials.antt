@@ -6,6 +6,7 @@ use Rattle.nr_model.specs.Items.{Connection}
 use Rattle.nr_model.specs.Worlds.{Handed, is_some_bytes}
 use Rattle.nr_model.specs.Bytes.{Bytes}
 use Rattle.nr_world.specs.Clients.{Client, collected_clients}
+use Rattle.nr_world.specs.Numbered.{IsNumbered}
 use Rattle.nr_world.proofs.Numbered.{of_serial}
 
 abbrev pub serials : ℕ → ℕ → List Connection
@@ -20,6 +21,11 @@ pub client_of_serial : {A : Type 0} (f : Connection → A) (from count i : ℕ) 
 client_of_serial f from zero i absent h = absurd (omega arith)
 client_of_serial f from (suc count) zero absent h = ap (λ n. f (of_serial n)) (omega arith)
 client_of_serial f from (suc count) (suc i) absent h = client_of_serial f (from + 1) count i absent (omega arith) ∙ ap (λ n. f (of_serial n)) (omega arith)
+
+-- so the clients are numbered
+pub serials_numbered : (f : Connection → Client) (from count : ℕ) → ((c : Connection) → (f c).connection ≡ c) → IsNumbered from (map f (serials from count))
+serials_numbered f from zero names = tt
+serials_numbered f from (suc count) names = (names (of_serial from), serials_numbered f (from + 1) count names)
 
 -- one number more
 pub serials_push : (f : Connection → Client) (from count : ℕ) → map f (serials from (count + 1)) ≡ map f (serials from count) ++ f (of_serial (from + count)) ∷ []

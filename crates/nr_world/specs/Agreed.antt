@@ -2,7 +2,7 @@
 use Rattle.std.specs.Prelude.{◌-◌, ◌||◌, cond, [], length, map}
 use Rattle.nr_model.specs.Items.{Connection}
 use Rattle.nr_model.specs.Worlds.{World, asked_by, is_closed, waiting_for, connections_of}
-use Rattle.nr_model.specs.Explained.{state_of, rest_of}
+use Rattle.nr_model.specs.Explained.{state_of, mode_of, rest_of}
 use Rattle.nr_world.specs.Clients.{Client}
 use Rattle.nr_world.specs.ServerState.{ServerState}
 
@@ -11,6 +11,7 @@ client_in world c =
     record {
       connection = c;
       rest = cond ((asked_by world c).ended || is_closed world c) [] (rest_of world c);
+      mode = mode_of world c;
       next = length (asked_by world c).deeds;
       ended = (asked_by world c).ended || is_closed world c;
       gave_end = (asked_by world c).ended;

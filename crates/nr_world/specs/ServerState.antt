@@ -2,7 +2,7 @@
 use Rattle.std.specs.Prelude.{ℕ, ◌+◌, ◌-◌, not, ◌==◌, ◌&&◌, nat_le, List, [], ◌∷◌, ◌++◌, length, map, filter, option_to_list}
 use Rattle.nr_model.specs.Keyspace.{moment}
 use Rattle.nr_model.specs.Items.{Connection, same_connection, Item}
-use Rattle.nr_model.specs.States.{State, opening, after_all, emitted_all}
+use Rattle.nr_model.specs.Servers.{Server, fresh, after_all, emitted_all}
 use Rattle.nr_model.specs.Entries.{Jobs, entry_jobs, left_by_entry, read_jobs, left_by_reads, entry_items}
 use Rattle.nr_model.specs.Worlds.{Setup, Step, Open, Feed, Apply, Look, Collect, Close, Outcome, Opened, Done, Idle, NoSuch, Ended, TooMany, Nothing, idle_where, Handed, jobs_from, own_jobs}
 use Rattle.nr_session.specs.SessionState.{asked}
@@ -11,14 +11,14 @@ use Rattle.nr_world.specs.Numbered.{is_client, client_at, at_client}
 
 -- the machine's state, each connection's client, how many aren't closed, the jobs that wait, and the bytes handed out
 pub record ServerState : Type 0 where
-  pub state : State
+  pub state : Server
   pub clients : List Client
   pub open_connections : ℕ
   pub waiting : Jobs
   pub handed : List Handed
 
 abbrev pub beginning : ServerState
-beginning = record { state = opening; clients = []; open_connections = 0; waiting = []; handed = [] }
+beginning = record { state = fresh; clients = []; open_connections = 0; waiting = []; handed = [] }
 
 -- the outcome of a step: done, or idle for the first reason that holds
 abbrev pub server_outcome : Setup → ServerState → Step → Outcome
@@ -55,9 +55,10 @@ abbrev pub server_effect : ServerState → Step → ServerState
 server_effect server (Open node worker) =
     record server { clients = server.clients ++ fresh_client (record { node = 0; serial = length server.clients }) ∷ []; open_connections = server.open_connections + 1 }
 server_effect server (Feed c time bytes) =
+    let client = client_at c server.clients in
     record server {
       clients = map (at_client c (fed_client bytes)) server.clients;
-      waiting = server.waiting ++ jobs_from c (client_at c server.clients).next (moment time) (asked (client_at c server.clients).rest bytes).deeds;
+      waiting = server.waiting ++ jobs_from c client.next (moment time) (asked client.mode client.rest bytes).deeds;
     }
 server_effect server (Apply node) = run_items (entry_items (entry_jobs server.waiting)) (record server { waiting = left_by_entry server.waiting })
 server_effect server (Look node) = run_items (read_jobs server.waiting) (record server { waiting = left_by_reads server.waiting })

@@ -6,6 +6,7 @@ use Rattle.nr_model.specs.Keyspace.{Keyspace, coded_keyspace, coded_bytes}
 use Rattle.nr_model.specs.Items.{Connection}
 use Rattle.nr_model.specs.Worlds.{Setup, Step, Open, Feed, Apply, Look, Collect, Close, Reason, NoSuch, Ended, TooMany, Nothing, Outcome, Opened, Done, Idle, Taken, Handed, World, fresh, world_after, taken_from, connections_of, waiting_for, exists, is_closed, asked_by}
 use Rattle.nr_model.specs.Explained.{state_of}
+use Rattle.nr_session.specs.SessionState.{coded_connection}
 use Rattle.nr_world.specs.ServerState.{ServerState}
 use Rattle.nr_world.specs.Agreed.{server_in}
 
@@ -103,9 +104,6 @@ outcome_again (Idle NoSuch) = refl
 outcome_again (Idle Ended) = refl
 outcome_again (Idle TooMany) = refl
 outcome_again (Idle Nothing) = refl
-
-abbrev pub coded_connection : Coded Connection
-coded_connection = code_by (ℕ × ℕ) (coded× coded_ℕ coded_ℕ) (λ c. (c.node, c.serial)) (λ p. record { node = p.0; serial = p.1 }) (λ _. refl)
 
 abbrev pub coded_step : Coded Step
 coded_step = code_by Parts (coded× coded_ℕ (coded× coded_connection (coded× coded_ℕ coded_bytes))) step_parts step_of_parts step_again

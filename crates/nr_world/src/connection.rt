@@ -29,11 +29,22 @@ pub(crate) struct Connection {
 impl Model for Connection {
     ghost use Rattle.std.specs.Prelude.{◌≡◌, [], cond};
     ghost use Rattle.nr_entry.specs.Jobs.{connection_of};
-    ghost use Rattle.nr_world.specs.Clients.{Client};
+    ghost use Rattle.nr_world.specs.Clients.{Client, coded_client};
 
     ghost Value = { Client };
 
-    ghost view = { λ c. record { connection = connection_of c.conn; rest = cond c.session.ended [] c.session.rest; next = c.session.next; ended = c.session.ended; gave_end = c.session.gave_end; output = c.output.items; closed = c.is_closed } };
+    ghost coded = { coded_client };
+
+    ghost view = { λ c. record {
+      connection = connection_of c.conn;
+      rest = cond c.session.ended [] c.session.rest;
+      mode = c.session.mode;
+      next = c.session.next;
+      ended = c.session.ended;
+      gave_end = c.session.gave_end;
+      output = c.output.items;
+      closed = c.is_closed;
+    } };
 
     ghost invariant = { λ c. c.session.connection ≡ connection_of c.conn };
 }
@@ -80,7 +91,8 @@ impl Connection {
         requires fits { self.old.next + (length self.old.rest + length bytes.now) + 1 < 2 ^ 64 }
         requires in_time { moment ≤ last_moment }
         ensures client { OnOk result (self.new ≡ fed_client bytes.now self.old) }
-        ensures jobs { OnOk result (items_of jobs.new.items ≡ items_of jobs.old.items ++ jobs_from self.old.connection self.old.next moment (asked self.old.rest bytes.now).deeds) }
+        ensures jobs { OnOk result (items_of jobs.new.items ≡ items_of jobs.old.items ++
+            jobs_from self.old.connection self.old.next moment (asked self.old.mode self.old.rest bytes.now).deeds) }
         ensures connection { self.new.connection ≡ self.old.connection }
     {
         match self.session.feed(bytes, moment, jobs) {

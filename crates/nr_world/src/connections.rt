@@ -13,8 +13,8 @@ use crate::collecting::collect;
 use crate::connection::Connection;
 use crate::step::Handed;
 use nr_blob::Memory;
+use nr_emission::Sink;
 use nr_entry::{ConnId, Job};
-use nr_machine::Sink;
 use nr_resp::Shown;
 use std::alloc::Global;
 use std::marker::Model;
@@ -28,10 +28,13 @@ pub(crate) struct Connections {
 
 impl Model for Connections {
     ghost use Rattle.std.specs.Prelude.{List};
-    ghost use Rattle.nr_world.specs.Clients.{Client};
+    ghost use Rattle.std.specs.Coded.{coded_list};
+    ghost use Rattle.nr_world.specs.Clients.{Client, coded_client};
     ghost use Rattle.nr_world.specs.Numbered.{IsNumbered};
 
     ghost Value = { List Client };
+
+    ghost coded = { coded_list coded_client };
 
     ghost view = { λ c. c.list.items };
 
@@ -95,7 +98,9 @@ impl Connections {
         requires fits { (client_at (connection_of conn) self.old).next + (length (client_at (connection_of conn) self.old).rest + length bytes.now) + 1 < 2 ^ 64 }
         requires in_time { moment ≤ last_moment }
         ensures clients { OnOk result (self.new ≡ map (at_client (connection_of conn) (fed_client bytes.now)) self.old) }
-        ensures jobs { OnOk result (items_of jobs.new.items ≡ items_of jobs.old.items ++ jobs_from (connection_of conn) (client_at (connection_of conn) self.old).next moment (asked (client_at (connection_of conn) self.old).rest bytes.now).deeds) }
+        ensures jobs { OnOk result (items_of jobs.new.items ≡ items_of jobs.old.items ++
+            jobs_from (connection_of conn) (client_at (connection_of conn) self.old).next moment
+            (asked (client_at (connection_of conn) self.old).mode (client_at (connection_of conn) self.old).rest bytes.now).deeds) }
     {
         self.list[conn.serial as usize].feed(moment, bytes, jobs)
     }

@@ -1,7 +1,7 @@
 // The reads that a look runs, each at its own moment. They change nothing but what waits for connections.
 ghost use Rattle.std.specs.Prelude.{◌≡◌, false, OnOk, map};
 ghost use Rattle.nr_model.specs.Items.{is_update};
-ghost use Rattle.nr_model.specs.States.{emitted_all, emitted_in};
+ghost use Rattle.nr_model.specs.Servers.{emitted_all, emitted_in};
 ghost use Rattle.nr_entry.specs.Jobs.{item_of, items_of};
 ghost use Rattle.nr_entry.specs.Kinds.{deed_of};
 ghost use Rattle.nr_world.specs.Clients.{delivered};

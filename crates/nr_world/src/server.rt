@@ -7,7 +7,7 @@ ghost use Rattle.nr_entry.specs.Entry.{are_of};
 ghost use Rattle.nr_entry.specs.Jobs.{connection_of, item_of, items_of};
 ghost use Rattle.nr_world.specs.Seen.{step_seen, outcome_seen};
 ghost use Rattle.nr_world.specs.Ready.{IsReady};
-ghost use Rattle.nr_world.specs.Numbered.{is_client, client_at};
+ghost use Rattle.nr_world.specs.Numbered.{IsNumbered, is_client, client_at};
 ghost use Rattle.nr_world.specs.ServerState.{server_outcome, server_after, beginning};
 ghost use Rattle.nr_world.specs.Served.{server_of};
 
@@ -125,6 +125,7 @@ impl Server {
     /// Executes the updates that lead, at most 1,024. It takes n log n steps for n jobs that wait.
     pub(crate) fn apply(&mut self, node: usize) -> Result<Outcome, Memory>
         requires own { IsTrue (are_of 0 (items_of self.old.waiting.items)) }
+        requires numbered { IsNumbered 0 self.old.connections }
         ensures outcome { (setup : worlds.Setup) → IfOk result (λ outcome. outcome_seen outcome ≡ server_outcome setup (server_of self.old) (worlds.Apply node)) }
         ensures server { (setup : worlds.Setup) → OnOk result (server_of self.new ≡ server_after setup (server_of self.old) (worlds.Apply node)) }
     {

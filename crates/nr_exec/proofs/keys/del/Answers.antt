@@ -6,7 +6,7 @@ use Rattle.nr_exec.proofs.keys.del.Goals.{then-branch, else-branch}
 pub loop-name-preserved : goal.loop-name-preserved
 loop-name-preserved g c =
     let step =
-    one_further c.args.keyspace.now c.loop-name.keyspace c.remove.new.keyspace (g.T.Touched.told c.args.touched.now) (g.T.Touched.told c.loop-name.touched) (g.T.Touched.told c.remove.new.touched)
+    one_further g.T.Touched.after c.args.keyspace.now c.loop-name.keyspace c.remove.new.keyspace c.args.touched.now c.loop-name.touched c.remove.new.touched
     c.loop-name.removed c.args.database c.args.names.now c.loop-name.name-index c.name-item.result c.in_ok-remove.field-0 (omega arith) c.name-item.is c.loop-name.invariant.along c.in_ok-remove.ensures.removed in
     let count : c.if-branch.removed ≡ counted_on c.in_ok-remove.field-0 c.loop-name.removed =
     elim c.if-branch.branch [
@@ -14,6 +14,6 @@ loop-name-preserved g c =
       | else-branch w ↦ w.removed-is ∙ sym (ap (λ b. counted_on b c.loop-name.removed) w.if-branch.false)
     ] in
     record {
-      along = subst (λ n. Along c.args.keyspace.now c.remove.new.keyspace (g.T.Touched.told c.args.touched.now) (g.T.Touched.told c.remove.new.touched) n c.args.database c.args.names.now (c.loop-name.name-index + 1)) (sym count) step;
+      along = subst (λ n. Along g.T.Touched.after c.args.keyspace.now c.remove.new.keyspace c.args.touched.now c.remove.new.touched n c.args.database c.args.names.now (c.loop-name.name-index + 1)) (sym count) step;
       swept = c.in_ok-remove.ensures.live;
     }

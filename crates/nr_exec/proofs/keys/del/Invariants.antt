@@ -5,6 +5,6 @@ use Rattle.nr_exec.proofs.keys.del.Given as goal
 
 abbrev pub invariant-loop-name : goal.invariant-loop-name
 invariant-loop-name g l = record {
-  along : Along l.fn.keyspace l.keyspace (g.T.Touched.told l.fn.touched) (g.T.Touched.told l.touched) l.removed l.database l.names l.name-index;
+  along : Along g.T.Touched.after l.fn.keyspace l.keyspace l.fn.touched l.touched l.removed l.database l.names l.name-index;
   swept : live l.keyspace l.now ≡ l.keyspace;
 }

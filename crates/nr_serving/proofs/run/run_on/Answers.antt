@@ -8,3 +8,7 @@ returns-in_err-world g c = let none = not_begun _ _ in (none.0, (none.1, none.2)
 pub returns-in_err-buffer : goal.returns-in_err-buffer
 returns-in_err-buffer g c = let none =
     not_begun _ _ in (none.0, (none.1, none.2), failed c.from_residual-in_err-buffer.result _ c.from_residual-in_err-buffer.ensures.0)
+
+pub returns-in_err-serve_all : goal.returns-in_err-serve_all
+returns-in_err-serve_all g c =
+    (c.serve_all.ensures.0, c.serve_all.ensures.1, failed c.from_residual-in_err-serve_all.result _ c.from_residual-in_err-serve_all.ensures.0)

@@ -2,7 +2,7 @@ use Rattle.nr_world.proofs.Looking.{no_read}
 use Rattle.std.proofs.Common.{List, ap, sym, ◌∙◌}
 use Rattle.std.specs.Prelude.{map}
 use Rattle.nr_model.specs.Items.{is_update}
-use Rattle.nr_model.specs.States.{emitted_in}
+use Rattle.nr_model.specs.Servers.{emitted_in}
 use Rattle.nr_entry.specs.Jobs.{connection_of}
 use Rattle.nr_entry.specs.Kinds.{deed_of}
 use Rattle.nr_entry.specs.declared.job.JobKind.{JobKind}

@@ -1,6 +1,6 @@
 use Rattle.std.proofs.Common.{◌≡◌, drop}
 use Rattle.std.specs.Prelude.{map}
-use Rattle.nr_model.specs.States.{emitted_all}
+use Rattle.nr_model.specs.Servers.{emitted_all}
 use Rattle.nr_entry.specs.Jobs.{items_of}
 use Rattle.nr_world.specs.Clients.{delivered}
 use Rattle.nr_world.proofs.reading.run_reads.Given as goal

@@ -7,5 +7,5 @@ use Rattle.nr_machine.proofs.machine.Machine.apply.Given as goal
 abbrev pub invariant-loop-job : goal.invariant-loop-job
 invariant-loop-job g l = record {
   failed : l.self.failed ≡ true;
-  along : Along _ g.S.Sink.after l.node l.fn.self.state l.self.state l.fn.out l.out (entry_items (items_of l.entry.jobs.items)) (drop l.job-index l.job-items) l.entry.moment;
+  along : Along g.S.Sink.after l.node l.fn.self.state l.self.state l.fn.out l.out (entry_items (items_of l.entry.jobs.items)) (drop l.job-index l.job-items) l.entry.moment;
 }

@@ -1,5 +1,6 @@
-use Rattle.std.proofs.Common.{◌++◌, ap, ◌∙◌}
+use Rattle.std.proofs.Common.{List, ◌++◌, ap, ◌∙◌}
 use Rattle.std.proofs.lemmas.Result.{on_ok_weaker}
+use Rattle.nr_model.specs.Items.{Connection, Item}
 use Rattle.nr_model.specs.Worlds.{jobs_from}
 use Rattle.nr_entry.specs.Jobs.{connection_of, items_of}
 use Rattle.nr_session.specs.SessionState.{asked}
@@ -21,7 +22,8 @@ pub returns-clause-jobs : goal.returns-clause-jobs
 returns-clause-jobs c =
     let read = client_read (connection_of c.args.conn) _ _ _ c.self.view_is c.requires.is_there c.index_mut.ensures.value in
     let own = client_connection (connection_of c.args.conn) _ _ _ c.self.invariant c.self.view_is c.requires.is_there c.index_mut.ensures.value in
+    let jobs : Connection → Client → List Item = λ k client.
+    items_of c.args.jobs.now.items ++ jobs_from k client.next c.args.moment (asked client.mode client.rest c.args.bytes.now).deeds in
     on_ok_weaker c.feed.result
-    (λ e. e ∙ ap (λ k. items_of c.args.jobs.now.items ++ jobs_from k c.index_mut.result.now.next c.args.moment (asked c.index_mut.result.now.rest c.args.bytes.now).deeds) own
-    ∙ ap (λ (s : Client). items_of c.args.jobs.now.items ++ jobs_from (connection_of c.args.conn) s.next c.args.moment (asked s.rest c.args.bytes.now).deeds) read)
+    (λ e. e ∙ ap (λ k. jobs k c.index_mut.result.now) own ∙ ap (jobs (connection_of c.args.conn)) read)
     c.feed.ensures.jobs

@@ -1,7 +1,7 @@
 use Rattle.std.proofs.Common.{ap, sym, ◌∙◌, subst}
 use Rattle.std.specs.Prelude.{map}
 use Rattle.nr_model.specs.Items.{Sequence}
-use Rattle.nr_model.specs.States.{emitted_all}
+use Rattle.nr_model.specs.Servers.{emitted_all}
 use Rattle.nr_model.proofs.WorldsTaken.{look_reads}
 use Rattle.nr_entry.specs.Jobs.{items_of}
 use Rattle.nr_world.specs.Executing.{AreReads}

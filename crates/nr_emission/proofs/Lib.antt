@@ -1,0 +1,6 @@
+pub mod Acknowledged
+pub mod Delivered
+pub mod Holding
+pub mod Nodes
+pub mod Sent
+pub mod Written

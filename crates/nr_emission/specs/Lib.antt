@@ -1,0 +1,4 @@
+pub mod Emitted
+pub mod Messages
+pub mod Parts
+pub mod Subscribing

@@ -1,0 +1,27 @@
+// Counts, as replies show them.
+ghost use Rattle.std.specs.Prelude.{◌≡◌, ◌+◌, IfOk, pos};
+ghost use Rattle.nr_model.specs.Replies as model;
+ghost use Rattle.nr_resp.specs.Seen.{reply_of};
+
+use nr_blob::Memory;
+use nr_resp::Reply;
+
+/// A count as a reply. What is counted takes memory, so there is none left before a count is more than a reply shows.
+pub(crate) fn count_reply(count: usize) -> Result<Reply, Memory>
+    ensures { IfOk result (λ reply. reply_of reply ≡ model.Int (pos count)) }
+{
+    if count > i64::MAX as usize {
+        return Err(Memory);
+    }
+    Ok(Reply::Int(count as i64))
+}
+
+/// Two counts together, or no memory where the sum is more than any count of what is stored.
+pub(crate) fn together(count: usize, more: usize) -> Result<usize, Memory>
+    ensures { IfOk result (λ sum. sum ≡ count + more) }
+{
+    match count.checked_add(more) {
+        Some(sum) => Ok(sum),
+        None => Err(Memory),
+    }
+}

@@ -1,0 +1,85 @@
+// By the name of a key, in any database, the connections that watch one of that name.
+ghost use Rattle.std.specs.Prelude.{◌≡◌, false, IfOk, OnOk, OnErr};
+ghost use Rattle.std.specs.Option.{option_map};
+ghost use Rattle.std.specs.Ordering.{eq_by_cmp};
+ghost use Rattle.nr_model.specs.Bytes.{Bytes};
+ghost use Rattle.nr_model.specs.Keyspace.{byte_cmp};
+ghost use Rattle.nr_model.specs.Items.{Connection};
+ghost use Rattle.nr_watch.specs.Kept.{stands, is_among, names_one, IsAdded, IsTakenOut, IsAsBefore};
+
+use crate::watch::Watch;
+use nr_blob::Memory;
+use nr_entry::ConnId;
+use std::alloc::Global;
+use std::collections::{BTreeMap, BTreeSet};
+
+/// Names of keys, with the connections that stand there, at least one at each.
+#[derive(Drop)]
+pub(crate) struct Names {
+    alloc: Global,
+    conns: BTreeMap<Vec<u8>, BTreeSet<ConnId>>,
+}
+
+impl Names {
+    pub(crate) fn new(alloc: Global) -> Names
+        ensures { (name : Bytes) (c : Connection) → stands result.conns.entries name c ≡ false }
+    {
+        Names {
+            alloc,
+            conns: BTreeMap::new(alloc),
+        }
+    }
+
+    /// Who stands at a name.
+    pub(crate) fn at(&self, name: &[u8]) -> Option<&BTreeSet<ConnId>>
+        ensures { (c : Connection) → is_among c (option_map (λ conns. conns.now) result) ≡ stands self.now.conns.entries name.now c }
+    {
+        self.conns.get(name)
+    }
+
+    /// The name is copied where nobody stood there. Where memory runs out everyone stands as before.
+    pub(crate) fn add(&mut self, name: &[u8], conn: ConnId) -> Result<(), Memory>
+        ensures ok { OnOk result (IsAdded (λ other. eq_by_cmp byte_cmp other name.now) conn self.old.conns.entries self.new.conns.entries) }
+        ensures err { OnErr result (IsAsBefore self.old.conns.entries self.new.conns.entries) }
+    {
+        if let Some(conns) = self.conns.get_mut(name) {
+            conns.insert(conn)?;
+            return Ok(());
+        }
+        let mut conns = BTreeSet::new(self.alloc);
+        conns.insert(conn)?;
+        self.conns
+            .insert(Vec::from_slice(self.alloc, name)?, conns)?;
+        Ok(())
+    }
+
+    pub(crate) fn remove(&mut self, name: &[u8], conn: ConnId)
+        ensures { IsTakenOut (λ other. eq_by_cmp byte_cmp other name.now) conn self.old.conns.entries self.new.conns.entries }
+    {
+        let Some(conns) = self.conns.get_mut(name) else {
+            return;
+        };
+        conns.remove(&conn);
+        if conns.is_empty() {
+            self.conns.remove(name);
+        }
+    }
+
+    /// Adds a connection at the name of each of its watches. Where memory runs out it stands at some of them.
+    pub(crate) fn add_each(&mut self, watches: &[Watch], conn: ConnId) -> Result<(), Memory>
+        ensures { OnOk result (IsAdded (λ name. names_one name watches.now) conn self.old.conns.entries self.new.conns.entries) }
+    {
+        for watch in watches {
+            self.add(watch.name(), conn)?;
+        }
+        Ok(())
+    }
+
+    pub(crate) fn remove_each(&mut self, watches: &[Watch], conn: ConnId)
+        ensures { IsTakenOut (λ name. names_one name watches.now) conn self.old.conns.entries self.new.conns.entries }
+    {
+        for watch in watches {
+            self.remove(watch.name(), conn);
+        }
+    }
+}

@@ -1,0 +1,69 @@
+// One watch: a key, and when what it held is gone.
+ghost use Rattle.std.specs.Prelude.{◌≡◌, IfOk};
+ghost use Rattle.nr_model.specs.Sequential.Watches.{same_key};
+ghost use Rattle.nr_model.specs.Servers as model;
+ghost use Rattle.nr_keyspace.specs.Joined.{key_of};
+
+use nr_blob::{Blob, Memory};
+use nr_keyspace::Db;
+use std::marker::Model;
+
+/// A watched key, and the deadline in milliseconds that what it held had as it was watched, if that was live.
+#[derive(Drop)]
+pub(crate) struct Watch {
+    database: Db,
+    name: Blob,
+    deadline: Option<i64>,
+}
+
+impl Model for Watch {
+    ghost use Rattle.nr_model.specs.Servers as model;
+    ghost use Rattle.nr_keyspace.specs.Joined.{key_of};
+    ghost use Rattle.nr_watch.specs.Watching.{coded_watch};
+
+    ghost Value = { model.Watch };
+
+    ghost coded = { coded_watch };
+
+    ghost view = { λ w. record { key = key_of w.database w.name; deadline = w.deadline } };
+}
+
+impl Watch {
+    pub(crate) fn new(database: Db, name: Blob, deadline: Option<i64>) -> Watch
+        ensures { result ≡ record { key = key_of database name; deadline = deadline } }
+    {
+        Watch {
+            database,
+            name,
+            deadline,
+        }
+    }
+
+    pub(crate) fn copy(&self) -> Result<Watch, Memory>
+        ensures { IfOk result (λ watch. watch ≡ self.now) }
+    {
+        Ok(Watch::new(self.database, self.name.copy()?, self.deadline))
+    }
+
+    pub(crate) fn name(&self) -> &[u8]
+        ensures { result.now ≡ self.now.key.name }
+    {
+        self.name.bytes()
+    }
+
+    pub(crate) fn is_of(&self, database: Db, name: &[u8]) -> bool
+        ensures { result ≡ same_key self.now.key (key_of database name.now) }
+    {
+        self.database == database && self.name.bytes() == name
+    }
+
+    /// Whether what was live when it was watched has passed its deadline.
+    pub(crate) fn has_gone(&self, now: u64) -> bool
+        ensures { result ≡ model.has_gone now self.now.deadline }
+    {
+        match self.deadline {
+            Some(deadline) => now as i128 >= deadline as i128,
+            None => false,
+        }
+    }
+}
