@@ -4,7 +4,7 @@
 
 pub use handing::hand_over;
 pub use moves::{Move, Outcome, play};
-pub use passing::exchange;
+pub use passing::{exchange, exchange_in_pairs};
 
 mod entries;
 mod handing;

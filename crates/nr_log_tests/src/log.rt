@@ -1,8 +1,7 @@
-use nr_exchange::{Move, Outcome, exchange, play};
+use nr_exchange::{Move, Outcome, exchange, exchange_in_pairs, play};
 use std::alloc::Global;
 use std::process::Abort;
 use std::test::Fail;
-use std::thread::Threads;
 
 // Two nodes go round a circle of four places in turn.
 #[test]
@@ -60,9 +59,9 @@ fn all_numbers(rt: &impl Abort, alloc: Global, each: u64) -> Vec<u64> {
     numbers
 }
 
-// Four nodes on four threads append so many entries each: each takes all of them, each once, in one order.
-fn four_nodes_agree(rt: &(impl Abort + Threads + Sync), alloc: Global, places: usize, each: u32) {
-    let mut lists = exchange(rt, alloc, 4, places, each).expect(rt, "memory");
+// Each of four nodes that appended so many entries took all of them, each once, in one order.
+fn four_nodes_agree(rt: &impl Abort, alloc: Global, mut lists: Vec<Vec<u64>>, each: u32) {
+    assert!(rt; lists.len() == 4);
     assert!(rt; agree(&lists));
     let mut numbers = lists.pop().expect(rt, "node 3");
     numbers.sort_unstable();
@@ -71,13 +70,22 @@ fn four_nodes_agree(rt: &(impl Abort + Threads + Sync), alloc: Global, places: u
 
 #[test]
 fn through_64_places(rt: HostRuntime) -> Result<(), Fail> {
-    four_nodes_agree(&rt, rt.alloc(), 64, 25_000);
+    let lists = exchange(&rt, rt.alloc(), 4, 64, 25_000).expect(&rt, "memory");
+    four_nodes_agree(&rt, rt.alloc(), lists, 25_000);
     Ok(())
 }
 
-// With two places each entry waits for each thread to be scheduled, so there are fewer.
 #[test]
 fn through_2_places(rt: HostRuntime) -> Result<(), Fail> {
-    four_nodes_agree(&rt, rt.alloc(), 2, 2_500);
+    let lists = exchange_in_pairs(&rt, rt.alloc(), 4, 2, 25_000).expect(&rt, "memory");
+    four_nodes_agree(&rt, rt.alloc(), lists, 25_000);
+    Ok(())
+}
+
+// With two places each entry waits for each thread to be scheduled, so with a thread for each node there are fewer.
+#[test]
+fn through_2_places_on_four_threads(rt: HostRuntime) -> Result<(), Fail> {
+    let lists = exchange(&rt, rt.alloc(), 4, 2, 2_500).expect(&rt, "memory");
+    four_nodes_agree(&rt, rt.alloc(), lists, 2_500);
     Ok(())
 }
