@@ -4,7 +4,9 @@
 pub use blob::Blob;
 pub use integer::{int_text, read_int};
 pub use memory::Memory;
+pub use quoted::{on_one_line, push_quoted};
 
 mod blob;
 mod integer;
 mod memory;
+mod quoted;

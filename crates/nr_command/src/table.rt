@@ -6,26 +6,79 @@ ghost use Rattle.nr_model.specs.Commands.Shape as shape;
 ghost use Rattle.nr_model.specs.declared.command.Command.TheVariants as commands;
 
 use nr_model::command::{
-    Change, Command, KeysChange, Kind, Look, Operation, ServerChange, ServerLook, Session,
-    StringsChange, StringsLook,
+    Change, Command, KeysChange, KeysLook, Kind, Look, Operation, ServerChange, ServerLook,
+    Session, StringsChange, StringsLook, Timing, Unit,
 };
 
 // The rows of a section: the command, its name in lower case, and how many words it takes.
 macro_rules! rows {
     (ServerLook => $with:ident!($($arguments:tt)*)) => {
-        $with!(ServerLook, $($arguments)*; Ping, "ping", at_least 1; Echo, "echo", exactly 2)
+        $with!(ServerLook, $($arguments)*;
+            Ping, "ping", at_least 1;
+            Echo, "echo", exactly 2;
+            Time, "time", exactly 1;
+            DbSize, "dbsize", exactly 1)
     };
     (ServerChange => $with:ident!($($arguments:tt)*)) => {
-        $with!(ServerChange, $($arguments)*; Select, "select", exactly 2)
+        $with!(ServerChange, $($arguments)*;
+            Select, "select", exactly 2;
+            FlushDb, "flushdb", at_least 1;
+            FlushAll, "flushall", at_least 1;
+            SwapDb, "swapdb", exactly 3)
+    };
+    (KeysLook => $with:ident!($($arguments:tt)*)) => {
+        $with!(KeysLook, $($arguments)*;
+            Exists, "exists", at_least 2;
+            Touch, "touch", at_least 2;
+            Type, "type", exactly 2;
+            Ttl(Unit::Seconds), "ttl", exactly 2;
+            Ttl(Unit::Milliseconds), "pttl", exactly 2;
+            ExpireTime(Unit::Seconds), "expiretime", exactly 2;
+            ExpireTime(Unit::Milliseconds), "pexpiretime", exactly 2)
     };
     (KeysChange => $with:ident!($($arguments:tt)*)) => {
-        $with!(KeysChange, $($arguments)*; Del, "del", at_least 2)
+        $with!(KeysChange, $($arguments)*;
+            Del, "del", at_least 2;
+            Unlink, "unlink", at_least 2;
+            Rename, "rename", exactly 3;
+            RenameNx, "renamenx", exactly 3;
+            Copy, "copy", at_least 3;
+            Move, "move", exactly 3;
+            Expire(Timing::InSeconds), "expire", at_least 3;
+            Expire(Timing::InMilliseconds), "pexpire", at_least 3;
+            Expire(Timing::AtSecond), "expireat", at_least 3;
+            Expire(Timing::AtMillisecond), "pexpireat", at_least 3;
+            Persist, "persist", exactly 2)
     };
     (StringsLook => $with:ident!($($arguments:tt)*)) => {
-        $with!(StringsLook, $($arguments)*; Get, "get", exactly 2)
+        $with!(StringsLook, $($arguments)*;
+            Get, "get", exactly 2;
+            MGet, "mget", at_least 2;
+            StrLen, "strlen", exactly 2;
+            GetRange, "getrange", exactly 4;
+            SubStr, "substr", exactly 4;
+            GetBit, "getbit", exactly 3;
+            BitCount, "bitcount", at_least 2)
     };
     (StringsChange => $with:ident!($($arguments:tt)*)) => {
-        $with!(StringsChange, $($arguments)*; Set, "set", at_least 3)
+        $with!(StringsChange, $($arguments)*;
+            Set, "set", at_least 3;
+            SetNx, "setnx", exactly 3;
+            SetEx(Unit::Seconds), "setex", exactly 4;
+            SetEx(Unit::Milliseconds), "psetex", exactly 4;
+            GetSet, "getset", exactly 3;
+            GetDel, "getdel", exactly 2;
+            GetEx, "getex", at_least 2;
+            MSet, "mset", at_least 3;
+            MSetNx, "msetnx", at_least 3;
+            Append, "append", exactly 3;
+            SetRange, "setrange", exactly 4;
+            Incr, "incr", exactly 2;
+            Decr, "decr", exactly 2;
+            IncrBy, "incrby", exactly 3;
+            DecrBy, "decrby", exactly 3;
+            SetBit, "setbit", exactly 4;
+            BitOp, "bitop", at_least 4)
     };
     (Session => $with:ident!($($arguments:tt)*)) => {
         $with!(Session, $($arguments)*;
@@ -91,24 +144,27 @@ pub fn lookup(word: &[u8]) -> Option<Command>
     None
 }
 
-// The commands that are performed on the keyspace.
+// The commands that are performed on the keyspace, those that clients send most first.
 fn operation(word: &[u8]) -> Option<Operation>
     ensures { option_map commands.Perform result ≡ named table.operations_served word.now }
 {
-    if let Some(command) = server_look(word) {
-        return Some(Operation::Look(Look::Server(command)));
-    }
-    if let Some(command) = server_change(word) {
-        return Some(Operation::Change(Change::Server(command)));
-    }
-    if let Some(command) = keys_change(word) {
-        return Some(Operation::Change(Change::Keys(command)));
-    }
     if let Some(command) = strings_look(word) {
         return Some(Operation::Look(Look::Strings(command)));
     }
     if let Some(command) = strings_change(word) {
         return Some(Operation::Change(Change::Strings(command)));
+    }
+    if let Some(command) = keys_look(word) {
+        return Some(Operation::Look(Look::Keys(command)));
+    }
+    if let Some(command) = keys_change(word) {
+        return Some(Operation::Change(Change::Keys(command)));
+    }
+    if let Some(command) = server_look(word) {
+        return Some(Operation::Look(Look::Server(command)));
+    }
+    if let Some(command) = server_change(word) {
+        return Some(Operation::Change(Change::Server(command)));
     }
     None
 }
@@ -123,6 +179,12 @@ fn server_change(word: &[u8]) -> Option<ServerChange>
     ensures { option_map table.server_change result ≡ named table.server_changes_served word.now }
 {
     rows!(ServerChange => find!(word))
+}
+
+fn keys_look(word: &[u8]) -> Option<KeysLook>
+    ensures { option_map table.keys_look result ≡ named table.keys_looks_served word.now }
+{
+    rows!(KeysLook => find!(word))
 }
 
 fn keys_change(word: &[u8]) -> Option<KeysChange>
@@ -164,6 +226,7 @@ fn operation_name(operation: Operation) -> &'static str
 {
     match operation {
         Operation::Look(Look::Server(command)) => rows!(ServerLook => name!(command)),
+        Operation::Look(Look::Keys(command)) => rows!(KeysLook => name!(command)),
         Operation::Look(Look::Strings(command)) => rows!(StringsLook => name!(command)),
         Operation::Change(Change::Server(command)) => rows!(ServerChange => name!(command)),
         Operation::Change(Change::Keys(command)) => rows!(KeysChange => name!(command)),
@@ -186,6 +249,7 @@ fn operation_arity_ok(operation: Operation, words: usize) -> bool
 {
     match operation {
         Operation::Look(Look::Server(command)) => rows!(ServerLook => arity_ok!(command, words)),
+        Operation::Look(Look::Keys(command)) => rows!(KeysLook => arity_ok!(command, words)),
         Operation::Look(Look::Strings(command)) => rows!(StringsLook => arity_ok!(command, words)),
         Operation::Change(Change::Server(command)) => {
             rows!(ServerChange => arity_ok!(command, words))

@@ -1,5 +1,15 @@
+pub mod Added
+pub mod CopyWords
+pub mod Couples
+pub mod Expired
+pub mod Flushed
+pub mod Kept
+pub mod Looking
+pub mod Missing
+pub mod Options
+pub mod Overlong
 pub mod Refusals
 pub mod Removals
-pub mod Selected
+pub mod Swapped
 pub mod Swept
 pub mod Touching

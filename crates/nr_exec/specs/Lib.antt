@@ -1,5 +1,7 @@
 pub mod Touched
 pub mod Done
 pub mod Removed
-pub mod Reading
 pub mod Failures
+pub mod Pairs
+pub mod Options
+pub mod Expired

@@ -1,13 +1,11 @@
 // One command at a moment: the words behind its name go to the body of its section. The machine calls nothing else of this crate.
-ghost use Rattle.std.specs.Prelude.{◌≡◌, drop, IfOk, IfErr};
+ghost use Rattle.std.specs.Prelude.{◌≡◌, drop, IfOk};
 ghost use Rattle.nr_model.specs.Commands as commands;
 ghost use Rattle.nr_model.specs.Keyspace.{live};
 ghost use Rattle.nr_resp.specs.Seen.{reply_of};
 ghost use Rattle.nr_resp.specs.Shown.{shown_reply};
-ghost use Rattle.nr_exec.specs.Done.{IsDone};
-ghost use Rattle.nr_exec.specs.Failures.{IfRefused};
+ghost use Rattle.nr_exec.specs.Done.{IsDone, Answers, Performs};
 
-use crate::arguments::Arguments;
 use crate::failure::Failure;
 use crate::touched::Touched;
 use crate::{keys, server, strings};
@@ -16,10 +14,12 @@ use nr_command::arguments;
 use nr_keyspace::{Db, Keyspace};
 use nr_model::command::{Change, Look};
 use nr_resp::{Reply, Shown};
+use std::alloc::Global;
 
 /// The reply of a command that only looks, at a moment in milliseconds, for a connection whose database this is. The words are
 /// those of the request, its name first. What the reply shows of a value or a word is lent.
 pub fn look<'k>(
+    alloc: Global,
     keyspace: &'k Keyspace,
     now: u64,
     database: Db,
@@ -28,33 +28,35 @@ pub fn look<'k>(
 ) -> Result<Shown<'k>, Memory>
     ensures { IfOk result (λ shown. shown_reply shown ≡ commands.look command now (live keyspace.now now) database (drop 1 words.now)) }
 {
-    match look_in_section(keyspace, now, database, command, words) {
+    match look_in_section(alloc, keyspace, now, database, command, words) {
         Ok(shown) => Ok(shown),
         Err(failure) => Ok(Shown::Owned(failure.reply()?)),
     }
 }
 
+#[tactic(auto, unfolding(nr_model::specs::Commands::look))]
 fn look_in_section<'k>(
+    alloc: Global,
     keyspace: &'k Keyspace,
     now: u64,
     database: Db,
     command: Look,
     words: &'k [Blob],
 ) -> Result<Shown<'k>, Failure>
-    ensures ok { IfOk result (λ shown. shown_reply shown ≡ commands.look command now (live keyspace.now now) database (drop 1 words.now)) }
-    ensures refused { IfErr result (λ failure. IfRefused failure
-        (λ reply. reply ≡ commands.look command now (live keyspace.now now) database (drop 1 words.now))) }
+    ensures { Answers result (commands.look command now (live keyspace.now now) database (drop 1 words.now)) }
 {
-    let arguments = Arguments::new(arguments(words));
+    let words = arguments(words);
     match command {
-        Look::Server(command) => server::look(command, arguments),
-        Look::Strings(command) => strings::look(keyspace, now, database, command, arguments),
+        Look::Server(command) => server::look(alloc, keyspace, now, database, command, words),
+        Look::Keys(command) => keys::look(keyspace, now, database, command, words),
+        Look::Strings(command) => strings::look(alloc, keyspace, now, database, command, words),
     }
 }
 
 /// One command that may change the keyspace or the database of its connection, at a moment in milliseconds. The words are those of the request,
 /// its name first. Where memory runs out the keyspace is safe to use, and holds part of the change or none.
 pub fn change<T: Touched>(
+    alloc: Global,
     keyspace: &mut Keyspace,
     now: u64,
     database: &mut Db,
@@ -67,14 +69,16 @@ pub fn change<T: Touched>(
         (commands.change command now (live keyspace.old now) database.old (drop 1 words.now))) }
 {
     keyspace.sweep(now);
-    match change_in_section(keyspace, now, database, command, words, touched) {
+    match change_in_section(alloc, keyspace, now, database, command, words, touched) {
         Ok(reply) => Ok(reply),
         Err(failure) => failure.reply(),
     }
 }
 
 // A command that may change a keyspace whose keys are all live.
+#[tactic(auto, unfolding(nr_model::specs::Commands::change))]
 fn change_in_section<T: Touched>(
+    alloc: Global,
     keyspace: &mut Keyspace,
     now: u64,
     database: &mut Db,
@@ -83,21 +87,17 @@ fn change_in_section<T: Touched>(
     touched: &mut T,
 ) -> Result<Reply, Failure>
     requires { live keyspace.old now ≡ keyspace.old }
-    ensures ok { IfOk result
-        (λ reply. IsDone T.after (reply_of reply) keyspace.new database.new touched.old touched.new
-        (commands.change command now keyspace.old database.old (drop 1 words.now))) }
-    ensures refused { IfErr result (λ failure. IfRefused failure
-        (λ reply. IsDone T.after reply keyspace.new database.new touched.old touched.new
-        (commands.change command now keyspace.old database.old (drop 1 words.now)))) }
+    ensures { Performs T.after result keyspace.new database.new touched.old touched.new
+        (commands.change command now keyspace.old database.old (drop 1 words.now)) }
 {
-    let arguments = Arguments::new(arguments(words));
+    let words = arguments(words);
     match command {
-        Change::Server(command) => server::change(keyspace, database, command, arguments, touched),
+        Change::Server(command) => server::change(keyspace, now, database, command, words, touched),
         Change::Keys(command) => keys::change(
-            keyspace, now, *database, command, arguments, touched,
+            alloc, keyspace, now, *database, command, words, touched,
         ),
-        Change::Strings(command) => strings::change(
-            keyspace, *database, command, arguments, touched,
-        ),
+        Change::Strings(command) => {
+            strings::change(alloc, keyspace, now, *database, command, words, touched)
+        }
     }
 }

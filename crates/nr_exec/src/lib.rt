@@ -4,10 +4,11 @@
 pub use exec::{change, look};
 pub use touched::{Nobody, Touched};
 
-mod arguments;
+mod deadline;
 mod exec;
 mod failure;
 mod keys;
+mod reading;
 mod server;
 mod strings;
 mod touched;

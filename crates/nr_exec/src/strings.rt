@@ -1,124 +1,89 @@
-// The commands of the section on strings. They touch the keyspace, and tell of each key that they changed.
-ghost use Rattle.std.specs.Prelude.{◌≡◌, ◌∷◌, [], ℕ, None, IfOk, OnOk, IfErr};
-ghost use Rattle.std.specs.FinMap as map;
-ghost use Rattle.nr_model.specs.Keyspace as model;
+// The commands of the section on strings.
+ghost use Rattle.std.specs.Prelude.{◌≡◌};
 ghost use Rattle.nr_model.specs.Keyspace.{live};
 ghost use Rattle.nr_model.specs.Commands.Shape.{staying};
 ghost use Rattle.nr_model.specs.Commands.Strings as strings;
-ghost use Rattle.nr_keyspace.specs.Joined.{key_of};
-ghost use Rattle.nr_keyspace.specs.Values.{value_of};
-ghost use Rattle.nr_resp.specs.Seen.{reply_of};
-ghost use Rattle.nr_resp.specs.Shown.{shown_reply};
-ghost use Rattle.nr_exec.specs.Done.{IsDone};
-ghost use Rattle.nr_exec.specs.Failures.{IfRefused};
-ghost use Rattle.nr_exec.specs.Touched.{Touches};
+ghost use Rattle.nr_exec.specs.Done.{Answers, Performs};
 
-use crate::arguments::Arguments;
 use crate::failure::Failure;
 use crate::touched::Touched;
-use nr_blob::{Blob, Memory};
-use nr_keyspace::{Db, Keyspace, Value};
+use nr_blob::Blob;
+use nr_keyspace::{Db, Keyspace};
 use nr_model::command::{StringsChange, StringsLook};
 use nr_resp::{Reply, Shown};
+use std::alloc::Global;
 
-/// A command that only looks. The arguments are the words behind the name.
+mod bits;
+mod held;
+mod looks;
+mod numbers;
+mod options;
+mod setting;
+mod several;
+mod taking;
+mod writing;
+
+/// A command that only looks. The words are those behind the name.
 pub(crate) fn look<'k>(
+    alloc: Global,
     keyspace: &'k Keyspace,
     now: u64,
     database: Db,
     command: StringsLook,
-    arguments: Arguments<'k>,
+    words: &'k [Blob],
 ) -> Result<Shown<'k>, Failure>
-    ensures ok { IfOk result (λ shown. shown_reply shown ≡ strings.look command now (live keyspace.now now) database arguments.entry.words.now) }
-    ensures refused { IfErr result (λ failure. IfRefused failure
-        (λ reply. reply ≡ strings.look command now (live keyspace.now now) database arguments.entry.words.now)) }
+    ensures { Answers result (strings.look command now (live keyspace.now now) database words.now) }
 {
     match command {
-        StringsLook::Get => get(keyspace, now, database, arguments),
+        StringsLook::Get => looks::get(keyspace, now, database, words),
+        StringsLook::MGet => looks::mget(alloc, keyspace, now, database, words),
+        StringsLook::StrLen => looks::strlen(keyspace, now, database, words),
+        StringsLook::GetRange | StringsLook::SubStr => {
+            looks::get_range(keyspace, now, database, words)
+        }
+        StringsLook::GetBit => looks::get_bit(keyspace, now, database, words),
+        StringsLook::BitCount => looks::bit_count(keyspace, now, database, words),
     }
 }
 
-/// A command that may change a keyspace whose keys are all live. The arguments are the words behind the name.
+/// A command that may change a keyspace whose keys are all live. The words are those behind the name.
 pub(crate) fn change<T: Touched>(
+    alloc: Global,
     keyspace: &mut Keyspace,
-    database: Db,
-    command: StringsChange,
-    arguments: Arguments<'_>,
-    touched: &mut T,
-) -> Result<Reply, Failure>
-    ensures ok { (now : ℕ) → IfOk result
-        (λ reply. IsDone T.after (reply_of reply) keyspace.new database touched.old touched.new
-        (staying database (strings.change command now keyspace.old database arguments.entry.words.now))) }
-    ensures refused { (now : ℕ) → IfErr result (λ failure. IfRefused failure
-        (λ reply. IsDone T.after reply keyspace.new database touched.old touched.new
-        (staying database (strings.change command now keyspace.old database arguments.entry.words.now)))) }
-{
-    match command {
-        StringsChange::Set => set(keyspace, database, arguments, touched),
-    }
-}
-
-// GET key
-fn get<'k>(
-    keyspace: &'k Keyspace,
     now: u64,
     database: Db,
-    mut arguments: Arguments<'k>,
-) -> Result<Shown<'k>, Failure>
-    ensures ok { IfOk result (λ shown. shown_reply shown ≡ strings.get (live keyspace.now now) database arguments.entry.words.now) }
-    ensures refused { IfErr result (λ failure. IfRefused failure
-        (λ reply. reply ≡ strings.get (live keyspace.now now) database arguments.entry.words.now)) }
-{
-    let name = arguments.word()?;
-    arguments.end()?;
-    match keyspace.get(now, database, name.bytes()) {
-        Some(value) => Ok(value_shown(value)),
-        None => Ok(Shown::Owned(Reply::NullBulk)),
-    }
-}
-
-// The value's bytes are lent.
-fn value_shown<'k>(value: &'k Value) -> Shown<'k>
-    ensures { shown_reply result ≡ strings.value_reply (value_of value.now) }
-{
-    match value {
-        Value::String(text) => Shown::Bulk(text.bytes()),
-    }
-}
-
-// SET key value
-fn set<T: Touched>(
-    keyspace: &mut Keyspace,
-    database: Db,
-    mut arguments: Arguments<'_>,
+    command: StringsChange,
+    words: &[Blob],
     touched: &mut T,
 ) -> Result<Reply, Failure>
-    ensures ok { IfOk result
-        (λ reply. IsDone T.after (reply_of reply) keyspace.new database touched.old touched.new
-        (staying database (strings.set keyspace.old database arguments.entry.words.now))) }
-    ensures refused { IfErr result (λ failure. IfRefused failure
-        (λ reply. IsDone T.after reply keyspace.new database touched.old touched.new
-        (staying database (strings.set keyspace.old database arguments.entry.words.now)))) }
+    requires { live keyspace.old now ≡ keyspace.old }
+    ensures { Performs T.after result keyspace.new database touched.old touched.new
+        (staying database (strings.change command now keyspace.old database words.now)) }
 {
-    let name = arguments.word()?;
-    let text = arguments.word()?;
-    arguments.end()?;
-    store(keyspace, database, name, text, touched)?;
-    Ok(Reply::Simple("OK"))
-}
-
-// The key holds the text, whatever it held, and has no deadline. Its name and the text are copied once.
-fn store<T: Touched>(
-    keyspace: &mut Keyspace,
-    database: Db,
-    name: &Blob,
-    text: &Blob,
-    touched: &mut T,
-) -> Result<(), Memory>
-    ensures keyspace { OnOk result (keyspace.new ≡ map.insert keyspace.old (key_of database name.now) (record { value = model.Text text.now; deadline = None })) }
-    ensures touched { OnOk result (Touches T.after touched.old touched.new (key_of database name.now ∷ [])) }
-{
-    let value = Value::String(text.copy()?);
-    keyspace.put(database, name.copy()?, value, None)?;
-    touched.touch(database, name.bytes())
+    match command {
+        StringsChange::Set => setting::set(keyspace, now, database, words, touched),
+        StringsChange::SetNx => setting::set_nx(keyspace, now, database, words, touched),
+        StringsChange::SetEx(unit) => {
+            setting::set_ex(unit, keyspace, now, database, words, touched)
+        }
+        StringsChange::GetSet => setting::get_set(keyspace, now, database, words, touched),
+        StringsChange::GetDel => taking::get_del(keyspace, now, database, words, touched),
+        StringsChange::GetEx => taking::get_ex(keyspace, now, database, words, touched),
+        StringsChange::MSet => several::mset(keyspace, database, words, touched),
+        StringsChange::MSetNx => several::mset_nx(keyspace, now, database, words, touched),
+        StringsChange::Append => writing::append(keyspace, now, database, words, touched),
+        StringsChange::SetRange => {
+            writing::set_range(alloc, keyspace, now, database, words, touched)
+        }
+        StringsChange::Incr => numbers::incr(alloc, keyspace, now, database, words, touched),
+        StringsChange::Decr => numbers::decr(alloc, keyspace, now, database, words, touched),
+        StringsChange::IncrBy => {
+            numbers::incr_by(alloc, keyspace, now, database, words, touched)
+        }
+        StringsChange::DecrBy => {
+            numbers::decr_by(alloc, keyspace, now, database, words, touched)
+        }
+        StringsChange::SetBit => writing::set_bit(alloc, keyspace, now, database, words, touched),
+        StringsChange::BitOp => bits::bit_op(alloc, keyspace, now, database, words, touched),
+    }
 }

@@ -1,17 +1,23 @@
 -- The changes of a database, on its entries and its ordered deadlines at once.
-use Rattle.std.proofs.Common.{◌≡◌, ℕ, ℤ, Vec, Global, Bool, true, false, cond, Option, Some, None, List, refl, ap, sym, ◌∙◌, subst, true≢false, is_some, Result, Ok, Err, OnOk, OnErr, OnSome}
+use Rattle.std.proofs.Common.{◌≡◌, ℕ, ℤ, Vec, Global, Bool, true, false, cond, Option, Some, None, List, refl, ap, sym, ◌∙◌, subst, true≢false, is_some, Result, Ok, Err, OnOk, OnErr, OnSome, IfNone}
 use Rattle.std.specs.Option.{option_map}
 use Rattle.std.specs.Map.{lookup, KeepsOthers}
 use Rattle.std.specs.FinMap as map
 use Rattle.std.specs.FinSet as set
+use Rattle.std.specs.Ordering.{eq_by_cmp}
+use Rattle.std.specs.Cmp.{Equal-is}
+use Rattle.std.specs.Cmp.Lexicographic.{nat_list_cmp_total}
+use Rattle.std.proofs.lemmas.Map.Lookups.{exact_bytes}
+use Rattle.nr_model.specs.Keyspace as model
 use Rattle.nr_model.specs.Bytes.{Bytes}
-use Rattle.nr_model.specs.Keyspace.{Stored, is_live_at, only_live}
-use Rattle.nr_keyspace.specs.Deadlines.{due_cmp, without_deadline, IsReplaced}
-use Rattle.nr_keyspace.specs.Stores.{IsIndexed, redated, bytes_of, store_of, stored_of, deadline_of}
+use Rattle.nr_model.specs.Keyspace.{byte_cmp, Stored, is_live_at, only_live}
+use Rattle.nr_keyspace.specs.Deadlines.{due_cmp, has_deadline, without_deadline, IsReplaced}
+use Rattle.nr_keyspace.specs.Stores.{Store, IsIndexed, redated, bytes_of, store_of, stored_of, deadline_of}
 use Rattle.nr_keyspace.specs.Values.{value_of}
 use Rattle.nr_keyspace.specs.declared.value.Value.{Value}
 use Rattle.nr_keyspace.specs.declared.database.Entry.{Entry}
 use Rattle.nr_keyspace.proofs.Named.{is_name, same_name, get-store, inserted, removed, reordered}
+use Rattle.nr_keyspace.proofs.Replaced.{kept}
 use Rattle.nr_keyspace.proofs.Indexed.{insert_indexed, remove_indexed}
 
 abbrev pub Entries : Type 0
@@ -101,3 +107,41 @@ redated_indexed old new dues after name stored deadline was at is replaced =
     let s : Stored = record { value = stored.value; deadline = deadline } in
     subst (λ store. IsIndexed store after) (sym (is ∙ ap (λ (o : Option Stored). redated (store_of bytes_of old) name o deadline) at))
     (insert_indexed (store_of bytes_of old) dues after name s was replaced)
+
+pub none_then : {A P Q : Type 0} (result : Option A) → IfNone result P → (P → Q) → IfNone result Q
+none_then (Some x) holds then = tt
+none_then None holds then = then holds
+
+pub not_some : {A : Type 0} (option : Option A) (some : Bool) → some ≡ is_some option → some ≡ false → option ≡ None
+not_some None some is unset = refl
+not_some (Some x) some is unset = absurd (true≢false (sym is ∙ unset))
+
+-- what is stored already changes nothing when it is stored again
+insert_again : (store : Store) (name : Bytes) (stored : Stored) → map.get store name ≡ Some stored → map.insert store name stored ≡ store
+insert_again store name stored at = map.same_map nat_list_cmp_total exact_bytes _ _ (λ q.
+    map.get-insert nat_list_cmp_total store name stored q
+    ∙ elim (eq_by_cmp byte_cmp q name) as (λ b. eq_by_cmp byte_cmp q name ≡ b → cond b (Some stored) (map.get store q) ≡ map.get store q) [
+      | true ↦ λ here. sym at ∙ ap (map.get store) (sym (exact_bytes q name ((Equal-is (byte_cmp q name)).0 here)))
+      | false ↦ λ _. refl
+    ] refl)
+
+-- an entry that is written as it was changes nothing
+pub entry_kept : (old new : Entries) (name : Bytes) (found written : Entry) → Some found ≡ lookup (is_name bytes_of name) old
+    → lookup (is_name bytes_of name) new ≡ Some written → KeepsOthers (same_name bytes_of) (is_name bytes_of name) old new
+    → stored_of written ≡ stored_of found → store_of bytes_of new ≡ store_of bytes_of old
+entry_kept old new name found written is at_name others same =
+    inserted bytes_of old new name written at_name others
+    ∙ insert_again (store_of bytes_of old) name (stored_of written) (get-store bytes_of old name ∙ ap (option_map stored_of) (sym is) ∙ ap Some (sym same))
+
+-- where another value is written at a name with no deadline, the deadlines are as they were
+pub rewritten_indexed : (result : Option Value) (old new : Entries) (dues : set.FinSet due_cmp) (name : Bytes) (value : model.Value)
+    → IsIndexed (store_of bytes_of old) dues
+    → IfNone result (store_of bytes_of new ≡ map.insert (store_of bytes_of old) name (record { value = value; deadline = None }))
+    → IfNone result (deadline_of (map.get (store_of bytes_of old) name) ≡ None)
+    → OnSome result (store_of bytes_of new ≡ store_of bytes_of old) → IsIndexed (store_of bytes_of new) dues
+rewritten_indexed None old new dues name value was written undated unchanged =
+    let stored : Stored = record { value = value; deadline = None } in
+    subst (λ store. IsIndexed store dues) (sym written)
+    (insert_indexed (store_of bytes_of old) dues dues name stored was
+    (kept dues None None name (λ deadline. was.exact deadline name ∙ ap (has_deadline deadline) undated) refl))
+rewritten_indexed (Some back) old new dues name value was written undated unchanged = subst (λ store. IsIndexed store dues) (sym unchanged) was

@@ -1,5 +1,5 @@
 -- How many names are live.
-use Rattle.std.proofs.Common.{◌≡◌, ℕ, ℤ, pos, ◌+◌, ◌-◌, ◌≤◌, suc, true, false, cond, not, ◌||◌, ◌&&◌, Option, Some, None, List, [], ◌∷◌, length, is_some, refl, ap, sym, ◌∙◌, true≢false, arith, add-zero}
+use Rattle.std.proofs.Common.{◌≡◌, ℕ, ℤ, pos, ◌+◌, ◌-◌, ◌≤◌, suc, true, false, cond, not, ◌||◌, ◌&&◌, Option, List, [], ◌∷◌, length, is_some, refl, ap, sym, ◌∙◌, true≢false, arith, add-zero}
 use Rattle.std.specs.Prelude.{int_lt}
 use Rattle.std.specs.declared.cmp.Ordering.TheVariants.{Less}
 use Rattle.std.specs.Ordering.{is_eq, is_gt, eq_by_cmp}
@@ -14,9 +14,9 @@ use Rattle.std.proofs.lemmas.Map.Lookups.{exact_bytes}
 use Rattle.std.proofs.lemmas.Map.Keys.{IsDistinct-tail, sorted_head, sorted_tail}
 use Rattle.nr_model.specs.Bytes.{Bytes}
 use Rattle.nr_model.specs.Keyspace.{byte_cmp, Stored, only_live}
-use Rattle.nr_keyspace.specs.Deadlines.{Due, due_cmp, dues_of, has_deadline}
+use Rattle.nr_keyspace.specs.Deadlines.{Due, due_cmp, dues_of}
 use Rattle.nr_keyspace.specs.Names.{live_store}
-use Rattle.nr_keyspace.specs.Stores.{Store, IsIndexed, stored_of, bytes_of, store_of, deadline_of}
+use Rattle.nr_keyspace.specs.Stores.{Store, IsIndexed, stored_of, bytes_of, store_of}
 use Rattle.nr_keyspace.proofs.Orders.{due_total, due_exact}
 use Rattle.nr_keyspace.proofs.Ordered.{due, is_due, stored_cmp, contains-dues, still_live, first_found}
 use Rattle.nr_keyspace.proofs.Indexed.{sweep_step, all_live}
@@ -28,12 +28,8 @@ use Rattle.nr_keyspace.proofs.Copied.{only_once}
 one_more : (n : ℕ) → n + 1 ≡ suc n
 one_more n = omega arith
 
-stored_there : (stored : Option Stored) (deadline : ℤ) → has_deadline deadline (deadline_of stored) ≡ true → is_some stored ≡ true
-stored_there None deadline has = has
-stored_there (Some stored) deadline has = refl
-
-one_out : (live expired all fewer : ℕ) → live + expired ≡ fewer → fewer ≡ all - 1 → (all ≡ 0 → ⊥) → live + suc expired ≡ all
-one_out live expired all fewer rest less some = omega (arith, some)
+one_out : (live expired fewer all : ℕ) → live + expired ≡ fewer → suc fewer ≡ all → live + suc expired ≡ all
+one_out live expired fewer all rest one = omega arith
 
 -- as many names as entries
 pub len_entries : (entries : Entries) → IsDistinct (same_name bytes_of) (keys_of entries) → map.len (store_of bytes_of entries) ≡ length entries
@@ -96,11 +92,8 @@ module _ {Name : Type 0} (bytes : Name → Bytes) where
             let rest = counted now keys fewer (sorted_tail (stored_cmp bytes) k keys rising) step.indexed in
             let same : live_store fewer now ≡ live_store store now =
             map.same_map nat_list_cmp_total exact_bytes _ _ (λ q. get-live_store fewer now q ∙ step.same_live q ∙ sym (get-live_store store now q)) in
-            let has : map.contains_key store name ≡ true = stored_there (map.get store name) k.0 (sym (indexed.exact k.0 name) ∙ first_found bytes k keys) in
-            one_out (map.len (live_store store now)) (expired_of now keys) (map.len store) (map.len fewer)
-            (ap (λ m. map.len m + expired_of now keys) (sym same) ∙ rest)
-            (map.len-remove nat_list_cmp_total store name ∙ ap (λ b. cond b (map.len store - 1) (map.len store)) has)
-            (λ none. true≢false (sym has ∙ ap (λ m. map.contains_key m name) (map.empty_of_len store none) ∙ ap is_some (map.get-empty byte_cmp name)))
+            one_out (map.len (live_store store now)) (expired_of now keys) (map.len fewer) (map.len store)
+            (ap (λ m. map.len m + expired_of now keys) (sym same) ∙ rest) step.one
       ] refl
 
   -- where none is left to count, all are counted

@@ -1,5 +1,5 @@
 -- That the ordered deadlines are those of the names stays so.
-use Rattle.std.proofs.Common.{◌≡◌, ◌≤◌, ◌-◌, suc, arith, subst, ℕ, ℤ, pos, Bool, true, false, cond, not, ◌&&◌, Option, Some, None, refl, ap, sym, ◌∙◌, true≢false}
+use Rattle.std.proofs.Common.{◌≡◌, ◌-◌, suc, arith, subst, ℕ, ℤ, pos, Bool, true, false, cond, not, ◌&&◌, Option, Some, None, is_some, refl, ap, sym, ◌∙◌, true≢false}
 use Rattle.std.specs.Prelude.{int_lt}
 use Rattle.std.specs.Ordering.{is_eq, eq_by_cmp, int_cmp}
 use Rattle.std.specs.Cmp.{Equal-is, tied_itself, int_cmp_total}
@@ -11,7 +11,6 @@ use Rattle.nr_model.specs.Bytes.{Bytes}
 use Rattle.nr_model.specs.Keyspace.{byte_cmp, Stored, is_live_at, only_live}
 use Rattle.nr_keyspace.specs.Deadlines.{due_cmp, has_deadline, without_deadline, IsReplaced}
 use Rattle.nr_keyspace.specs.Stores.{Store, IsIndexed, deadline_of}
-use Rattle.nr_keyspace.proofs.Orders.{due_total}
 use Rattle.nr_keyspace.proofs.Replaced.{contains-without}
 
 named : (q name : Bytes) → eq_by_cmp byte_cmp q name ≡ true → q ≡ name
@@ -81,6 +80,20 @@ live_by now (Some stored) deadline has = ap (λ d. cond (is_live_at now d) (Some
 pub record IsStep (now : ℕ) (store : Store) (dues : set.FinSet due_cmp) (name : Bytes) (fewer : set.FinSet due_cmp) : Type 0 where
   pub indexed : IsIndexed (map.remove store name) fewer
   pub same_live : (q : Bytes) → only_live now (map.get (map.remove store name) q) ≡ only_live now (map.get store q)
+  pub one : suc (map.len (map.remove store name)) ≡ map.len store
+
+stored_there : (stored : Option Stored) (deadline : ℤ) → has_deadline deadline (deadline_of stored) ≡ true → is_some stored ≡ true
+stored_there None deadline has = has
+stored_there (Some stored) deadline has = refl
+
+-- as many names less one, where the name was there
+one_fewer : (store : Store) (name : Bytes) → map.contains_key store name ≡ true → suc (map.len (map.remove store name)) ≡ map.len store
+one_fewer store name has =
+    let some : map.len store ≡ 0 → ⊥ = λ none. true≢false
+    (sym has ∙ ap (λ m. map.contains_key m name) (map.empty_of_len store none) ∙ ap is_some (map.get-empty byte_cmp name)) in
+    let less : map.len (map.remove store name) ≡ map.len store - 1 =
+    map.len-remove nat_list_cmp_total store name ∙ ap (λ b. cond b (map.len store - 1) (map.len store)) has in
+    omega (arith, some)
 
 pub sweep_step : (now : ℕ) (store : Store) (dues fewer : set.FinSet due_cmp) (name : Bytes) → IsIndexed store dues
     → (deadline : ℤ) × (int_lt (pos now) deadline ≡ false) × (set.contains dues (deadline, name) ≡ true) × (fewer ≡ set.remove dues (deadline, name))
@@ -98,17 +111,8 @@ sweep_step now store dues fewer name was popped =
             | true ↦ λ here. sym (ap (λ n. only_live now (map.get store n)) (named q name here) ∙ expired)
             | false ↦ λ _. refl
           ] refl;
+      one = one_fewer store name (stored_there (map.get store name) popped.0 (sym (was.exact popped.0 name) ∙ popped.2));
     }
-
-pub sweep_shrinks : (dues fewer : set.FinSet due_cmp) (name : Bytes) (now : ℕ)
-    → (deadline : ℤ) × (int_lt (pos now) deadline ≡ false) × (set.contains dues (deadline, name) ≡ true) × (fewer ≡ set.remove dues (deadline, name))
-    → suc (set.len fewer) ≤ set.len dues
-sweep_shrinks dues fewer name now popped =
-    let one : set.len dues ≡ 0 → ⊥ = λ none. true≢false
-    (sym popped.2 ∙ ap (λ s. set.contains s (popped.0, name)) (set.empty_of_len dues none) ∙ set.contains-empty due_cmp (popped.0, name)) in
-    let left : set.len fewer ≡ set.len dues - 1 =
-    ap set.len popped.3 ∙ set.len-remove due_total dues (popped.0, name) ∙ ap (λ b. cond b (set.len dues - 1) (set.len dues)) popped.2 in
-    omega (arith, one)
 
 has_itself : (deadline : ℤ) → has_deadline deadline (Some deadline) ≡ true
 has_itself deadline = ap is_eq (tied_itself int_cmp_total deadline)

@@ -147,6 +147,27 @@ pub swept : (now : ℕ) (old new : List Store) → IsSwept now old new → joine
 swept now old new is = map.same_map key_total key_exact _ _ (λ key.
     get-joined new key ∙ is.left key.database key.name ∙ ap (only_live now) (sym (get-joined old key)) ∙ sym (get-live (joined old) now key))
 
+pub cleared : (stores : List Store) (database : ℕ) (key : Key) → database < length stores
+    → map.get (joined (set stores database map.empty)) key ≡ cond (eqb key.database database) None (map.get (joined stores) key)
+cleared stores database key below = get-set stores database map.empty key below
+    ∙ ap (λ (o : Option Stored). cond (eqb key.database database) o (map.get (joined stores) key)) (map.get-empty byte_cmp key.name)
+
+-- a database in which what is live stays so leaves the live keys as they were
+pub live_in : (now : ℕ) (stores : List Store) (database : ℕ) (store new : Store) → store ≡ get_or stores database store → database < length stores
+    → ((q : Bytes) → only_live now (map.get new q) ≡ only_live now (map.get store q))
+    → live (joined (set stores database new)) now ≡ live (joined stores) now
+live_in now stores database store new is below same = map.same_map key_total key_exact _ _ (λ key.
+    get-live (joined (set stores database new)) now key
+    ∙ ap (only_live now) (get-set stores database new key below)
+    ∙ elim (eqb key.database database) as
+    (λ b. eqb key.database database ≡ b
+    → only_live now (cond b (map.get new key.name) (map.get (joined stores) key)) ≡ only_live now (map.get (joined stores) key)) [
+      | true ↦ λ e. same key.name ∙ ap (only_live now) (sym (get-at stores database store key.name is below)
+          ∙ ap (λ d. map.get (joined stores) (key_of d key.name)) (sym (same_number key.database database e)))
+      | false ↦ λ _. refl
+    ] refl
+    ∙ sym (get-live (joined stores) now key))
+
 pub none_stored : (stores : List Store) → ((database : ℕ) → store_at stores database ≡ map.empty) → joined stores ≡ map.empty
 none_stored stores empty = map.same_map key_total key_exact _ _ (λ key.
     get-joined stores key ∙ ap (λ s. map.get s key.name) (empty key.database) ∙ map.get-empty byte_cmp key.name ∙ sym (map.get-empty key_cmp key))
@@ -175,6 +196,15 @@ all_swept now count old new all is = record {
             none ∙ sym (ap (only_live now) none)
       ] refl;
 }
+
+-- the first ones empty, where there are no others
+pub all_cleared : (count : ℕ) (old new : List Store) → length old ≤ count
+    → ((k : ℕ) → store_at new k ≡ cond (ltb k count) map.empty (store_at old k)) → (database : ℕ) → store_at new database ≡ map.empty
+all_cleared count old new all is k =
+    is k ∙ elim (ltb k count) as (λ b. ltb k count ≡ b → cond b map.empty (store_at old k) ≡ map.empty) [
+      | true ↦ λ _. refl
+      | false ↦ λ past. get_or_past old k map.empty (le_trans all (ltb-false k count past))
+    ] refl
 
 pub redated_at : (stores : List Store) (database : ℕ) (store : Store) (name : Bytes) (stored : Option Stored) (deadline : Option ℤ)
     → store ≡ get_or stores database store → database < length stores

@@ -9,3 +9,5 @@ pub mod Copied
 pub mod Names
 pub mod Listed
 pub mod Counted
+pub mod Seen
+pub mod Edited

@@ -14,10 +14,10 @@ use Rattle.std.specs.FinMap.Entries.{below_all, is_sorted, find}
 use Rattle.std.proofs.lemmas.List.{length-map}
 use Rattle.std.proofs.lemmas.Map.Lookups.{exact_bytes}
 use Rattle.nr_model.specs.Bytes.{Bytes}
-use Rattle.nr_model.specs.Keyspace.{Key, Keyspace, key_cmp, byte_cmp, Stored, is_stored_live, live, only_live}
+use Rattle.nr_model.specs.Keyspace.{Key, Keyspace, key_cmp, byte_cmp, Stored, is_stored_live, live, only_live, names_in}
 use Rattle.nr_keyspace.specs.Stores.{Store}
 use Rattle.nr_keyspace.specs.Joined.{key_of, joined}
-use Rattle.nr_keyspace.specs.Names.{names_in, live_store}
+use Rattle.nr_keyspace.specs.Names.{live_store}
 use Rattle.nr_keyspace.proofs.Joined.{tied, get-live_at}
 
 both : (a b : Bool) → T a → T b → T (a && b)

@@ -1,12 +1,10 @@
 -- The databases as one keyspace.
-use Rattle.std.specs.Prelude.{◌≡◌, ℕ, suc, List, [], ◌∷◌, slice_index_or, ◌==◌, if◌then◌else◌}
+use Rattle.std.specs.Prelude.{◌≡◌, ℕ, suc, List, [], ◌∷◌, slice_index_or}
 use Rattle.std.specs.FinMap as map
 use Rattle.nr_model.specs.Bytes.{Bytes}
-use Rattle.nr_model.specs.Keyspace.{Key, Keyspace, Stored, only_live}
+use Rattle.nr_model.specs.Keyspace.{Keyspace, Stored, only_live}
+pub use Rattle.nr_model.specs.Keyspace.{key_of, other_of, exchanged}
 use Rattle.nr_keyspace.specs.Stores.{Store}
-
-abbrev pub key_of : ℕ → Bytes → Key
-key_of database name = record { database = database; name = name }
 
 -- with each of these in a database
 abbrev pub with_entries : ℕ → List (Bytes × Stored) → Keyspace → Keyspace
@@ -28,10 +26,3 @@ store_at stores database = slice_index_or stores database map.empty
 -- in each database what is live at a moment stays, and nothing else
 pub record IsSwept (now : ℕ) (old new : List Store) : Type 0 where
   pub left : (database : ℕ) (name : Bytes) → map.get (store_at new database) name ≡ only_live now (map.get (store_at old database) name)
-
--- of two databases each stands for the other
-abbrev pub other_of : ℕ → ℕ → ℕ → ℕ
-other_of a b database = if database == a then b else (if database == b then a else database)
-
-abbrev pub exchanged : ℕ → ℕ → Key → Key
-exchanged a b key = key_of (other_of a b key.database) key.name

@@ -1,5 +1,7 @@
 pub mod Deadlines
+pub mod Edited
 pub mod Joined
 pub mod Names
+pub mod Seen
 pub mod Stores
 pub mod Values

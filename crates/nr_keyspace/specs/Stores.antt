@@ -1,6 +1,6 @@
 -- The keys of one database as a finite map.
 use Rattle.std.specs.declared.alloc.Global.{Global}
-use Rattle.std.specs.Prelude.{◌≡◌, ℕ, ℤ, Option, Some, None, List, Vec}
+use Rattle.std.specs.Prelude.{◌≡◌, ℕ, ℤ, Bool, false, not, Option, Some, None, is_some, List, Vec}
 use Rattle.std.specs.Prelude as prelude
 use Rattle.std.specs.declared.cmp.Ordering.{Ordering}
 use Rattle.std.specs.FinMap as map
@@ -37,6 +37,11 @@ store_of bytes entries = map.from_entries (stored_entries bytes entries)
 abbrev pub deadline_of : Option Stored → Option ℤ
 deadline_of None = None
 deadline_of (Some stored) = stored.deadline
+
+-- whether something is stored, with no deadline
+abbrev pub is_undated : Option Stored → Bool
+is_undated None = false
+is_undated (Some stored) = not (is_some stored.deadline)
 
 -- with another deadline where something was stored
 abbrev pub redated : {K : Type 0} {R : K → K → Ordering} → map.FinMap R Stored → K → Option Stored → Option ℤ → map.FinMap R Stored

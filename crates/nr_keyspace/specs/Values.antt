@@ -5,4 +5,4 @@ use Rattle.nr_keyspace.specs.declared.value.Value.TheVariants.{String}
 
 -- the value that the code's value stands for
 abbrev pub value_of : Value → model.Value
-value_of (String bytes) = model.Text bytes
+value_of (String text) = model.Text text

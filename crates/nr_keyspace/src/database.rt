@@ -1,14 +1,16 @@
 // The keys of one database: a hashed map beside an ordered index of their deadlines, kept in step.
-ghost use Rattle.std.specs.Prelude.{◌≡◌, Some, IfOk, OnOk, OnErr, OnSome, IfNone, is_some};
+ghost use Rattle.std.specs.Prelude.{◌≡◌, ◌<◌, ◌^◌, not, ◌≤◌, ◌+◌, suc, true, false, Some, None, IfOk, OnOk, OnErr, IfSome, OnSome, IfNone, is_some};
 ghost use Rattle.std.specs.Option.{option_map};
 ghost use Rattle.std.specs.FinMap as map;
 ghost use Rattle.nr_model.specs.Bytes.{Bytes};
 ghost use Rattle.nr_model.specs.Keyspace.{Stored, only_live};
 ghost use Rattle.nr_keyspace.specs.Values.{value_of};
 ghost use Rattle.nr_keyspace.specs.Names.{live_store};
-ghost use Rattle.nr_keyspace.specs.Stores.{stored_of, deadline_of, bytes_of, store_of, redated};
+ghost use Rattle.nr_keyspace.specs.Edited.{IsEdited};
+ghost use Rattle.nr_keyspace.specs.Stores.{stored_of, deadline_of, bytes_of, store_of, is_undated, redated};
 
 use crate::deadlines::Deadlines;
+use crate::edit::Edit;
 use crate::moment::is_live;
 use crate::value::Value;
 use nr_blob::{Blob, Memory};
@@ -16,6 +18,9 @@ use std::alloc::{AllocError, Global};
 use std::collections::{BTreeSet, HashMap};
 use std::hash::RandomState;
 use std::marker::Model;
+
+// How many expired names a sweep takes out of one database.
+const SWEPT_AT_ONCE: usize = 4;
 
 /// A value, and the millisecond from which it is gone, if there is one.
 #[derive(Drop)]
@@ -49,6 +54,50 @@ fn redate(by_name: &mut HashMap<Vec<u8>, Entry, RandomState>, name: &[u8], deadl
     if let Some(entry) = by_name.get_mut(name) {
         entry.deadline = deadline;
     }
+}
+
+// Writes another value to the entry at a name, if there is one and it has no deadline. Else the value comes back.
+fn rewrite(
+    by_name: &mut HashMap<Vec<u8>, Entry, RandomState>,
+    name: &[u8],
+    value: Value,
+) -> Option<Value>
+    ensures written { IfNone result (store_of bytes_of by_name.new.entries
+        ≡ map.insert (store_of bytes_of by_name.old.entries) name.now (record { value = value_of value; deadline = None })) }
+    ensures exact { is_some result ≡ not (is_undated (map.get (store_of bytes_of by_name.old.entries) name.now)) }
+    ensures undated { IfNone result (deadline_of (map.get (store_of bytes_of by_name.old.entries) name.now) ≡ None) }
+    ensures back { IfSome result (λ back. back ≡ value) }
+    ensures unchanged { OnSome result (store_of bytes_of by_name.new.entries ≡ store_of bytes_of by_name.old.entries) }
+{
+    let Some(entry) = by_name.get_mut(name) else {
+        return Some(value);
+    };
+    if entry.deadline.is_some() {
+        return Some(value);
+    }
+    entry.value = value;
+    None
+}
+
+// Has the value at a live name edited, if there is one.
+fn edit_at<E: Edit>(
+    by_name: &mut HashMap<Vec<u8>, Entry, RandomState>,
+    now: u64,
+    name: &[u8],
+    edit: E,
+) -> Result<Option<E::Given>, Memory>
+    ensures ok { let old = store_of bytes_of by_name.old.entries in IfOk result
+        (λ given. IsEdited (E.edits edit) old (store_of bytes_of by_name.new.entries) name.now (only_live now (map.get old name.now)) given) }
+    ensures err { OnErr result (store_of bytes_of by_name.new.entries ≡ store_of bytes_of by_name.old.entries) }
+{
+    let Some(entry) = by_name.get_mut(name) else {
+        return Ok(None);
+    };
+    if !is_live(now, entry.deadline) {
+        return Ok(None);
+    }
+    let given = edit.edit(&mut entry.value)?;
+    Ok(Some(given))
 }
 
 fn in_order(alloc: Global, names: BTreeSet<Blob>) -> Result<Vec<Blob>, AllocError>
@@ -120,7 +169,8 @@ impl Database {
 
     /// How many names are live. Looks at the deadlines that have passed alone.
     pub(crate) fn len(&self, now: u64) -> usize
-        ensures { result ≡ map.len (live_store self.now now) }
+        ensures count { result ≡ map.len (live_store self.now now) }
+        ensures small { result < 2 ^ 63 }
     {
         self.by_name.len() - self.deadlines.count_expired(now)
     }
@@ -153,6 +203,29 @@ impl Database {
         let name = self.deadlines.replace(before, deadline, name)?;
         self.by_name.insert(name, Entry { value, deadline })?;
         Ok(())
+    }
+
+    /// Stores a value, in place, at a name that is there and has no deadline. Else the value comes back.
+    pub(crate) fn rewrite(&mut self, name: &[u8], value: Value) -> Option<Value>
+        ensures written { IfNone result (self.new ≡ map.insert self.old name.now (record { value = value_of value; deadline = None })) }
+        ensures exact { is_some result ≡ not (is_undated (map.get self.old name.now)) }
+        ensures back { IfSome result (λ back. back ≡ value) }
+        ensures unchanged { OnSome result (self.new ≡ self.old) }
+    {
+        rewrite(&mut self.by_name, name, value)
+    }
+
+    /// Has the value at a live name edited, if there is one.
+    pub(crate) fn edit<E: Edit>(
+        &mut self,
+        now: u64,
+        name: &[u8],
+        edit: E,
+    ) -> Result<Option<E::Given>, Memory>
+        ensures ok { IfOk result (λ given. IsEdited (E.edits edit) self.old self.new name.now (only_live now (map.get self.old name.now)) given) }
+        ensures err { OnErr result (self.new ≡ self.old) }
+    {
+        edit_at(&mut self.by_name, now, name, edit)
     }
 
     /// Takes a live name out, and gives its value.
@@ -193,12 +266,45 @@ impl Database {
         Ok(true)
     }
 
+    /// Takes every name out. Linear in what is stored.
+    pub(crate) fn clear(&mut self, alloc: Global)
+        ensures { self.new ≡ map.empty }
+    {
+        *self = Database::new(alloc, *self.by_name.hasher());
+    }
+
     /// Takes each expired name out. It looks at those alone.
     pub(crate) fn sweep(&mut self, now: u64)
         ensures { (name : Bytes) → map.get self.new name ≡ only_live now (map.get self.old name) }
     {
-        while let Some(name) = self.deadlines.pop_expired(now) {
-            self.by_name.remove(&name);
+        while self.take_expired(now) {}
+    }
+
+    /// Takes a few expired names out, the earliest first.
+    pub(crate) fn sweep_some(&mut self, now: u64) -> bool
+        ensures same_live { (name : Bytes) → only_live now (map.get self.new name) ≡ only_live now (map.get self.old name) }
+        ensures few { map.len self.old ≤ map.len self.new + 4 }
+        ensures all { result ≡ false → (name : Bytes) → only_live now (map.get self.new name) ≡ map.get self.new name }
+    {
+        for _ in 0..SWEPT_AT_ONCE {
+            if !self.take_expired(now) {
+                return false;
+            }
         }
+        true
+    }
+
+    // Takes the name that expired first out, if there is one, and says whether there was.
+    fn take_expired(&mut self, now: u64) -> bool
+        ensures same_live { (name : Bytes) → only_live now (map.get self.new name) ≡ only_live now (map.get self.old name) }
+        ensures one { result ≡ true → suc (map.len self.new) ≡ map.len self.old }
+        ensures none { result ≡ false → (name : Bytes) → only_live now (map.get self.new name) ≡ map.get self.new name }
+        ensures unchanged { result ≡ false → self.new ≡ self.old }
+    {
+        let Some(name) = self.deadlines.pop_expired(now) else {
+            return false;
+        };
+        self.by_name.remove(&name);
+        true
     }
 }

@@ -1,7 +1,8 @@
 // Which of the sixteen databases: a number that can't be out of range.
-ghost use Rattle.std.specs.Prelude.{◌≡◌, ◌<◌, ◌↔◌, IsSome, IfSome};
+ghost use Rattle.std.specs.Prelude.{ℕ, get_or, ◌≡◌, ◌<◌, ◌↔◌, ◌+◌, ◌%◌, IsSome, IfSome};
 ghost use Rattle.nr_model.specs.Keyspace.{how_many_databases};
 
+use std::array;
 use std::marker::Model;
 
 pub(crate) const DATABASES: usize = 16;
@@ -29,6 +30,18 @@ impl Db {
     /// The database in which a connection begins.
     pub const FIRST: Db = Db { index: 0 };
 
+    /// Each of them, in order.
+    pub fn all() -> [Db; DATABASES]
+        ensures { (index other : ℕ) → index < how_many_databases → get_or result index other ≡ index }
+    {
+        array::from_fn(
+            |index|
+                requires { index < how_many_databases }
+                ensures { result ≡ index }
+            { Db { index: index as u8 } },
+        )
+    }
+
     /// `None` at 16 and above.
     pub fn new(index: usize) -> Option<Db>
         ensures exists { IsSome result ↔ (index < how_many_databases) }
@@ -38,6 +51,15 @@ impl Db {
             Some(Db { index: index as u8 })
         } else {
             None
+        }
+    }
+
+    /// The one behind, and the first behind the last.
+    pub(crate) fn next(self) -> Db
+        ensures { result ≡ (self + 1) % how_many_databases }
+    {
+        Db {
+            index: (self.index + 1) % DATABASES as u8,
         }
     }
 

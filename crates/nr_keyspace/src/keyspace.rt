@@ -1,69 +1,69 @@
-// All sixteen databases, seen as one finite map from (database, name) to value and deadline.
-ghost use Rattle.std.specs.Prelude.{◌≡◌, ℕ, length, IfOk, OnOk, OnErr, OnSome, IfNone, is_some};
+// The databases as commands see them: what was gone at the latest sweep is out of the view, whenever its memory is given back.
+ghost use Rattle.std.specs.Prelude.{◌≡◌, ◌<◌, ◌^◌, not, ◌==◌, cond, true, length, None, IfOk, OnOk, OnErr, IfSome, OnSome, IfNone, is_some};
 ghost use Rattle.std.specs.Option.{option_map};
 ghost use Rattle.std.specs.FinMap as map;
 ghost use Rattle.nr_model.specs.Keyspace as model;
+ghost use Rattle.nr_model.specs.Keyspace.{names_in};
 ghost use Rattle.nr_keyspace.specs.Values.{value_of};
-ghost use Rattle.nr_keyspace.specs.Names.{names_in};
-ghost use Rattle.nr_keyspace.specs.Stores.{redated};
-ghost use Rattle.nr_keyspace.specs.Joined.{key_of, store_at, exchanged, IsSwept};
+ghost use Rattle.nr_keyspace.specs.Edited.{IsEdited};
+ghost use Rattle.nr_keyspace.specs.Stores.{is_undated, redated};
+ghost use Rattle.nr_keyspace.specs.Joined.{key_of, exchanged};
+ghost use Rattle.nr_keyspace.specs.Seen.{seen_after, is_seen_after};
 
-use crate::database::Database;
-use crate::db::{DATABASES, Db};
+use crate::databases::Databases;
+use crate::db::Db;
+use crate::edit::Edit;
+use crate::moment::is_live;
 use crate::value::Value;
 use nr_blob::{Blob, Memory};
 use std::alloc::Global;
+use std::cmp;
 use std::hash::RandomState;
 use std::marker::Model;
 
-/// Keys with their values and deadlines, in sixteen databases. A deadline is the millisecond from which its key is gone;
-/// a key that is gone takes room until a sweep.
+/// Keys with their values and deadlines, in sixteen databases. A deadline is the millisecond from which its key is gone. What is gone at
+/// a sweep is seen no more, and takes room until a later sweep comes to it.
 #[derive(Drop)]
 pub struct Keyspace {
-    databases: Vec<Database>,
+    databases: Databases,
+    // The latest moment of a sweep.
+    latest: Option<u64>,
+    // The database that the next sweep looks at.
+    turn: Db,
 }
 
 impl Model for Keyspace {
-    ghost use Rattle.std.specs.Prelude.{◌≡◌, length};
     ghost use Rattle.nr_model.specs.Keyspace as model;
-    ghost use Rattle.nr_keyspace.specs.Joined.{joined};
+    ghost use Rattle.nr_keyspace.specs.Seen.{seen_after};
 
     ghost Value = { model.Keyspace };
 
     ghost coded = { model.coded_keyspace };
 
-    ghost view = { λ k. joined k.databases.items };
-
-    ghost invariant = { λ k. length k.databases.items ≡ model.how_many_databases };
+    ghost view = { λ k. seen_after k.latest k.databases };
 }
 
-fn empty_databases(alloc: Global, keys: RandomState) -> Result<Vec<Database>, Memory>
-    ensures count { IfOk result (λ databases. length databases.items ≡ model.how_many_databases) }
-    ensures empty { IfOk result (λ databases. (database : ℕ) → store_at databases.items database ≡ map.empty) }
+// The moment at which what is stored and live is what is seen and live now.
+fn later(latest: Option<u64>, now: u64) -> u64
+    ensures { (keyspace : model.Keyspace) → model.live (seen_after latest keyspace) now ≡ model.live keyspace result }
 {
-    let mut databases = Vec::with_capacity(alloc, DATABASES)?;
-    for _ in 0..DATABASES {
-        databases.push(Database::new(alloc, keys))?;
+    match latest {
+        Some(latest) => cmp::max(latest, now),
+        None => now,
     }
-    Ok(databases)
 }
 
-fn copy_each(alloc: Global, databases: &[Database]) -> Result<Vec<Database>, Memory>
-    ensures { IfOk result (λ copies. copies.items ≡ databases.now) }
+// The latest sweep, where a key with this deadline is seen after it. Else each key that is gone is taken out for good, and nothing is hidden.
+fn settle(databases: &mut Databases, latest: Option<u64>, deadline: Option<i64>) -> Option<u64>
+    ensures same { seen_after result databases.new ≡ seen_after latest databases.old }
+    ensures seen { is_seen_after result deadline ≡ true }
 {
-    let mut copies = Vec::with_capacity(alloc, databases.len())?;
-    for database in databases {
-        copies.push(database.copy(alloc)?)?;
+    let moment = latest?;
+    if is_live(moment, deadline) {
+        return latest;
     }
-    Ok(copies)
-}
-
-fn sweep_each(databases: &mut [Database], now: u64)
-    ensures { IsSwept now databases.old databases.new }
-{
-    for database in databases.iter_mut() {
-        database.sweep(now);
-    }
+    databases.sweep(moment);
+    None
 }
 
 impl Keyspace {
@@ -72,17 +72,20 @@ impl Keyspace {
         ensures { IfOk result (λ keyspace. keyspace ≡ map.empty) }
     {
         Ok(Keyspace {
-            databases: empty_databases(alloc, keys)?,
+            databases: Databases::new(alloc, keys)?,
+            latest: None,
+            turn: Db::FIRST,
         })
     }
 
-    /// The same keyspace once more, with what is gone and not swept. Linear in what is stored.
+    /// The same keyspace once more, with what is gone and not taken out. Linear in what is stored.
     pub fn copy(&self) -> Result<Keyspace, Memory>
         ensures { IfOk result (λ keyspace. keyspace ≡ self.now) }
     {
-        let alloc = *self.databases.allocator();
         Ok(Keyspace {
-            databases: copy_each(alloc, &self.databases)?,
+            databases: self.databases.copy()?,
+            latest: self.latest,
+            turn: self.turn,
         })
     }
 
@@ -91,31 +94,35 @@ impl Keyspace {
         ensures { option_map (λ value. value_of value.now) result
             ≡ option_map (λ stored. stored.value) (map.get (model.live self.now now) (key_of database name.now)) }
     {
-        self.databases[database.index()].get(now, name)
+        self.databases.get(later(self.latest, now), database, name)
     }
 
     /// The deadline of a live key, if it has one.
     pub fn deadline(&self, now: u64, database: Db, name: &[u8]) -> Option<Option<i64>>
         ensures { result ≡ option_map (λ stored. stored.deadline) (map.get (model.live self.now now) (key_of database name.now)) }
     {
-        self.databases[database.index()].deadline(now, name)
+        self.databases
+            .deadline(later(self.latest, now), database, name)
     }
 
-    /// How many keys are live in a database. Looks at the deadlines that have passed alone.
+    /// How many keys are live in a database. Looks at each deadline that has passed and whose key was not yet taken out.
     pub fn len(&self, now: u64, database: Db) -> usize
-        ensures { result ≡ length (names_in (model.live self.now now) database) }
+        ensures count { result ≡ length (names_in (model.live self.now now) database) }
+        ensures small { result < 2 ^ 63 }
     {
-        self.databases[database.index()].len(now)
+        self.databases.len(later(self.latest, now), database)
     }
 
     /// The names of a database's live keys, in byte order. Looks at every key of the database.
     pub fn keys(&self, alloc: Global, now: u64, database: Db) -> Result<Vec<Blob>, Memory>
         ensures { IfOk result (λ names. names.items ≡ names_in (model.live self.now now) database) }
     {
-        self.databases[database.index()].names(alloc, now)
+        self.databases
+            .keys(alloc, later(self.latest, now), database)
     }
 
-    /// Stores a value and its deadline in the place of whatever the key had. Where memory runs out nothing changes.
+    /// Stores a value and its deadline in the place of whatever the key had. Where memory runs out nothing changes. With a deadline
+    /// that is not after the latest sweep it first takes out each key that is gone.
     pub fn put(
         &mut self,
         database: Db,
@@ -126,7 +133,36 @@ impl Keyspace {
         ensures ok { OnOk result (self.new ≡ map.insert self.old (key_of database name) (record { value = value_of value; deadline = deadline })) }
         ensures err { OnErr result (self.new ≡ self.old) }
     {
-        self.databases[database.index()].put(name.into_vec(), value, deadline)
+        self.latest = settle(&mut self.databases, self.latest, deadline);
+        self.databases.put(database, name, value, deadline)
+    }
+
+    /// Stores a value, in place, at a key that is there and has no deadline: with one hash of its name, no copy and no allocation. Where
+    /// the key isn't so, the value comes back, and nothing changed.
+    pub fn rewrite(&mut self, database: Db, name: &[u8], value: Value) -> Option<Value>
+        ensures written { IfNone result (self.new ≡ map.insert self.old (key_of database name.now) (record { value = value_of value; deadline = None })) }
+        ensures exact { is_some result ≡ not (is_undated (map.get self.old (key_of database name.now))) }
+        ensures back { IfSome result (λ back. back ≡ value) }
+        ensures unchanged { OnSome result (self.new ≡ self.old) }
+    {
+        self.databases.rewrite(database, name, value)
+    }
+
+    /// Has the value of a live key edited, in place, with one hash of its name. Its deadline stays. `None` where no such key is live.
+    /// Where memory runs out nothing changes.
+    pub fn edit<E: Edit>(
+        &mut self,
+        now: u64,
+        database: Db,
+        name: &[u8],
+        edit: E,
+    ) -> Result<Option<E::Given>, Memory>
+        ensures ok { let key = key_of database name.now in IfOk result
+            (λ given. IsEdited (E.edits edit) self.old self.new key (map.get (model.live self.old now) key) given) }
+        ensures err { OnErr result (self.new ≡ self.old) }
+    {
+        self.databases
+            .edit(later(self.latest, now), database, name, edit)
     }
 
     /// Takes a live key out, and gives its value.
@@ -135,10 +171,12 @@ impl Keyspace {
         ensures removed { OnSome result (self.new ≡ map.remove self.old (key_of database name.now)) }
         ensures unchanged { IfNone result (self.new ≡ self.old) }
     {
-        self.databases[database.index()].remove(now, name)
+        self.databases
+            .remove(later(self.latest, now), database, name)
     }
 
-    /// Gives a live key another deadline, or none, and says whether there was one. Where memory runs out nothing changes.
+    /// Gives a live key another deadline, or none, and says whether there was one. Where memory runs out nothing changes. With a
+    /// deadline that is not after the latest sweep it first takes out each key that is gone.
     pub fn set_deadline(
         &mut self,
         now: u64,
@@ -150,20 +188,42 @@ impl Keyspace {
         ensures ok { let key = key_of database name.now in OnOk result (self.new ≡ redated self.old key (map.get (model.live self.old now) key) deadline) }
         ensures err { OnErr result (self.new ≡ self.old) }
     {
-        self.databases[database.index()].set_deadline(now, name, deadline)
+        self.latest = settle(&mut self.databases, self.latest, deadline);
+        let now = later(self.latest, now);
+        self.databases.set_deadline(now, database, name, deadline)
     }
 
     /// Exchanges two databases, in constant time.
     pub fn swap(&mut self, a: Db, b: Db)
         ensures { (key : model.Key) → map.get self.new key ≡ map.get self.old (exchanged a b key) }
     {
-        self.databases.swap(a.index(), b.index());
+        self.databases.swap(a, b);
     }
 
-    /// Takes each key out that is gone at the moment. It looks at those alone, found by their deadlines.
+    /// Takes every key of a database out. Linear in what is stored there.
+    pub fn clear(&mut self, database: Db)
+        ensures { (key : model.Key) → map.get self.new key ≡ cond (key.database == database) None (map.get self.old key) }
+    {
+        self.databases.clear(database);
+    }
+
+    /// Takes every key of every database out. Linear in what is stored.
+    pub fn clear_all(&mut self)
+        ensures { self.new ≡ map.empty }
+    {
+        self.databases.clear_all();
+    }
+
+    /// Each key that is gone at the moment is seen no more. At most four of them are taken out, of one database, whose turn it is until
+    /// none of it is left: no sweep pays for all.
     pub fn sweep(&mut self, now: u64)
         ensures { self.new ≡ model.live self.old now }
     {
-        sweep_each(&mut self.databases, now);
+        let now = later(self.latest, now);
+        let more = self.databases.sweep_some(now, self.turn);
+        self.latest = Some(now);
+        if !more {
+            self.turn = self.turn.next();
+        }
     }
 }

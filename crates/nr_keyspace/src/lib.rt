@@ -3,12 +3,15 @@
 #![tactic(auto)]
 
 pub use db::Db;
+pub use edit::Edit;
 pub use keyspace::Keyspace;
 pub use value::Value;
 
 mod database;
+mod databases;
 mod db;
 mod deadlines;
+mod edit;
 mod keyspace;
 mod moment;
 mod value;

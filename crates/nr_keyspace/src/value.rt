@@ -1,12 +1,13 @@
 // What a key holds. A kind of value is a variant; commands match on it.
 ghost use Rattle.std.specs.Prelude.{◌≡◌, IfOk};
 
-use nr_blob::{Blob, Memory};
+use nr_blob::Memory;
+use nr_strings::Str;
 
 /// The value of a key.
 #[derive(Debug, Drop)]
 pub enum Value {
-    String(Blob),
+    String(Str),
 }
 
 impl Value {
@@ -15,7 +16,7 @@ impl Value {
         ensures { IfOk result (λ value. value ≡ self.now) }
     {
         match self {
-            Value::String(bytes) => Ok(Value::String(bytes.copy()?)),
+            Value::String(text) => Ok(Value::String(text.copy()?)),
         }
     }
 }

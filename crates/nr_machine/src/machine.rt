@@ -66,15 +66,9 @@ impl Machine {
     }
 
     /// An entry's updates, one after the other, at the entry's moment or that of the updates so far, whichever is later.
-    /// What they emit for the connections of the node goes into the sink, and for others nothing is made. Where memory runs out
+    /// What they emit for the connections of the node goes into the sink, and nothing for others. Where memory runs out
     /// the machine has failed, and the sink has what the updates before emitted.
-    pub fn apply<S: Sink>(
-        &mut self,
-        alloc: Global,
-        entry: &Entry,
-        node: usize,
-        out: &mut S,
-    ) -> Result<(), Memory>
+    pub fn apply<S: Sink>(&mut self, entry: &Entry, node: usize, out: &mut S) -> Result<(), Memory>
         ensures applied { OnOk result (self.new ≡ record { state = after_all self.old.state (entry_items (items_of entry.now.jobs.items)); failed = false }) }
         ensures emitted { OnOk result (out.new
             ≡ all_after S.after out.old (for_node node (emitted_all self.old.state (entry_items (items_of entry.now.jobs.items))))) }
@@ -88,7 +82,7 @@ impl Machine {
         }
         self.has_failed = true;
         for job in &entry.jobs {
-            self.apply_job(alloc, job, entry.moment, node, out)?;
+            self.apply_job(job, entry.moment, node, out)?;
         }
         self.has_failed = false;
         Ok(())
@@ -97,7 +91,6 @@ impl Machine {
     // An update at its entry's moment.
     fn apply_job<S: Sink>(
         &mut self,
-        alloc: Global,
         job: &Job,
         moment: u64,
         node: usize,
@@ -113,7 +106,7 @@ impl Machine {
         let now = cmp::max(moment, self.state.logged);
         match &job.kind {
             JobKind::Update(update) => {
-                self.state.update(alloc, now, node, job.conn, update, out)?;
+                self.state.update(now, node, job.conn, update, out)?;
                 self.state.logged = now;
                 Ok(())
             }

@@ -82,13 +82,13 @@ fn run_next<S: Sink>(
     match cmd.command {
         Queueable::Perform(Operation::Look(command)) => {
             if answered {
-                let shown = look(keyspace, now, *database, command, &cmd.words)?;
+                let shown = look(alloc, keyspace, now, *database, command, &cmd.words)?;
                 replies.push(shown.into_reply(alloc)?)?;
             }
             Ok(())
         }
         Queueable::Perform(Operation::Change(command)) => {
-            let reply = change(keyspace, now, database, command, &cmd.words, watches)?;
+            let reply = change(alloc, keyspace, now, database, command, &cmd.words, watches)?;
             replies.push(reply)?;
             Ok(())
         }

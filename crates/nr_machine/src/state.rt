@@ -82,11 +82,10 @@ impl State {
         })
     }
 
-    /// What an update of a connection does at a moment. What it emits for connections of the node goes into the sink, and for
-    /// others nothing is made. Where memory runs out the sink has a front of that, and the state is open.
+    /// What an update of a connection does at a moment. What it emits for connections of the node goes into the sink, and nothing for
+    /// others. Where memory runs out the sink has a front of that, and the state is open.
     pub(crate) fn update<S: Sink>(
         &mut self,
-        alloc: Global,
         now: u64,
         node: usize,
         conn: ConnId,
@@ -104,9 +103,9 @@ impl State {
                 self.change(now, node, conn, *command, words, out)
             }
             Update::Session { command, words } => {
-                self.session(alloc, now, node, conn, *command, words, out)
+                self.session(now, node, conn, *command, words, out)
             }
-            Update::Exec(transaction) => self.exec(alloc, now, node, conn, transaction, out),
+            Update::Exec(transaction) => self.exec(now, node, conn, transaction, out),
             Update::Close(reply) => self.close(node, conn, reply, out),
         }
     }
@@ -130,6 +129,7 @@ impl State {
     {
         let mut database = self.databases.of(conn);
         let reply = change(
+            self.alloc,
             &mut self.keyspace,
             now,
             &mut database,
@@ -144,7 +144,6 @@ impl State {
     // A command that speaks of connections.
     fn session<S: Sink>(
         &mut self,
-        alloc: Global,
         now: u64,
         node: usize,
         conn: ConnId,
@@ -162,13 +161,13 @@ impl State {
         let words = arguments(words);
         match command {
             SessionUpdate::Subscribe(kind) => {
-                subscribe(alloc, &mut self.subs, node, conn, kind, words, out)
+                subscribe(self.alloc, &mut self.subs, node, conn, kind, words, out)
             }
             SessionUpdate::Unsubscribe(kind) => {
-                unsubscribe(alloc, &mut self.subs, node, conn, kind, words, out)
+                unsubscribe(self.alloc, &mut self.subs, node, conn, kind, words, out)
             }
             SessionUpdate::Publish => {
-                let reply = publish(alloc, &self.subs, node, words, out)?;
+                let reply = publish(self.alloc, &self.subs, node, words, out)?;
                 answer_some(node, conn, reply, out)
             }
             SessionUpdate::Watch => {
@@ -193,7 +192,6 @@ impl State {
     // EXEC. Its connection's watches are forgotten, whatever comes of it.
     fn exec<S: Sink>(
         &mut self,
-        alloc: Global,
         now: u64,
         node: usize,
         conn: ConnId,
@@ -207,7 +205,7 @@ impl State {
             ≡ all_after S.after out.old (take n (for_node node (emitted_by self.old (connection_of conn) now (transaction_deed transaction.now)))))) }
     {
         match transaction {
-            Transaction::Queued(commands) => self.run(alloc, now, node, conn, commands, out),
+            Transaction::Queued(commands) => self.run(now, node, conn, commands, out),
             Transaction::Spoiled => {
                 self.watches.forget(conn);
                 let reply = Reply::FixedError(
@@ -221,7 +219,6 @@ impl State {
     // The commands of a transaction, unless a watch of its connection was broken.
     fn run<S: Sink>(
         &mut self,
-        alloc: Global,
         now: u64,
         node: usize,
         conn: ConnId,
@@ -240,7 +237,7 @@ impl State {
         }
         let mut database = self.databases.of(conn);
         let replies = run_all(
-            alloc,
+            self.alloc,
             &mut self.keyspace,
             &mut self.watches,
             &self.subs,
@@ -301,6 +298,7 @@ impl State {
         match read {
             Read::Look { command, words } => {
                 look(
+                    self.alloc,
                     &self.keyspace,
                     now,
                     self.databases.of(conn),

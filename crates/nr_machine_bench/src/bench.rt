@@ -25,10 +25,10 @@ impl Bench {
         let mut machine = Machine::new(alloc, keys)?;
         for serial in 0..CONNECTIONS {
             let entry = subscribing(alloc, serial)?;
-            machine.apply(alloc, &entry, 0, &mut Nowhere)?;
+            machine.apply(&entry, 0, &mut Nowhere)?;
         }
         let entry = setting(alloc, CONNECTIONS)?;
-        machine.apply(alloc, &entry, 0, &mut Nowhere)?;
+        machine.apply(&entry, 0, &mut Nowhere)?;
         Ok(Bench {
             alloc,
             machine,
@@ -40,8 +40,7 @@ impl Bench {
     /// A PUBLISH, into a new queue.
     pub(crate) fn publish(&mut self) -> Result<Queue, Memory> {
         let mut queue = Queue::new(self.alloc);
-        self.machine
-            .apply(self.alloc, &self.publishing, 0, &mut queue)?;
+        self.machine.apply(&self.publishing, 0, &mut queue)?;
         Ok(queue)
     }
 

@@ -10,7 +10,7 @@ use Rattle.nr_model.specs.declared.command.Command.{Command}
 use Rattle.nr_model.specs.declared.command.Command.TheVariants.{Perform, Session}
 use Rattle.nr_model.specs.declared.command.Operation.TheVariants.{Look, Change}
 use Rattle.nr_model.specs.declared.command.Look.TheVariants as looks
-use Rattle.nr_model.specs.declared.command.ServerLook.TheVariants.{Ping, Echo}
+use Rattle.nr_model.specs.declared.command.ServerLook.TheVariants.{Ping, Echo, Time, DbSize}
 use Rattle.nr_model.specs.declared.command.Session.TheVariants.{Multi, Exec, Discard, Watch, Unwatch, Quit, Subscribe, Unsubscribe, Publish, Pubsub}
 use Rattle.nr_model.specs.Names.{Held, holding_none}
 use Rattle.nr_model.specs.Items.{Connection, connection_cmp, same_connection, Call, Deed, Run, Abort, Item, Sequence, is_end}
@@ -131,6 +131,9 @@ command_subscribed (Session Publish) call h = refl
 command_subscribed (Session Pubsub) call h = refl
 command_subscribed (Perform (Look (looks.Server Ping))) call h = refl
 command_subscribed (Perform (Look (looks.Server Echo))) call h = refl
+command_subscribed (Perform (Look (looks.Server Time))) call h = refl
+command_subscribed (Perform (Look (looks.Server DbSize))) call h = refl
+command_subscribed (Perform (Look (looks.Keys command))) call h = refl
 command_subscribed (Perform (Look (looks.Strings command))) call h = refl
 command_subscribed (Perform (Change command)) call h = refl
 
@@ -517,6 +520,9 @@ held_subscribed (Session Publish) words mode e = refl
 held_subscribed (Session Pubsub) words mode e = refl
 held_subscribed (Perform (Look (looks.Server Ping))) words mode e = refl
 held_subscribed (Perform (Look (looks.Server Echo))) words mode e = refl
+held_subscribed (Perform (Look (looks.Server Time))) words mode e = refl
+held_subscribed (Perform (Look (looks.Server DbSize))) words mode e = refl
+held_subscribed (Perform (Look (looks.Keys command))) words mode e = refl
 held_subscribed (Perform (Look (looks.Strings command))) words mode e = refl
 held_subscribed (Perform (Change command)) words mode e = refl
 

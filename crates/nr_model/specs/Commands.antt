@@ -3,6 +3,7 @@ use Rattle.std.specs.Prelude.{ℕ, Bool, true, false, List, [], ◌∷◌, ◌++
 use Rattle.std.specs.Str.{str_to_ascii_lowercase}
 pub mod Shape
 pub mod Texts
+pub mod Reading
 pub mod Server
 pub mod Keys
 pub mod Strings
@@ -24,10 +25,14 @@ use Rattle.nr_model.specs.declared.command.Change.TheVariants as changes
 use Rattle.nr_model.specs.declared.command.Session.{Session}
 use Rattle.nr_model.specs.declared.command.Session.TheVariants as sessions
 use Rattle.nr_model.specs.declared.command.Kind.TheVariants as kinds
+use Rattle.nr_model.specs.declared.command.Unit.TheVariants as units
+use Rattle.nr_model.specs.declared.command.Timing.TheVariants as timings
 use Rattle.nr_model.specs.declared.command.ServerLook.{ServerLook}
 use Rattle.nr_model.specs.declared.command.ServerLook.TheVariants as server_looks
 use Rattle.nr_model.specs.declared.command.ServerChange.{ServerChange}
 use Rattle.nr_model.specs.declared.command.ServerChange.TheVariants as server_changes
+use Rattle.nr_model.specs.declared.command.KeysLook.{KeysLook}
+use Rattle.nr_model.specs.declared.command.KeysLook.TheVariants as keys_looks
 use Rattle.nr_model.specs.declared.command.KeysChange.{KeysChange}
 use Rattle.nr_model.specs.declared.command.KeysChange.TheVariants as keys_changes
 use Rattle.nr_model.specs.declared.command.StringsLook.{StringsLook}
@@ -46,12 +51,13 @@ is_look (commands.Perform (operations.Change change)) = false
 is_look (commands.Session command) = session_looks command
 
 -- The reply of a command that only looks, at a moment, for a connection whose database is this one. The arguments are the words behind the name.
-abbrev pub look : Look → ℕ → Keyspace → ℕ → List Bytes → Reply
+unfoldable pub look : Look → ℕ → Keyspace → ℕ → List Bytes → Reply
 look (looks.Server command) now keyspace database arguments = server.look command now keyspace database arguments
+look (looks.Keys command) now keyspace database arguments = keys.look command now keyspace database arguments
 look (looks.Strings command) now keyspace database arguments = strings.look command now keyspace database arguments
 
 -- What a command does that may change the keyspace. SELECT alone changes the database.
-abbrev pub change : Change → ℕ → Keyspace → ℕ → List Bytes → Done
+unfoldable pub change : Change → ℕ → Keyspace → ℕ → List Bytes → Done
 change (changes.Server command) now keyspace database arguments = server.change command now keyspace database arguments
 change (changes.Keys command) now keyspace database arguments = staying database (keys.change command now keyspace database arguments)
 change (changes.Strings command) now keyspace database arguments = staying database (strings.change command now keyspace database arguments)
@@ -68,20 +74,66 @@ row name arity = record { name = name; arity = arity }
 abbrev pub server_look_row : ServerLook → Row
 server_look_row server_looks.Ping = row (codes "ping") (AtLeast 1)
 server_look_row server_looks.Echo = row (codes "echo") (Exactly 2)
+server_look_row server_looks.Time = row (codes "time") (Exactly 1)
+server_look_row server_looks.DbSize = row (codes "dbsize") (Exactly 1)
 
 abbrev pub server_change_row : ServerChange → Row
 server_change_row server_changes.Select = row (codes "select") (Exactly 2)
+server_change_row server_changes.FlushDb = row (codes "flushdb") (AtLeast 1)
+server_change_row server_changes.FlushAll = row (codes "flushall") (AtLeast 1)
+server_change_row server_changes.SwapDb = row (codes "swapdb") (Exactly 3)
 
 -- Keys
+abbrev pub keys_look_row : KeysLook → Row
+keys_look_row keys_looks.Exists = row (codes "exists") (AtLeast 2)
+keys_look_row keys_looks.Touch = row (codes "touch") (AtLeast 2)
+keys_look_row keys_looks.Type = row (codes "type") (Exactly 2)
+keys_look_row (keys_looks.Ttl units.Seconds) = row (codes "ttl") (Exactly 2)
+keys_look_row (keys_looks.Ttl units.Milliseconds) = row (codes "pttl") (Exactly 2)
+keys_look_row (keys_looks.ExpireTime units.Seconds) = row (codes "expiretime") (Exactly 2)
+keys_look_row (keys_looks.ExpireTime units.Milliseconds) = row (codes "pexpiretime") (Exactly 2)
+
 abbrev pub keys_change_row : KeysChange → Row
 keys_change_row keys_changes.Del = row (codes "del") (AtLeast 2)
+keys_change_row keys_changes.Unlink = row (codes "unlink") (AtLeast 2)
+keys_change_row keys_changes.Rename = row (codes "rename") (Exactly 3)
+keys_change_row keys_changes.RenameNx = row (codes "renamenx") (Exactly 3)
+keys_change_row keys_changes.Copy = row (codes "copy") (AtLeast 3)
+keys_change_row keys_changes.Move = row (codes "move") (Exactly 3)
+keys_change_row (keys_changes.Expire timings.InSeconds) = row (codes "expire") (AtLeast 3)
+keys_change_row (keys_changes.Expire timings.InMilliseconds) = row (codes "pexpire") (AtLeast 3)
+keys_change_row (keys_changes.Expire timings.AtSecond) = row (codes "expireat") (AtLeast 3)
+keys_change_row (keys_changes.Expire timings.AtMillisecond) = row (codes "pexpireat") (AtLeast 3)
+keys_change_row keys_changes.Persist = row (codes "persist") (Exactly 2)
 
 -- Strings
 abbrev pub strings_look_row : StringsLook → Row
 strings_look_row strings_looks.Get = row (codes "get") (Exactly 2)
+strings_look_row strings_looks.MGet = row (codes "mget") (AtLeast 2)
+strings_look_row strings_looks.StrLen = row (codes "strlen") (Exactly 2)
+strings_look_row strings_looks.GetRange = row (codes "getrange") (Exactly 4)
+strings_look_row strings_looks.SubStr = row (codes "substr") (Exactly 4)
+strings_look_row strings_looks.GetBit = row (codes "getbit") (Exactly 3)
+strings_look_row strings_looks.BitCount = row (codes "bitcount") (AtLeast 2)
 
 abbrev pub strings_change_row : StringsChange → Row
 strings_change_row strings_changes.Set = row (codes "set") (AtLeast 3)
+strings_change_row strings_changes.SetNx = row (codes "setnx") (Exactly 3)
+strings_change_row (strings_changes.SetEx units.Seconds) = row (codes "setex") (Exactly 4)
+strings_change_row (strings_changes.SetEx units.Milliseconds) = row (codes "psetex") (Exactly 4)
+strings_change_row strings_changes.GetSet = row (codes "getset") (Exactly 3)
+strings_change_row strings_changes.GetDel = row (codes "getdel") (Exactly 2)
+strings_change_row strings_changes.GetEx = row (codes "getex") (AtLeast 2)
+strings_change_row strings_changes.MSet = row (codes "mset") (AtLeast 3)
+strings_change_row strings_changes.MSetNx = row (codes "msetnx") (AtLeast 3)
+strings_change_row strings_changes.Append = row (codes "append") (Exactly 3)
+strings_change_row strings_changes.SetRange = row (codes "setrange") (Exactly 4)
+strings_change_row strings_changes.Incr = row (codes "incr") (Exactly 2)
+strings_change_row strings_changes.Decr = row (codes "decr") (Exactly 2)
+strings_change_row strings_changes.IncrBy = row (codes "incrby") (Exactly 3)
+strings_change_row strings_changes.DecrBy = row (codes "decrby") (Exactly 3)
+strings_change_row strings_changes.SetBit = row (codes "setbit") (Exactly 4)
+strings_change_row strings_changes.BitOp = row (codes "bitop") (AtLeast 4)
 
 -- Transactions, and messages
 abbrev pub session_row : Session → Row
@@ -100,6 +152,7 @@ session_row sessions.Pubsub = row (codes "pubsub") (AtLeast 2)
 
 abbrev pub look_row : Look → Row
 look_row (looks.Server command) = server_look_row command
+look_row (looks.Keys command) = keys_look_row command
 look_row (looks.Strings command) = strings_look_row command
 
 abbrev pub change_row : Change → Row
@@ -122,6 +175,9 @@ server_look command = commands.Perform (operations.Look (looks.Server command))
 abbrev pub server_change : ServerChange → Command
 server_change command = commands.Perform (operations.Change (changes.Server command))
 
+abbrev pub keys_look : KeysLook → Command
+keys_look command = commands.Perform (operations.Look (looks.Keys command))
+
 abbrev pub keys_change : KeysChange → Command
 keys_change command = commands.Perform (operations.Change (changes.Keys command))
 
@@ -132,23 +188,77 @@ abbrev pub strings_change : StringsChange → Command
 strings_change command = commands.Perform (operations.Change (changes.Strings command))
 
 abbrev pub server_looks_served : List Command
-server_looks_served = server_look server_looks.Ping ∷ server_look server_looks.Echo ∷ []
+server_looks_served =
+    server_look server_looks.Ping
+    ∷ server_look server_looks.Echo
+    ∷ server_look server_looks.Time
+    ∷ server_look server_looks.DbSize ∷ []
 
 abbrev pub server_changes_served : List Command
-server_changes_served = server_change server_changes.Select ∷ []
+server_changes_served =
+    server_change server_changes.Select
+    ∷ server_change server_changes.FlushDb
+    ∷ server_change server_changes.FlushAll
+    ∷ server_change server_changes.SwapDb ∷ []
+
+abbrev pub keys_looks_served : List Command
+keys_looks_served =
+    keys_look keys_looks.Exists
+    ∷ keys_look keys_looks.Touch
+    ∷ keys_look keys_looks.Type
+    ∷ keys_look (keys_looks.Ttl units.Seconds)
+    ∷ keys_look (keys_looks.Ttl units.Milliseconds)
+    ∷ keys_look (keys_looks.ExpireTime units.Seconds)
+    ∷ keys_look (keys_looks.ExpireTime units.Milliseconds) ∷ []
 
 abbrev pub keys_changes_served : List Command
-keys_changes_served = keys_change keys_changes.Del ∷ []
+keys_changes_served =
+    keys_change keys_changes.Del
+    ∷ keys_change keys_changes.Unlink
+    ∷ keys_change keys_changes.Rename
+    ∷ keys_change keys_changes.RenameNx
+    ∷ keys_change keys_changes.Copy
+    ∷ keys_change keys_changes.Move
+    ∷ keys_change (keys_changes.Expire timings.InSeconds)
+    ∷ keys_change (keys_changes.Expire timings.InMilliseconds)
+    ∷ keys_change (keys_changes.Expire timings.AtSecond)
+    ∷ keys_change (keys_changes.Expire timings.AtMillisecond)
+    ∷ keys_change keys_changes.Persist ∷ []
 
 abbrev pub strings_looks_served : List Command
-strings_looks_served = strings_look strings_looks.Get ∷ []
+strings_looks_served =
+    strings_look strings_looks.Get
+    ∷ strings_look strings_looks.MGet
+    ∷ strings_look strings_looks.StrLen
+    ∷ strings_look strings_looks.GetRange
+    ∷ strings_look strings_looks.SubStr
+    ∷ strings_look strings_looks.GetBit
+    ∷ strings_look strings_looks.BitCount ∷ []
 
 abbrev pub strings_changes_served : List Command
-strings_changes_served = strings_change strings_changes.Set ∷ []
+strings_changes_served =
+    strings_change strings_changes.Set
+    ∷ strings_change strings_changes.SetNx
+    ∷ strings_change (strings_changes.SetEx units.Seconds)
+    ∷ strings_change (strings_changes.SetEx units.Milliseconds)
+    ∷ strings_change strings_changes.GetSet
+    ∷ strings_change strings_changes.GetDel
+    ∷ strings_change strings_changes.GetEx
+    ∷ strings_change strings_changes.MSet
+    ∷ strings_change strings_changes.MSetNx
+    ∷ strings_change strings_changes.Append
+    ∷ strings_change strings_changes.SetRange
+    ∷ strings_change strings_changes.Incr
+    ∷ strings_change strings_changes.Decr
+    ∷ strings_change strings_changes.IncrBy
+    ∷ strings_change strings_changes.DecrBy
+    ∷ strings_change strings_changes.SetBit
+    ∷ strings_change strings_changes.BitOp ∷ []
 
 -- those that are performed on the keyspace
 abbrev pub operations_served : List Command
-operations_served = server_looks_served ++ server_changes_served ++ keys_changes_served ++ strings_looks_served ++ strings_changes_served
+operations_served =
+    strings_looks_served ++ strings_changes_served ++ keys_looks_served ++ keys_changes_served ++ server_looks_served ++ server_changes_served
 
 -- and those that speak of connections
 abbrev pub sessions_served : List Command

@@ -1,5 +1,6 @@
 -- Values, keys with their deadlines, and what of them is live at a moment.
-use Rattle.std.specs.Prelude.{◌≡◌, ℕ, ◌^◌, Bool, true, List, Option, Some, None, ℤ, pos, int_lt, min, refl, ◌⊎◌, if◌then◌else◌}
+use Rattle.std.specs.Prelude.{◌≡◌, ℕ, ◌^◌, Bool, true, List, filter, ◌==◌, Option, Some, None, ℤ, pos, int_lt, min, refl, ◌⊎◌, if◌then◌else◌}
+use Rattle.std.specs.Prelude as prelude
 use mathlib.Core.Logic.{inl, inr}
 use Rattle.std.specs.declared.cmp.Ordering.{Ordering}
 use Rattle.std.specs.Ordering.{nat_cmp, ordering_then}
@@ -26,8 +27,18 @@ pub record Key : Type 0 where
   pub database : ℕ
   pub name : Bytes
 
+abbrev pub key_of : ℕ → Bytes → Key
+key_of database name = record { database = database; name = name }
+
 abbrev pub how_many_databases : ℕ
 how_many_databases = 16
+
+-- of two databases each stands for the other
+abbrev pub other_of : ℕ → ℕ → ℕ → ℕ
+other_of a b database = if database == a then b else (if database == b then a else database)
+
+abbrev pub exchanged : ℕ → ℕ → Key → Key
+exchanged a b key = key_of (other_of a b key.database) key.name
 
 -- by database, and then by name
 abbrev pub key_cmp : Key → Key → Ordering
@@ -65,6 +76,10 @@ only_live now (Some stored) = if is_live_at now stored.deadline then Some stored
 -- the keys that are live at a moment, with their values and deadlines
 abbrev pub live : Keyspace → ℕ → Keyspace
 live keyspace now = map.retain_keys keyspace (λ key. is_stored_live now (map.get keyspace key))
+
+-- the names of a database's keys, in byte order
+abbrev pub names_in : Keyspace → ℕ → List Bytes
+names_in keyspace database = prelude.map (λ key. key.name) (filter (λ key. key.database == database) (map.keys keyspace))
 
 -- Codes, by which a keyspace can be what contracts see of a type.
 abbrev pub coded_bytes : Coded Bytes

@@ -4,6 +4,7 @@ pub mod Requests
 pub mod Replies
 pub mod Patterns
 pub mod Commands
+pub mod Strings
 pub mod Modes
 pub mod Sequential
 pub mod Worlds

@@ -1,5 +1,5 @@
 -- What the commands on strings read and write: ranges of bytes, and bits (Redis command reference, string; ranges own where they differ).
-use Rattle.std.specs.Prelude.{ℕ, ◌==◌, not, bit_and, bit_or, ◌+◌, ◌-◌, ◌/◌, ◌%◌, ◌^◌, suc, Bool, true, false, min, ℤ, pos, negsuc, List, [], ◌∷◌, ◌++◌, length, take, drop, replicate, slice_index_or}
+use Rattle.std.specs.Prelude.{ℕ, ◌==◌, not, bit_and, bit_or, ◌+◌, ◌-◌, ◌*◌, ◌/◌, ◌%◌, ◌^◌, suc, Bool, true, false, min, ℤ, pos, negsuc, List, [], ◌∷◌, ◌++◌, length, take, drop, replicate, slice_index_or, map, filter, fold, zip}
 use Rattle.nr_model.specs.Bytes.{Bytes}
 
 -- where a range begins: an index below 0 counts from the end, and what is before the first is the first
@@ -46,3 +46,35 @@ bit_at text offset = is_set (byte_at text (offset / 8)) (offset % 8)
 
 abbrev pub with_bit_at : Bytes → ℕ → Bool → Bytes
 with_bit_at text offset value = overwritten (offset / 8) (with_bit (byte_at text (offset / 8)) (offset % 8) value ∷ []) text
+
+-- the bits of a byte and those of a string, in the order in which they are counted
+abbrev pub bits_of_byte : ℕ → List Bool
+bits_of_byte byte = map (is_set byte) (0 ∷ 1 ∷ 2 ∷ 3 ∷ 4 ∷ 5 ∷ 6 ∷ 7 ∷ [])
+
+abbrev pub bits_of : Bytes → List Bool
+bits_of [] = []
+bits_of (byte ∷ text) = bits_of_byte byte ++ bits_of text
+
+-- how many bits of a row are set, and how many of a string
+abbrev pub set_bits : List Bool → ℕ
+set_bits bits = length (filter (λ bit. bit) bits)
+
+abbrev pub ones : Bytes → ℕ
+ones text = set_bits (bits_of text)
+
+-- two strings joined byte by byte, the shorter padded with zero bytes
+abbrev pub joined_two : (ℕ → ℕ → ℕ) → Bytes → Bytes → Bytes
+joined_two f a b = map (λ bytes. f bytes.0 bytes.1) (zip (padded (length b) a) (padded (length a) b))
+
+-- any number of strings joined, from the first on: none give the empty string
+abbrev pub joined_bits : (ℕ → ℕ → ℕ) → List Bytes → Bytes
+joined_bits f [] = []
+joined_bits f (text ∷ texts) = fold (joined_two f) text texts
+
+-- a string with each bit turned
+abbrev pub inverted : Bytes → Bytes
+inverted text = map (λ byte. 255 - byte) text
+
+-- the most bytes that a string may have: 512 MiB
+abbrev pub max_len : ℕ
+max_len = 512 * (2 ^ 20)

@@ -22,6 +22,7 @@ pub enum Operation {
 #[derive(Clone, Copy, Debug, PartialEq, Eq)]
 pub enum Look {
     Server(ServerLook),
+    Keys(KeysLook),
     Strings(StringsLook),
 }
 
@@ -38,30 +39,97 @@ pub enum Change {
 pub enum ServerLook {
     Ping,
     Echo,
+    Time,
+    DbSize,
 }
 
 /// Connection and server.
 #[derive(Clone, Copy, Debug, PartialEq, Eq)]
 pub enum ServerChange {
     Select,
+    FlushDb,
+    FlushAll,
+    SwapDb,
+}
+
+/// Keys.
+#[derive(Clone, Copy, Debug, PartialEq, Eq)]
+pub enum KeysLook {
+    Exists,
+    Touch,
+    Type,
+    /// TTL and PTTL.
+    Ttl(Unit),
+    /// EXPIRETIME and PEXPIRETIME.
+    ExpireTime(Unit),
 }
 
 /// Keys.
 #[derive(Clone, Copy, Debug, PartialEq, Eq)]
 pub enum KeysChange {
     Del,
+    Unlink,
+    Rename,
+    RenameNx,
+    Copy,
+    Move,
+    /// EXPIRE, PEXPIRE, EXPIREAT and PEXPIREAT.
+    Expire(Timing),
+    Persist,
 }
 
 /// Strings.
 #[derive(Clone, Copy, Debug, PartialEq, Eq)]
 pub enum StringsLook {
     Get,
+    MGet,
+    StrLen,
+    GetRange,
+    SubStr,
+    GetBit,
+    BitCount,
 }
 
 /// Strings.
 #[derive(Clone, Copy, Debug, PartialEq, Eq)]
 pub enum StringsChange {
     Set,
+    SetNx,
+    /// SETEX and PSETEX.
+    SetEx(Unit),
+    GetSet,
+    GetDel,
+    GetEx,
+    MSet,
+    MSetNx,
+    Append,
+    SetRange,
+    Incr,
+    Decr,
+    IncrBy,
+    DecrBy,
+    SetBit,
+    BitOp,
+}
+
+/// In what a time is counted.
+#[derive(Clone, Copy, Debug, PartialEq, Eq)]
+pub enum Unit {
+    Seconds,
+    Milliseconds,
+}
+
+/// What a number says of a deadline.
+#[derive(Clone, Copy, Debug, PartialEq, Eq)]
+pub enum Timing {
+    /// It is so many seconds from now.
+    InSeconds,
+    /// It is so many milliseconds from now.
+    InMilliseconds,
+    /// It is this second.
+    AtSecond,
+    /// It is this millisecond.
+    AtMillisecond,
 }
 
 /// Transactions, watches, subscriptions and messages.

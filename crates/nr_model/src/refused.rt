@@ -3,12 +3,57 @@
 /// Why a command is refused. Its reply is an error, whose text the definitions have, and it changes nothing.
 #[derive(Clone, Copy, Debug, PartialEq, Eq)]
 pub enum Refused {
-    /// A word is missing, surplus or unknown.
+    /// A word is missing, surplus or unknown, or two words exclude one another.
     Syntax,
-    /// A word should spell an integer of 64 bits, and doesn't.
+    /// A word or a value should spell an integer of 64 bits, and doesn't.
     NotAnInteger,
     /// An integer is no database's index.
     NoSuchDatabase,
+    /// The first of two indexes is no integer of 32 bits.
+    FirstDatabase,
+    /// The second of two indexes is no integer of 32 bits.
+    SecondDatabase,
     /// PING got more than one message.
     PingArity,
+    /// MSET got a key without a value.
+    MSetArity,
+    /// MSETNX got a key without a value.
+    MSetNxArity,
+    /// A key holds a value of another kind.
+    WrongType,
+    /// There is no such key.
+    NoSuchKey,
+    /// A key would be copied or moved to itself.
+    SameObject,
+    /// Options exclude one another.
+    OptionsConflict,
+    /// A deadline is below what the command takes, or has no 64 bits.
+    ExpireTime(Expiring),
+    /// A sum has no 64 bits.
+    Overflow,
+    /// The least integer can't be turned around.
+    DecrementOverflow,
+    /// An offset into a string is below 0.
+    OffsetOutOfRange,
+    /// A string would be longer than strings may be.
+    TooLong,
+    /// An offset of a bit is no integer from 0 to 2^32 - 1.
+    BitOffset,
+    /// A bit is neither 0 nor 1.
+    BitValue,
+    /// BITOP NOT got several sources.
+    NotOfSeveral,
+}
+
+/// The commands that name themselves where a deadline is refused.
+#[derive(Clone, Copy, Debug, PartialEq, Eq)]
+pub enum Expiring {
+    Set,
+    SetEx,
+    PSetEx,
+    GetEx,
+    Expire,
+    PExpire,
+    ExpireAt,
+    PExpireAt,
 }

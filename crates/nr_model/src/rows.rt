@@ -2,6 +2,7 @@
 
 ghost use Rattle.nr_model.specs.Rows.Modes.{ModeRows};
 ghost use Rattle.nr_model.specs.Rows.Sequential.{MessageRows, SequentialRows};
+ghost use Rattle.nr_model.specs.Rows.Strings.{StringRows};
 ghost use Rattle.nr_model.specs.Rows.Worlds.{WorldRows};
 
 /// What the bytes of a connection ask for: transactions, subscriptions, unknown names and ends.
@@ -22,4 +23,9 @@ fn sequential_rows()
 /// Steps of a world of one node: their outcomes, what is handed out, and a sequence that explains it.
 fn world_rows()
     ensures { WorldRows }
+{}
+
+/// Strings: ranges, bits and their counts, and strings joined bit by bit.
+fn string_rows()
+    ensures { StringRows }
 {}

@@ -1,11 +1,12 @@
 -- What contracts see of a session, and the front of the jobs that is there where memory ran out.
 use Rattle.std.specs.Prelude.{◌≡◌, ℕ, ◌+◌, ◌≤◌, Bool, List, ◌++◌, length, take, None, refl}
+use Rattle.std.specs.List.{list_any}
 use Rattle.std.specs.Coded.{Coded, code_by, coded×, coded_ℕ, coded_bool}
 use Rattle.nr_model.specs.Bytes.{Bytes}
 use Rattle.nr_model.specs.Commands.{served}
 use Rattle.nr_model.specs.Requests.{Frame, Framing, framing_of}
 use Rattle.nr_model.specs.Keyspace.{coded_bytes}
-use Rattle.nr_model.specs.Items.{Connection, Item}
+use Rattle.nr_model.specs.Items.{Connection, Item, is_end}
 use Rattle.nr_model.specs.Modes.{Mode, Conversation, conversation, framed_conversation}
 use Rattle.nr_model.specs.Worlds.{jobs_from}
 use Rattle.nr_session.specs.Coded.{coded_mode}
@@ -54,3 +55,7 @@ pub record AddsFront (old new : List Item) (next next' : ℕ) (all : List Item) 
   pub few : count ≤ length all
   pub added : new ≡ old ++ take count all
   pub numbered : next' ≡ next + count
+
+-- whether the end of a connection is among these
+abbrev pub has_end : List Item → Bool
+has_end items = list_any (λ item. is_end item.deed) items

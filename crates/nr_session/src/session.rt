@@ -7,7 +7,7 @@ ghost use Rattle.nr_resp.specs.Frames.{frames_seen};
 ghost use Rattle.nr_resp.specs.Stream.{open_at};
 ghost use Rattle.nr_entry.specs.Jobs.{connection_of, item_of, items_of};
 ghost use Rattle.nr_model.specs.Modes.{plain};
-ghost use Rattle.nr_session.specs.SessionState.{framed, asked, request_jobs, IsFrontOf, AddsFront};
+ghost use Rattle.nr_session.specs.SessionState.{framed, asked, request_jobs, IsFrontOf, AddsFront, has_end};
 
 use crate::jobs::{push_close, push_jobs};
 use crate::mode::Mode;
@@ -58,6 +58,7 @@ fn feed_requests(
     ensures numbers { IfOk result (λ ended. ended ≡ false → next.new + length reader.new.rest ≤ next.old + (length reader.old.rest + length piece.now)) }
     ensures err { OnErr result (AddsFront (items_of jobs.old.items) (items_of jobs.new.items) next.old next.new
         (request_jobs (connection_of conn) next.old moment mode.old (framed reader.old.rest piece.now).frames)) }
+    ensures no_end { OnErr result (has_end (items_of jobs.new.items) ≡ has_end (items_of jobs.old.items)) }
 {
     let mut frames = Vec::new(alloc);
     let fed = read(reader, piece, &mut frames);
@@ -147,8 +148,8 @@ impl Session {
     ///
     /// # Errors
     ///
-    /// `Ended`, and nothing changes; or `Memory`, and the session has ended: the jobs of the requests before are there,
-    /// and the next number stands behind them.
+    /// `Ended`, and nothing changes; or `Memory`, and the session has ended: the jobs of the requests before are there, none of them
+    /// an end, and the next number stands behind them.
     pub fn feed(
         &mut self,
         bytes: &[u8],
@@ -173,6 +174,7 @@ impl Session {
         ensures memory { result ≡ Err SessionError.Memory → (self.new.ended ≡ true)
             × AddsFront (items_of jobs.old.items) (items_of jobs.new.items) self.old.next self.new.next
             (request_jobs self.old.connection self.old.next moment self.old.mode (framed self.old.rest bytes.now).frames) }
+        ensures no_end { result ≡ Err SessionError.Memory → has_end (items_of jobs.new.items) ≡ has_end (items_of jobs.old.items) }
     {
         if self.has_ended() {
             return Err(SessionError::Ended);

@@ -1,6 +1,6 @@
 // Replies of texts that are made: the errors of requests and faults, and what a subscribed connection is answered. They touch memory alone.
-ghost use Rattle.std.specs.Prelude.{◌≡◌, ◌++◌, ◌∷◌, true, IfOk, OnOk, codes, take};
-ghost use Rattle.nr_model.specs.Bytes.{quoted, on_one_line};
+ghost use Rattle.std.specs.Prelude.{◌≡◌, ◌++◌, ◌∷◌, true, IfOk, OnOk, codes};
+ghost use Rattle.nr_model.specs.Bytes.{on_one_line};
 ghost use Rattle.nr_model.specs.Replies as replies;
 ghost use Rattle.nr_model.specs.Commands.Texts.{unknown_command, wrong_arity};
 ghost use Rattle.nr_model.specs.Modes as modes;
@@ -9,15 +9,12 @@ ghost use Rattle.nr_model.specs.Requests.{fault_text, fault_reason};
 ghost use Rattle.nr_model.specs.Commands.{row_of};
 ghost use Rattle.nr_resp.specs.Seen.{reply_of};
 
-use nr_blob::{Blob, Memory};
+use nr_blob::{Blob, Memory, on_one_line, push_quoted};
 use nr_command::name;
 use nr_model::command::Command;
 use nr_model::fault::Fault;
 use nr_resp::{Frame, Reply};
 use std::alloc::Global;
-
-/// The most bytes of a word that an error quotes.
-const MOST_QUOTED_BYTES: usize = 128;
 
 /// The error of a name that is no command's.
 pub(crate) fn unknown(alloc: Global, frame: &Frame) -> Result<Reply, Memory>
@@ -114,34 +111,4 @@ fn push_unexpected(text: &mut Vec<u8>, byte: u8) -> Result<(), Memory>
     text.push(on_one_line(byte))?;
     push(text, b"'")?;
     Ok(())
-}
-
-// The word's first bytes, on one line.
-fn push_quoted(text: &mut Vec<u8>, word: &[u8]) -> Result<(), Memory>
-    ensures { OnOk result (text.new.items ≡ text.old.items ++ quoted word.now) }
-{
-    for byte in shown(word) {
-        text.push(on_one_line(*byte))?;
-    }
-    Ok(())
-}
-
-fn shown(word: &[u8]) -> &[u8]
-    ensures { result.now ≡ take 128 word.now }
-{
-    if word.len() <= MOST_QUOTED_BYTES {
-        word
-    } else {
-        &word[..MOST_QUOTED_BYTES]
-    }
-}
-
-// CR and LF as spaces.
-fn on_one_line(byte: u8) -> u8
-    ensures { result ≡ on_one_line byte }
-{
-    match byte {
-        b'\r' | b'\n' => b' ',
-        _ => byte,
-    }
 }

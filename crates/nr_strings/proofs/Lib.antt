@@ -1,1 +1,3 @@
 mod Written
+mod Counted
+mod InPlace

@@ -1,7 +1,11 @@
 //! Strings, as keys hold them: bytes that grow in place.
 #![tactic(auto)]
 
-pub use string::Str;
+pub use joins::BitOperation;
+pub use string::{MAX_LEN, Str};
 
+mod bytes;
+mod counts;
+mod joins;
 mod ranges;
 mod string;

@@ -1,11 +1,24 @@
 // A string: what APPEND, SETRANGE and their like write into, in place.
-ghost use Rattle.std.specs.Prelude.{◌≡◌, ◌++◌, ◌+◌, ◌<◌, ◌^◌, ◌≤◌, length, take, drop, IfOk, OnOk, OnErr};
-ghost use Rattle.nr_model.specs.Strings.{range, padded, overwritten, bit_at, with_bit, with_bit_at};
+ghost use Rattle.std.specs.Fmt.{signed_decimal};
+ghost use Rattle.std.specs.Prelude.{[], ◌≡◌, ◌++◌, ◌+◌, ◌<◌, ◌^◌, ◌≤◌, length, take, drop, IfOk, OnOk, OnErr};
+ghost use Rattle.nr_model.specs.Strings.{range, padded, overwritten, bit_at, with_bit, with_bit_at, bits_of, set_bits, ones, joined_two, inverted, max_len};
+ghost use Rattle.nr_strings.specs.Joins.{function_of};
 
+use crate::bytes::byte_or_zero;
+use crate::counts::{ones_between, ones_of};
+use crate::joins::{self, BitOperation};
 use crate::ranges::{end_of, start_of};
-use nr_blob::{Blob, Memory};
+use nr_blob::{Blob, Memory, int_text};
 use std::alloc::Global;
 use std::marker::Model;
+
+/// The most bytes that a string may have: 512 MiB. No call here refuses more.
+pub const MAX_LEN: usize = 536_870_912;
+
+// The limit is that of the definitions.
+fn max_len_law()
+    ensures { MAX_LEN ≡ max_len }
+{}
 
 /// A string, as a key holds it. It is seen as a list of bytes.
 #[derive(Debug, Drop)]
@@ -32,7 +45,25 @@ impl From<Blob> for Str {
     }
 }
 
+/// Gives the bytes back, without a copy.
+impl From<Str> for Blob {
+    ghost from_gives = { λ string blob. blob ≡ string };
+
+    fn from(string: Str) -> Self {
+        Blob::from(string.bytes)
+    }
+}
+
 impl Str {
+    /// The empty string. It takes no memory.
+    pub fn new(alloc: Global) -> Str
+        ensures { result ≡ [] }
+    {
+        Str {
+            bytes: Vec::new(alloc),
+        }
+    }
+
     pub fn from_slice(alloc: Global, bytes: &[u8]) -> Result<Str, Memory>
         ensures { IfOk result (λ string. string ≡ bytes.now) }
     {
@@ -97,10 +128,7 @@ impl Str {
     pub fn bit(&self, offset: u64) -> bool
         ensures { result ≡ bit_at self.now offset }
     {
-        let byte = match self.bytes.get((offset / 8) as usize) {
-            Some(byte) => *byte,
-            None => 0,
-        };
+        let byte = byte_or_zero(&self.bytes, (offset / 8) as usize);
         byte & (0x80 >> (offset % 8)) != 0
     }
 
@@ -117,6 +145,61 @@ impl Str {
         let byte = self.bytes[index];
         self.bytes[index] = changed(byte, offset % 8, value);
         Ok(byte & (0x80 >> (offset % 8)) != 0)
+    }
+
+    /// How many bits are set from one byte to another, both counted; an index below 0 counts from the end. Linear in these bytes.
+    pub fn count_bytes(&self, first: i64, last: i64) -> usize
+        requires { length self.now < 2 ^ 60 }
+        ensures count { result ≡ ones (range first last self.now) }
+        ensures bound { result < 2 ^ 63 }
+    {
+        ones_of(self.range(first, last))
+    }
+
+    /// How many bits are set from one bit to another, both counted, the highest of the first byte being at 0; an index below 0 counts from
+    /// the end. Linear in the bytes that they stand in.
+    #[tactic(auto, using(crate::proofs::Counted::counted_none))]
+    pub fn count_bits(&self, first: i64, last: i64) -> usize
+        requires { length self.now < 2 ^ 60 }
+        ensures count { result ≡ set_bits (range first last (bits_of self.now)) }
+        ensures bound { result < 2 ^ 63 }
+    {
+        let len = self.len() * 8;
+        let start = start_of(len, first);
+        let end = end_of(len, last);
+        if end < start {
+            return 0;
+        }
+        ones_between(self.bytes(), start, end)
+    }
+
+    /// Joins these bytes with others bit by bit, in place, the shorter padded with zero bytes. Where memory runs out nothing is changed.
+    /// Linear in the longer.
+    pub fn join_bits(&mut self, operation: BitOperation, other: &[u8]) -> Result<(), Memory>
+        ensures ok { OnOk result (self.new ≡ joined_two (function_of operation) self.old other.now) }
+        ensures err { OnErr result (self.new ≡ self.old) }
+    {
+        grow(&mut self.bytes, other.len())?;
+        joins::join(&mut self.bytes, operation, other);
+        Ok(())
+    }
+
+    /// Turns each bit, in place.
+    pub fn invert(&mut self)
+        ensures { self.new ≡ inverted self.old }
+    {
+        joins::invert(&mut self.bytes);
+    }
+
+    /// Becomes the text of an integer, in place. Where memory runs out nothing is changed.
+    pub fn write_int(&mut self, n: i64) -> Result<(), Memory>
+        ensures ok { OnOk result (self.new ≡ signed_decimal n) }
+        ensures err { OnErr result (self.new ≡ self.old) }
+    {
+        let old = self.bytes.len();
+        int_text(n, &mut self.bytes)?;
+        self.bytes.drain(..old);
+        Ok(())
     }
 }
 

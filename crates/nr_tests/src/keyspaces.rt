@@ -1,4 +1,4 @@
-// Deadlines and databases, which no command reaches yet.
+// Deadlines and databases of a keyspace alone, at moments of the tests' own.
 use nr_blob::{Blob, Memory};
 use nr_keyspace::{Db, Keyspace, Value};
 use std::alloc::Global;
@@ -9,7 +9,7 @@ use std::test::Fail;
 fn filled(alloc: Global, keys: RandomState) -> Result<Keyspace, Memory> {
     let mut keyspace = Keyspace::new(alloc, keys)?;
     for (name, deadline) in [(b"a", Some(100)), (b"b", None), (b"c", Some(200))] {
-        let value = Value::String(Blob::from_slice(alloc, name)?);
+        let value = Value::String(Blob::from_slice(alloc, name)?.into());
         keyspace.put(Db::FIRST, Blob::from_slice(alloc, name)?, value, deadline)?;
     }
     Ok(keyspace)

@@ -46,7 +46,7 @@ fn a_copy_sends_messages(rt: HostRuntime) -> Result<(), Fail> {
     let entry = publishing(alloc)?;
     let mut machine = Machine::new(alloc, RandomState::new(&rt)?)?.copy()?;
     let mut emissions = Emissions::new(alloc);
-    machine.apply(alloc, &entry, entry.node, &mut emissions)?;
+    machine.apply(&entry, entry.node, &mut emissions)?;
     let mut bytes = Vec::new(alloc);
     for emission in emissions.list() {
         bytes.extend_from_slice(&emission.bytes)?;

@@ -5,3 +5,4 @@ pub mod Touching
 pub mod Marking
 pub mod Putting
 pub mod Copying
+pub mod Named

@@ -1,6 +1,6 @@
 -- How what is watched is kept: by connection, and by name beside it.
 use Rattle.std.specs.declared.alloc.Global.{Global}
-use Rattle.std.specs.Prelude.{◌≡◌, ℕ, Bool, true, false, not, cond, ◌&&◌, ◌||◌, List, [], ◌∷◌, ◌++◌, Option, Some, None, Vec, filter, bytes_eq, refl}
+use Rattle.std.specs.Prelude.{◌≡◌, ℕ, ◌==◌, Bool, true, false, not, cond, ◌&&◌, ◌||◌, List, [], ◌∷◌, ◌++◌, Option, Some, None, Vec, filter, bytes_eq, refl}
 use Rattle.std.specs.Prelude as prelude
 use Rattle.std.specs.List.{list_any}
 use Rattle.std.specs.Option.{option_map}
@@ -11,7 +11,7 @@ use Rattle.std.specs.Coded.{Coded, code_by, coded×, coded_bool, coded_list}
 use Rattle.std.specs.FinMap as map
 use Rattle.std.specs.FinSet as set
 use Rattle.nr_model.specs.Bytes.{Bytes}
-use Rattle.nr_model.specs.Keyspace.{Key, byte_cmp}
+use Rattle.nr_model.specs.Keyspace.{Key, key_of, Keyspace, byte_cmp}
 use Rattle.nr_model.specs.Items.{Connection, connection_cmp}
 use Rattle.nr_model.specs.Sequential.Watches.{same_key}
 use Rattle.nr_model.specs.Servers.{Watch}
@@ -26,6 +26,13 @@ pub record Watcher : Type 0 where
 
 abbrev pub marked_at : Key → Watcher → Watcher
 marked_at key w = record w { touched = w.touched || list_any (λ watch. same_key watch.key key) w.watches }
+
+abbrev pub marked_where : (Key → Bool) → Watcher → Watcher
+marked_where hits w = record w { touched = w.touched || list_any (λ watch. hits watch.key) w.watches }
+
+-- a key of one database by a name that a key of another has
+abbrev pub is_named_in : Keyspace → ℕ → ℕ → Key → Bool
+is_named_in keyspace source target key = key.database == target && map.contains_key keyspace (key_of source key.name)
 
 abbrev pub coded_watcher : Coded Watcher
 coded_watcher = code_by (List Watch × Bool) (coded× (coded_list coded_watch) coded_bool) (λ w. (w.watches, w.touched))
@@ -74,6 +81,10 @@ pub record IsKeptAsBefore (old new : Kept) : Type 0 where
 -- of the connections that pass a test, those that watch a key are marked
 pub record IsMarked (key : Key) (among : Connection → Bool) (old new : Kept) : Type 0 where
   pub at : (c : Connection) → kept_at c new ≡ cond (among c) (option_map (marked_at key) (kept_at c old)) (kept_at c old)
+
+-- those that watch a key that passes a test are marked
+pub record IsMarkedWhere (hits : Key → Bool) (old new : Kept) : Type 0 where
+  pub at : (c : Connection) → kept_at c new ≡ option_map (marked_where hits) (kept_at c old)
 
 -- the connections that stand at each name
 abbrev pub Index : Type 0

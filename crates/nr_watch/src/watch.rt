@@ -1,11 +1,13 @@
 // One watch: a key, and when what it held is gone.
 ghost use Rattle.std.specs.Prelude.{◌≡◌, IfOk};
+ghost use Rattle.nr_model.specs.Keyspace.{live};
 ghost use Rattle.nr_model.specs.Sequential.Watches.{same_key};
 ghost use Rattle.nr_model.specs.Servers as model;
 ghost use Rattle.nr_keyspace.specs.Joined.{key_of};
+ghost use Rattle.nr_watch.specs.Kept.{is_named_in};
 
 use nr_blob::{Blob, Memory};
-use nr_keyspace::Db;
+use nr_keyspace::{Db, Keyspace};
 use std::marker::Model;
 
 /// A watched key, and the deadline in milliseconds that what it held had as it was watched, if that was live.
@@ -55,6 +57,14 @@ impl Watch {
         ensures { result ≡ same_key self.now.key (key_of database name.now) }
     {
         self.database == database && self.name.bytes() == name
+    }
+
+    /// Whether its key is of the database `target`, and a key of its name is live in `source`. Looks in the other database only
+    /// where the first is so.
+    pub(crate) fn is_named_in(&self, keyspace: &Keyspace, now: u64, source: Db, target: Db) -> bool
+        ensures { result ≡ is_named_in (live keyspace.now now) source target self.now.key }
+    {
+        self.database == target && keyspace.get(now, source, self.name.bytes()).is_some()
     }
 
     /// Whether what was live when it was watched has passed its deadline.

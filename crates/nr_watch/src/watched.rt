@@ -1,14 +1,15 @@
 // What one connection watches.
 ghost use Rattle.std.specs.Prelude.{◌≡◌, ◌||◌, false, [], ◌∷◌, ◌++◌, IfOk, OnOk, OnErr};
 ghost use Rattle.std.specs.List.{list_any};
+ghost use Rattle.nr_model.specs.Keyspace.{live};
 ghost use Rattle.nr_model.specs.Sequential.Watches.{same_key};
 ghost use Rattle.nr_model.specs.Servers as model;
 ghost use Rattle.nr_keyspace.specs.Joined.{key_of};
-ghost use Rattle.nr_watch.specs.Kept.{marked_at};
+ghost use Rattle.nr_watch.specs.Kept.{marked_at, is_named_in, marked_where};
 
 use crate::watch::Watch;
 use nr_blob::Memory;
-use nr_keyspace::Db;
+use nr_keyspace::{Db, Keyspace};
 use std::alloc::Global;
 use std::marker::Model;
 
@@ -79,6 +80,17 @@ impl Watched {
         self.touched = has_key(&self.watches, database, name);
     }
 
+    /// Remembers that the keys of the database `target` by the names that are live in `source` were touched, if one of them is
+    /// watched. At most one look-up a watch; where one was touched before it looks at nothing.
+    pub(crate) fn mark_named(&mut self, keyspace: &Keyspace, now: u64, source: Db, target: Db)
+        ensures { self.new ≡ marked_where (is_named_in (live keyspace.now now) source target) self.old }
+    {
+        if self.touched {
+            return;
+        }
+        self.touched = has_named(&self.watches, keyspace, now, source, target);
+    }
+
     /// Whether a key was touched, or has passed its deadline.
     pub(crate) fn is_spoiled(&self, now: u64) -> bool
         ensures { result ≡ (self.now.touched || list_any (λ w. model.has_gone now w.deadline) self.now.watches) }
@@ -102,6 +114,15 @@ fn has_key(watches: &[Watch], database: Db, name: &[u8]) -> bool
     ensures { result ≡ list_any (λ watch. same_key watch.key (key_of database name.now)) watches.now }
 {
     watches.iter().any(|watch| watch.is_of(database, name))
+}
+
+// Whether one is of the database `target`, by a name that is live in `source`.
+fn has_named(watches: &[Watch], keyspace: &Keyspace, now: u64, source: Db, target: Db) -> bool
+    ensures { result ≡ list_any (λ watch. is_named_in (live keyspace.now now) source target watch.key) watches.now }
+{
+    watches
+        .iter()
+        .any(|watch| watch.is_named_in(keyspace, now, source, target))
 }
 
 // Whether what one saw live has passed its deadline.

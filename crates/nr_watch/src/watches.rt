@@ -4,11 +4,13 @@ ghost use Rattle.std.specs.Prelude.{◌≡◌, ◌↔◌, ◌||◌, [], ◌∷�
 ghost use Rattle.std.specs.List.{list_any};
 ghost use Rattle.std.specs.FinMap as map;
 ghost use Rattle.std.specs.FinSet as set;
-ghost use Rattle.nr_model.specs.Servers.{watches_in, has_gone, watches_added};
+ghost use Rattle.nr_model.specs.Keyspace.{live};
+ghost use Rattle.nr_model.specs.Commands.Server.{named_in};
+ghost use Rattle.nr_model.specs.Servers.{watches_in, has_gone, watches_added, touched_by};
 ghost use Rattle.nr_entry.specs.Jobs.{connection_of};
 ghost use Rattle.nr_keyspace.specs.Joined.{key_of};
 ghost use Rattle.nr_watch.specs.Watching.{nobody, touched_at};
-ghost use Rattle.nr_watch.specs.Kept.{is_conn, kept_at, with_watch, IsMarked, IsPut, IsKeptAsBefore};
+ghost use Rattle.nr_watch.specs.Kept.{is_conn, kept_at, with_watch, is_named_in, IsMarked, IsMarkedWhere, IsPut, IsKeptAsBefore};
 
 use crate::names::Names;
 use crate::watch::Watch;
@@ -16,7 +18,7 @@ use crate::watched::Watched;
 use nr_blob::{Blob, Memory};
 use nr_entry::ConnId;
 use nr_exec::Touched;
-use nr_keyspace::Db;
+use nr_keyspace::{Db, Keyspace};
 use std::alloc::Global;
 use std::collections::{BTreeMap, BTreeSet};
 use std::marker::Model;
@@ -63,6 +65,23 @@ fn mark_each(
     for conn in conns {
         mark(by_conn, *conn, database, name);
     }
+}
+
+// Marks each connection that watches a key of the database `target` by a name that is live in `source`.
+fn mark_named(
+    by_conn: &mut BTreeMap<ConnId, Watched>,
+    keyspace: &Keyspace,
+    now: u64,
+    source: Db,
+    target: Db,
+)
+    ensures { IsMarkedWhere (is_named_in (live keyspace.now now) source target) by_conn.old.entries by_conn.new.entries }
+{
+    // Unlike `values_mut`, `retain` has a clause on what is written to each value.
+    by_conn.retain(|_, watched| {
+        watched.mark_named(keyspace, now, source, target);
+        true
+    });
 }
 
 // Adds a watch to those of a connection. Where memory runs out everyone watches what it did.
@@ -179,6 +198,16 @@ impl Watches {
         mark_each(&mut self.by_conn, conns, database, name);
     }
 
+    /// Marks each connection that watches a key of the database `target` by a name that is live in `source` at the moment `now` in
+    /// milliseconds. It takes at most one look-up for each watch, and looks at no other key.
+    pub fn touch_all(&mut self, keyspace: &Keyspace, now: u64, source: Db, target: Db)
+        ensures { self.new ≡ record self.old {
+          touched = touched_by self.old.watches (named_in (live keyspace.now now) source target) self.old.touched;
+        } }
+    {
+        mark_named(&mut self.by_conn, keyspace, now, source, target);
+    }
+
     /// Whether a key that the connection watches was touched, or has passed the deadline that it had when it was
     /// watched. `now` is in milliseconds. Linear in what the connection watches.
     pub fn is_spoiled(&self, conn: ConnId, now: u64) -> bool
@@ -209,6 +238,17 @@ impl Touched for Watches {
 
     fn touch(&mut self, database: Db, name: &[u8]) -> Result<(), Memory> {
         Watches::touch(self, database, name);
+        Ok(())
+    }
+
+    fn touch_all(
+        &mut self,
+        keyspace: &Keyspace,
+        now: u64,
+        source: Db,
+        target: Db,
+    ) -> Result<(), Memory> {
+        Watches::touch_all(self, keyspace, now, source, target);
         Ok(())
     }
 }

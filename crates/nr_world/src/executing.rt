@@ -10,11 +10,9 @@ use crate::connections::Connections;
 use nr_blob::Memory;
 use nr_entry::Entry;
 use nr_machine::Machine;
-use std::alloc::Global;
 
 /// Executes the updates of an entry, one after the other.
 pub(crate) fn run_entry(
-    alloc: Global,
     machine: &mut Machine,
     entry: &Entry,
     connections: &mut Connections,
@@ -23,6 +21,6 @@ pub(crate) fn run_entry(
     ensures state { OnOk result (machine.new.state ≡ after_all machine.old.state (entry_items (items_of entry.now.jobs.items))) }
     ensures clients { OnOk result (connections.new ≡ map (delivered (emitted_all machine.old.state (entry_items (items_of entry.now.jobs.items)))) connections.old) }
 {
-    machine.apply(alloc, entry, 0, connections)?;
+    machine.apply(entry, 0, connections)?;
     Ok(())
 }

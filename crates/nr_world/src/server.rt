@@ -137,7 +137,7 @@ impl Server {
             return Ok(Outcome::Idle(Reason::Nothing));
         }
         let entry = Entry::new(node, jobs);
-        run_entry(self.alloc, &mut self.machine, &entry, &mut self.connections)?;
+        run_entry(&mut self.machine, &entry, &mut self.connections)?;
         Ok(Outcome::Done)
     }
 

@@ -1,5 +1,5 @@
 -- The shape of each command's row.
-use Rattle.std.specs.Prelude.{ℕ, Bool, nat_le, ◌==◌, List, []}
+use Rattle.std.specs.Prelude.{ℕ, Bool, nat_le, ◌==◌, List, [], Result, Ok, Err}
 use Rattle.nr_model.specs.Keyspace.{Key, Keyspace}
 use Rattle.nr_model.specs.Replies.{Reply, Error}
 use Rattle.nr_model.specs.declared.refused.Refused.{Refused}
@@ -41,3 +41,12 @@ refusal why = Error (refusal_text why)
 
 abbrev pub refused : Keyspace → Refused → Effect
 refused keyspace why = unchanged keyspace (refusal why)
+
+-- what a command answers, or does, with what it read; where that was a fault, its error is answered, and nothing changed
+abbrev pub answered : {A : Type 0} → Result A Reply → (A → Reply) → Reply
+answered (Ok a) reply = reply a
+answered (Err error) reply = error
+
+abbrev pub performed : {A : Type 0} → Keyspace → Result A Reply → (A → Effect) → Effect
+performed keyspace (Ok a) effect = effect a
+performed keyspace (Err error) effect = unchanged keyspace error

@@ -3,7 +3,9 @@ use Rattle.std.specs.Prelude.{◌++◌, codes}
 use Rattle.nr_model.specs.Bytes.{Bytes, quoted}
 use Rattle.nr_model.specs.Replies.{Reply, Simple}
 use Rattle.nr_model.specs.declared.refused.Refused.{Refused}
-use Rattle.nr_model.specs.declared.refused.Refused.TheVariants.{Syntax, NotAnInteger, NoSuchDatabase, PingArity}
+use Rattle.nr_model.specs.declared.refused.Refused.TheVariants as refusals
+use Rattle.nr_model.specs.declared.refused.Expiring.{Expiring}
+use Rattle.nr_model.specs.declared.refused.Expiring.TheVariants as expiring
 
 -- `+OK`
 abbrev pub ok : Reply
@@ -33,9 +35,43 @@ wrong_arity name = codes "ERR wrong number of arguments for '" ++ name ++ codes 
 abbrev pub unknown_command : Bytes → Bytes
 unknown_command word = codes "ERR unknown command '" ++ quoted word ++ codes "'"
 
--- the text of each refusal
+-- an option of no meaning to EXPIRE and its like (Redis; quoted as unknown commands are)
+abbrev pub unsupported_option : Bytes → Bytes
+unsupported_option word = codes "ERR Unsupported option " ++ quoted word
+
+-- a deadline that the command doesn't take (Redis)
+abbrev pub invalid_expire_time : Bytes → Bytes
+invalid_expire_time name = codes "ERR invalid expire time in '" ++ name ++ codes "' command"
+
+abbrev pub expiring_name : Expiring → Bytes
+expiring_name expiring.Set = codes "set"
+expiring_name expiring.SetEx = codes "setex"
+expiring_name expiring.PSetEx = codes "psetex"
+expiring_name expiring.GetEx = codes "getex"
+expiring_name expiring.Expire = codes "expire"
+expiring_name expiring.PExpire = codes "pexpire"
+expiring_name expiring.ExpireAt = codes "expireat"
+expiring_name expiring.PExpireAt = codes "pexpireat"
+
+-- the text of each refusal (Redis, but for OptionsConflict and TooLong, which are shorter; which one a fault has is own)
 abbrev pub refusal_text : Refused → Bytes
-refusal_text Syntax = syntax_error
-refusal_text NotAnInteger = not_an_integer
-refusal_text NoSuchDatabase = no_such_database
-refusal_text PingArity = wrong_arity (codes "ping")
+refusal_text refusals.Syntax = syntax_error
+refusal_text refusals.NotAnInteger = not_an_integer
+refusal_text refusals.NoSuchDatabase = no_such_database
+refusal_text refusals.FirstDatabase = codes "ERR invalid first DB index"
+refusal_text refusals.SecondDatabase = codes "ERR invalid second DB index"
+refusal_text refusals.PingArity = wrong_arity (codes "ping")
+refusal_text refusals.MSetArity = wrong_arity (codes "mset")
+refusal_text refusals.MSetNxArity = wrong_arity (codes "msetnx")
+refusal_text refusals.WrongType = wrong_type
+refusal_text refusals.NoSuchKey = codes "ERR no such key"
+refusal_text refusals.SameObject = codes "ERR source and destination objects are the same"
+refusal_text refusals.OptionsConflict = codes "ERR options are not compatible"
+refusal_text (refusals.ExpireTime name) = invalid_expire_time (expiring_name name)
+refusal_text refusals.Overflow = codes "ERR increment or decrement would overflow"
+refusal_text refusals.DecrementOverflow = codes "ERR decrement would overflow"
+refusal_text refusals.OffsetOutOfRange = codes "ERR offset is out of range"
+refusal_text refusals.TooLong = codes "ERR string exceeds maximum allowed size"
+refusal_text refusals.BitOffset = codes "ERR bit offset is not an integer or out of range"
+refusal_text refusals.BitValue = codes "ERR bit is not an integer or out of range"
+refusal_text refusals.NotOfSeveral = codes "ERR BITOP NOT must be called with a single source key."

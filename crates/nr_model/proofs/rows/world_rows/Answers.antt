@@ -1,5 +1,6 @@
 use Rattle.std.proofs.Common.{◌≡◌, Bool, true, false, [], refl, subst}
 use Rattle.std.specs.Fmt.{digits}
+use Rattle.nr_model.specs.Commands.{look, change}
 use Rattle.nr_model.specs.Requests.{framing_of, frames_within}
 use Rattle.nr_model.specs.Sequential.{past_from, event_of}
 use Rattle.nr_model.specs.Items.{Connection, same_connection}
@@ -16,7 +17,7 @@ by_connection P here there d = decide (same_connection first d) refl
     decide false e = there d e
 
 pub returns : goal.returns
-unfolding framing_of frames_within past_from event_of digits
+unfolding framing_of frames_within past_from event_of digits look change
 returns c = record {
   asked = refl;
   answered = refl;

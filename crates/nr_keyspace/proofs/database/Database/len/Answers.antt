@@ -12,8 +12,8 @@ overflow_sub-result c =
     count_within (map.len (live_store store c.args.now)) c.count_expired.result (map.len store) (length entries) c.len.result
     (c.count_expired.ensures store c.self.invariant) (len_entries entries c.len.ensures.unique) c.len.ensures.len
 
-pub returns : goal.returns
-returns c =
+pub returns-clause-count : goal.returns-clause-count
+returns-clause-count c =
     let entries = c.self.inside.by_name.entries in
     let store = store_of bytes_of entries in
     others (map.len (live_store store c.args.now)) c.count_expired.result (map.len store) (length entries) c.len.result

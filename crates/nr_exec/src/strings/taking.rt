@@ -1,0 +1,126 @@
+// The commands that give a string and take its key out, or give the key another deadline.
+ghost use Rattle.std.specs.Prelude.{◌≡◌, Ok, IfOk, IfErr, OnOk, OnSome, IfNone};
+ghost use Rattle.std.specs.FinMap as map;
+ghost use Rattle.nr_model.specs.Keyspace.{live, key_of};
+ghost use Rattle.nr_model.specs.Commands.Shape.{staying};
+ghost use Rattle.nr_model.specs.Commands.Reading.{fault};
+ghost use Rattle.nr_model.specs.Commands.Strings as strings;
+ghost use Rattle.nr_exec.specs.Done.{Performs};
+ghost use Rattle.nr_exec.specs.Expired.{given_to, re_expired_at, touched_by};
+ghost use Rattle.nr_exec.specs.Options.{get_ex_options_of};
+ghost use Rattle.nr_exec.specs.Touched.{Touches};
+
+use crate::deadline::hold_until;
+use crate::failure::Failure;
+use crate::reading::one_word;
+use crate::strings::held::text_at;
+use crate::strings::options::{GetExOptions, get_ex_options};
+use crate::strings::setting::owned_bulk;
+use crate::touched::Touched;
+use nr_blob::{Blob, Memory};
+use nr_keyspace::{Db, Keyspace, Value};
+use nr_model::refused::Refused;
+use nr_resp::Reply;
+use nr_strings::Str;
+
+// GETDEL key
+pub(super) fn get_del<T: Touched>(
+    keyspace: &mut Keyspace,
+    now: u64,
+    database: Db,
+    words: &[Blob],
+    touched: &mut T,
+) -> Result<Reply, Failure>
+    requires { live keyspace.old now ≡ keyspace.old }
+    ensures { Performs T.after result keyspace.new database touched.old touched.new
+        (staying database (strings.get_del keyspace.old database words.now)) }
+{
+    let name = one_word(words)?;
+    let Some(text) = take(keyspace, now, database, name) else {
+        return Ok(Reply::NullBulk);
+    };
+    touched.touch(database, name.bytes())?;
+    Ok(Reply::Bulk(Blob::from(text)))
+}
+
+// Takes a key out, and gives its text.
+fn take(keyspace: &mut Keyspace, now: u64, database: Db, name: &Blob) -> Option<Str>
+    ensures text { strings.text_at (live keyspace.old now) database name.now ≡ Ok result }
+    ensures removed { OnSome result (keyspace.new ≡ map.remove keyspace.old (key_of database name.now)) }
+    ensures unchanged { IfNone result (keyspace.new ≡ keyspace.old) }
+{
+    match keyspace.remove(now, database, name.bytes()) {
+        Some(Value::String(text)) => Some(text),
+        None => None,
+    }
+}
+
+// GETEX key [EX seconds | PX milliseconds | EXAT second | PXAT millisecond | PERSIST]
+pub(super) fn get_ex<T: Touched>(
+    keyspace: &mut Keyspace,
+    now: u64,
+    database: Db,
+    words: &[Blob],
+    touched: &mut T,
+) -> Result<Reply, Failure>
+    requires { live keyspace.old now ≡ keyspace.old }
+    ensures { Performs T.after result keyspace.new database touched.old touched.new
+        (staying database (strings.get_ex now keyspace.old database words.now)) }
+{
+    let (name, options) = get_ex_request(now, words)?;
+    get_ex_with(keyspace, now, database, name, options, touched)
+}
+
+// The key and the options.
+fn get_ex_request<'k>(now: u64, words: &'k [Blob]) -> Result<(&'k Blob, GetExOptions), Refused>
+    ensures request { IfOk result (λ read. strings.get_ex_request now words.now ≡ Ok (read.0.now, get_ex_options_of read.1)) }
+    ensures refused { IfErr result (λ why. strings.get_ex_request now words.now ≡ fault why) }
+{
+    let Some((name, others)) = words.split_first() else {
+        return Err(Refused::Syntax);
+    };
+    Ok((name, get_ex_options(now, others)?))
+}
+
+#[tactic(auto, using(crate::proofs::Expired::get_ex_given))]
+fn get_ex_with<T: Touched>(
+    keyspace: &mut Keyspace,
+    now: u64,
+    database: Db,
+    name: &Blob,
+    options: GetExOptions,
+    touched: &mut T,
+) -> Result<Reply, Failure>
+    requires { live keyspace.old now ≡ keyspace.old }
+    ensures { let key = key_of database name.now in Performs T.after result keyspace.new database touched.old touched.new
+        (staying database (strings.get_ex_at now keyspace.old key (get_ex_options_of options) (map.get keyspace.old key))) }
+{
+    let text = owned_bulk(text_at(keyspace, now, database, name)?)?;
+    re_expire(keyspace, now, database, name, options, touched)?;
+    Ok(text)
+}
+
+// The key has the deadline that the options give it, if they give it any.
+fn re_expire<T: Touched>(
+    keyspace: &mut Keyspace,
+    now: u64,
+    database: Db,
+    name: &Blob,
+    options: GetExOptions,
+    touched: &mut T,
+) -> Result<(), Memory>
+    requires { live keyspace.old now ≡ keyspace.old }
+    ensures keyspace { let key = key_of database name.now in let held = map.get keyspace.old key in OnOk result
+        (keyspace.new ≡ re_expired_at now keyspace.old key held (given_to (get_ex_options_of options) held)) }
+    ensures touched { let key = key_of database name.now in OnOk result
+        (Touches T.after touched.old touched.new (touched_by key (given_to (get_ex_options_of options) (map.get keyspace.old key)))) }
+{
+    let Some(held) = keyspace.deadline(now, database, name.bytes()) else {
+        return Ok(());
+    };
+    let Some(deadline) = options.deadline_given(held) else {
+        return Ok(());
+    };
+    hold_until(keyspace, now, database, name, deadline)?;
+    touched.touch(database, name.bytes())
+}
