@@ -1,21 +1,11 @@
 // Deadlines of keys.
 ghost use Rattle.std.specs.Prelude.{◌≡◌, OnOk};
 ghost use Rattle.std.specs.FinMap as map;
-ghost use Rattle.nr_model.specs.Keyspace.{is_live_at, live, key_of};
+ghost use Rattle.nr_model.specs.Keyspace.{live, key_of};
 ghost use Rattle.nr_exec.specs.Expired.{redated_until};
 
 use nr_blob::{Blob, Memory};
-use nr_keyspace::{Db, Keyspace};
-
-/// Whether a key with this deadline can be seen.
-pub(crate) fn is_live(now: u64, deadline: Option<i64>) -> bool
-    ensures { result ≡ is_live_at now deadline }
-{
-    match deadline {
-        Some(deadline) => (now as i128) < (deadline as i128),
-        None => true,
-    }
-}
+use nr_keyspace::{Db, Keyspace, is_live};
 
 /// The key is gone, if it was there.
 #[tactic(auto, using(crate::proofs::Missing::removed_or_missing))]

@@ -5,6 +5,7 @@
 pub use db::Db;
 pub use edit::Edit;
 pub use keyspace::Keyspace;
+pub use moment::is_live;
 pub use value::Value;
 
 mod database;

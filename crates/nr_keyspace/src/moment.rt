@@ -3,7 +3,7 @@ ghost use Rattle.std.specs.Prelude.{◌≡◌};
 ghost use Rattle.nr_model.specs.Keyspace.{is_live_at};
 
 /// Whether a key with this deadline can be seen: before it, and not at it. Both are in milliseconds.
-pub(crate) fn is_live(now: u64, deadline: Option<i64>) -> bool
+pub fn is_live(now: u64, deadline: Option<i64>) -> bool
     ensures { result ≡ is_live_at now deadline }
 {
     match deadline {

@@ -14,7 +14,7 @@ const KEYS: u32 = 1_000_000;
 /// How many SETs are measured before the deadline.
 const SETS: u32 = 10;
 
-/// How many SETs are measured after it: each of the sixteen databases has its turn to be swept.
+/// How many SETs are measured after it. The turn is the first database's after fifteen at most, and stays there while keys of it are gone.
 const TURNS: u32 = 16;
 
 /// Times in nanoseconds.

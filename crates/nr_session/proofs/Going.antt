@@ -3,7 +3,7 @@ use Rattle.std.proofs.Common.{◌≡◌, ℕ, ◌+◌, ◌≤◌, List, ◌++◌
 use Rattle.nr_model.specs.Requests.{Frame}
 use Rattle.nr_model.specs.Items.{Connection, Item}
 use Rattle.nr_model.specs.Modes.{Mode}
-use Rattle.nr_session.specs.SessionState.{requested, request_jobs, AddsFront, has_end}
+use Rattle.nr_session.specs.SessionState.{requested, request_jobs, AddsFront, ends}
 use Rattle.nr_session.proofs.Fronts.{adds_front}
 
 -- from the first request on: those that are left ask in the mode so far for the rest of the jobs
@@ -15,7 +15,7 @@ pub record Going (c : Connection) (moment : ℕ) (all : List Frame) (old : List 
   pub numbered : next + length (requested mode left).deeds ≡ start + length (requested first all).deeds
   pub mode_is : (requested mode left).mode ≡ (requested first all).mode
   pub ended_is : (requested mode left).ended ≡ (requested first all).ended
-  pub unended : has_end now ≡ has_end old
+  pub unended : ends now ≡ ends old
 
 -- what was added before a refusal is a front
 pub going_refused : (c : Connection) (moment : ℕ) (all : List Frame) (old : List Item) (start : ℕ) (first : Mode) (left : List Frame) (now : List Item) (next : ℕ) (mode : Mode)

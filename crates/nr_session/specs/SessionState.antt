@@ -1,6 +1,5 @@
 -- What contracts see of a session, and the front of the jobs that is there where memory ran out.
-use Rattle.std.specs.Prelude.{◌≡◌, ℕ, ◌+◌, ◌≤◌, Bool, List, ◌++◌, length, take, None, refl}
-use Rattle.std.specs.List.{list_any}
+use Rattle.std.specs.Prelude.{◌≡◌, ℕ, ◌+◌, ◌≤◌, Bool, List, ◌++◌, length, filter, take, None, refl}
 use Rattle.std.specs.Coded.{Coded, code_by, coded×, coded_ℕ, coded_bool}
 use Rattle.nr_model.specs.Bytes.{Bytes}
 use Rattle.nr_model.specs.Commands.{served}
@@ -56,6 +55,6 @@ pub record AddsFront (old new : List Item) (next next' : ℕ) (all : List Item) 
   pub added : new ≡ old ++ take count all
   pub numbered : next' ≡ next + count
 
--- whether the end of a connection is among these
-abbrev pub has_end : List Item → Bool
-has_end items = list_any (λ item. is_end item.deed) items
+-- how many of these end a connection
+abbrev pub ends : List Item → ℕ
+ends items = length (filter (λ item. is_end item.deed) items)

@@ -8,7 +8,7 @@ ghost use Rattle.nr_model.specs.Worlds.{jobs_from};
 ghost use Rattle.nr_resp.specs.Frames.{frames_seen};
 ghost use Rattle.nr_entry.specs.Kinds.{update_deed};
 ghost use Rattle.nr_entry.specs.Jobs.{connection_of, items_of};
-ghost use Rattle.nr_session.specs.SessionState.{requested, request_jobs, AddsFront, has_end};
+ghost use Rattle.nr_session.specs.SessionState.{requested, request_jobs, AddsFront, ends};
 
 use crate::mode::Mode;
 use nr_blob::Memory;
@@ -33,8 +33,8 @@ pub(crate) fn push_jobs(
     ensures mode { OnOk result (mode.new ≡ (requested mode.old (frames_seen frames.old.items)).mode) }
     ensures ended { IfOk result (λ ended. ended ≡ (requested mode.old (frames_seen frames.old.items)).ended) }
     ensures few { next.new ≤ next.old + length frames.old.items }
-    ensures goes_on { IfOk result (λ ended. ended ≡ false → has_end (items_of jobs.new.items) ≡ has_end (items_of jobs.old.items)) }
-    ensures no_end { OnErr result (has_end (items_of jobs.new.items) ≡ has_end (items_of jobs.old.items)) }
+    ensures goes_on { IfOk result (λ ended. ended ≡ false → ends (items_of jobs.new.items) ≡ ends (items_of jobs.old.items)) }
+    ensures no_end { OnErr result (ends (items_of jobs.new.items) ≡ ends (items_of jobs.old.items)) }
     ensures err { OnErr result (AddsFront (items_of jobs.old.items) (items_of jobs.new.items) next.old next.new
         (request_jobs (connection_of conn) next.old moment mode.old (frames_seen frames.old.items))) }
 {
@@ -63,7 +63,7 @@ fn push_job(
     ensures mode { OnOk result (mode.new ≡ (answer served mode.old frame.words.items).mode) }
     ensures next { OnOk result (next.new ≡ next.old + 1) }
     ensures ended { IfOk result (λ ended. ended ≡ is_end (answer served mode.old frame.words.items).deed) }
-    ensures goes_on { IfOk result (λ ended. ended ≡ false → has_end (items_of jobs.new.items) ≡ has_end (items_of jobs.old.items)) }
+    ensures goes_on { IfOk result (λ ended. ended ≡ false → ends (items_of jobs.new.items) ≡ ends (items_of jobs.old.items)) }
     ensures err { OnErr result (jobs.new.items ≡ jobs.old.items) }
     ensures numbered { OnErr result (next.new ≡ next.old) }
 {

@@ -7,7 +7,7 @@ ghost use Rattle.nr_resp.specs.Frames.{frames_seen};
 ghost use Rattle.nr_resp.specs.Stream.{open_at};
 ghost use Rattle.nr_entry.specs.Jobs.{connection_of, item_of, items_of};
 ghost use Rattle.nr_model.specs.Modes.{plain};
-ghost use Rattle.nr_session.specs.SessionState.{framed, asked, request_jobs, IsFrontOf, AddsFront, has_end};
+ghost use Rattle.nr_session.specs.SessionState.{framed, asked, request_jobs, IsFrontOf, AddsFront, ends};
 
 use crate::jobs::{push_close, push_jobs};
 use crate::mode::Mode;
@@ -58,7 +58,7 @@ fn feed_requests(
     ensures numbers { IfOk result (λ ended. ended ≡ false → next.new + length reader.new.rest ≤ next.old + (length reader.old.rest + length piece.now)) }
     ensures err { OnErr result (AddsFront (items_of jobs.old.items) (items_of jobs.new.items) next.old next.new
         (request_jobs (connection_of conn) next.old moment mode.old (framed reader.old.rest piece.now).frames)) }
-    ensures no_end { OnErr result (has_end (items_of jobs.new.items) ≡ has_end (items_of jobs.old.items)) }
+    ensures no_end { OnErr result (ends (items_of jobs.new.items) ≡ ends (items_of jobs.old.items)) }
 {
     let mut frames = Vec::new(alloc);
     let fed = read(reader, piece, &mut frames);
@@ -174,7 +174,7 @@ impl Session {
         ensures memory { result ≡ Err SessionError.Memory → (self.new.ended ≡ true)
             × AddsFront (items_of jobs.old.items) (items_of jobs.new.items) self.old.next self.new.next
             (request_jobs self.old.connection self.old.next moment self.old.mode (framed self.old.rest bytes.now).frames) }
-        ensures no_end { result ≡ Err SessionError.Memory → has_end (items_of jobs.new.items) ≡ has_end (items_of jobs.old.items) }
+        ensures no_end { result ≡ Err SessionError.Memory → ends (items_of jobs.new.items) ≡ ends (items_of jobs.old.items) }
     {
         if self.has_ended() {
             return Err(SessionError::Ended);

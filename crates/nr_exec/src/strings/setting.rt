@@ -12,14 +12,14 @@ ghost use Rattle.nr_exec.specs.Done.{Performs};
 ghost use Rattle.nr_exec.specs.Options.{set_options_of};
 ghost use Rattle.nr_exec.specs.Touched.{Touches};
 
-use crate::deadline::{is_live, remove};
+use crate::deadline::remove;
 use crate::failure::Failure;
 use crate::reading::{positive_expiry, three_words, two_words};
 use crate::strings::held::{owned, text_at};
 use crate::strings::options::{SetOptions, set_options};
 use crate::touched::Touched;
 use nr_blob::{Blob, Memory};
-use nr_keyspace::{Db, Keyspace, Value};
+use nr_keyspace::{Db, Keyspace, Value, is_live};
 use nr_model::command::{Timing, Unit};
 use nr_model::refused::{Expiring, Refused};
 use nr_resp::Reply;
