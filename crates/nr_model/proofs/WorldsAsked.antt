@@ -127,7 +127,7 @@ feeds_own world c time bytes on a =
 not_both : (c d e : Connection) → same_connection c d ≡ false → same_connection e c ≡ true → same_connection e d ≡ false
 not_both c d e other same = subst (λ (f : Connection). same_connection f d ≡ false) (sym (same_is e c same)) other
 
-others_stay : (c d : Connection) (jobs : Jobs) → same_connection c d ≡ false
+pub others_stay : (c d : Connection) (jobs : Jobs) → same_connection c d ≡ false
     → own_jobs d (filter (λ (job : Item). not (same_connection job.connection c)) jobs) ≡ own_jobs d jobs
 others_stay c d [] other = refl
 others_stay c d (job ∷ jobs) other =
@@ -141,7 +141,7 @@ others_stay c d (job ∷ jobs) other =
     ]
 
 -- a close drops all the jobs of its connection
-own_dropped : (c : Connection) (jobs : Jobs) → own_jobs c (filter (λ (job : Item). not (same_connection job.connection c)) jobs) ≡ []
+pub own_dropped : (c : Connection) (jobs : Jobs) → own_jobs c (filter (λ (job : Item). not (same_connection job.connection c)) jobs) ≡ []
 own_dropped c [] = refl
 own_dropped c (job ∷ jobs) =
     let of_c = λ (j : Item). same_connection j.connection c in
@@ -153,19 +153,19 @@ own_dropped c (job ∷ jobs) =
     ]
 
 -- the job of a close is its connection's
-close_other : (none : Bool) (job : Item) (d : Connection) → same_connection job.connection d ≡ false
+pub close_other : (none : Bool) (job : Item) (d : Connection) → same_connection job.connection d ≡ false
     → own_jobs d (option_to_list (cond none None (Some job))) ≡ []
 close_other true job d other = refl
 close_other false job d other = filter-drops (λ (j : Item). same_connection j.connection d) job [] other
 
 -- and stays among them
-close_own : (none : Bool) (job : Item) (c : Connection) → same_connection job.connection c ≡ true
+pub close_own : (none : Bool) (job : Item) (c : Connection) → same_connection job.connection c ≡ true
     → own_jobs c (option_to_list (cond none None (Some job))) ≡ option_to_list (cond none None (Some job))
 close_own true job c same = refl
 close_own false job c same = filter-keeps (λ (j : Item). same_connection j.connection c) job [] same
 
 -- a connection that is open was open before a close
-not_closed_before : (world : World) (closing : Closing) (d : Connection)
+pub not_closed_before : (world : World) (closing : Closing) (d : Connection)
     → list_any (λ (k : Closing). same_connection k.connection d) (world.closed ++ closing ∷ []) ≡ false → is_closed world d ≡ false
 not_closed_before world closing d e =
     let of_d = λ (k : Closing). same_connection k.connection d in
@@ -209,7 +209,7 @@ cut_at : (front behind : Jobs) (job : Item) → job.number ≡ length front → 
 cut_at front behind job e = sym (ap (λ (js : Jobs). js ++ job ∷ []) (take_at front behind job.number (sym e)))
 
 -- by what waits: nothing, or a first job that is dropped
-cuts : (ended : Bool) (front behind : Jobs) (job : Item) (n : ℕ) → CountsFrom 0 (front ++ behind) → length (front ++ behind) ≡ n
+pub cuts : (ended : Bool) (front behind : Jobs) (job : Item) (n : ℕ) → CountsFrom 0 (front ++ behind) → length (front ++ behind) ≡ n
     → job.number ≡ close_number n behind
     → front ++ option_to_list (cond (ended && length behind == 0) None (Some job))
     ≡ cut_by (cond (ended && length behind == 0) None (Some job)) (front ++ behind)
@@ -225,7 +225,7 @@ cuts false front (x ∷ behind) job n counts long e =
     cut_at front (x ∷ behind) job (e ∙ CountsFrom-next 0 front x behind counts ∙ at)
 
 -- the numbers go on counting up
-cut_counts : (none : Bool) (front behind : Jobs) (job : Item) → CountsFrom 0 (front ++ behind) → job.number ≡ length front
+pub cut_counts : (none : Bool) (front behind : Jobs) (job : Item) → CountsFrom 0 (front ++ behind) → job.number ≡ length front
     → CountsFrom 0 (front ++ option_to_list (cond none None (Some job)))
 cut_counts true front behind job counts e = subst (CountsFrom 0) (sym (append-nil front)) (CountsFrom-front 0 front behind counts)
 cut_counts false front behind job counts e =
@@ -233,7 +233,7 @@ cut_counts false front behind job counts e =
     CountsFrom-append 0 front (job ∷ []) (CountsFrom-front 0 front behind counts) (e ∙ at, tt)
 
 -- the number of a close is that of the jobs that were executed
-number_is : (front behind : Jobs) (n : ℕ) → CountsFrom 0 (front ++ behind) → length (front ++ behind) ≡ n → close_number n behind ≡ length front
+pub number_is : (front behind : Jobs) (n : ℕ) → CountsFrom 0 (front ++ behind) → length (front ++ behind) ≡ n → close_number n behind ≡ length front
 number_is front [] n counts long = sym long ∙ ap length (append-nil front)
 number_is front (x ∷ behind) n counts long =
     let at : 0 + length front ≡ length front = omega arith in

@@ -154,11 +154,11 @@ deed_silent c found none now (End None) p still = still
 deed_silent c found none now (End (Some reply)) p still = still
 
 -- replies as emissions
-abbrev replies_to : Connection → List Reply → List Emission
+abbrev pub replies_to : Connection → List Reply → List Emission
 replies_to c replies = map {A = Reply} (λ reply. record { connection = c; reply = reply }) replies
 
 -- replies are for their connection alone
-to_others : (c d : Connection) (replies : List Reply) → same_connection c d ≡ false → bytes_for d (replies_to c replies) ≡ []
+pub to_others : (c d : Connection) (replies : List Reply) → same_connection c d ≡ false → bytes_for d (replies_to c replies) ≡ []
 to_others c d [] other = refl
 to_others c d (reply ∷ replies) other =
     let more = bytes_for d (replies_to c replies) in

@@ -18,11 +18,11 @@ use Rattle.nr_model.proofs.WorldsLists.{same_self}
 use Rattle.nr_model.proofs.WorldsGrow.{fed_to-append, own_bytes}
 
 -- what a framing asks for in a mode
-abbrev asks_for : Mode → Framing → Conversation
+abbrev pub asks_for : Mode → Framing → Conversation
 asks_for mode framing = framed_conversation served mode framing
 
 -- frames behind others ask for theirs in the mode that the others left
-asked_behind : (frames : List Frame) (fault : Option Fault) (next : Framing) → (conversation served plain frames fault).ended ≡ false
+pub asked_behind : (frames : List Frame) (fault : Option Fault) (next : Framing) → (conversation served plain frames fault).ended ≡ false
     → asks_for plain (with_frames frames next)
     ≡ together (conversation served plain frames fault) (asks_for (conversation served plain frames fault).mode next)
 asked_behind frames fault next on =
@@ -31,7 +31,7 @@ asked_behind frames fault next on =
     ∙ ap (λ (c : Conversation). together c (asks_for c.mode next)) (sym same)
 
 -- the frames of the bytes with more behind them
-goes_on : (bytes more : Bytes) → (asks_for plain (framing_of bytes)).ended ≡ false
+pub goes_on : (bytes more : Bytes) → (asks_for plain (framing_of bytes)).ended ≡ false
     → framing_of (bytes ++ more) ≡ with_frames (framing_of bytes).frames (framing_of ((framing_of bytes).rest ++ more))
 goes_on bytes more on =
     let framing = framing_of bytes in

@@ -16,7 +16,7 @@ all_kept test [] a = refl
 all_kept test (x ∷ xs) a = ap (λ (b : Bool). cond b (x ∷ filter test xs) (filter test xs)) a.0 ∙ ap (λ ys. x ∷ ys) (all_kept test xs a.1)
 
 -- and drops all that fail
-none_kept : {A : Type 0} (test : A → Bool) (xs : List A) → AllByRecursion (λ x. not (test x) ≡ true) xs → filter test xs ≡ []
+pub none_kept : {A : Type 0} (test : A → Bool) (xs : List A) → AllByRecursion (λ x. not (test x) ≡ true) xs → filter test xs ≡ []
 none_kept test [] a = refl
 none_kept test (x ∷ xs) a = ap (λ (b : Bool). cond b (x ∷ filter test xs) (filter test xs)) (not-true (test x) a.0) ∙ none_kept test xs a.1
 
@@ -40,7 +40,7 @@ all_logged (done ∷ all) formed =
     filter-append updates (executed_items done) (flat_map executed_items all) ∙ (λ i. one i ++ more i)
 
 -- updates are passed by, and counted
-passed : (n time : ℕ) (jobs : Jobs) (items : Sequence) → AreUpdates jobs
+pub passed : (n time : ℕ) (jobs : Jobs) (items : Sequence) → AreUpdates jobs
     → reads_in n (map {A = Item} (λ job. record job { moment = time }) jobs ++ items) ≡ reads_in (n + length jobs) items
 passed n time [] items a =
     let e : n ≡ n + 0 = omega arith in
@@ -53,7 +53,7 @@ passed n time (job ∷ jobs) items a =
     ∙ ap (λ (k : ℕ). reads_in k items) e
 
 -- reads stand where they are
-placed : (n : ℕ) (jobs : Jobs) (items : Sequence) → AreReads jobs → reads_in n (jobs ++ items) ≡ placed_all n jobs ++ reads_in n items
+pub placed : (n : ℕ) (jobs : Jobs) (items : Sequence) → AreReads jobs → reads_in n (jobs ++ items) ≡ placed_all n jobs ++ reads_in n items
 placed n [] items a = refl
 placed n (job ∷ jobs) items a =
     let rest = jobs ++ items in

@@ -60,7 +60,7 @@ filter_behind test x xs ys zs h none =
     ]
 
 -- without room all are left
-left_none : (leads : Jobs → Item → Bool) (before jobs : Jobs) → left_after leads zero before jobs ≡ jobs
+pub left_none : (leads : Jobs → Item → Bool) (before jobs : Jobs) → left_after leads zero before jobs ≡ jobs
 left_none leads before [] = refl
 left_none leads before (x ∷ jobs) = refl
 
@@ -123,7 +123,7 @@ abbrev reads : Item → Bool
 reads job = not (is_update job.deed)
 
 -- where there is room for all, all that lead are taken
-leading_within : (leads : Jobs → Item → Bool) (before jobs : Jobs) → length (leading leads before jobs) ≤ length jobs
+pub leading_within : (leads : Jobs → Item → Bool) (before jobs : Jobs) → length (leading leads before jobs) ≤ length jobs
 leading_within leads before [] = omega arith
 leading_within leads before (x ∷ jobs) =
     let more = leading leads (before ++ x ∷ []) jobs in
@@ -131,7 +131,7 @@ leading_within leads before (x ∷ jobs) =
     elim (leads before x) as (λ m. length (cond m (x ∷ more) more) ≤ suc (length jobs)) [ true ↦ omega arith | false ↦ omega arith ]
 
 -- and those are left that do not lead
-left_by_all : (leads : Jobs → Item → Bool) (room : ℕ) (before jobs : Jobs) → length jobs ≤ room
+pub left_by_all : (leads : Jobs → Item → Bool) (room : ℕ) (before jobs : Jobs) → length jobs ≤ room
     → left_after leads room before jobs ≡ not_leading leads before jobs
 left_by_all leads room before [] h = refl
 left_by_all leads zero before (x ∷ jobs) h = absurd (omega arith)

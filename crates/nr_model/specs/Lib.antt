@@ -17,3 +17,5 @@ pub mod Worlds
 pub mod Explains
 pub mod Explained
 pub mod Rows
+pub mod Queues
+pub mod Nodes

@@ -8,3 +8,4 @@ pub mod Strings
 pub mod Modes
 pub mod Sequential
 pub mod Worlds
+pub mod Nodes

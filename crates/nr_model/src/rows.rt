@@ -3,6 +3,7 @@
 ghost use Rattle.nr_model.specs.Rows.Modes.{ModeRows};
 ghost use Rattle.nr_model.specs.Rows.Sequential.{MessageRows, SequentialRows};
 ghost use Rattle.nr_model.specs.Rows.Strings.{StringRows};
+ghost use Rattle.nr_model.specs.Rows.Nodes.{NodesRows};
 ghost use Rattle.nr_model.specs.Rows.Worlds.{WorldRows};
 
 /// What the bytes of a connection ask for: transactions, subscriptions, unknown names and ends.
@@ -23,6 +24,11 @@ fn sequential_rows()
 /// Steps of a world of one node: their outcomes, what is handed out, and a sequence that explains it.
 fn world_rows()
     ensures { WorldRows }
+{}
+
+/// Steps of several nodes: why they are idle, reads off the log, a full circle, a node that falls, and a close.
+fn nodes_rows()
+    ensures { NodesRows }
 {}
 
 /// Strings: ranges, bits and their counts, and strings joined bit by bit.

@@ -1,9 +1,17 @@
-// The law of the worlds of one node.
+// The laws of the worlds of one node, and of several.
 
 ghost use Rattle.nr_model.specs.Explained.{WorldLaw};
+ghost use Rattle.nr_model.specs.Nodes.Explained.{NodesLaw};
 
 /// Whatever steps are taken, what was executed is a sequence that explains the world, and each connection was handed, with what waits for it,
 /// what one sequential Redis emits for it along that sequence, or a beginning of that where a close cut it.
 fn world_law()
     ensures { WorldLaw }
+{}
+
+/// Whatever steps several nodes take, and whatever is refused to them for memory, one sequence explains it: it holds each executed job of each
+/// connection once and in order, each connection has received a beginning of what one sequential Redis emits for it along the sequence,
+/// every replica that is up is that Redis after its part, and what was answered stands before what was asked for later.
+fn nodes_law()
+    ensures { NodesLaw }
 {}
