@@ -1,22 +1,22 @@
 -- What std's parse gives at a text that begins as an integer's does.
-use Rattle.std.proofs.Common.{◌≡◌, ℕ, ◌-◌, ◌^◌, ◌<◌, ◌≤◌, zero, suc, Bool, true, false, [], ◌∷◌, length, get_or, drop, Option, Some, None, Result, Ok, Err, ℤ, pos, negsuc, arith, refl, sym, ◌∙◌, subst, ◌⊎◌, inl, inr}
+use Rattle.std.proofs.Common.{◌≡◌, ℕ, ◌-◌, ◌^◌, ◌<◌, ◌≤◌, zero, suc, Bool, true, false, [], ◌∷◌, length, get_or, drop, Option, Some, None, Result, Ok, Err, ℤ, pos, negsuc, take, cond, arith, refl, sym, ap, ◌∙◌, subst, ◌⊎◌, inl, inr}
 use Rattle.std.specs.Prelude.{if◌then◌else◌, IsUtf8, IsAscii}
 use lib.IntN.{neg_ℤ}
 use Rattle.std.specs.Result.{MatchResult, OkIff, result_ok}
 use Rattle.std.specs.List.{list_all}
 use Rattle.std.specs.Int.{w64}
 use Rattle.std.specs.Str.Parse.{ParsesSigned}
-use Rattle.std.proofs.lemmas.Str.Parse.{parse_signed_plain, parse_signed_minus}
+use Rattle.std.proofs.lemmas.Str.Parse.{digits_value_short, parse_signed_plain, parse_signed_minus}
 use Rattle.std.proofs.lemmas.Bool.Decides.{nat_tests}
 use Rattle.std.proofs.lemmas.Bool.{cases_lt}
-use Rattle.std.proofs.lemmas.List.{get_or_past}
+use Rattle.std.proofs.lemmas.List.{get_or_past, length-take, take_all}
 use Rattle.std.proofs.lemmas.Grind.{get_or_after_one}
 use Rattle.std.proofs.lemmas.Fmt.{IsAscii-from_digits}
 use Rattle.std.proofs.lemmas.Str.{IsUtf8-from_ascii}
 use Rattle.nr_model.specs.Bytes.{Bytes}
 use Rattle.nr_model.specs.Numbers.{is_digit, is_numeral, digits_value, in_i64, int_value}
 use Rattle.nr_model.proofs.IntegerTexts.{own, positive}
-use Rattle.nr_blob.specs.Integers.{is_leading_digit, begins_nonzero}
+use Rattle.nr_blob.specs.Integers.{is_leading_digit, begins_nonzero, short_value}
 
 -- where `d` says that a text is digits alone, behind its sign, std's parse answers by the range
 plain_gives : {E : Type 0} (r : Result ℤ E) (d : Bool) (k n : ℕ) → 0 < k → OkIff r ((d ≡ true) × (0 < k) × (n < 2 ^ 63)) (pos n)
@@ -118,3 +118,13 @@ of_some (Err e) x P Q h is = absurd (cc is)
 pub of_none : {T E : Type 0} (r : Result T E) (P : T → Type 0) (Q : E → Type 0) → MatchResult r P Q → None ≡ result_ok r → (e : E) × Q e
 of_none (Ok y) P Q h is = absurd (cc is)
 of_none (Err e) P Q h is = (e, h)
+
+-- digits one by one: what the first ones write is small, and at the last one it is the value
+pub first_digits : (ds : Bytes) (i k : ℕ) → list_all is_digit (take i ds) ≡ true → i ≤ k → digits_value (take i ds) < 10 ^ k
+first_digits ds i k all le = digits_value_short own (take i ds) k all (omega (arith, length-take i ds))
+
+pub short_is : (ds : Bytes) (i : ℕ) → list_all is_digit (take i ds) ≡ true → length ds ≤ i → Some (pos (digits_value (take i ds))) ≡ short_value ds
+short_is ds i all le =
+    let whole : take i ds ≡ ds = take_all i ds le in
+    let digits : list_all is_digit ds ≡ true = subst (λ text. list_all is_digit text ≡ true) whole all in
+    ap (λ text. Some (pos (digits_value text))) whole ∙ sym (ap (λ b. cond b (Some (pos (digits_value ds))) None) digits)

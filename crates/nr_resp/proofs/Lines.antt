@@ -1,21 +1,24 @@
 -- Where lines end, and what they say.
-use Rattle.std.proofs.Common.{◌≡◌, ℕ, suc, ◌+◌, ◌-◌, ◌<◌, ◌≤◌, Bool, true, false, cond, eqb, [], ◌∷◌, ◌++◌, length, take, drop, get_or, Option, Some, None, ℤ, refl, sym, ap, ◌∙◌, subst, arith, append_assoc, length-append}
+use Rattle.std.proofs.Common.{◌≡◌, ℕ, suc, ◌+◌, ◌*◌, ◌-◌, ◌<◌, ◌≢◌, ◌≤◌, Bool, true, false, cond, eqb, leb, [], ◌∷◌, ◌++◌, length, take, drop, get_or, Option, Some, None, ℤ, refl, sym, ap, ◌∙◌, subst, arith, append_assoc, length-append, decimal}
 use Rattle.std.specs.Prelude.{FitsSigned, Ok, unwrap_or}
 use Rattle.std.specs.Int.{w64}
 use Rattle.std.specs.Fmt.{signed_decimal}
-use Rattle.std.proofs.lemmas.List.{get_or-take, take-append-drop, length-take-le, drop_more, append-nil}
+use Rattle.std.specs.Char.{is_ascii_digit}
+use Rattle.std.specs.List.{list_all}
+use Rattle.std.proofs.lemmas.List.{take_rest, get_or-take, take-append-drop, length-take-le, drop_more, append-nil}
 use Rattle.std.proofs.lemmas.List.Folds.{list_any-append}
-use Rattle.std.proofs.lemmas.Bool.{or_from, eqb-true, eqb-false, lt-ltb, le-ltb}
+use Rattle.std.proofs.lemmas.Bool.{and_from, and_parts, or_from, eqb-true, eqb-false, leb-true, lt-ltb, le-ltb, le-leb}
+use Rattle.std.proofs.lemmas.Fmt.{decimal_digit, decimal-digits_value}
 use Rattle.nr_model.specs.declared.fault.Fault.{Fault}
-use Rattle.nr_model.specs.Bytes.{Bytes}
-use Rattle.nr_model.specs.Numbers.{int_value}
+use Rattle.nr_model.specs.Bytes.{Bytes, crlf}
+use Rattle.nr_model.specs.Numbers.{is_digit, digits_value, int_value}
 use Rattle.nr_model.specs.Requests.{Whole, Faulty, Partial, line_at, without_last}
 use Rattle.nr_model.specs.Requests.Laws.{Extends}
 use Rattle.nr_model.proofs.Fronts.{is_lf, line_of_open, line_of_line, line_extends}
-use Rattle.nr_model.proofs.IntegerTexts.{text_of_value}
+use Rattle.nr_model.proofs.IntegerTexts.{own, text_of_value}
 use Rattle.nr_model.proofs.Spellings.{cr_ends, last_gone}
 use Rattle.memchr.specs.Find.{Nowhere, Passes, IsFirstByte, is_byte}
-use Rattle.nr_resp.specs.Lines.{has_lf, begins, IsLineFront, IsFirstLf, IsTooLong, Ends, Says}
+use Rattle.nr_resp.specs.Lines.{has_lf, begins, IsLineFront, IsFirstLf, IsTooLong, IsShortHeader, Ends, Says}
 
 ends_not : (b : Bool) → (b ≡ true → ⊥) → b ≡ false
 ends_not true h = absurd (h refl)
@@ -113,3 +116,64 @@ long_by_search room bytes (Some end) found long =
     let inside = found.0.high in
     let size : length (take end bytes) ≡ end = length-take-le end bytes (omega arith) in
     record { front = take end bytes; back = drop end bytes; split = sym (take-append-drop end bytes); one_line = no_lf_before bytes end (omega arith) found.0.before; long = omega arith }
+
+-- a header of one digit, and of two
+short_one : (piece left : Bytes) (number : ℕ) → 5 ≤ length piece → 48 ≤ get_or piece 1 0 → get_or piece 1 0 ≤ 57 → number ≡ get_or piece 1 0 - 48
+    → get_or piece 2 0 ≡ 13 → get_or piece 3 0 ≡ 10 → left ≡ drop 4 piece → IsShortHeader (get_or piece 0 0) piece number left
+short_one [] left number long low high is cr lf behind = absurd (omega arith)
+short_one (m ∷ []) left number long low high is cr lf behind = absurd (omega arith)
+short_one (m ∷ a ∷ []) left number long low high is cr lf behind = absurd (omega arith)
+short_one (m ∷ a ∷ c ∷ []) left number long low high is cr lf behind = absurd (omega arith)
+short_one (m ∷ a ∷ c ∷ d ∷ piece) left number long low high is cr lf behind =
+    let whole : a ≡ 48 + number = omega arith in
+    record {
+      low = omega arith;
+      split = ap (λ c. m ∷ a ∷ c ∷ d ∷ piece) cr
+          ∙ ap (λ d. m ∷ a ∷ 13 ∷ d ∷ piece) lf
+          ∙ ap (λ piece. m ∷ a ∷ 13 ∷ 10 ∷ piece) (sym behind)
+          ∙ ap (λ a. m ∷ a ∷ 13 ∷ 10 ∷ left) whole
+          ∙ ap (λ text. (m ∷ text ++ crlf) ++ left) (sym (decimal_digit number (omega arith)));
+    }
+
+two_digits : (a b : ℕ) → 48 < a → a ≤ 57 → 48 ≤ b → b ≤ 57 → decimal (10 * (a - 48) + (b - 48)) ≡ a ∷ b ∷ []
+two_digits a b a_low a_high b_low b_high =
+    let digits : list_all is_digit (a ∷ b ∷ []) ≡ true =
+    and_from _ _ (and_from _ _ (le-leb 48 a (omega arith)) (le-leb a 57 a_high)) (and_from _ _ (and_from _ _ (le-leb 48 b b_low) (le-leb b 57 b_high)) refl) in
+    let value : digits_value (a ∷ b ∷ []) ≡ 10 * (a - 48) + (b - 48) = omega arith in
+    ap decimal (sym value) ∙ decimal-digits_value own (a ∷ b ∷ []) digits (omega arith) (λ e. absurd (omega (arith, e))) (omega arith)
+
+short_two : (piece left : Bytes) (number : ℕ) → 5 ≤ length piece → 48 < get_or piece 1 0 → get_or piece 1 0 ≤ 57 → 48 ≤ get_or piece 2 0 → get_or piece 2 0 ≤ 57
+    → number ≡ 10 * (get_or piece 1 0 - 48) + (get_or piece 2 0 - 48) → get_or piece 3 0 ≡ 13 → get_or piece 4 0 ≡ 10 → left ≡ drop 5 piece → IsShortHeader (get_or piece 0 0) piece number left
+short_two [] left number long a_low a_high b_low b_high is cr lf behind = absurd (omega arith)
+short_two (m ∷ []) left number long a_low a_high b_low b_high is cr lf behind = absurd (omega arith)
+short_two (m ∷ a ∷ []) left number long a_low a_high b_low b_high is cr lf behind = absurd (omega arith)
+short_two (m ∷ a ∷ b ∷ []) left number long a_low a_high b_low b_high is cr lf behind = absurd (omega arith)
+short_two (m ∷ a ∷ b ∷ c ∷ []) left number long a_low a_high b_low b_high is cr lf behind = absurd (omega arith)
+short_two (m ∷ a ∷ b ∷ c ∷ d ∷ piece) left number long a_low a_high b_low b_high is cr lf behind =
+    record {
+      low = omega arith;
+      split = ap (λ c. m ∷ a ∷ b ∷ c ∷ d ∷ piece) cr
+          ∙ ap (λ d. m ∷ a ∷ b ∷ 13 ∷ d ∷ piece) lf
+          ∙ ap (λ piece. m ∷ a ∷ b ∷ 13 ∷ 10 ∷ piece) (sym behind)
+          ∙ ap (λ text. (m ∷ text ++ crlf) ++ left) (sym (ap decimal is ∙ two_digits a b a_low a_high b_low b_high));
+    }
+
+-- the same, as the code tests and cuts
+digit_range : (c : ℕ) → is_ascii_digit c ≡ true → (48 ≤ c) × (c ≤ 57)
+digit_range c holds =
+    let both = and_parts (leb 48 c) (leb c 57) holds in
+    (leb-true 48 c both.0, leb-true c 57 both.1)
+
+pub one_digit_read : (piece : Bytes) (number : ℕ) → 5 ≤ length piece → is_ascii_digit (get_or piece 1 0) ≡ true → number ≡ get_or piece 1 0 - 48 → get_or piece 2 0 ≡ 13 → get_or piece 3 0 ≡ 10
+    → IsShortHeader (get_or piece 0 0) piece number (take (length piece - 4) (drop 4 piece))
+one_digit_read piece number long digit is cr lf =
+    let range = digit_range (get_or piece 1 0) digit in
+    short_one piece _ number long range.0 range.1 is cr lf (take_rest piece 4)
+
+pub two_digits_read : (piece : Bytes) (tens ones : ℕ) → 5 ≤ length piece → get_or piece 1 0 ≢ 48 → is_ascii_digit (get_or piece 1 0) ≡ true → is_ascii_digit (get_or piece 2 0) ≡ true
+    → tens ≡ get_or piece 1 0 - 48 → ones ≡ get_or piece 2 0 - 48 → get_or piece 3 0 ≡ 13 → get_or piece 4 0 ≡ 10
+    → IsShortHeader (get_or piece 0 0) piece (10 * tens + ones) (take (length piece - 5) (drop 5 piece))
+two_digits_read piece tens ones long nonzero first second tens_is ones_is cr lf =
+    let a = digit_range (get_or piece 1 0) first in
+    let b = digit_range (get_or piece 2 0) second in
+    short_two piece _ (10 * tens + ones) long (omega (arith, a.0, nonzero)) a.1 b.0 b.1 (omega (arith, tens_is, ones_is)) cr lf (take_rest piece 5)

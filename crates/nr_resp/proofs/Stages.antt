@@ -4,7 +4,7 @@ use Rattle.std.specs.Prelude.{FitsSigned, ◌≤ℤ◌, Result, Ok, Err, OnErr}
 use Rattle.std.specs.Int.{w64}
 use Rattle.std.specs.Fmt.{signed_decimal}
 use Rattle.std.specs.List.{list_any, AllByRecursion}
-use Rattle.std.proofs.lemmas.List.{append-nil, flat_map_more, nil_from_length}
+use Rattle.std.proofs.lemmas.List.{append-nil, flat_map_more, map_push, nil_from_length}
 use Rattle.std.proofs.lemmas.Bool.{leb-true, eqb-true, ne_eqb, cases_lt}
 use Rattle.std.proofs.lemmas.Int.{ints}
 use Rattle.nr_model.specs.declared.fault.Fault.{Fault}
@@ -18,6 +18,8 @@ use Rattle.nr_resp.specs.declared.reader.FeedError.{FeedError}
 use Rattle.nr_resp.specs.declared.reader.FeedError.TheVariants as errors
 use Rattle.nr_resp.specs.declared.reader.partial.Stage.{Stage}
 use Rattle.nr_resp.specs.declared.reader.partial.Stage.TheVariants.{Line, Header, Body, Ending}
+use Rattle.nr_resp.specs.declared.frame.Frame as code
+use Rattle.nr_resp.specs.Frames.{frames_seen}
 use Rattle.nr_resp.specs.Lines.{begins, may_begin, most_line, long_line, IsLineFront, IsFirstLf, IsTooLong, Says, Misses, HasQuotes, said}
 use Rattle.nr_resp.specs.Stream.{Reads, RanOut}
 use Rattle.nr_resp.specs.PartialRequest.{array_head, bulk_head, array_front, bytes_at, Fits, Breaks}
@@ -310,6 +312,13 @@ no_lf stage count words part piece e fits some other =
     ∙ faulty_behind count words (bulk_head (length part) ++ (part ++ 13 ∷ piece)) LineEnd h.0
     (bulk_reads (length part) (part ++ 13 ∷ piece) h.1 ∙ word_ends part (13 ∷ piece) ∙ not_ended_by_lf part piece some other)) fits
 
+-- one more word, and one more frame, as they are pushed
+pub word_pushed : (words words' : List Bytes) (word pushed : Bytes) → words' ≡ words ++ pushed ∷ [] → pushed ≡ word → words' ≡ words ++ word ∷ []
+word_pushed words words' word pushed more is = more ∙ ap (λ word. words ++ word ∷ []) is
+
+pub frame_seen : (frames frames' : List code.Frame) (frame : code.Frame) (words : List Bytes) → frames' ≡ frames ++ frame ∷ [] → frame.words.items ≡ words → frames_seen frames' ≡ frames_seen frames ++ words ∷ []
+frame_seen frames frames' frame words pushed is = ap frames_seen pushed ∙ map_push _ frames frame ∙ ap (λ words. frames_seen frames ++ words ∷ []) is
+
 -- one more word
 front_more : (count : ℕ) (words : List Bytes) (part left : Bytes) → array_front count words ++ (bulk_head (length part) ++ (part ++ 13 ∷ 10 ∷ left)) ≡ array_front count (words ++ part ∷ []) ++ left
 front_more count words part left =
@@ -441,12 +450,17 @@ header_lost stage count words part part' piece e none = (
       ∙ ap (λ s. bytes_at s words part ++ piece) (sym e),
 )
 
-pub ending_lost : (stage : Stage) (count : ℕ) (words words' : List Bytes) (part part' piece : Bytes) → stage ≡ Ending count → words' ≡ words → part' ≡ [] → Begun (bytes_at (Header count) words' part') (bytes_at stage words part ++ piece)
-ending_lost stage count words words' part part' piece e same none =
-    let body = bulk_head (length part) ++ (part ++ 13 ∷ []) in (
-      body ++ piece,
-      ap (λ p. bytes_at (Header count) words' p ++ (body ++ piece)) none
-          ∙ ap (λ (ws : List Bytes). bytes_at (Header count) ws [] ++ (body ++ piece)) same
-          ∙ part_lost (array_front count words) body piece
-          ∙ ap (λ s. bytes_at s words part ++ piece) (sym e),
-    )
+-- a front of what is before a word is a front of what comes with it
+begun_before : (held front rest piece : Bytes) → Begun held front → Begun held ((front ++ rest) ++ piece)
+begun_before held front rest piece begun = (
+  begun.0 ++ (rest ++ piece),
+  sym (append_assoc held begun.0 (rest ++ piece)) ∙ ap (λ bs. bs ++ (rest ++ piece)) begun.1 ∙ sym (append_assoc front rest piece),
+)
+
+pub body_begun : (stage : Stage) (count len : ℕ) (words : List Bytes) (part piece held : Bytes) → stage ≡ Body count len → Begun held (array_front count words) → Begun held (bytes_at stage words part ++ piece)
+body_begun stage count len words part piece held e begun =
+    subst (λ s. Begun held (bytes_at s words part ++ piece)) (sym e) (begun_before held (array_front count words) (bulk_head len ++ part) piece begun)
+
+pub ending_begun : (stage : Stage) (count : ℕ) (words : List Bytes) (part piece held : Bytes) → stage ≡ Ending count → Begun held (array_front count words) → Begun held (bytes_at stage words part ++ piece)
+ending_begun stage count words part piece held e begun =
+    subst (λ s. Begun held (bytes_at s words part ++ piece)) (sym e) (begun_before held (array_front count words) (bulk_head (length part) ++ (part ++ 13 ∷ [])) piece begun)

@@ -1,9 +1,9 @@
 -- The lines of requests: where one ends, and what a whole one says.
-use Rattle.std.specs.Prelude.{◌≡◌, ℕ, ◌<◌, ◌≤◌, Bool, true, false, ◌==◌, if◌then◌else◌, [], ◌∷◌, ◌++◌, length, take, drop, slice_index, Option, Some, None, Result, Ok, Err, ℤ}
+use Rattle.std.specs.Prelude.{◌≡◌, ℕ, ◌<◌, ◌≤◌, Bool, true, false, ◌==◌, if◌then◌else◌, [], ◌∷◌, ◌++◌, length, take, drop, slice_index, Option, Some, None, Result, Ok, Err, ℤ, decimal}
 use Rattle.std.specs.List.{list_any}
 use Rattle.nr_model.specs.declared.fault.Fault.{Fault}
 use Rattle.nr_model.specs.declared.fault.Fault.TheVariants.{Count, Inline, LineEnd, Quotes}
-use Rattle.nr_model.specs.Bytes.{Bytes}
+use Rattle.nr_model.specs.Bytes.{Bytes, crlf}
 use Rattle.nr_model.specs.Numbers.{int_value}
 use Rattle.nr_model.specs.Requests.{Front, Faulty, number_or, most_header_bytes, most_inline_bytes, ends_with_cr, without_last, how_many, is_quote}
 use Rattle.nr_resp.specs.declared.reader.FeedError.{FeedError}
@@ -52,6 +52,16 @@ abbrev pub Ends : ℕ → Fault → Bytes → Result (Option ℕ) FeedError → 
 Ends room fault bytes (Ok (Some end)) = IsFirstLf end bytes × (end ≤ room)
 Ends room fault bytes (Ok None) = IsLineFront room bytes
 Ends room fault bytes (Err error) = (error ≡ errors.Fault fault) × IsTooLong room bytes
+
+-- a header with a number below 100 stands before the rest
+pub record IsShortHeader (mark : ℕ) (piece : Bytes) (number : ℕ) (left : Bytes) : Type 0 where
+  pub low : number < 100
+  pub split : piece ≡ (mark ∷ decimal number ++ crlf) ++ left
+
+-- a body of so many bytes with its CR and LF stands before the rest
+pub record IsWholeBody (len : ℕ) (piece body left : Bytes) : Type 0 where
+  pub size : length body ≡ len
+  pub split : piece ≡ body ++ 13 ∷ 10 ∷ left
 
 -- the text of the number in a whole header line, behind its mark and before its CR
 abbrev pub number_text : Bytes → Bytes

@@ -1,8 +1,8 @@
 // The lines of requests: where one ends, the number that a header says, the words of an inline line.
-ghost use Rattle.std.specs.Prelude.{◌≡◌, ◌++◌, false, OnOk, IfOk, IfErr, MatchOption, MatchResult, true};
+ghost use Rattle.std.specs.Prelude.{◌≡◌, ◌≤◌, ◌++◌, length, slice_index, false, OnOk, IfOk, IfErr, MatchOption, MatchResult, true};
 ghost use Rattle.std.specs.List.{list_any};
 ghost use Rattle.nr_model.specs.Requests.{is_blank, is_count, is_length, is_quote, words_of, ends_with_cr, without_last, without_cr};
-ghost use Rattle.nr_resp.specs.Lines.{begins, Ends, Numbers, Says, Misses, HasQuotes};
+ghost use Rattle.nr_resp.specs.Lines.{begins, Ends, IsShortHeader, IsWholeBody, Numbers, Says, Misses, HasQuotes};
 ghost use Rattle.nr_model.specs.declared.fault.Fault.TheVariants as faults;
 
 use super::FeedError;
@@ -23,6 +23,61 @@ pub fn begins_with(mark: u8, held: &[u8], piece: &[u8]) -> bool
         ([first, ..], _) | ([], [first, ..]) => *first == mark,
         ([], []) => false,
     }
+}
+
+/// The number of a header, and what is behind it, where the piece begins with a short one: the mark, a number of one digit or two, CR and LF.
+/// `None` leaves it open what the piece begins with.
+pub fn short_header(mark: u8, piece: &[u8]) -> Option<(usize, &[u8])>
+    ensures { MatchOption result (Unit {0}) (λ header. IsShortHeader mark piece.now header.0 header.1.now) }
+{
+    if piece.len() < 5 || piece[0] != mark {
+        return None;
+    }
+    if piece[2] == b'\r' {
+        one_digit(piece)
+    } else {
+        two_digits(piece)
+    }
+}
+
+#[tactic(auto, using(crate::proofs::Lines::one_digit_read))]
+fn one_digit(piece: &[u8]) -> Option<(usize, &[u8])>
+    requires long { 5 ≤ length piece.now }
+    requires cr { slice_index piece.now 2 ≡ 13 }
+    ensures { MatchOption result (Unit {0}) (λ header. IsShortHeader (slice_index piece.now 0) piece.now header.0 header.1.now) }
+{
+    if !piece[1].is_ascii_digit() || piece[3] != b'\n' {
+        return None;
+    }
+    Some((usize::from(piece[1] - b'0'), &piece[4..]))
+}
+
+#[tactic(auto, using(crate::proofs::Lines::two_digits_read))]
+fn two_digits(piece: &[u8]) -> Option<(usize, &[u8])>
+    requires { 5 ≤ length piece.now }
+    ensures { MatchOption result (Unit {0}) (λ header. IsShortHeader (slice_index piece.now 0) piece.now header.0 header.1.now) }
+{
+    if piece[1] == b'0' || !piece[1].is_ascii_digit() || !piece[2].is_ascii_digit() {
+        return None;
+    }
+    if piece[3] != b'\r' || piece[4] != b'\n' {
+        return None;
+    }
+    let number = 10 * usize::from(piece[1] - b'0') + usize::from(piece[2] - b'0');
+    Some((number, &piece[5..]))
+}
+
+/// A body of so many bytes, and what is behind its CR and LF, where the piece begins with all of them.
+pub fn whole_body(len: usize, piece: &[u8]) -> Option<(&[u8], &[u8])>
+    ensures { MatchOption result (Unit {0}) (λ body. IsWholeBody len piece.now body.0.now body.1.now) }
+{
+    if piece.len() < 2 || piece.len() - 2 < len {
+        return None;
+    }
+    if piece[len] != b'\r' || piece[len + 1] != b'\n' {
+        return None;
+    }
+    Some((&piece[..len], &piece[len + 2..]))
 }
 
 /// The place of the first LF, where it comes behind no more bytes than there is room for.

@@ -1,17 +1,20 @@
 // The request whose bytes have come in part: a stage for each thing that may come next, and what the stage holds.
-ghost use Rattle.std.specs.Prelude.{◌≡◌, ◌++◌, ◌∷◌, ◌<◌, [], length, None, Some, Err, OnOk, OnErr, IfOk, IfErr, IsErr, vec_capacity};
+ghost use Rattle.std.specs.Prelude.{◌≡◌, ◌++◌, ◌∷◌, ◌<◌, ◌≤◌, [], length, None, Some, Err, OnOk, OnErr, IfOk, IfErr, IsErr, MatchOption, vec_capacity};
 ghost use Rattle.nr_model.specs.Bytes.{Bytes};
-ghost use Rattle.nr_model.specs.Requests.{framing_of};
+ghost use Rattle.nr_model.specs.Requests.{framing_of, most_word_bytes};
 ghost use Rattle.nr_model.specs.declared.fault.Fault.{Fault};
 ghost use Rattle.nr_resp.specs.declared.reader.FeedError.{FeedError};
+ghost use Rattle.nr_resp.specs.declared.reader.FeedError.TheVariants as errors;
 ghost use Rattle.nr_resp.specs.Frames.{frames_seen};
-ghost use Rattle.nr_resp.specs.Lines.{begins, most_line, long_line, IsLineFront};
+ghost use Rattle.nr_resp.specs.Lines.{begins, most_line, long_line, IsLineFront, IsShortHeader};
 ghost use Rattle.nr_resp.specs.Stream.{Reads, RanOut};
-ghost use Rattle.nr_resp.specs.PartialRequest.{bytes_of, IsHeld, Breaks};
+ghost use Rattle.nr_resp.specs.PartialRequest.{array_front, bytes_at, bytes_of, LacksWords, IsHeld, Breaks};
 ghost use Rattle.nr_resp.specs.declared.reader.partial.Stage.TheVariants as stages;
 
 use super::FeedError;
-use super::lines::{begins_with, count_of, inline_words, joined, length_of, line_end};
+use super::lines::{
+    begins_with, count_of, inline_words, joined, length_of, line_end, short_header, whole_body,
+};
 use crate::frame::Frame;
 use nr_blob::Blob;
 use nr_model::fault::Fault;
@@ -95,12 +98,47 @@ impl PartialRequest {
         match self.stage {
             Stage::Line => self.first_line(piece, frames),
             Stage::Header { count } => self.header(count, piece),
-            Stage::Body { count, len } => self.body(count, len, piece),
+            Stage::Body { count, len } => self.body(count, len, piece, frames),
             Stage::Ending { count } => self.ending(count, piece, frames),
         }
     }
 
+    /// The number of a short header that the piece begins with, and what is behind it, where no room is taken for a part.
+    fn short_header<'a>(&self, mark: u8, piece: &'a [u8]) -> Option<(usize, &'a [u8])>
+        ensures { MatchOption result (Unit {0}) (λ header. (self.now.part.items ≡ []) × (vec_capacity self.now.part ≡ 0) × IsShortHeader mark piece.now header.0 header.1.now) }
+    {
+        if self.part.capacity() > 0 {
+            return None;
+        }
+        short_header(mark, piece)
+    }
+
+    // A short header that stands whole in the piece is read in place, any other line up to its LF.
     fn first_line<'a>(
+        &mut self,
+        piece: &'a [u8],
+        frames: &mut Vec<Frame>,
+    ) -> Result<&'a [u8], FeedError>
+        requires held { IsHeld self.old }
+        requires stage { self.old.stage ≡ stages.Line }
+        requires some { 0 < length piece.now }
+        ensures held { OnOk result (IsHeld self.new) }
+        ensures shorter { IfOk result (λ left. length left.now < length piece.now) }
+        ensures moved { IfOk result (λ left. Reads (bytes_of self.old ++ piece.now) (bytes_of self.new ++ left.now) (frames_seen frames.old.items) (frames_seen frames.new.items)) }
+        ensures stopped { IfErr result (λ error. Breaks (bytes_of self.old ++ piece.now) error) }
+        ensures begun { OnErr result ((left : Bytes) × (bytes_of self.new ++ left ≡ bytes_of self.old ++ piece.now)) }
+        ensures kept { IsErr result → frames_seen frames.new.items ≡ frames_seen frames.old.items }
+    {
+        match self.short_header(b'*', piece) {
+            Some((count, left)) if count > 0 => {
+                self.stage = Stage::Header { count };
+                Ok(left)
+            }
+            _ => self.any_first_line(piece, frames),
+        }
+    }
+
+    fn any_first_line<'a>(
         &mut self,
         piece: &'a [u8],
         frames: &mut Vec<Frame>,
@@ -172,6 +210,26 @@ impl PartialRequest {
         ensures begun { OnErr result ((left : Bytes) × (bytes_of self.new ++ left ≡ bytes_of self.old ++ piece.now)) }
         ensures no_room { OnOk result (self.new.part.items ≡ [] → vec_capacity self.new.part ≡ 0) }
     {
+        match self.short_header(b'$', piece) {
+            Some((len, left)) => {
+                self.stage = Stage::Body { count, len };
+                Ok(left)
+            }
+            None => self.any_header(count, piece),
+        }
+    }
+
+    fn any_header<'a>(&mut self, count: usize, piece: &'a [u8]) -> Result<&'a [u8], FeedError>
+        requires held { IsHeld self.old }
+        requires stage { self.old.stage ≡ stages.Header count }
+        requires some { 0 < length piece.now }
+        ensures held { OnOk result (IsHeld self.new) }
+        ensures shorter { IfOk result (λ left. length left.now < length piece.now) }
+        ensures moved { IfOk result (λ left. bytes_of self.new ++ left.now ≡ bytes_of self.old ++ piece.now) }
+        ensures stopped { IfErr result (λ error. Breaks (bytes_of self.old ++ piece.now) error) }
+        ensures begun { OnErr result ((left : Bytes) × (bytes_of self.new ++ left ≡ bytes_of self.old ++ piece.now)) }
+        ensures no_room { OnOk result (self.new.part.items ≡ [] → vec_capacity self.new.part ≡ 0) }
+    {
         if !begins_with(b'$', &self.part, piece) {
             return Err(FeedError::Fault(Fault::Dollar(piece[0])));
         }
@@ -185,7 +243,41 @@ impl PartialRequest {
         Ok(&piece[end + 1..])
     }
 
-    fn body<'a>(&mut self, count: usize, len: usize, piece: &'a [u8]) -> Result<&'a [u8], FeedError>
+    // A body that stands whole in the piece is taken at once, with its CR and LF.
+    fn body<'a>(
+        &mut self,
+        count: usize,
+        len: usize,
+        piece: &'a [u8],
+        frames: &mut Vec<Frame>,
+    ) -> Result<&'a [u8], FeedError>
+        requires held { IsHeld self.old }
+        requires stage { self.old.stage ≡ stages.Body count len }
+        requires some { 0 < length piece.now }
+        ensures held { OnOk result (IsHeld self.new) }
+        ensures shorter { IfOk result (λ left. length left.now < length piece.now) }
+        ensures moved { IfOk result (λ left. Reads (bytes_of self.old ++ piece.now) (bytes_of self.new ++ left.now) (frames_seen frames.old.items) (frames_seen frames.new.items)) }
+        ensures stopped { IfErr result (λ error. Breaks (bytes_of self.old ++ piece.now) error) }
+        ensures begun { OnErr result ((left : Bytes) × (bytes_of self.new ++ left ≡ bytes_of self.old ++ piece.now)) }
+        ensures kept { IsErr result → frames_seen frames.new.items ≡ frames_seen frames.old.items }
+    {
+        if !self.part.is_empty() {
+            return self.body_front(count, len, piece);
+        }
+        let Some((body, left)) = whole_body(len, piece) else {
+            return self.body_front(count, len, piece);
+        };
+        let word = Vec::from_slice(*self.words.allocator(), body)?;
+        self.add_word(count, word, frames)?;
+        Ok(left)
+    }
+
+    fn body_front<'a>(
+        &mut self,
+        count: usize,
+        len: usize,
+        piece: &'a [u8],
+    ) -> Result<&'a [u8], FeedError>
         requires held { IsHeld self.old }
         requires stage { self.old.stage ≡ stages.Body count len }
         requires some { 0 < length piece.now }
@@ -227,16 +319,40 @@ impl PartialRequest {
         if piece[0] != b'\n' {
             return Err(FeedError::Fault(Fault::LineEnd));
         }
-        let alloc = *self.words.allocator();
-        let word = mem::replace(&mut self.part, Vec::new(alloc));
+        let word = mem::replace(&mut self.part, Vec::new(*self.words.allocator()));
+        self.add_word(count, word, frames)?;
+        Ok(&piece[1..])
+    }
+
+    /// Takes a whole word, and adds the request where it is the last one of it.
+    ///
+    /// # Errors
+    ///
+    /// Memory runs out: then the words before it are held, or nothing of the request.
+    fn add_word(
+        &mut self,
+        count: usize,
+        word: Vec<u8>,
+        frames: &mut Vec<Frame>,
+    ) -> Result<(), FeedError>
+        requires lacks { LacksWords count self.old.words.items }
+        requires part { self.old.part.items ≡ [] }
+        requires short { length word.items ≤ most_word_bytes }
+        ensures held { OnOk result (IsHeld self.new) }
+        ensures moved { OnOk result ((left : Bytes) → Reads (bytes_at (stages.Ending count) self.old.words.items word.items ++ 10 ∷ left) (bytes_of self.new ++ left) (frames_seen frames.old.items) (frames_seen frames.new.items)) }
+        ensures refused { IfErr result (λ error. error ≡ errors.Memory) }
+        ensures begun { OnErr result ((left : Bytes) × (bytes_of self.new ++ left ≡ array_front count self.old.words.items)) }
+        ensures kept { IsErr result → frames_seen frames.new.items ≡ frames_seen frames.old.items }
+    {
         self.stage = Stage::Header { count };
         self.words.push(Blob::from(word))?;
         if self.words.len() >= count {
+            let alloc = *self.words.allocator();
             let words = mem::replace(&mut self.words, Vec::new(alloc));
             self.stage = Stage::Line;
             frames.push(Frame { words })?;
         }
-        Ok(&piece[1..])
+        Ok(())
     }
 }
 

@@ -1,16 +1,13 @@
-use Rattle.std.proofs.Common.{refl, arith}
-use Rattle.nr_resp.proofs.Stages.{no_cr, on_err, same_part}
+use Rattle.std.proofs.Common.{refl}
+use Rattle.nr_resp.specs.PartialRequest.{bytes_of}
+use Rattle.nr_resp.proofs.Stages.{body_begun, on_err}
 use Rattle.nr_resp.proofs.reader.partial.PartialRequest.body.Goals as goal
 
-pub returns-then-piece-ne13-clause-stopped : goal.returns-then-piece-ne13-clause-stopped
-returns-then-piece-ne13-clause-stopped c =
-    let self = c.args.self.now in
-    no_cr self.stage c.args.count c.args.len self.words.items self.part.items c.args.piece.now c.requires.stage c.requires.held (omega (arith, self.part.ok.0)) c.requires.some c.if-piece-ne13.true
+pub returns-in_err-word-clause-begun : goal.returns-in_err-word-clause-begun
+returns-in_err-word-clause-begun c = on_err c.from_residual.result _ (c.args.piece.now, refl)
 
-pub returns-in_err-extend_from_slice-clause-begun : goal.returns-in_err-extend_from_slice-clause-begun
-returns-in_err-extend_from_slice-clause-begun c =
+pub returns-in_err-add_word-clause-begun : goal.returns-in_err-add_word-clause-begun
+returns-in_err-add_word-clause-begun c =
     let self = c.args.self.now in
-    on_err c.from_residual.result _ (same_part self.stage self.words.items self.part.items _ c.args.piece.now c.in_err-extend_from_slice.ensures.items)
-
-pub returns-then-piece-ne13-clause-begun : goal.returns-then-piece-ne13-clause-begun
-returns-then-piece-ne13-clause-begun c = (c.args.piece.now, refl)
+    on_err c.from_residual-in_err-add_word.result _
+    (body_begun self.stage c.args.count c.args.len self.words.items self.part.items c.args.piece.now (bytes_of c.add_word.new.self) c.requires.stage c.in_err-add_word.ensures.begun)

@@ -4,7 +4,7 @@ use Rattle.nr_resp.specs.declared.reader.FeedError.TheVariants as errors
 use Rattle.nr_resp.specs.Lines.{begins, most_line}
 use Rattle.nr_resp.specs.PartialRequest.{bytes_of}
 use Rattle.nr_resp.proofs.Stages.{first_breaks, first_stops, on_err, same_part, line_lost}
-use Rattle.nr_resp.proofs.reader.partial.PartialRequest.first_line.Goals as goal
+use Rattle.nr_resp.proofs.reader.partial.PartialRequest.any_first_line.Goals as goal
 
 pub returns-in_err-end-clause-stopped : goal.returns-in_err-end-clause-stopped
 returns-in_err-end-clause-stopped c =

@@ -3,7 +3,7 @@ use Rattle.std.proofs.lemmas.List.{take_rest}
 use Rattle.std.proofs.lemmas.Result.{err_from_is_err_and}
 use Rattle.nr_resp.specs.Lines.{begins}
 use Rattle.nr_resp.proofs.Stages.{no_dollar, header_breaks, header_misses, header_moves, on_err, same_part, header_lost}
-use Rattle.nr_resp.proofs.reader.partial.PartialRequest.header.Goals as goal
+use Rattle.nr_resp.proofs.reader.partial.PartialRequest.any_header.Goals as goal
 
 pub returns-then-not-begins_with-clause-stopped : goal.returns-then-not-begins_with-clause-stopped
 returns-then-not-begins_with-clause-stopped c =
