@@ -12,4 +12,6 @@ mod readers;
 #[cfg(test)]
 mod serving;
 #[cfg(test)]
+mod settings;
+#[cfg(test)]
 mod worlds;

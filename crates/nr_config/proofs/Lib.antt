@@ -1,0 +1,4 @@
+pub mod Firsts
+pub mod Told
+pub mod Refusals
+pub mod Spelled

@@ -1,0 +1,114 @@
+-- The command line: its tasks with their arguments, as `clap` is told them, and which task words name.
+use Rattle.std.specs.Prelude.{◌≡◌, ◌≢◌, ◌⊎◌, ◌==◌, Bool, true, false, List, [], ◌∷◌, Result, MatchResult, Option, Some, None, codes, option_map, option_and_then, string_bytes}
+use Rattle.clap.specs.Words.{App, Row, Rule, Text, app_of, fault_of, first_of, kind_of, new_app, new_rule, subcommand_of, subcommand_rows_of, with_rule, with_subcommand}
+use Rattle.clap.specs.declared.builder.action.ArgAction.TheVariants.{Set}
+use Rattle.clap.specs.declared.builder.command.Command.{Command}
+use Rattle.clap.specs.declared.builder.command.Command.TheViews.{out-Command}
+use Rattle.clap.specs.declared.parser.matches.ArgMatches.{ArgMatches}
+use Rattle.clap.specs.declared.error.Error.{Error}
+use Rattle.clap.specs.declared.error.kind.ErrorKind.TheVariants as kinds
+use Rattle.nr_config.specs.declared.command_line.Task.{Task}
+use Rattle.nr_config.specs.declared.command_line.Task.TheVariants.{Run, Script, Serve}
+use Rattle.nr_config.specs.declared.command_line.WordsError.{WordsError}
+use Rattle.nr_config.specs.declared.command_line.WordsError.TheVariants.{Asked, Refused, Memory}
+
+-- `FILE`, which has to be given
+abbrev pub file : Rule
+file = record (new_rule (codes "file")) { action = Some Set; value_names = 1; required = true }
+
+-- `--config FILE`, which has to be given
+abbrev pub config : Rule
+config = record file { id = codes "config"; long = Some (codes "config") }
+
+abbrev pub run : App
+run = new_app (codes "run")
+
+abbrev pub script : App
+script = with_rule (new_app (codes "script")) file
+
+abbrev pub serve : App
+serve = with_rule (new_app (codes "serve")) config
+
+-- words without a task are answered by the help
+abbrev pub start : App
+start = let bare = new_app (codes "noderedis") in record bare { top = record bare.top { subcommand_required = true; arg_required_else_help = true } }
+
+-- `noderedis run`, `noderedis script FILE`, and `noderedis serve --config FILE`
+abbrev pub command : App
+command = with_subcommand (with_subcommand (with_subcommand start run.top) script.top) serve.top
+
+-- the command passes no argument on to its subcommands
+abbrev pub IsLocal : Command → Type 0
+IsLocal made = (out-Command made).has_globals ≡ false
+
+-- the command as `clap` is told
+abbrev pub Describes : App → Command → Type 0
+Describes app made = (app_of made ≡ app) × IsLocal made
+
+-- the subcommand that was found
+abbrev pub subcommand_in : Option (Text × List Row) → Option Text
+subcommand_in found = option_map (λ p. p.0) found
+
+-- the value that was found of an argument of the subcommand
+abbrev pub value_in : Text → Option (Text × List Row) → Option Text
+value_in id found = option_and_then (λ p. first_of id p.1) found
+
+-- the task is the one of the subcommand that was found, with its file
+abbrev pub IsTaskOf : Option (Text × List Row) → Task → Type 0
+IsTaskOf found Run = subcommand_in found ≡ Some (codes "run")
+IsTaskOf found (Script name) = (subcommand_in found ≡ Some (codes "script")) × (value_in (codes "file") found ≡ Some (string_bytes name))
+IsTaskOf found (Serve name) = (subcommand_in found ≡ Some (codes "serve")) × (value_in (codes "config") found ≡ Some (string_bytes name))
+
+-- the words, of which the first is the program's own name, are without a fault and name this task
+abbrev pub Names : List Text → Task → Type 0
+Names words task = (fault_of command words ≡ []) × IsTaskOf (subcommand_of command words) task
+
+-- the words are without a fault, and this is what was found
+abbrev pub Finds : List Text → ArgMatches → Type 0
+Finds words matches = (fault_of command words ≡ []) × (subcommand_rows_of matches ≡ subcommand_of command words)
+
+abbrev pub NameNone : List Text → Type 0
+NameNone words = (task : Task) → ¬ Names words task
+
+-- memory was refused, or the words name no task
+abbrev pub IsRefusal : List Text → Error → Type 0
+IsRefusal words error = (kind_of error ≡ kinds.OutOfMemory) ⊎ NameNone words
+
+-- help is told apart from a refusal, and both from want of memory
+abbrev pub IsMadeOf : Error → WordsError → Type 0
+IsMadeOf error (Asked text) = (text ≡ error) × (kind_of error ≢ kinds.OutOfMemory) × ((kind_of error ≡ kinds.DisplayHelp) ⊎ (kind_of error ≡ kinds.DisplayVersion))
+IsMadeOf error (Refused text) = (text ≡ error) × (kind_of error ≢ kinds.OutOfMemory) × (kind_of error ≢ kinds.DisplayHelp) × (kind_of error ≢ kinds.DisplayVersion)
+IsMadeOf error Memory = kind_of error ≡ kinds.OutOfMemory
+
+-- what is answered in place of a task, or want of memory
+abbrev pub Refuses : List Text → WordsError → Type 0
+Refuses words (Asked text) = NameNone words × ((kind_of text ≡ kinds.DisplayHelp) ⊎ (kind_of text ≡ kinds.DisplayVersion))
+Refuses words (Refused text) = NameNone words × (kind_of text ≢ kinds.DisplayHelp) × (kind_of text ≢ kinds.DisplayVersion)
+Refuses words Memory = Unit {0}
+
+-- the task, where there is one
+abbrev pub FindsTask : Option (Text × List Row) → Option Task → Type 0
+FindsTask found None = (task : Task) → ¬ IsTaskOf found task
+FindsTask found (Some task) = IsTaskOf found task
+
+-- the word begins with a hyphen
+abbrev pub is_option : Text → Bool
+is_option [] = false
+is_option (byte ∷ rest) = byte == 45
+
+-- the words are the program's own name, and then the task as a user writes it
+abbrev pub Spells : List Text → Task → Type 0
+Spells words Run = (program : Text) × (words ≡ program ∷ codes "run" ∷ [])
+Spells words (Script name) = (program : Text) × (words ≡ program ∷ codes "script" ∷ string_bytes name ∷ []) × (is_option (string_bytes name) ≡ false)
+Spells words (Serve name) = (program : Text) × (words ≡ program ∷ codes "serve" ∷ codes "--config" ∷ string_bytes name ∷ []) × (is_option (string_bytes name) ≡ false)
+
+-- the same task, with a file of the same name
+abbrev pub IsSame : Task → Task → Type 0
+IsSame Run Run = Unit {0}
+IsSame (Script name) (Script other) = string_bytes name ≡ string_bytes other
+IsSame (Serve name) (Serve other) = string_bytes name ≡ string_bytes other
+IsSame _ _ = ⊥
+
+-- the answer is this task, or want of memory
+abbrev pub Gives : Task → Result Task WordsError → Type 0
+Gives task result = MatchResult result (IsSame task) (λ why. why ≡ Memory)

@@ -1,0 +1,80 @@
+// The keys of a settings file, and the values that they may have.
+ghost use Rattle.std.specs.Prelude.{◌≡◌, Some, ◌≤◌, IsTrue, OnOk, IfErr, IfOk, true, string_bytes};
+ghost use Rattle.toml.specs.View.{view};
+ghost use Rattle.nr_config.specs.Keys.{kind_of, whole_number, fits, is_allowed};
+ghost use Rattle.nr_config.specs.Faults.{Blames};
+
+use crate::error::ConfigError;
+use std::alloc::Global;
+use toml::Value;
+
+/// What the value of a setting has to be.
+#[derive(Clone, Copy)]
+pub enum Kind {
+    Text,
+    /// A whole number within the range.
+    Number { least: usize, most: usize },
+}
+
+fn number(least: usize, most: usize) -> Option<Kind>
+    ensures { result ≡ Some (Kind.Number least most) }
+{
+    Some(Kind::Number { least, most })
+}
+
+/// What the value of the setting of this name has to be, where there is one.
+pub fn kind_of(name: &str) -> Option<Kind>
+    ensures { result ≡ kind_of name.now }
+{
+    match name {
+        "connections" => number(1, 1_024),
+        "listen" => Some(Kind::Text),
+        "nodes" => number(1, 8),
+        "places" => number(2, 65_536),
+        "queue_limit" => number(1_024, 1_073_741_824),
+        "workers" => number(1, 16),
+        _ => None,
+    }
+}
+
+/// The whole number that the value is.
+pub fn whole_number(value: &Value) -> Option<usize>
+    ensures { result ≡ whole_number (view value.now) }
+{
+    match value.as_integer() {
+        Some(number) if number >= 0 => Some(number as usize),
+        _ => None,
+    }
+}
+
+fn fits(kind: Kind, value: &Value) -> bool
+    ensures { result ≡ fits kind (view value.now) }
+{
+    match kind {
+        Kind::Text => value.is_str(),
+        Kind::Number { least, most } => match whole_number(value) {
+            Some(number) => least <= number && number <= most,
+            None => false,
+        },
+    }
+}
+
+/// The name, in memory of its own.
+pub fn copy(alloc: Global, name: &str) -> Result<String, ConfigError>
+    ensures value { IfOk result (λ copied. string_bytes copied ≡ name.now) }
+    ensures memory { IfErr result (λ error. error ≡ ConfigError.Memory) }
+{
+    String::from_str(alloc, name).map_err(|_| ConfigError::Memory)
+}
+
+/// Refuses a key with a value that no settings file may have.
+pub fn check(alloc: Global, key: &str, value: &Value) -> Result<(), ConfigError>
+    ensures allowed { OnOk result (is_allowed key.now (view value.now) ≡ true) }
+    ensures refused { IfErr result (Blames key.now (view value.now)) }
+{
+    match kind_of(key) {
+        None => Err(ConfigError::UnknownKey(copy(alloc, key)?)),
+        Some(kind) if fits(kind, value) => Ok(()),
+        Some(_) => Err(ConfigError::BadValue(copy(alloc, key)?)),
+    }
+}

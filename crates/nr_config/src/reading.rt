@@ -1,0 +1,84 @@
+// A settings file, read.
+ghost use Rattle.std.specs.Prelude.{◌≡◌, None, Some, IfOk, IfErr, OnOk, option_map};
+ghost use Rattle.toml.specs.Data.{Members, get_member};
+ghost use Rattle.toml.specs.View.{view, table_view};
+ghost use Rattle.toml.specs.Parse.{parse_document};
+ghost use Rattle.nr_config.specs.Keys.{HasNoFault, IsInRange, number_or, text_or};
+ghost use Rattle.nr_config.specs.Faults.{BlamesFirst, Refuses, Sets};
+
+use crate::error::ConfigError;
+use crate::keys::{check, copy, whole_number};
+use crate::settings::Settings;
+use std::alloc::Global;
+use toml::{Table, Value};
+
+fn read_table(alloc: Global, text: &str) -> Result<Table, ConfigError>
+    ensures table { IfOk result (λ table. parse_document text.now ≡ Some (table_view table)) }
+    ensures refused { IfErr result (Refuses text.now) }
+{
+    match toml::table_from_str(alloc, text) {
+        Ok(table) => Ok(table),
+        Err(error) if error.is_memory() => Err(ConfigError::Memory),
+        Err(_) => Err(ConfigError::NotToml),
+    }
+}
+
+// Refuses the first key, in byte order, with a value that no settings file may have.
+fn check_all(alloc: Global, table: &Table) -> Result<(), ConfigError>
+    ensures allowed { OnOk result (HasNoFault (table_view table.now)) }
+    ensures refused { IfErr result (BlamesFirst (table_view table.now)) }
+{
+    for (key, value) in table {
+        check(alloc, key.as_str(), value)?;
+    }
+    Ok(())
+}
+
+fn value_at<'a>(table: &'a Table, name: &str) -> Option<&'a Value>
+    ensures { option_map (λ value. view value.now) result ≡ get_member name.now (table_view table.now) }
+{
+    table.get(name)
+}
+
+fn number_at(table: &Table, name: &str, default: usize) -> usize
+    ensures value { result ≡ number_or default (get_member name.now (table_view table.now)) }
+    ensures range { HasNoFault (table_view table.now) → IsInRange name.now default → IsInRange name.now result }
+{
+    match value_at(table, name) {
+        Some(value) => whole_number(value).unwrap_or(default),
+        None => default,
+    }
+}
+
+fn text_at<'a>(table: &'a Table, name: &str, default: &'a str) -> &'a str
+    ensures { result.now ≡ text_or default.entry.now (get_member name.now (table_view table.now)) }
+{
+    match value_at(table, name) {
+        Some(value) => value.as_str().unwrap_or(default),
+        None => default,
+    }
+}
+
+impl Settings {
+    /// Reads a settings file. A setting that it doesn't have is at its default.
+    ///
+    /// # Errors
+    ///
+    /// `NotToml` where the text isn't TOML. Else the first key in byte order answers that is unknown, or has a value that its setting
+    /// may not have. `Memory` may come at any text.
+    pub fn from_text(alloc: Global, text: &str) -> Result<Settings, ConfigError>
+        ensures settings { IfOk result (λ settings. (file : Members) × (parse_document text.now ≡ Some file) × HasNoFault file × Sets file settings) }
+        ensures refused { IfErr result (Refuses text.now) }
+    {
+        let table = read_table(alloc, text)?;
+        check_all(alloc, &table)?;
+        Ok(Settings {
+            listen: copy(alloc, text_at(&table, "listen", "127.0.0.1:6379"))?,
+            nodes: number_at(&table, "nodes", 2),
+            places: number_at(&table, "places", 1_024),
+            workers: number_at(&table, "workers", 2),
+            connections: number_at(&table, "connections", 256),
+            queue_limit: number_at(&table, "queue_limit", 67_108_864),
+        })
+    }
+}
