@@ -108,7 +108,7 @@ none_begins y = (y, refl)
 abbrev bytes_along : Connection → Server → Sequence → Bytes
 bytes_along c s items = bytes_for c (emitted_all s items)
 
-two_parts : (c : Connection) (s : Server) (items more : Sequence)
+pub two_parts : (c : Connection) (s : Server) (items more : Sequence)
     → bytes_for c (emitted_all s (items ++ more)) ≡ bytes_for c (emitted_all s items) ++ bytes_for c (emitted_all (after_all s items) more)
 two_parts c s items more =
     ap (bytes_for c) (emitted_all-append s items more) ∙ bytes_for-append c (emitted_all s items) (emitted_all (after_all s items) more)

@@ -2,6 +2,7 @@
 pub mod Steps
 pub mod Pasts
 pub mod Explained
+pub mod Settling
 use Rattle.std.specs.Prelude.{ℕ, Bool, true, false, List, [], length, map, filter, flat_map, slice_index_or, slice_set, replicate, ◌++◌, ◌∷◌, ◌==◌, cond, suc, zero}
 use Rattle.nr_model.specs.Bytes.{Bytes}
 use Rattle.nr_model.specs.Items.{Connection, Sequence}

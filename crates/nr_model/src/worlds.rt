@@ -2,6 +2,7 @@
 
 ghost use Rattle.nr_model.specs.Explained.{WorldLaw};
 ghost use Rattle.nr_model.specs.Nodes.Explained.{NodesLaw};
+ghost use Rattle.nr_model.specs.Nodes.Settling.{SettlingLaw};
 
 /// Whatever steps are taken, what was executed is a sequence that explains the world, and each connection was handed, with what waits for it,
 /// what one sequential Redis emits for it along that sequence, or a beginning of that where a close cut it.
@@ -14,4 +15,11 @@ fn world_law()
 /// every replica that is up is that Redis after its part, and what was answered stands before what was asked for later.
 fn nodes_law()
     ensures { NodesLaw }
+{}
+
+/// Rounds of steps, taken until nothing is done in one, settle several nodes: nothing waits or is held any more, every node has passed the
+/// whole log, and each connection of a node that is up was answered all that it asked for. The rounds are at most three more than the jobs
+/// that were left.
+fn settling_law()
+    ensures { SettlingLaw }
 {}
