@@ -3,3 +3,6 @@ pub mod Moving
 pub mod Taking
 pub mod Crossing
 pub mod Changes
+pub mod Fronts
+pub mod Choosing
+pub mod Lending

@@ -6,12 +6,12 @@ use Rattle.std.proofs.lemmas.List.{append-nil, take_all, take_more, map-append}
 use Rattle.std.proofs.lemmas.Bool.Decides.{nat_tests}
 use Rattle.std.specs.Ordering.{nat_cmp, ordering_then, is_eq}
 use mathlib.Core.Bool.{beq}
-use Rattle.nr_model.specs.Items.{Connection, Item, same_connection, connection_cmp, is_update}
+use Rattle.nr_model.specs.Items.{Connection, Item, same_connection, is_update}
 use Rattle.nr_model.specs.Entries.{Jobs, leading, not_leading, left_after, has_read_of, has_update_of}
 use Rattle.std.specs.declared.cmp.Ordering.{Ordering}
 use Rattle.nr_entry.specs.declared.conn.ConnId.{ConnId}
 use Rattle.nr_entry.specs.declared.job.Job.{Job}
-use Rattle.nr_entry.specs.Jobs.{connection_of, item_of, items_of}
+use Rattle.nr_entry.specs.Jobs.{connection_of, conn_cmp, item_of, items_of}
 use Rattle.nr_entry.specs.Choice.{marked, unmarked, is_blocked, leads_among, is_taken, room_behind, leading_marks, room_after}
 
 -- marks of the jobs with one more
@@ -115,9 +115,6 @@ length-leading_marks leads room before [] = refl
 length-leading_marks leads room before (x ∷ jobs) = ap suc (length-leading_marks leads (room_behind (is_taken leads room before x) room) (before ++ x ∷ []) jobs)
 
 -- connections compared
-abbrev pub conn_cmp : ConnId → ConnId → Ordering
-conn_cmp a b = connection_cmp (connection_of a) (connection_of b)
-
 tied : (a b : ℕ) (o : Ordering) → is_eq (ordering_then (nat_cmp a b) o) ≡ (a == b && is_eq o)
 tied a b o = grind (arith, nat_tests)
 
@@ -205,7 +202,7 @@ not_beq_false : (b : Bool) → beq b false ≡ false → b ≡ true
 not_beq_false true e = refl
 not_beq_false false e = absurd (cc e)
 
-leads_is : (updates : Bool) (jobs : Jobs) (job : Item) → beq (is_update job.deed) updates ≡ true → leads_among updates jobs job ≡ not (is_blocked updates job.connection jobs)
+pub leads_is : (updates : Bool) (jobs : Jobs) (job : Item) → beq (is_update job.deed) updates ≡ true → leads_among updates jobs job ≡ not (is_blocked updates job.connection jobs)
 leads_is true jobs job own_kind = let update : is_update job.deed ≡ true = beq_true (is_update job.deed) own_kind in ap (λ (b : Bool). b && not (has_read_of job.connection jobs)) update
 leads_is false jobs job own_kind = let read : is_update job.deed ≡ false = beq_false (is_update job.deed) own_kind in ap (λ (b : Bool). not b && not (has_update_of job.connection jobs)) read
 
@@ -218,7 +215,7 @@ pub none_without_room : (updates : Bool) (room : ℕ) (jobs : Jobs) (job : Item)
 none_without_room updates zero jobs job none = refl
 none_without_room updates (suc room) jobs job none = absurd (omega arith)
 
-other_leads_not : (updates : Bool) (jobs : Jobs) (job : Item) → beq (is_update job.deed) updates ≡ false → leads_among updates jobs job ≡ false
+pub other_leads_not : (updates : Bool) (jobs : Jobs) (job : Item) → beq (is_update job.deed) updates ≡ false → leads_among updates jobs job ≡ false
 other_leads_not true jobs job other = ap (λ (b : Bool). b && not (has_read_of job.connection jobs)) (not_beq_true (is_update job.deed) other)
 other_leads_not false jobs job other = ap (λ (b : Bool). not b && not (has_update_of job.connection jobs)) (not_beq_false (is_update job.deed) other)
 

@@ -11,7 +11,7 @@ use Rattle.nr_entry.specs.Entry.{are_updates, are_of}
 use Rattle.nr_entry.specs.Choice.{marked, unmarked, leading_marks}
 use Rattle.nr_entry.proofs.Marks.{marked_leading, unmarked_left, map-marked, map-unmarked, take_all_leading, left_by_all, length-leading_marks}
 
-how_many : (jobs : List Job) → length (items_of jobs) ≡ length jobs
+pub how_many : (jobs : List Job) → length (items_of jobs) ≡ length jobs
 how_many [] = refl
 how_many (x ∷ jobs) = ap suc (how_many jobs)
 

@@ -3,3 +3,5 @@ pub mod Jobs
 pub mod Choice
 pub mod Entry
 pub mod Shares
+pub mod Waiting
+pub mod Runs

@@ -7,10 +7,15 @@ pub use conn::ConnId;
 pub use entry::{Entry, MOST_JOBS};
 pub use job::{Job, JobKind, Queueable, Queued, Read, SessionUpdate, Transaction, Update};
 pub use shares::Shares;
+pub use waiting::Waiting;
 
 mod batch;
 mod choice;
 mod conn;
 mod entry;
 mod job;
+mod lifting;
+mod run;
+mod runs;
 mod shares;
+mod waiting;

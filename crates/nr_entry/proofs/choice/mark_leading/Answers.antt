@@ -6,9 +6,9 @@ use mathlib.Core.Bool.{beq}
 use Rattle.nr_model.specs.Items.{Item, is_update}
 use Rattle.nr_model.specs.Entries.{Jobs}
 use Rattle.nr_entry.specs.declared.conn.ConnId.{ConnId}
-use Rattle.nr_entry.specs.Jobs.{connection_of, item_of, items_of}
+use Rattle.nr_entry.specs.Jobs.{connection_of, conn_cmp, item_of, items_of}
 use Rattle.nr_entry.specs.Choice.{is_blocked, is_taken, leads_among, room_behind}
-use Rattle.nr_entry.proofs.Marks.{conn_cmp, items_more, marks_more, room_more, room_taken, taken_with_room, none_without_room, other_not_taken, blocked_as_before, blocked_more, same_cmp}
+use Rattle.nr_entry.proofs.Marks.{items_more, marks_more, room_more, room_taken, taken_with_room, none_without_room, other_not_taken, blocked_as_before, blocked_more, same_cmp}
 use Rattle.nr_entry.proofs.choice.mark_leading.Goals as goal
 use Rattle.nr_entry.proofs.choice.mark_leading.Goals.{then-is_update-updates+then-room-gt0, then-is_update-updates+else-room-gt0, else-is_update-updates+in_ok-insert}
 use Rattle.nr_entry.proofs.choice.mark_leading.Goals.{then-taken, else-taken}

@@ -1,9 +1,8 @@
 use Rattle.std.proofs.Common.{◌≡◌, [], take}
 use Rattle.std.specs.BTreeSet.{contains}
 use Rattle.nr_entry.specs.declared.conn.ConnId.{ConnId}
-use Rattle.nr_entry.specs.Jobs.{connection_of, items_of}
+use Rattle.nr_entry.specs.Jobs.{connection_of, conn_cmp, items_of}
 use Rattle.nr_entry.specs.Choice.{leading_marks, room_after, leads_among, is_blocked}
-use Rattle.nr_entry.proofs.Marks.{conn_cmp}
 use Rattle.nr_entry.proofs.choice.mark_leading.Given as goal
 
 abbrev pub invariant-loop-job : goal.invariant-loop-job
