@@ -5,6 +5,7 @@ pub use emissions::{Emission, Emissions};
 pub use inspecting::pubsub;
 pub use publishing::publish;
 pub use sink::{Nowhere, Sink};
+pub use staging::Staging;
 pub use subscribing::{subscribe, unsubscribe};
 
 mod counts;
@@ -12,4 +13,5 @@ mod emissions;
 mod inspecting;
 mod publishing;
 mod sink;
+mod staging;
 mod subscribing;

@@ -1,13 +1,14 @@
 // A connection's queue: replies and messages are written behind one another into one buffer, and handed out from its front.
-ghost use Rattle.std.specs.Prelude.{◌≡◌, ◌<◌, ◌≤◌, ◌+◌, true, false, [], take, drop, length, IfOk, OnErr, IfSome, IfNone, OnOk, nat_le, ◌&&◌};
+ghost use Rattle.std.specs.Prelude.{◌≡◌, ◌<◌, ◌≤◌, ◌+◌, true, false, [], take, drop, length, IfOk, OnErr, IfSome, IfNone, OnOk, IsErr, nat_le, ◌&&◌};
 ghost use Rattle.std.specs.Arc.{arc_value};
 ghost use Rattle.nr_model.specs.Replies.{reply_text};
 ghost use Rattle.nr_resp.specs.Shown.{shown_reply};
 ghost use Rattle.nr_entry.specs.Jobs.{connection_of};
 ghost use Rattle.nr_outbox.specs.declared.outbox.Put.TheVariants as outcomes;
-ghost use Rattle.nr_outbox.specs.Queues.{Queue, takes, with_bytes, cut_off, handing, most_bytes};
+ghost use Rattle.nr_model.specs.Queues.{Queue, put, takes, with_bytes, cut_off, handing, most_bytes};
 
 use nr_blob::Memory;
+use nr_emission::Sink;
 use nr_entry::ConnId;
 use nr_resp::Shown;
 use std::alloc::Global;
@@ -50,9 +51,11 @@ impl Model for Outbox {
     ghost use Rattle.std.specs.Prelude.{◌≤◌, ◌+◌, drop, length};
     ghost use Rattle.nr_entry.specs.Jobs.{connection_of};
     ghost use Rattle.nr_outbox.specs.declared.outbox.Put.TheVariants as outcomes;
-    ghost use Rattle.nr_outbox.specs.Queues.{Queue, most_bytes};
+    ghost use Rattle.nr_model.specs.Queues.{Queue, coded_queue, most_bytes};
 
     ghost Value = { Queue };
+
+    ghost coded = { coded_queue };
 
     ghost view = { λ o. record { connection = connection_of o.conn; waiting = drop o.start o.buffer.items; handed = o.handed; limit = o.limit; cut = o.is_cut } };
 
@@ -77,26 +80,32 @@ impl Outbox {
         }
     }
 
+    /// Takes a reply, which is written once, behind what waits. Where memory is refused nothing changes.
+    pub fn offer(&mut self, shown: &Shown<'_>) -> Result<(), Memory>
+        ensures put { OnOk result (self.new ≡ put self.old (reply_text (shown_reply shown.now))) }
+        ensures refused { OnErr result (self.old.cut ≡ false) }
+        ensures unchanged { OnErr result (self.new ≡ self.old) }
+    {
+        if self.is_cut {
+            return Ok(());
+        }
+        let end = self.buffer.len();
+        shown.write(&mut self.buffer)?;
+        if !fits(self.buffer.len() - self.start, self.limit, self.handed) {
+            self.buffer.truncate(end);
+            self.cut();
+        }
+        Ok(())
+    }
+
     /// Takes a reply, which is written once, behind what waits.
     pub fn put(&mut self, shown: &Shown<'_>) -> Put
         ensures taken { result ≡ outcomes.In → (takes self.old (reply_text (shown_reply shown.now)) ≡ true) × (self.new ≡ with_bytes self.old (reply_text (shown_reply shown.now))) }
         ensures full { result ≡ outcomes.Full → (takes self.old (reply_text (shown_reply shown.now)) ≡ false) × (self.new ≡ cut_off self.old) }
         ensures memory { result ≡ outcomes.Memory → (self.old.cut ≡ false) × (self.new ≡ cut_off self.old) }
     {
-        if self.is_cut {
-            return Put::Full;
-        }
-        let end = self.buffer.len();
-        if shown.write(&mut self.buffer).is_err() {
-            self.cut();
-            return Put::Memory;
-        }
-        if !fits(self.buffer.len() - self.start, self.limit, self.handed) {
-            self.buffer.truncate(end);
-            self.cut();
-            return Put::Full;
-        }
-        Put::In
+        let offered = self.offer(shown);
+        self.outcome(offered)
     }
 
     /// Takes a message, the bytes of which all its receivers share: they are copied once, behind what waits.
@@ -105,16 +114,48 @@ impl Outbox {
         ensures full { result ≡ outcomes.Full → (takes self.old (arc_value message.now).items ≡ false) × (self.new ≡ cut_off self.old) }
         ensures memory { result ≡ outcomes.Memory → (takes self.old (arc_value message.now).items ≡ true) × (self.new ≡ cut_off self.old) }
     {
+        self.put_bytes(message)
+    }
+
+    /// Takes the bytes of a reply or a message, which are copied once, behind what waits.
+    pub fn put_bytes(&mut self, bytes: &[u8]) -> Put
+        ensures taken { result ≡ outcomes.In → (takes self.old bytes.now ≡ true) × (self.new ≡ with_bytes self.old bytes.now) }
+        ensures full { result ≡ outcomes.Full → (takes self.old bytes.now ≡ false) × (self.new ≡ cut_off self.old) }
+        ensures memory { result ≡ outcomes.Memory → (takes self.old bytes.now ≡ true) × (self.new ≡ cut_off self.old) }
+    {
+        let offered = self.offer_bytes(bytes);
+        self.outcome(offered)
+    }
+
+    // What became of what was offered. Where memory was refused the queue is cut.
+    fn outcome(&mut self, offered: Result<(), Memory>) -> Put
+        ensures taken { result ≡ outcomes.In → (offered ≡ Ok tt) × (self.old.cut ≡ false) × (self.new ≡ self.old) }
+        ensures full { result ≡ outcomes.Full → (offered ≡ Ok tt) × (self.old.cut ≡ true) × (self.new ≡ self.old) }
+        ensures memory { result ≡ outcomes.Memory → IsErr offered × (self.new ≡ cut_off self.old) }
+    {
+        match offered {
+            Ok(()) if self.is_cut => Put::Full,
+            Ok(()) => Put::In,
+            Err(Memory) => {
+                self.cut();
+                Put::Memory
+            }
+        }
+    }
+
+    /// Takes the bytes of a reply or a message, which are copied once, behind what waits. Where memory is refused nothing changes.
+    pub fn offer_bytes(&mut self, bytes: &[u8]) -> Result<(), Memory>
+        ensures put { OnOk result (self.new ≡ put self.old bytes.now) }
+        ensures refused { OnErr result (takes self.old bytes.now ≡ true) }
+        ensures unchanged { OnErr result (self.new ≡ self.old) }
+    {
         let waiting = self.buffer.len() - self.start;
-        if self.is_cut || !has_room(waiting, message.len(), self.limit, self.handed) {
+        if self.is_cut || !has_room(waiting, bytes.len(), self.limit, self.handed) {
             self.cut();
-            return Put::Full;
+            return Ok(());
         }
-        if self.buffer.extend_from_slice(message).is_err() {
-            self.cut();
-            return Put::Memory;
-        }
-        Put::In
+        self.buffer.extend_from_slice(bytes)?;
+        Ok(())
     }
 
     /// Takes no more from now on.
@@ -122,6 +163,15 @@ impl Outbox {
         ensures { self.new ≡ cut_off self.old }
     {
         self.is_cut = true;
+    }
+
+    /// Takes no more from now on, and drops what waits.
+    pub fn close(&mut self)
+        ensures { self.new ≡ cut_off (record self.old { waiting = [] }) }
+    {
+        self.buffer.clear();
+        self.start = 0;
+        self.cut();
     }
 
     /// Hands out at most so many of the first bytes that wait, and at least one, or `None` where nothing waits. Linear in them; where all
@@ -193,4 +243,20 @@ fn fits(waiting: usize, limit: usize, handed: u64) -> bool
     ensures { result ≡ (nat_le waiting limit && nat_le (handed + waiting) most_bytes) }
 {
     waiting <= limit && waiting as u64 <= MOST_BYTES - handed
+}
+
+/// All that is emitted into it is for its own connection.
+impl Sink for Outbox {
+    ghost use Rattle.nr_model.specs.Replies.{reply_text};
+    ghost use Rattle.nr_model.specs.Queues.{put};
+
+    ghost after = { λ queue emission. put queue (reply_text emission.reply) };
+
+    fn put(&mut self, _: ConnId, shown: Shown<'_>) -> Result<(), Memory> {
+        self.offer(&shown)
+    }
+
+    fn share(&mut self, _: ConnId, message: &Arc<Vec<u8>>) -> Result<(), Memory> {
+        self.offer_bytes(message)
+    }
 }

@@ -10,6 +10,8 @@ mod machines;
 #[cfg(test)]
 mod readers;
 #[cfg(test)]
+mod scripts;
+#[cfg(test)]
 mod serving;
 #[cfg(test)]
 mod settings;

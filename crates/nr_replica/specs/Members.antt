@@ -1,0 +1,60 @@
+-- The connections of a node, as its replica keeps them, and what is delivered to them.
+use Rattle.std.specs.Prelude.{◌≡◌, ℕ, suc, true, false, cond, ◌==◌, List, [], ◌∷◌, filter, Option, slice_index_or}
+use Rattle.nr_model.specs.Bytes.{Bytes}
+use Rattle.nr_model.specs.Items.{Connection, same_connection, is_update}
+use Rattle.nr_model.specs.Entries.{Jobs}
+use Rattle.nr_model.specs.Queues.{Queue, received, cut_off, handing}
+use Rattle.nr_model.specs.Sequential.Events.{Emission}
+use Rattle.nr_model.specs.Nodes.Steps.{texts_for}
+use Rattle.nr_emission.specs.Emitted.{Written}
+use Rattle.nr_replica.specs.declared.members.Member.{Member}
+
+abbrev pub fresh_queue : Connection → ℕ → Queue
+fresh_queue c limit = record { connection = c; waiting = []; handed = 0; limit = limit; cut = false }
+
+abbrev pub fresh_member : Connection → ℕ → ℕ → Member
+fresh_member c worker limit = record { worker = worker; outbox = fresh_queue c limit; is_closed = false }
+
+-- what waits is dropped, and nothing more comes
+abbrev pub closed_member : Member → Member
+closed_member member = record member { outbox = cut_off (record member.outbox { waiting = [] }); is_closed = true }
+
+-- so many of the bytes that wait were handed out
+abbrev pub handed_member : ℕ → Member → Member
+handed_member most member = record member { outbox = handing most member.outbox }
+
+-- connection number n is the first of these, and so on
+abbrev pub AreNumbered : ℕ → ℕ → List Member → Type 0
+AreNumbered node n [] = Unit {0}
+AreNumbered node n (member ∷ members) = (member.outbox.connection ≡ record { node = node; serial = n }) × AreNumbered node (suc n) members
+
+-- each got its own texts, in order, until its queue was cut: by its limit, or since memory was refused for it
+abbrev pub AreReceived : (Connection → List Bytes) → List Member → List Member → Type 0
+AreReceived texts [] [] = Unit {0}
+AreReceived texts [] (member ∷ members) = ⊥
+AreReceived texts (member ∷ members) [] = ⊥
+AreReceived texts (old ∷ olds) (new ∷ news) =
+    ((refused : Option ℕ) × (new ≡ record old { outbox = received refused old.outbox (texts old.outbox.connection) })) × AreReceived texts olds news
+
+-- what was emitted for it
+abbrev pub AreDelivered : List Emission → List Member → List Member → Type 0
+AreDelivered es olds news = AreReceived (λ c. texts_for c es) olds news
+
+-- the same by the bytes of what was emitted
+abbrev pub texts_of : Connection → List Written → List Bytes
+texts_of c [] = []
+texts_of c (one ∷ more) = let rest = texts_of c more in cond (same_connection one.connection c) (one.bytes ∷ rest) rest
+
+abbrev pub AreGiven : List Written → List Member → List Member → Type 0
+AreGiven written olds news = AreReceived (λ c. texts_of c written) olds news
+
+-- how many of these jobs are of a worker's connections
+abbrev pub worker_of : List Member → Connection → ℕ
+worker_of members c = (slice_index_or members c.serial (fresh_member c 0 0)).worker
+
+abbrev pub jobs_of_worker : ℕ → List Member → Jobs → Jobs
+jobs_of_worker w members jobs = filter (λ job. worker_of members job.connection == w) jobs
+
+abbrev pub AreReads : Jobs → Type 0
+AreReads [] = Unit {0}
+AreReads (job ∷ jobs) = (is_update job.deed ≡ false) × AreReads jobs

@@ -1,0 +1,71 @@
+-- What contracts see of a replica.
+use Rattle.std.specs.Prelude.{◌≡◌, ℕ, suc, ◌-◌, Bool, true, false, cond, ◌==◌, List, [], ◌∷◌, length, Option, Some, None, refl}
+use Rattle.std.specs.Coded.{Coded, code_by, coded×, coded_ℕ, coded_bool, coded_list, coded_option}
+use Rattle.nr_model.specs.Servers.{Server, after_all, emitted_all, fresh}
+use Rattle.nr_model.specs.Entries.{Jobs, entry_items, read_jobs, left_by_reads}
+use Rattle.nr_entry.specs.declared.entry.Entry.{Entry}
+use Rattle.nr_entry.specs.declared.job.Job.{Job}
+use Rattle.nr_entry.specs.contracts.job.Job as of_job
+use Rattle.nr_entry.specs.Jobs.{items_of}
+use Rattle.nr_machine.specs.Codes.{coded_server}
+use Rattle.nr_replica.specs.declared.members.Member.{Member}
+use Rattle.nr_replica.specs.contracts.members.Member as of_member
+use Rattle.nr_replica.specs.Members.{AreDelivered, jobs_of_worker}
+
+-- The node; its connections by serial; for each worker, where a batch of it was lifted, how many of its jobs are neither applied nor run; the jobs that were
+-- lifted and neither taken for an entry nor run; how many entries were applied; the server, which is given up when the node falls; whether it is down, and whether the
+-- next entry is refused
+pub record ReplicaState : Type 0 where
+  pub node : ℕ
+  pub members : List Member
+  pub owed : List (Option ℕ)
+  pub waiting : List Job
+  pub applied : ℕ
+  pub server : Server
+  pub down : Bool
+  pub refused : Bool
+
+abbrev pub coded_replica : Coded ReplicaState
+coded_replica =
+    code_by (ℕ × (List Member × (List (Option ℕ) × (List Job × (ℕ × (Server × (Bool × Bool)))))))
+    (coded× coded_ℕ (coded× (coded_list of_member.the_row.coded) (coded× (coded_list (coded_option coded_ℕ)) (coded× (coded_list of_job.the_row.coded) (coded× coded_ℕ (coded× coded_server (coded× coded_bool coded_bool)))))))
+    (λ r. (r.node, (r.members, (r.owed, (r.waiting, (r.applied, (r.server, (r.down, r.refused))))))))
+    (λ p. record { node = p.0; members = p.1.0; owed = p.1.1.0; waiting = p.1.1.1.0; applied = p.1.1.1.1.0; server = p.1.1.1.1.1.0; down = p.1.1.1.1.1.1.0; refused = p.1.1.1.1.1.1.1 }) (λ _. refl)
+
+-- jobs were executed: they are owed no more
+abbrev pub owing_less : ℕ → Option ℕ → Option ℕ
+owing_less n None = None
+owing_less n (Some owed) = Some (owed - n)
+
+abbrev pub owed_from : ℕ → List Member → Jobs → List (Option ℕ) → List (Option ℕ)
+owed_from w members jobs [] = []
+owed_from w members jobs (owed ∷ more) = owing_less (length (jobs_of_worker w members jobs)) owed ∷ owed_from (suc w) members jobs more
+
+-- The node falls: what it has lifted is dropped.
+abbrev pub fallen : ReplicaState → ReplicaState
+fallen r = record r { waiting = []; server = fresh; down = true; refused = false }
+
+-- an entry was applied: the server moved, the connections got what it emitted for them, and its own jobs are owed no more
+abbrev pub applied_with : List Member → Entry → ReplicaState → ReplicaState
+applied_with members entry r =
+    let jobs = items_of entry.jobs.items in
+    record r {
+      members = members;
+      owed = cond (entry.node == r.node) (owed_from 0 r.members jobs r.owed) r.owed;
+      applied = suc r.applied;
+      server = after_all r.server (entry_items jobs);
+    }
+
+pub record IsApplied (entry : Entry) (old new : ReplicaState) : Type 0 where
+  pub delivered : AreDelivered (emitted_all old.server (entry_items (items_of entry.jobs.items))) old.members new.members
+  pub state : new ≡ applied_with new.members entry old
+
+-- the reads that lead were run: the server stays
+abbrev pub read_with : List Member → List Job → ReplicaState → ReplicaState
+read_with members left r =
+    record r { members = members; owed = owed_from 0 r.members (read_jobs (items_of r.waiting)) r.owed; waiting = left }
+
+pub record HasRead (old new : ReplicaState) : Type 0 where
+  pub delivered : AreDelivered (emitted_all old.server (read_jobs (items_of old.waiting))) old.members new.members
+  pub left : items_of new.waiting ≡ left_by_reads (items_of old.waiting)
+  pub state : new ≡ read_with new.members new.waiting old

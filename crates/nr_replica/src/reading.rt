@@ -1,0 +1,59 @@
+// The reads that a node runs, each at its own moment. A reply is written once, into its connection's queue.
+ghost use Rattle.std.specs.Prelude.{◌≡◌, ℕ, false, Option};
+ghost use Rattle.nr_model.specs.Items.{is_update};
+ghost use Rattle.nr_model.specs.Nodes.Steps.{texts_for};
+ghost use Rattle.nr_model.specs.Queues.{received};
+ghost use Rattle.nr_model.specs.Servers.{emitted_all, emitted_in};
+ghost use Rattle.nr_entry.specs.Jobs.{connection_of, item_of, items_of};
+ghost use Rattle.nr_entry.specs.Kinds.{deed_of};
+ghost use Rattle.nr_replica.specs.Members.{AreNumbered, AreDelivered, AreReads};
+
+use crate::members::Member;
+use nr_blob::Memory;
+use nr_entry::{Job, JobKind};
+use nr_machine::Machine;
+use nr_outbox::Outbox;
+
+/// Runs reads one after the other. One for which memory is refused cuts its connection's queue.
+pub(crate) fn run_reads<'k>(
+    machine: &'k Machine,
+    reads: &'k [Job],
+    node: usize,
+    members: &mut [Member],
+)
+    requires reads { AreReads (items_of reads.now) }
+    requires numbered { AreNumbered node 0 members.old }
+    ensures { AreDelivered (emitted_all machine.now.state (items_of reads.now)) members.old members.new }
+{
+    for job in reads {
+        run_read(machine, job, node, members);
+    }
+}
+
+// A read, if it is one of the node's connections.
+fn run_read<'k>(machine: &'k Machine, job: &'k Job, node: usize, members: &mut [Member])
+    requires read { is_update (deed_of job.now.kind) ≡ false }
+    requires numbered { AreNumbered node 0 members.old }
+    ensures { AreDelivered (emitted_in machine.now.state (item_of job.now)) members.old members.new }
+{
+    let serial = job.conn.serial as usize;
+    if job.conn.node == node && serial < members.len() {
+        reply(machine, job, &mut members[serial].outbox);
+    }
+}
+
+// The reply to a read. Where memory is refused the queue is cut.
+#[tactic(auto, using(crate::proofs::Looked::reply_refused))]
+fn reply<'k>(machine: &'k Machine, job: &'k Job, outbox: &mut Outbox)
+    requires { is_update (deed_of job.now.kind) ≡ false }
+    ensures { (refused : Option ℕ) × (outbox.new
+        ≡ received refused outbox.old (texts_for (connection_of job.now.conn) (emitted_in machine.now.state (item_of job.now)))) }
+{
+    match &job.kind {
+        JobKind::Read(read) => match machine.look(job.moment, job.conn, read, outbox) {
+            Ok(()) => {}
+            Err(Memory) => outbox.cut(),
+        },
+        JobKind::Update(_) => {}
+    }
+}

@@ -1,0 +1,247 @@
+// A replica: the server of one node, and what waits there.
+ghost use Rattle.std.specs.Prelude.{◌≡◌, ◌<◌, ◌≤◌, ◌++◌, ◌∷◌, ℕ, true, false, not, [], length, replicate, take, slice_index_or, slice_set, IfOk, IfErr, OnOk, OnErr, IfSome, IfNone, Some, None, IsTrue};
+ghost use Rattle.nr_model.specs.Servers.{fresh};
+ghost use Rattle.nr_model.specs.Entries.{entry_jobs, left_by_entry, read_jobs};
+ghost use Rattle.nr_entry.specs.Entry.{are_of};
+ghost use Rattle.nr_entry.specs.Jobs.{connection_of, items_of};
+ghost use Rattle.nr_replica.specs.Members.{fresh_member, closed_member, handed_member};
+ghost use Rattle.nr_replica.specs.Replicas.{IsApplied, HasRead, fallen};
+
+use crate::delivering::deliver;
+use crate::members::Member;
+use crate::reading::run_reads;
+use crate::settling::{settle, settle_own};
+use crate::steps::{forget, stage, take_updates};
+use nr_blob::Memory;
+use nr_emission::Staging;
+use nr_entry::{ConnId, Entry, Job, Waiting};
+use nr_machine::Machine;
+use nr_outbox::Piece;
+use std::alloc::Global;
+use std::hash::RandomState;
+use std::marker::Model;
+
+/// A node's replica. It is never read again once it is down, which it is from the first growth on that is refused while it applies an entry.
+#[derive(Drop)]
+pub struct Replica {
+    alloc: Global,
+    node: usize,
+    machine: Machine,
+    members: Vec<Member>,
+    owed: Vec<Option<usize>>,
+    waiting: Waiting,
+    // What the entry at hand has emitted.
+    staging: Staging,
+    applied: u64,
+    is_down: bool,
+    is_refused: bool,
+}
+
+impl Model for Replica {
+    ghost use Rattle.std.specs.Prelude.{◌≡◌, [], cond, false, IsTrue};
+    ghost use Rattle.nr_model.specs.Servers.{fresh};
+    ghost use Rattle.nr_entry.specs.Entry.{are_of};
+    ghost use Rattle.nr_entry.specs.Jobs.{items_of};
+    ghost use Rattle.nr_replica.specs.Members.{AreNumbered};
+    ghost use Rattle.nr_replica.specs.Replicas.{ReplicaState, coded_replica};
+
+    ghost Value = { ReplicaState };
+
+    ghost coded = { coded_replica };
+
+    ghost view = { λ r. record { node = r.node; members = r.members.items; owed = r.owed.items; waiting = r.waiting.jobs; applied = r.applied; server = cond r.is_down fresh r.machine.state; down = r.is_down; refused = r.is_refused } };
+
+    ghost invariant = { λ r. (r.staging ≡ []) × (r.waiting.gaps ≡ []) × AreNumbered r.node 0 r.members.items × (r.is_down ≡ false → r.machine.failed ≡ false) × IsTrue (are_of r.node (items_of r.waiting.jobs)) };
+}
+
+impl Replica {
+    /// No key and no connection. Strangers choose the keys, so the hasher takes a seed of its own.
+    pub fn new(
+        alloc: Global,
+        keys: RandomState,
+        node: usize,
+        workers: usize,
+    ) -> Result<Replica, Memory>
+        ensures { IfOk result (λ replica. replica ≡ record {
+          node = node;
+          members = [];
+          owed = replicate workers None;
+          waiting = [];
+          applied = 0;
+          server = fresh;
+          down = false;
+          refused = false;
+        }) }
+    {
+        let mut owed = Vec::with_capacity(alloc, workers)?;
+        owed.resize(workers, None)?;
+        Ok(Replica {
+            alloc,
+            node,
+            machine: Machine::new(alloc, keys)?,
+            members: Vec::new(alloc),
+            owed,
+            waiting: Waiting::new(alloc),
+            staging: Staging::new(alloc),
+            applied: 0,
+            is_down: false,
+            is_refused: false,
+        })
+    }
+
+    /// Whether it is down.
+    pub fn is_down(&self) -> bool
+        ensures { result ≡ self.now.down }
+    {
+        self.is_down
+    }
+
+    /// How many entries it has applied.
+    pub fn applied(&self) -> u64
+        ensures { result ≡ self.now.applied }
+    {
+        self.applied
+    }
+
+    /// The node's connections, by serial.
+    pub fn members(&self) -> &[Member]
+        ensures { result.now ≡ self.now.members }
+    {
+        &self.members
+    }
+
+    /// Opens a connection that a worker serves, for which at most `limit` bytes wait.
+    pub fn open(&mut self, worker: usize, limit: usize) -> Result<ConnId, Memory>
+        ensures conn { IfOk result (λ conn. connection_of conn ≡ record { node = self.old.node; serial = length self.old.members }) }
+        ensures opened { OnOk result (self.new ≡ record self.old { members = self.old.members ++ fresh_member (record { node = self.old.node; serial = length self.old.members }) worker limit ∷ [] }) }
+        ensures unchanged { OnErr result (self.new ≡ self.old) }
+    {
+        let conn = ConnId {
+            node: self.node,
+            serial: self.members.len() as u64,
+        };
+        self.members
+            .push(Member::new(self.alloc, conn, worker, limit))?;
+        Ok(conn)
+    }
+
+    /// Closes a connection: what waits for it is dropped, and it gets nothing more.
+    pub fn close(&mut self, serial: usize)
+        requires { serial < length self.old.members }
+        ensures { (d : Member) → self.new ≡ record self.old { members = slice_set self.old.members serial (closed_member (slice_index_or self.old.members serial d)) } }
+    {
+        self.members[serial].close();
+    }
+
+    /// Hands out at most so many of the first bytes that wait for a connection, and at least one, or `None` where nothing waits. Linear in
+    /// them. Where memory runs out nothing changes.
+    pub fn take_piece(&mut self, serial: usize, most: usize) -> Result<Option<Piece>, Memory>
+        requires some { 0 < most }
+        requires is_there { serial < length self.old.members }
+        ensures piece { (d : Member) → IfOk result (λ piece. IfSome piece (λ piece.
+            (connection_of piece.conn ≡ record { node = self.old.node; serial = serial }) × (piece.from ≡ (slice_index_or self.old.members serial d).outbox.handed)
+            × (piece.bytes.items ≡ take most (slice_index_or self.old.members serial d).outbox.waiting))) }
+        ensures some { IfOk result (λ piece. IfSome piece (λ piece. 0 < length piece.bytes.items)) }
+        ensures none { (d : Member) → IfOk result (λ piece. IfNone piece ((slice_index_or self.old.members serial d).outbox.waiting ≡ [])) }
+        ensures left { (d : Member) → OnOk result (self.new ≡ record self.old { members = slice_set self.old.members serial (handed_member most (slice_index_or self.old.members serial d)) }) }
+        ensures unchanged { OnErr result (self.new ≡ self.old) }
+    {
+        self.members[serial].outbox.take_piece(self.alloc, most)
+    }
+
+    /// Takes in the jobs of a worker's batch, behind those that wait. Linear in them. Where memory runs out nothing changes, and the jobs come back.
+    pub fn lift(&mut self, worker: usize, jobs: Vec<Job>) -> Result<(), Vec<Job>>
+        requires up { self.old.down ≡ false }
+        requires worker { worker < length self.old.owed }
+        requires own { IsTrue (are_of self.old.node (items_of jobs.items)) }
+        ensures lifted { OnOk result (self.new ≡ record self.old { waiting = self.old.waiting ++ jobs.items; owed = slice_set self.old.owed worker (Some (length jobs.items)) }) }
+        ensures back { IfErr result (λ back. back.items ≡ jobs.items) }
+        ensures unchanged { OnErr result (self.new ≡ self.old) }
+    {
+        let count = jobs.len();
+        self.waiting.extend(jobs)?;
+        self.owed[worker] = Some(count);
+        Ok(())
+    }
+
+    /// The next entry: the first 1,024 updates that lead, or `None` where none does. They wait no more. Where memory runs out nothing
+    /// changes.
+    pub fn take_entry(&mut self) -> Result<Option<Entry>, Memory>
+        ensures some { IfOk result (λ entry. IfSome entry (λ entry. (entry.node ≡ self.old.node) × (items_of entry.jobs.items ≡ entry_jobs (items_of self.old.waiting)))) }
+        ensures none { IfOk result (λ entry. IfNone entry (entry_jobs (items_of self.old.waiting) ≡ [])) }
+        ensures left { OnOk result (items_of self.new.waiting ≡ left_by_entry (items_of self.old.waiting)) }
+        ensures rest { OnOk result (self.new ≡ record self.old { waiting = self.new.waiting }) }
+        ensures unchanged { OnErr result (self.new ≡ self.old) }
+    {
+        let jobs = take_updates(&mut self.waiting)?;
+        if jobs.is_empty() {
+            return Ok(None);
+        }
+        Ok(Some(Entry::new(self.node, jobs)))
+    }
+
+    /// Applies an entry. It falls, and answers false, where memory is refused on the way, or where 2^64 - 1 entries were applied: then nothing
+    /// of what the entry emitted waits for any connection.
+    pub fn apply(&mut self, entry: &Entry) -> bool
+        requires up { self.old.down ≡ false }
+        ensures applied { result ≡ true → IsApplied entry.now self.old self.new }
+        ensures fell { result ≡ false → self.new ≡ fallen self.old }
+        ensures refused { self.old.refused ≡ true → result ≡ false }
+    {
+        let is_refused = self.is_refused || self.applied == u64::MAX;
+        if !stage(
+            entry,
+            self.node,
+            is_refused,
+            &mut self.machine,
+            &mut self.staging,
+        ) {
+            forget(&mut self.waiting, &mut self.staging);
+            self.is_down = true;
+            self.is_refused = false;
+            return false;
+        }
+        settle_own(entry, self.node, &self.members, &mut self.owed);
+        deliver(&self.staging, self.node, &mut self.members);
+        self.staging.clear();
+        self.applied += 1;
+        true
+    }
+
+    /// Runs the reads that lead, and hands them back. They change nothing but what waits for their connections, and one for which memory is
+    /// refused cuts its connection's queue. An error leaves all as it was.
+    pub fn run_reads(&mut self) -> Result<Vec<Job>, Memory>
+        requires up { self.old.down ≡ false }
+        ensures ran { IfOk result (λ ran. items_of ran.items ≡ read_jobs (items_of self.old.waiting)) }
+        ensures read { OnOk result (HasRead self.old self.new) }
+        ensures unchanged { OnErr result (self.new ≡ self.old) }
+    {
+        let reads = self.waiting.take_reads()?;
+        settle(&reads, &self.members, &mut self.owed);
+        run_reads(&self.machine, &reads, self.node, &mut self.members);
+        Ok(reads)
+    }
+
+    /// How many jobs of a worker's batch are neither applied nor run, or `None` where no batch of it was lifted.
+    pub fn owed(&self, worker: usize) -> Option<usize>
+        requires { worker < length self.now.owed }
+        ensures { result ≡ slice_index_or self.now.owed worker None }
+    {
+        self.owed[worker]
+    }
+
+    /// A worker's batch was answered.
+    pub fn answered(&mut self, worker: usize)
+        requires { worker < length self.old.owed }
+        ensures { self.new ≡ record self.old { owed = slice_set self.old.owed worker None } }
+    {
+        self.owed[worker] = None;
+    }
+
+    /// The next entry that it applies is refused, as where memory runs out.
+    pub fn refuse(&mut self)
+        ensures { self.new ≡ record self.old { refused = true } }
+    {
+        self.is_refused = true;
+    }
+}

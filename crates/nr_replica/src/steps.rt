@@ -1,0 +1,60 @@
+// The steps of a replica's calls, each over its parts: the jobs of the next entry, the application of one, and what is dropped in a fall.
+ghost use Rattle.std.specs.Prelude.{◌≡◌, ◌≤◌, ℕ, true, false, [], length, IfOk, OnOk, OnErr, IsTrue};
+ghost use Rattle.nr_model.specs.Sequential.{for_node};
+ghost use Rattle.nr_model.specs.Servers.{after_all, emitted_all};
+ghost use Rattle.nr_model.specs.Entries.{most_entry_jobs, entry_items, entry_jobs, left_by_entry};
+ghost use Rattle.nr_emission.specs.Emitted.{all_after, written_after};
+ghost use Rattle.nr_entry.specs.Entry.{are_of, are_updates};
+ghost use Rattle.nr_entry.specs.Jobs.{items_of};
+
+use nr_blob::Memory;
+use nr_emission::Staging;
+use nr_entry::{Entry, Job, Waiting};
+use nr_machine::Machine;
+
+/// Takes the jobs of the next entry. They wait no more.
+pub(crate) fn take_updates(waiting: &mut Waiting) -> Result<Vec<Job>, Memory>
+    requires { waiting.old.gaps ≡ [] }
+    ensures taken { IfOk result (λ taken. items_of taken.items ≡ entry_jobs (items_of waiting.old.jobs)) }
+    ensures left { OnOk result (items_of waiting.new.jobs ≡ left_by_entry (items_of waiting.old.jobs)) }
+    ensures whole { OnOk result (waiting.new.gaps ≡ []) }
+    ensures updates { IfOk result (λ taken. IsTrue (are_updates (items_of taken.items))) }
+    ensures most { IfOk result (λ taken. length taken.items ≤ most_entry_jobs) }
+    ensures own { (node : ℕ) → IsTrue (are_of node (items_of waiting.old.jobs)) → IfOk result (λ taken. IsTrue (are_of node (items_of taken.items))) }
+    ensures unchanged { OnErr result (waiting.new ≡ waiting.old) }
+{
+    let jobs = waiting.lend_updates()?;
+    waiting.take_lent();
+    Ok(jobs)
+}
+
+/// Applies an entry, and holds back what it emits for the node. False where that is refused: then what is held back isn't to be sent.
+pub(crate) fn stage(
+    entry: &Entry,
+    node: usize,
+    is_refused: bool,
+    machine: &mut Machine,
+    staging: &mut Staging,
+) -> bool
+    ensures up { result ≡ true → is_refused ≡ false }
+    ensures applied { result ≡ true → machine.new ≡ record { state = after_all machine.old.state (entry_items (items_of entry.now.jobs.items)); failed = false } }
+    ensures emitted { result ≡ true → staging.new
+        ≡ all_after written_after staging.old (for_node node (emitted_all machine.old.state (entry_items (items_of entry.now.jobs.items)))) }
+{
+    if is_refused {
+        return false;
+    }
+    match machine.apply(entry, node, staging) {
+        Ok(()) => true,
+        Err(Memory) => false,
+    }
+}
+
+/// Drops what waits and what is held back.
+pub(crate) fn forget(waiting: &mut Waiting, staging: &mut Staging)
+    ensures waiting { waiting.new ≡ record { jobs = []; gaps = []; lent = [] } }
+    ensures staging { staging.new ≡ [] }
+{
+    waiting.clear();
+    staging.clear();
+}

@@ -1,0 +1,5 @@
+pub mod Lines
+pub mod Printed
+pub mod Said
+pub mod Spellings
+pub mod Texts
