@@ -1,0 +1,9 @@
+pub mod Sides
+pub mod Posting
+pub mod Changed
+pub mod Dropped
+pub mod Forgotten
+pub mod Cuts
+pub mod Executed
+pub mod Advanced
+pub mod Collected

@@ -1,0 +1,16 @@
+use Rattle.std.proofs.Common.{rules, ◌≡◌, ◌++◌, List, get_or, ap, ◌∙◌}
+use Rattle.std.specs.Prelude.{map}
+use Rattle.nr_model.specs.Worlds as worlds
+use Rattle.nr_nodes.specs.Seen.{handed_seen}
+use Rattle.nr_nodes.proofs.Collected.{collected_is, clients_collected}
+use Rattle.nr_nodes.proofs.node.Node.collect.Goals as goal
+
+pub returns-clause-node : goal.returns-clause-node
+returns-clause-node c =
+    let at : c.index_mut.result.now ≡ get_or c.args.self.now.workers.items c.args.worker c.index_mut.result.now = search rules in
+    collected_is c.args.self.now c.args.worker c.collect-answer.new.self c.index_mut.result.now c.collect.new.replica c.requires.is_there c.requires.owed at c.collect-answer.ensures.worker c.in_ok-collect.ensures.members
+
+pub returns-clause-handed : goal.returns-clause-handed
+returns-clause-handed c =
+    c.in_ok-collect.ensures.handed
+    ∙ ap (λ (more : List worlds.Handed). map handed_seen c.args.handed.now.items ++ more) (clients_collected c.args.worker c.args.self.now.sessions.items c.args.self.now.replica.members c.requires.clients)

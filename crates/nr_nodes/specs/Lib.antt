@@ -1,0 +1,9 @@
+pub mod Setups
+pub mod Seen
+pub mod Workers
+pub mod Served
+pub mod Dropped
+pub mod Forgotten
+pub mod Advanced
+pub mod Logs
+pub mod Collected

@@ -1,0 +1,285 @@
+// A node: its replica, its connections' sessions, and its workers.
+ghost use Rattle.std.specs.Prelude.{◌≡◌, ◌<◌, ◌≤◌, ◌+◌, ◌^◌, ◌++◌, map, ℕ, Option, Some, None, IfOk, IfSome, IfNone, OnOk, OnErr, IsTrue, IsSome, List, [], length, replicate, true, false, slice_index_or};
+ghost use Rattle.nr_model.specs.Worlds as worlds;
+ghost use Rattle.nr_model.specs.Nodes as nodes;
+ghost use Rattle.nr_model.specs.Nodes.Steps.{lifted_node, posted_jobs, fed_node, closed_node, passing, collected, collected_node};
+ghost use Rattle.nr_entry.specs.Entry.{are_of};
+ghost use Rattle.nr_entry.specs.Jobs.{connection_of, items_of};
+ghost use Rattle.nr_model.specs.Entries.{entry_jobs};
+ghost use Rattle.nr_session.specs.SessionState.{SessionState};
+ghost use Rattle.nr_replica.specs.Members.{AreNumbered};
+ghost use Rattle.nr_nodes.specs.Advanced.{IsAdvanced, IsApplied, HasRun};
+ghost use Rattle.nr_nodes.specs.declared.worker.Slot.TheVariants as slots;
+ghost use Rattle.nr_nodes.specs.Seen.{handed_seen};
+ghost use Rattle.nr_nodes.specs.Collected.{AreShort};
+ghost use Rattle.nr_nodes.specs.Served.{node_seen, entry_seen, opened_node, posted_node, reserved_node, filled_node, fetched_node, answered_node, refused_node, workers_seen};
+
+use crate::collecting::collect;
+use crate::conversing::{close_session, feed_session};
+use crate::falling::drop_pending;
+use crate::setup::Setup;
+use crate::step::Handed;
+use crate::worker::Worker;
+use nr_blob::Memory;
+use nr_entry::{ConnId, Entry};
+use nr_replica::{Member, Replica};
+use nr_session::Session;
+use std::alloc::Global;
+use std::hash::RandomState;
+
+/// A node: its replica, its connections' sessions by serial, its workers, how many of its connections aren't closed, the number of the
+/// entry that it reserved last and, for each node, whether the cell of that entry isn't filled yet, how many entries it has passed, and
+/// whether it holds one that it has fetched.
+#[derive(Drop)]
+pub struct Node {
+    pub(crate) replica: Replica,
+    pub(crate) sessions: Vec<Session>,
+    pub(crate) workers: Vec<Worker>,
+    pub(crate) in_use: usize,
+    pub(crate) at: u64,
+    pub(crate) unfilled: Vec<bool>,
+    pub(crate) passed: u64,
+    pub(crate) is_fetched: bool,
+}
+
+// So many workers with nothing to do.
+fn fresh_workers(alloc: Global, count: usize) -> Result<Vec<Worker>, Memory>
+    ensures { IfOk result (λ workers. workers_seen workers.items (replicate count None) ≡ replicate count nodes.fresh_worker) }
+{
+    let mut workers = Vec::with_capacity(alloc, count)?;
+    for _ in 0..count {
+        workers.push(Worker::new(alloc))?;
+    }
+    Ok(workers)
+}
+
+impl Node {
+    /// No connection and no key. Strangers choose the keys, so the hasher takes a seed of its own.
+    pub(crate) fn new(
+        alloc: Global,
+        keys: RandomState,
+        node: usize,
+        setup: Setup,
+    ) -> Result<Node, Memory>
+        ensures { IfOk result (λ made. node_seen made ≡ nodes.fresh_node setup) }
+    {
+        let mut unfilled = Vec::with_capacity(alloc, setup.nodes())?;
+        unfilled.resize(setup.nodes(), false)?;
+        Ok(Node {
+            replica: Replica::new(alloc, keys, node, setup.workers())?,
+            sessions: Vec::new(alloc),
+            workers: fresh_workers(alloc, setup.workers())?,
+            in_use: 0,
+            at: 0,
+            unfilled,
+            passed: 0,
+            is_fetched: false,
+        })
+    }
+
+    /// Opens a connection at a worker, for which at most `limit` bytes wait.
+    pub(crate) fn open(
+        &mut self,
+        alloc: Global,
+        worker: usize,
+        limit: usize,
+    ) -> Result<ConnId, Memory>
+        requires clients { length self.old.sessions.items ≡ length self.old.replica.members }
+        requires counts { self.old.in_use + 1 < 2 ^ 64 }
+        ensures { OnOk result (node_seen self.new ≡ opened_node limit self.old.replica.node worker (node_seen self.old)) }
+    {
+        let conn = self.replica.open(worker, limit)?;
+        self.sessions.push(Session::new(alloc, conn))?;
+        self.in_use += 1;
+        Ok(conn)
+    }
+
+    /// A worker posts a batch. Linear in the jobs that it keeps.
+    pub(crate) fn post(&mut self, alloc: Global, worker: usize) -> Result<(), Memory>
+        requires is_there { worker < length self.old.workers.items }
+        requires owed { length self.old.replica.owed ≡ length self.old.workers.items }
+        requires counts { (d : Worker) → (slice_index_or self.old.workers.items worker d).batches + 1 < 2 ^ 64 }
+        ensures { OnOk result (node_seen self.new ≡ posted_node worker (node_seen self.old)) }
+    {
+        self.workers[worker].post(alloc)?;
+        Ok(())
+    }
+
+    /// Lifts the batch that a worker posted.
+    pub(crate) fn lift(&mut self, alloc: Global, worker: usize) -> Result<(), Memory>
+        requires is_there { worker < length self.old.workers.items }
+        requires owed { length self.old.replica.owed ≡ length self.old.workers.items }
+        requires up { self.old.replica.down ≡ false }
+        requires own { IsTrue (are_of self.old.replica.node (posted_jobs (nodes.worker_at worker (node_seen self.old)).slot)) }
+        ensures { OnOk result (node_seen self.new ≡ lifted_node worker (node_seen self.old)) }
+    {
+        let jobs = self.workers[worker].lift(alloc);
+        let Ok(()) = self.replica.lift(worker, jobs) else {
+            return Err(Memory);
+        };
+        Ok(())
+    }
+
+    /// Fills another node's cell of the entry that it reserved.
+    pub(crate) fn fill(&mut self, node: usize)
+        requires is_there { node < length self.old.unfilled.items }
+        ensures { node_seen self.new ≡ filled_node node (node_seen self.old) }
+    {
+        self.unfilled[node] = false;
+    }
+
+    /// Fetches its next entry.
+    pub(crate) fn fetch(&mut self)
+        ensures { node_seen self.new ≡ fetched_node (node_seen self.old) }
+    {
+        self.is_fetched = true;
+    }
+
+    /// Answers the batch of a worker.
+    pub(crate) fn answer(&mut self, worker: usize)
+        requires is_there { worker < length self.old.workers.items }
+        requires owed { length self.old.replica.owed ≡ length self.old.workers.items }
+        ensures { node_seen self.new ≡ answered_node worker (node_seen self.old) }
+    {
+        self.workers[worker].answer(!self.replica.is_down());
+        self.replica.answered(worker);
+    }
+
+    /// The next entry that it applies is refused.
+    pub(crate) fn refuse(&mut self)
+        ensures { node_seen self.new ≡ refused_node (node_seen self.old) }
+    {
+        self.replica.refuse();
+    }
+
+    /// Reserves its next entry, at the tail of the log: the updates that lead, or `None` where none does.
+    pub(crate) fn reserve(&mut self, tail: u64) -> Result<Option<Entry>, Memory>
+        ensures some { IfOk result (λ entry. IfSome entry (λ entry. (entry.node ≡ self.old.replica.node) × (items_of entry.jobs.items ≡ entry_jobs (node_seen self.old).waiting))) }
+        ensures none { IfOk result (λ entry. IfNone entry (entry_jobs (node_seen self.old).waiting ≡ [])) }
+        ensures reserved { IfOk result (λ entry. IsSome entry → node_seen self.new ≡ reserved_node (length self.old.unfilled.items) tail (node_seen self.old)) }
+    {
+        let Some(entry) = self.replica.take_entry()? else {
+            return Ok(None);
+        };
+        self.at = tail;
+        self.unfilled.fill(true);
+        Ok(Some(entry))
+    }
+
+    // The worker that serves a connection.
+    fn worker_of(&self, serial: usize) -> usize
+        requires { serial < length self.now.replica.members }
+        ensures { (d : Member) → result ≡ (slice_index_or self.now.replica.members serial d).worker }
+    {
+        self.replica.members()[serial].worker
+    }
+
+    /// Feeds bytes to a connection. Linear in the bytes and the jobs that they ask for.
+    pub(crate) fn feed(&mut self, conn: ConnId, moment: u64, bytes: &[u8]) -> Result<(), Memory>
+        requires clients { length self.old.sessions.items ≡ length self.old.replica.members }
+        requires owed { length self.old.replica.owed ≡ length self.old.workers.items }
+        requires is_there { conn.serial < length self.old.sessions.items }
+        requires worker { (d : Member) → (slice_index_or self.old.replica.members conn.serial d).worker < length self.old.workers.items }
+        requires named { (d : SessionState) → (slice_index_or self.old.sessions.items conn.serial d).connection ≡ connection_of conn }
+        requires going { (d : SessionState) → (slice_index_or self.old.sessions.items conn.serial d).ended ≡ false }
+        requires fits { (d : SessionState) → (slice_index_or self.old.sessions.items conn.serial d).next + (length (slice_index_or self.old.sessions.items conn.serial d).rest + length bytes.now) + 1 < 2 ^ 64 }
+        ensures { OnOk result (node_seen self.new ≡ fed_node (connection_of conn) moment bytes.now (node_seen self.old)) }
+    {
+        let serial = conn.serial as usize;
+        let worker = self.worker_of(serial);
+        let pending = &mut self.workers[worker].pending;
+        feed_session(&mut self.sessions[serial], moment, bytes, pending)?;
+        Ok(())
+    }
+
+    /// Closes a connection. Linear in the jobs that its worker hasn't posted.
+    pub(crate) fn close(&mut self, conn: ConnId, moment: u64) -> Result<(), Memory>
+        requires clients { length self.old.sessions.items ≡ length self.old.replica.members }
+        requires owed { length self.old.replica.owed ≡ length self.old.workers.items }
+        requires is_there { conn.serial < length self.old.sessions.items }
+        requires worker { (d : Member) → (slice_index_or self.old.replica.members conn.serial d).worker < length self.old.workers.items }
+        requires named { (d : SessionState) → (slice_index_or self.old.sessions.items conn.serial d).connection ≡ connection_of conn }
+        requires counts { 0 < self.old.in_use }
+        ensures { OnOk result (node_seen self.new ≡ closed_node (connection_of conn) moment (node_seen self.old)) }
+    {
+        let serial = conn.serial as usize;
+        let worker = self.worker_of(serial);
+        let pending = &mut self.workers[worker].pending;
+        close_session(&mut self.sessions[serial], conn, moment, pending)?;
+        self.replica.close(serial);
+        self.in_use -= 1;
+        Ok(())
+    }
+
+    /// Applies an entry, its next one, and passes it. A node that is down drops it, and one that memory is refused falls.
+    pub(crate) fn apply(&mut self, entry: &Entry)
+        requires clients { length self.old.sessions.items ≡ length self.old.replica.members }
+        requires numbered { AreNumbered self.old.replica.node 0 self.old.replica.members }
+        requires passed { self.old.passed + 1 < 2 ^ 64 }
+        ensures { IsApplied self.old.replica.node (entry_seen entry.now) (node_seen self.old) (node_seen self.new) }
+    {
+        if self.replica.is_down() {
+            self.pass();
+            return;
+        }
+        self.advance(entry);
+        self.pass();
+    }
+
+    // Applies an entry, or falls.
+    fn advance(&mut self, entry: &Entry)
+        requires up { self.old.replica.down ≡ false }
+        requires clients { length self.old.sessions.items ≡ length self.old.replica.members }
+        requires numbered { AreNumbered self.old.replica.node 0 self.old.replica.members }
+        ensures advanced { IsAdvanced self.old.replica.node (entry_seen entry.now) (node_seen self.old) (node_seen self.new) }
+        ensures passed { self.new.passed ≡ self.old.passed }
+    {
+        if self.replica.apply(entry) {
+            return;
+        }
+        drop_pending(&mut self.workers);
+    }
+
+    // Passes its next entry.
+    fn pass(&mut self)
+        requires { self.old.passed + 1 < 2 ^ 64 }
+        ensures { node_seen self.new ≡ passing (node_seen self.old) }
+    {
+        self.passed += 1;
+        self.is_fetched = false;
+    }
+
+    /// Runs the reads that lead, behind so many entries.
+    pub(crate) fn run_reads(&mut self) -> Result<(), Memory>
+        requires up { self.old.replica.down ≡ false }
+        requires clients { length self.old.sessions.items ≡ length self.old.replica.members }
+        requires numbered { AreNumbered self.old.replica.node 0 self.old.replica.members }
+        ensures { (tail : ℕ) → OnOk result (HasRun tail (node_seen self.old) (node_seen self.new)) }
+    {
+        self.replica.run_reads()?;
+        Ok(())
+    }
+
+    /// A worker takes the answer to its batch, where there is one, and all bytes that wait for its connections, at most `limit` for each,
+    /// are handed out. Linear in the node's connections and the bytes.
+    pub(crate) fn collect(
+        &mut self,
+        worker: usize,
+        limit: usize,
+        handed: &mut Vec<Handed>,
+    ) -> Result<Option<bool>, Memory>
+        requires is_there { worker < length self.old.workers.items }
+        requires owed { length self.old.replica.owed ≡ length self.old.workers.items }
+        requires clients { length self.old.sessions.items ≡ length self.old.replica.members }
+        requires some { 0 < limit }
+        requires short { AreShort limit self.old.replica.members }
+        requires numbered { AreNumbered self.old.replica.node 0 self.old.replica.members }
+        ensures node { OnOk result (node_seen self.new ≡ collected_node worker (node_seen self.old)) }
+        ensures handed { OnOk result (map handed_seen handed.new.items ≡ map handed_seen handed.old.items ++ collected worker (node_seen self.old).clients) }
+        ensures answer { (d : Worker) → IfOk result (λ answer. IfSome answer (λ executed. (slice_index_or self.old.workers.items worker d).slot ≡ slots.Answered executed)) }
+    {
+        collect(&mut self.replica, worker, limit, handed)?;
+        let answer = self.workers[worker].collect();
+        Ok(answer)
+    }
+}

@@ -1,0 +1,131 @@
+// The steps that a server of several nodes can take, and what comes of one.
+ghost use Rattle.std.specs.Prelude.{◌≡◌};
+ghost use Rattle.nr_nodes.specs.Seen.{reason_number};
+
+use nr_entry::ConnId;
+use std::fmt;
+
+/// A step that a server can take. Nodes and workers are numbered from 0.
+#[derive(Debug, Drop)]
+pub enum Step {
+    /// A connection is opened at a worker of a node: the node, the worker.
+    Open(usize, usize),
+    /// Bytes of a connection come, at a moment in milliseconds.
+    Feed(ConnId, u64, Vec<u8>),
+    /// A worker of a node posts a batch, the first 1,024 jobs of its connections: the node, the worker.
+    Post(usize, usize),
+    /// A node lifts the batch that a worker posted: the node, the worker.
+    Lift(usize, usize),
+    /// A node reserves an entry of the log for the updates that lead, at most 1,024 of them.
+    Reserve(usize),
+    /// A node fills another node's cell of the entry that it reserved: the node, the other one.
+    Fill(usize, usize),
+    /// A node fetches its next entry.
+    Fetch(usize),
+    /// A node applies the entry that it fetched, and passes it.
+    Apply(usize),
+    /// A node applies all entries that were reserved, and runs the reads that lead.
+    Look(usize),
+    /// A node answers the batch of a worker: the node, the worker.
+    Answer(usize, usize),
+    /// A worker of a node takes the answer to its batch, and hands out the bytes that wait for its connections: the node, the worker.
+    Collect(usize, usize),
+    /// A connection is closed, at a moment in milliseconds.
+    Close(ConnId, u64),
+    /// The next entry that a node applies is refused, as where memory runs out.
+    Refuse(usize),
+}
+
+/// Why a step changed nothing.
+#[derive(Clone, Copy, Debug, PartialEq, Eq)]
+pub enum Reason {
+    /// There is no such node, worker or connection.
+    NoSuch,
+    /// The connection has ended.
+    Ended,
+    /// As many connections of the node are open as can be.
+    TooMany,
+    /// The node is down.
+    Down,
+    /// What was begun before isn't done yet.
+    Busy,
+    /// There was nothing to do.
+    Nothing,
+    /// The log has no place left.
+    Full,
+    /// What it waits for hasn't happened yet.
+    NotYet,
+}
+
+/// What came of a step.
+#[derive(Clone, Copy, Debug, PartialEq, Eq)]
+pub enum Outcome {
+    Opened(ConnId),
+    Done,
+    /// Nothing changed.
+    Idle(Reason),
+}
+
+/// Bytes that were handed to a connection.
+#[derive(Debug, Drop)]
+pub struct Handed {
+    pub conn: ConnId,
+    pub bytes: Vec<u8>,
+}
+
+/// The answer to a batch, as its worker took it.
+#[derive(Clone, Copy, Debug, PartialEq, Eq)]
+pub struct Answered {
+    pub node: usize,
+    pub worker: usize,
+    /// The batch's number among those of its worker, from 0.
+    pub batch: u64,
+    /// Whether all its jobs were executed.
+    pub executed: bool,
+}
+
+/// What a step hands back: what came of it, the bytes that it handed to connections, and the answer that it took.
+#[derive(Debug, Drop)]
+pub struct Happened {
+    pub outcome: Outcome,
+    pub handed: Vec<Handed>,
+    pub answer: Option<Answered>,
+}
+
+impl Reason {
+    /// Its number: 1 to 8, in the order in which reasons are looked for.
+    pub fn number(self) -> u8
+        ensures { result ≡ reason_number self }
+    {
+        match self {
+            Reason::NoSuch => 1,
+            Reason::Ended => 2,
+            Reason::TooMany => 3,
+            Reason::Down => 4,
+            Reason::Busy => 5,
+            Reason::Nothing => 6,
+            Reason::Full => 7,
+            Reason::NotYet => 8,
+        }
+    }
+}
+
+impl fmt::Display for Reason {
+    ghost use Rattle.std.specs.Prelude.{Some};
+    ghost use Rattle.nr_nodes.specs.Seen.{reason_name};
+
+    ghost output = { λ reason. Some (reason_name reason) };
+
+    fn fmt<W: fmt::Write>(&self, f: &mut fmt::Formatter<W>) -> fmt::Result {
+        f.write_str(match self {
+            Reason::NoSuch => "NoSuch",
+            Reason::Ended => "Ended",
+            Reason::TooMany => "TooMany",
+            Reason::Down => "Down",
+            Reason::Busy => "Busy",
+            Reason::Nothing => "Nothing",
+            Reason::Full => "Full",
+            Reason::NotYet => "NotYet",
+        })
+    }
+}

@@ -1,0 +1,128 @@
+// A worker of a node: the jobs of its connections, and its slot.
+ghost use Rattle.std.specs.Prelude.{◌≡◌, ◌<◌, ◌+◌, ◌^◌, ◌++◌, ◌==◌, ℕ, Option, Some, None, IfSome, IfNone, IfOk, OnOk, OnErr, [], length, take, drop, true, false};
+ghost use Rattle.nr_model.specs.Nodes as nodes;
+ghost use Rattle.nr_model.specs.Nodes.Steps.{most_batch_jobs, is_free, is_posted, is_lifted, is_answered, is_empty, posted_worker, posted_jobs, cleared};
+ghost use Rattle.nr_model.specs.Nodes.Pasts.{answer_in};
+ghost use Rattle.nr_entry.specs.Jobs.{items_of};
+ghost use Rattle.nr_nodes.specs.Workers.{slot_seen, worker_seen};
+ghost use Rattle.nr_nodes.specs.declared.worker.Slot.TheVariants as slots;
+
+use nr_blob::Memory;
+use nr_entry::Job;
+use std::alloc::Global;
+use std::mem;
+
+/// How many jobs a batch has at most.
+const MOST_JOBS: usize = 1024;
+
+/// A worker's slot. What is owed of a batch that was lifted stands with its node's replica.
+#[derive(Drop)]
+pub(crate) enum Slot {
+    Empty,
+    Posted(Vec<Job>),
+    Lifted,
+    /// Whether all jobs of the batch were executed.
+    Answered(bool),
+}
+
+/// A worker: the jobs of its connections that it hasn't posted, how many batches it has posted, and its slot.
+#[derive(Drop)]
+pub(crate) struct Worker {
+    pub pending: Vec<Job>,
+    pub batches: u64,
+    pub slot: Slot,
+}
+
+impl Slot {
+    pub(crate) fn is_free(&self) -> bool
+        ensures { (owed : Option ℕ) → result ≡ is_free (slot_seen self.now owed) }
+    {
+        matches!(self, Slot::Empty)
+    }
+
+    pub(crate) fn is_posted(&self) -> bool
+        ensures { (owed : Option ℕ) → result ≡ is_posted (slot_seen self.now owed) }
+    {
+        matches!(self, Slot::Posted(_))
+    }
+
+    pub(crate) fn is_lifted(&self) -> bool
+        ensures { (owed : Option ℕ) → result ≡ is_lifted (slot_seen self.now owed) }
+    {
+        matches!(self, Slot::Lifted)
+    }
+
+    pub(crate) fn is_answered(&self) -> bool
+        ensures { (owed : Option ℕ) → result ≡ is_answered (slot_seen self.now owed) }
+    {
+        matches!(self, Slot::Answered(_))
+    }
+}
+
+impl Worker {
+    pub(crate) fn new(alloc: Global) -> Worker
+        ensures { (owed : Option ℕ) → worker_seen result owed ≡ nodes.fresh_worker }
+    {
+        Worker {
+            pending: Vec::new(alloc),
+            batches: 0,
+            slot: Slot::Empty,
+        }
+    }
+
+    /// Posts its first jobs as a batch. Linear in the jobs that it keeps, where there are any.
+    pub(crate) fn post(&mut self, alloc: Global) -> Result<(), Memory>
+        requires { self.old.batches + 1 < 2 ^ 64 }
+        ensures { (owed : Option ℕ) → OnOk result (worker_seen self.new owed ≡ posted_worker (worker_seen self.old owed)) }
+    {
+        let batch = take_front(alloc, &mut self.pending, MOST_JOBS)?;
+        self.batches += 1;
+        self.slot = Slot::Posted(batch);
+        Ok(())
+    }
+
+    /// Takes the batch out of the slot, which its node lifts.
+    pub(crate) fn lift(&mut self, alloc: Global) -> Vec<Job>
+        ensures jobs { (owed : Option ℕ) → items_of result.items ≡ posted_jobs (slot_seen self.old.slot owed) }
+        ensures slot { self.new.slot ≡ slots.Lifted }
+        ensures pending { self.new.pending ≡ self.old.pending }
+        ensures batches { self.new.batches ≡ self.old.batches }
+    {
+        match mem::replace(&mut self.slot, Slot::Lifted) {
+            Slot::Posted(jobs) => jobs,
+            Slot::Empty | Slot::Lifted | Slot::Answered(_) => Vec::new(alloc),
+        }
+    }
+
+    /// Answers its batch.
+    pub(crate) fn answer(&mut self, executed: bool)
+        ensures { (owed other : Option ℕ) → worker_seen self.new other ≡ record (worker_seen self.old owed) { slot = nodes.Answered executed } }
+    {
+        self.slot = Slot::Answered(executed);
+    }
+
+    /// Takes the answer out of the slot, where there is one.
+    pub(crate) fn collect(&mut self) -> Option<bool>
+        ensures worker { (owed : Option ℕ) → worker_seen self.new owed ≡ record (worker_seen self.old owed) { slot = cleared (worker_seen self.old owed).slot } }
+        ensures some { IfSome result (λ executed. self.old.slot ≡ slots.Answered executed) }
+        ensures none { (owed : Option ℕ) → IfNone result (is_answered (slot_seen self.old.slot owed) ≡ false) }
+    {
+        if let Slot::Answered(executed) = self.slot {
+            self.slot = Slot::Empty;
+            return Some(executed);
+        }
+        None
+    }
+}
+
+// Takes the first jobs, at most so many.
+fn take_front(alloc: Global, jobs: &mut Vec<Job>, most: usize) -> Result<Vec<Job>, Memory>
+    ensures front { IfOk result (λ front. front.items ≡ take most jobs.old.items) }
+    ensures behind { OnOk result (jobs.new.items ≡ drop most jobs.old.items) }
+{
+    if jobs.len() <= most {
+        return Ok(mem::replace(jobs, Vec::new(alloc)));
+    }
+    let behind = jobs.split_off(most)?;
+    Ok(mem::replace(jobs, behind))
+}
