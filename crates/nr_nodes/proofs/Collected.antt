@@ -1,12 +1,12 @@
 -- What a collect hands out, one connection after the other.
 use Rattle.std.proofs.Common.{◌≡◌, ℕ, zero, suc, ◌+◌, ◌<◌, ◌≤◌, Bool, true, false, cond, List, [], ◌∷◌, ◌++◌, length, take, drop, get_or, set, refl, ap, sym, ◌∙◌, arith, append_assoc, drop-cons, Option}
 use Rattle.std.specs.Prelude.{map, ◌==◌, ◌&&◌}
-use Rattle.std.proofs.lemmas.List.{drop_all, take_all, set-get_or}
+use Rattle.std.proofs.lemmas.List.{take_all}
 use Rattle.nr_model.specs.Items.{Connection}
 use Rattle.nr_model.specs.Bytes.{Bytes}
 use Rattle.nr_model.specs.Worlds.{Handed, is_some_bytes}
 use Rattle.nr_replica.specs.declared.members.Member.{Member}
-use Rattle.nr_replica.specs.Members.{AreNumbered, handed_member}
+use Rattle.nr_replica.specs.Members.{AreNumbered}
 use Rattle.nr_model.specs.Nodes.Steps as steps
 use Rattle.nr_session.specs.SessionState.{SessionState}
 use Rattle.nr_replica.specs.Replicas.{ReplicaState}
@@ -15,36 +15,15 @@ use Rattle.nr_nodes.specs.declared.node.Node.{Node}
 use Rattle.nr_nodes.specs.Workers.{worker_seen}
 use Rattle.nr_nodes.specs.Served.{client_seen, clients_seen, node_seen}
 use Rattle.nr_nodes.proofs.Changed.{seen_by, worker_changed}
-use Rattle.nr_nodes.specs.Collected.{emptied_member, collected_members, emptied_front, AreShort}
-
--- a connection of another worker
-pub other_left : (w serial : ℕ) (members : List Member) (d : Member) → ((get_or members serial d).worker == w) ≡ false → set members serial (emptied_member w (get_or members serial d)) ≡ members
-other_left w serial members d e =
-    let m = get_or members serial d in
-    ap (λ (b : Bool). set members serial (cond b (record m { outbox = record m.outbox { waiting = []; handed = m.outbox.handed + length m.outbox.waiting } }) m)) e
-    ∙ set-get_or members serial d
-
-pub other_nothing : (w : ℕ) (m : Member) → (m.worker == w) ≡ false → collected_members w (m ∷ []) ≡ []
-other_nothing w m e = ap (λ (b : Bool). cond (b && is_some_bytes m.outbox.waiting) (record { connection = m.outbox.connection; bytes = m.outbox.waiting } ∷ []) []) e
+use Rattle.nr_nodes.specs.Collected.{emptied_member, collected_members, emptied_front}
 
 -- all that waits is handed out
-pub all_handed : (w limit : ℕ) (m : Member) → (m.worker == w) ≡ true → length m.outbox.waiting ≤ limit → handed_member limit m ≡ emptied_member w m
-all_handed w limit m e h =
-    (λ i. record m { outbox = record m.outbox { waiting = drop_all limit m.outbox.waiting h i; handed = m.outbox.handed + length (take_all limit m.outbox.waiting h i) } })
-    ∙ ap (λ (b : Bool). cond b (record m { outbox = record m.outbox { waiting = []; handed = m.outbox.handed + length m.outbox.waiting } }) m) (sym e)
-
-pub none_waits : (w : ℕ) (m : Member) → m.outbox.waiting ≡ [] → collected_members w (m ∷ []) ≡ []
-none_waits w m e =
-    elim (m.worker == w) as (λ b. cond {A = List Handed} (b && is_some_bytes m.outbox.waiting) (record { connection = m.outbox.connection; bytes = m.outbox.waiting } ∷ []) [] ≡ []) [
-      | true ↦ ap (λ (bytes : Bytes). cond {A = List Handed} (is_some_bytes bytes) (record { connection = m.outbox.connection; bytes = m.outbox.waiting } ∷ []) []) e
-      | false ↦ refl
-    ]
-
 some_are : (bytes : Bytes) → 0 < length bytes → is_some_bytes bytes ≡ true
 some_are [] h = absurd (omega arith)
 some_are (b ∷ bytes) h = refl
 
-pub some_waits : (w limit : ℕ) (m : Member) (c : Connection) (bytes : Bytes) → (m.worker == w) ≡ true → length m.outbox.waiting ≤ limit → c ≡ m.outbox.connection → bytes ≡ take limit m.outbox.waiting → 0 < length bytes
+pub some_waits : (w limit : ℕ) (m : Member) (c : Connection) (bytes : Bytes) → (m.worker == w) ≡ true → length m.outbox.waiting ≤ limit
+    → c ≡ m.outbox.connection → bytes ≡ take limit m.outbox.waiting → 0 < length bytes
     → record { connection = c; bytes = bytes } ∷ [] ≡ collected_members w (m ∷ [])
 some_waits w limit m c bytes e h name is some =
     let whole : bytes ≡ m.outbox.waiting = is ∙ take_all limit m.outbox.waiting h in
@@ -58,12 +37,14 @@ next_here w zero members d = refl
 next_here w (suc i) [] d = refl
 next_here w (suc i) (member ∷ members) d = next_here w i members d
 
-next_emptied : (w i : ℕ) (members : List Member) (d : Member) → i < length members → set (emptied_front w i members) i (emptied_member w (get_or members i d)) ≡ emptied_front w (suc i) members
+next_emptied : (w i : ℕ) (members : List Member) (d : Member) → i < length members
+    → set (emptied_front w i members) i (emptied_member w (get_or members i d)) ≡ emptied_front w (suc i) members
 next_emptied w i [] d h = absurd (omega arith)
 next_emptied w zero (member ∷ members) d h = refl
 next_emptied w (suc i) (member ∷ members) d h = ap (λ (more : List Member). emptied_member w member ∷ more) (next_emptied w i members d (omega arith))
 
-pub emptied_step : (w i : ℕ) (start now : List Member) (d : Member) → now ≡ emptied_front w i start → i < length start → set now i (emptied_member w (get_or now i d)) ≡ emptied_front w (i + 1) start
+pub emptied_step : (w i : ℕ) (start now : List Member) (d : Member) → now ≡ emptied_front w i start → i < length start
+    → set now i (emptied_member w (get_or now i d)) ≡ emptied_front w (i + 1) start
 emptied_step w i start now d is h =
     let more : suc i ≡ i + 1 = omega arith in
     ap (λ (ms : List Member). set ms i (emptied_member w (get_or ms i d))) is
@@ -82,12 +63,8 @@ length-emptied w zero members = refl
 length-emptied w (suc n) [] = refl
 length-emptied w (suc n) (member ∷ members) = ap suc (length-emptied w n members)
 
-pub short_at : (limit i : ℕ) (members : List Member) (d : Member) → AreShort limit members → i < length members → length (get_or members i d).outbox.waiting ≤ limit
-short_at limit i [] d h k = absurd (omega arith)
-short_at limit zero (member ∷ members) d h k = h.0
-short_at limit (suc i) (member ∷ members) d h k = short_at limit i members d h.1 (omega arith)
-
-pub named_at : (node n i : ℕ) (members : List Member) (d : Member) → AreNumbered node n members → i < length members → (get_or members i d).outbox.connection ≡ record { node = node; serial = n + i }
+pub named_at : (node n i : ℕ) (members : List Member) (d : Member) → AreNumbered node n members → i < length members
+    → (get_or members i d).outbox.connection ≡ record { node = node; serial = n + i }
 named_at node n i [] d h k = absurd (omega arith)
 named_at node n zero (member ∷ members) d h k = let e : n ≡ n + 0 = omega arith in h.0 ∙ ap (λ (s : ℕ). record { node = node; serial = s }) e
 named_at node n (suc i) (member ∷ members) d h k =
@@ -95,20 +72,26 @@ named_at node n (suc i) (member ∷ members) d h k =
     named_at node (suc n) i members d h.1 (omega arith) ∙ ap (λ (s : ℕ). record { node = node; serial = s }) e
 
 -- what waits for one, and for those behind it
-collected_first : (w : ℕ) (member : Member) (members : List Member) → collected_members w (member ∷ members) ≡ collected_members w (member ∷ []) ++ collected_members w members
+collected_first : (w : ℕ) (member : Member) (members : List Member)
+    → collected_members w (member ∷ members) ≡ collected_members w (member ∷ []) ++ collected_members w members
 collected_first w member members =
-    elim (member.worker == w && is_some_bytes member.outbox.waiting) as (λ some. cond some (record { connection = member.outbox.connection; bytes = member.outbox.waiting } ∷ collected_members w members) (collected_members w members)
-    ≡ cond some (record { connection = member.outbox.connection; bytes = member.outbox.waiting } ∷ []) [] ++ collected_members w members) [ true ↦ refl | false ↦ refl ]
+    elim (member.worker == w && is_some_bytes member.outbox.waiting) as
+    (λ some. cond some (record { connection = member.outbox.connection; bytes = member.outbox.waiting } ∷ collected_members w members)
+    (collected_members w members)
+    ≡ cond some (record { connection = member.outbox.connection; bytes = member.outbox.waiting } ∷ []) []
+    ++ collected_members w members) [ true ↦ refl | false ↦ refl ]
 
 pub collected_step : (w i : ℕ) (start now : List Member) (d : Member) (so_far next all : List Handed) → now ≡ emptied_front w i start → i < length start
-    → next ≡ so_far ++ collected_members w (get_or now i d ∷ []) → so_far ++ collected_members w (drop i start) ≡ all → next ++ collected_members w (drop (i + 1) start) ≡ all
+    → next ≡ so_far ++ collected_members w (get_or now i d ∷ []) → so_far ++ collected_members w (drop i start) ≡ all
+    → next ++ collected_members w (drop (i + 1) start) ≡ all
 collected_step w i start now d so_far next all is h e so =
     let more : i + 1 ≡ suc i = omega arith in
     let here : get_or now i d ≡ get_or start i d = ap (λ (ms : List Member). get_or ms i d) is ∙ next_here w i start d in
     ap (λ (hs : List Handed). hs ++ collected_members w (drop (i + 1) start)) e
     ∙ ap (λ (m : Member). (so_far ++ collected_members w (m ∷ [])) ++ collected_members w (drop (i + 1) start)) here
     ∙ append_assoc so_far (collected_members w (get_or start i d ∷ [])) (collected_members w (drop (i + 1) start))
-    ∙ ap (λ (hs : List Handed). so_far ++ hs) (ap (λ n. collected_members w (get_or start i d ∷ []) ++ collected_members w (drop n start)) more ∙ sym (collected_first w (get_or start i d) (drop (suc i) start)))
+    ∙ ap (λ (hs : List Handed). so_far ++ hs) (ap (λ n. collected_members w (get_or start i d ∷ []) ++ collected_members w (drop n start)) more
+    ∙ sym (collected_first w (get_or start i d) (drop (suc i) start)))
     ∙ ap (λ (ms : List Member). so_far ++ collected_members w ms) (sym (drop-cons start i d h))
     ∙ so
 
@@ -119,7 +102,8 @@ one_emptied : (b : Bool) (s : SessionState) (m : Member)
 one_emptied true s m = refl
 one_emptied false s m = refl
 
-pub clients_emptied : (w : ℕ) (sessions : List SessionState) (members : List Member) → clients_seen sessions (map (emptied_member w) members) ≡ map (steps.emptied w) (clients_seen sessions members)
+pub clients_emptied : (w : ℕ) (sessions : List SessionState) (members : List Member)
+    → clients_seen sessions (map (emptied_member w) members) ≡ map (steps.emptied w) (clients_seen sessions members)
 clients_emptied w [] members = refl
 clients_emptied w (s ∷ sessions) [] = refl
 clients_emptied w (s ∷ sessions) (m ∷ members) =
@@ -127,7 +111,8 @@ clients_emptied w (s ∷ sessions) (m ∷ members) =
     let more = clients_emptied w sessions members in
     λ i. first i ∷ more i
 
-pub clients_collected : (w : ℕ) (sessions : List SessionState) (members : List Member) → length sessions ≡ length members → collected_members w members ≡ steps.collected w (clients_seen sessions members)
+pub clients_collected : (w : ℕ) (sessions : List SessionState) (members : List Member) → length sessions ≡ length members
+    → collected_members w members ≡ steps.collected w (clients_seen sessions members)
 clients_collected w [] [] h = refl
 clients_collected w [] (m ∷ members) h = absurd (omega arith)
 clients_collected w (s ∷ sessions) [] h = absurd (omega arith)
@@ -135,7 +120,8 @@ clients_collected w (s ∷ sessions) (m ∷ members) h =
     let more = clients_collected w sessions members (omega arith) in
     λ i. cond (m.worker == w && is_some_bytes m.outbox.waiting) (record { connection = m.outbox.connection; bytes = m.outbox.waiting } ∷ more i) (more i)
 
-pub collected_is : (node : Node) (w : ℕ) (x old : Worker) (replica : ReplicaState) → w < length node.workers.items → length node.replica.owed ≡ length node.workers.items
+pub collected_is : (node : Node) (w : ℕ) (x old : Worker) (replica : ReplicaState) → w < length node.workers.items
+    → length node.replica.owed ≡ length node.workers.items
     → old ≡ get_or node.workers.items w old → ((o : Option ℕ) → worker_seen x o ≡ record (worker_seen old o) { slot = steps.cleared (worker_seen old o).slot })
     → replica ≡ record node.replica { members = map (emptied_member w) node.replica.members }
     → seen_by node replica (set node.workers.items w x) ≡ steps.collected_node w (node_seen node)

@@ -7,3 +7,15 @@ pub mod Cuts
 pub mod Executed
 pub mod Advanced
 pub mod Collected
+pub mod Shown
+pub mod Runs
+pub mod Fresh
+pub mod Standing
+pub mod Batches
+pub mod Logged
+pub mod Paired
+pub mod Connects
+pub mod Rounds
+pub mod Joined
+pub mod Kept
+pub mod Replayed

@@ -7,3 +7,13 @@ pub mod Forgotten
 pub mod Advanced
 pub mod Logs
 pub mod Collected
+pub mod Batches
+pub mod WorldState
+pub mod Whole
+pub mod Taken
+pub mod Settles
+pub mod Standing
+pub mod Ran
+pub mod Connected
+pub mod Rounds
+pub mod Replayed

@@ -1,5 +1,5 @@
 // What a connection's bytes and its close come to, and the jobs that wait at its worker for that.
-ghost use Rattle.std.specs.Prelude.{◌≡◌, ◌<◌, ◌≤◌, ◌+◌, ◌^◌, ◌++◌, not, true, false, OnOk, length, filter, option_to_list};
+ghost use Rattle.std.specs.Prelude.{◌≡◌, ◌≤◌, ◌++◌, not, true, false, OnOk, filter, option_to_list};
 ghost use Rattle.std.specs.Option.{option_map};
 ghost use Rattle.nr_model.specs.Items.{Item, same_connection};
 ghost use Rattle.nr_model.specs.Keyspace.{moment, last_moment};
@@ -26,7 +26,7 @@ fn capped(milliseconds: u64) -> u64
     milliseconds.min(LAST_MOMENT)
 }
 
-/// Feeds bytes to a session: the jobs that they ask for wait behind the others.
+/// Feeds bytes to a session: the jobs that they ask for wait behind the others. Memory runs out where so many bytes can't be counted.
 pub(crate) fn feed_session(
     session: &mut Session,
     milliseconds: u64,
@@ -34,12 +34,15 @@ pub(crate) fn feed_session(
     pending: &mut Vec<Job>,
 ) -> Result<(), Memory>
     requires going { session.old.ended ≡ false }
-    requires fits { session.old.next + (length session.old.rest + length bytes.now) + 1 < 2 ^ 64 }
     ensures client { (member : Member) → OnOk result (client_seen session.new member ≡ fed_client (client_seen session.old member) bytes.now) }
     ensures jobs { (member : Member) → OnOk result (items_of pending.new.items ≡ items_of pending.old.items
         ++ jobs_from session.old.connection session.old.next (moment milliseconds) (asked_next (client_seen session.old member) bytes.now).deeds) }
     ensures connection { session.new.connection ≡ session.old.connection }
+    ensures ended { OnOk result (session.new.ended ≡ session.new.gave_end) }
 {
+    if !session.fits(bytes.len()) {
+        return Err(Memory);
+    }
     match session.feed(bytes, capped(milliseconds), pending) {
         Ok(()) => Ok(()),
         Err(_) => Err(Memory),
@@ -55,6 +58,7 @@ pub(crate) fn close_session(
     pending: &mut Vec<Job>,
 ) -> Result<(), Memory>
     requires { session.old.connection ≡ connection_of conn }
+    ensures ended { session.new ≡ record session.old { ended = true } }
     ensures client { (member : Member) → client_seen session.new (closed_member member) ≡ closed_client (client_seen session.old member) }
     ensures jobs { (member : Member) → OnOk result (items_of pending.new.items
         ≡ filter (λ (job : Item). not (same_connection job.connection (connection_of conn))) (items_of pending.old.items)

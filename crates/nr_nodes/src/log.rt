@@ -46,12 +46,17 @@ impl Log {
         &self.entries[(number - self.base) as usize]
     }
 
-    /// One entry more. Where memory runs out nothing changes.
+    /// One entry more. Where memory runs out, or the numbers of entries do, nothing changes.
     pub(crate) fn push(&mut self, alloc: Global, entry: Entry) -> Result<(), Memory>
+        requires { self.old.base + length (log_seen self.old) < 2 ^ 64 }
         ensures entries { OnOk result (log_seen self.new ≡ log_seen self.old ++ entry_seen entry ∷ []) }
         ensures base { self.new.base ≡ self.old.base }
+        ensures fits { OnOk result (self.new.base + length (log_seen self.new) < 2 ^ 64) }
         ensures unchanged { OnErr result (log_seen self.new ≡ log_seen self.old) }
     {
+        if self.tail() == u64::MAX {
+            return Err(Memory);
+        }
         self.entries.push_back(Arc::new(alloc, entry)?)?;
         Ok(())
     }

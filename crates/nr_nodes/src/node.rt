@@ -2,23 +2,29 @@
 ghost use Rattle.std.specs.Prelude.{◌≡◌, ◌<◌, ◌≤◌, ◌+◌, ◌^◌, ◌++◌, map, ℕ, Option, Some, None, IfOk, IfSome, IfNone, OnOk, OnErr, IsTrue, IsSome, List, [], length, replicate, true, false, slice_index_or};
 ghost use Rattle.nr_model.specs.Worlds as worlds;
 ghost use Rattle.nr_model.specs.Nodes as nodes;
-ghost use Rattle.nr_model.specs.Nodes.Steps.{lifted_node, posted_jobs, fed_node, closed_node, passing, collected, collected_node};
+ghost use Rattle.nr_model.specs.Nodes.Steps.{next_fetch, lifted_node, posted_jobs, fed_node, closed_node, passing, collected, collected_node};
 ghost use Rattle.nr_entry.specs.Entry.{are_of};
+ghost use Rattle.nr_entry.specs.Waiting.{has_some};
 ghost use Rattle.nr_entry.specs.Jobs.{connection_of, items_of};
 ghost use Rattle.nr_model.specs.Entries.{entry_jobs};
+ghost use Rattle.nr_entry.specs.Waiting.{has_some};
 ghost use Rattle.nr_session.specs.SessionState.{SessionState};
 ghost use Rattle.nr_replica.specs.Members.{AreNumbered};
+ghost use Rattle.nr_nodes.specs.Whole.{IsWhole};
 ghost use Rattle.nr_nodes.specs.Advanced.{IsAdvanced, IsApplied, HasRun};
-ghost use Rattle.nr_nodes.specs.declared.worker.Slot.TheVariants as slots;
+ghost use Rattle.nr_model.specs.Nodes.Steps as steps;
 ghost use Rattle.nr_nodes.specs.Seen.{handed_seen};
-ghost use Rattle.nr_nodes.specs.Collected.{AreShort};
+ghost use Rattle.nr_nodes.specs.Batches.{may_post, may_lift, may_answer, executed_in};
+ghost use Rattle.nr_nodes.specs.Taken.{idle_or};
+ghost use Rattle.nr_nodes.specs.Whole.{IsWhole, ArePaired};
+ghost use Rattle.nr_nodes.specs.Connected.{takes_none};
 ghost use Rattle.nr_nodes.specs.Served.{node_seen, entry_seen, opened_node, posted_node, reserved_node, filled_node, fetched_node, answered_node, refused_node, workers_seen};
 
 use crate::collecting::collect;
 use crate::conversing::{close_session, feed_session};
 use crate::falling::drop_pending;
 use crate::setup::Setup;
-use crate::step::Handed;
+use crate::step::{Handed, Reason};
 use crate::worker::Worker;
 use nr_blob::Memory;
 use nr_entry::{ConnId, Entry};
@@ -44,7 +50,8 @@ pub struct Node {
 
 // So many workers with nothing to do.
 fn fresh_workers(alloc: Global, count: usize) -> Result<Vec<Worker>, Memory>
-    ensures { IfOk result (λ workers. workers_seen workers.items (replicate count None) ≡ replicate count nodes.fresh_worker) }
+    ensures seen { IfOk result (λ workers. workers_seen workers.items (replicate count None) ≡ replicate count nodes.fresh_worker) }
+    ensures count { IfOk result (λ workers. length workers.items ≡ count) }
 {
     let mut workers = Vec::with_capacity(alloc, count)?;
     for _ in 0..count {
@@ -61,7 +68,8 @@ impl Node {
         node: usize,
         setup: Setup,
     ) -> Result<Node, Memory>
-        ensures { IfOk result (λ made. node_seen made ≡ nodes.fresh_node setup) }
+        ensures seen { IfOk result (λ made. node_seen made ≡ nodes.fresh_node setup) }
+        ensures whole { IfOk result (IsWhole node) }
     {
         let mut unfilled = Vec::with_capacity(alloc, setup.nodes())?;
         unfilled.resize(setup.nodes(), false)?;
@@ -86,7 +94,9 @@ impl Node {
     ) -> Result<ConnId, Memory>
         requires clients { length self.old.sessions.items ≡ length self.old.replica.members }
         requires counts { self.old.in_use + 1 < 2 ^ 64 }
-        ensures { OnOk result (node_seen self.new ≡ opened_node limit self.old.replica.node worker (node_seen self.old)) }
+        ensures opened { OnOk result (node_seen self.new ≡ opened_node limit self.old.replica.node worker (node_seen self.old)) }
+        ensures conn { IfOk result (λ conn. connection_of conn ≡ record { node = self.old.replica.node; serial = length self.old.replica.members }) }
+        ensures whole { (n : ℕ) → IsWhole n self.old → OnOk result (IsWhole n self.new) }
     {
         let conn = self.replica.open(worker, limit)?;
         self.sessions.push(Session::new(alloc, conn))?;
@@ -94,24 +104,50 @@ impl Node {
         Ok(conn)
     }
 
+    /// Why a worker can't post a batch.
+    pub(crate) fn why_not_post(&self, worker: usize) -> Option<Reason>
+        requires is_there { worker < length self.now.workers.items }
+        requires owed { length self.now.replica.owed ≡ length self.now.workers.items }
+        ensures { idle_or result steps.Done ≡ may_post worker (node_seen self.now) }
+    {
+        if self.replica.is_down() {
+            return Some(Reason::Down);
+        }
+        self.workers[worker].why_not_post()
+    }
+
     /// A worker posts a batch. Linear in the jobs that it keeps.
     pub(crate) fn post(&mut self, alloc: Global, worker: usize) -> Result<(), Memory>
         requires is_there { worker < length self.old.workers.items }
         requires owed { length self.old.replica.owed ≡ length self.old.workers.items }
-        requires counts { (d : Worker) → (slice_index_or self.old.workers.items worker d).batches + 1 < 2 ^ 64 }
-        ensures { OnOk result (node_seen self.new ≡ posted_node worker (node_seen self.old)) }
+        ensures posted { OnOk result (node_seen self.new ≡ posted_node worker (node_seen self.old)) }
+        ensures whole { (n : ℕ) → IsWhole n self.old → OnOk result (IsWhole n self.new) }
     {
         self.workers[worker].post(alloc)?;
         Ok(())
     }
 
-    /// Lifts the batch that a worker posted.
+    /// Why it can't lift a batch of a worker.
+    pub(crate) fn why_not_lift(&self, worker: usize) -> Option<Reason>
+        requires is_there { worker < length self.now.workers.items }
+        requires owed { length self.now.replica.owed ≡ length self.now.workers.items }
+        ensures outcome { idle_or result steps.Done ≡ may_lift worker (node_seen self.now) }
+        ensures up { IfNone result (self.now.replica.down ≡ false) }
+    {
+        if self.replica.is_down() {
+            return Some(Reason::Down);
+        }
+        self.workers[worker].why_not_lift()
+    }
+
+    /// Lifts the batch that a worker posted. Linear in its jobs.
     pub(crate) fn lift(&mut self, alloc: Global, worker: usize) -> Result<(), Memory>
         requires is_there { worker < length self.old.workers.items }
         requires owed { length self.old.replica.owed ≡ length self.old.workers.items }
         requires up { self.old.replica.down ≡ false }
         requires own { IsTrue (are_of self.old.replica.node (posted_jobs (nodes.worker_at worker (node_seen self.old)).slot)) }
-        ensures { OnOk result (node_seen self.new ≡ lifted_node worker (node_seen self.old)) }
+        ensures lifted { OnOk result (node_seen self.new ≡ lifted_node worker (node_seen self.old)) }
+        ensures whole { (n : ℕ) → IsWhole n self.old → OnOk result (IsWhole n self.new) }
     {
         let jobs = self.workers[worker].lift(alloc);
         let Ok(()) = self.replica.lift(worker, jobs) else {
@@ -123,23 +159,36 @@ impl Node {
     /// Fills another node's cell of the entry that it reserved.
     pub(crate) fn fill(&mut self, node: usize)
         requires is_there { node < length self.old.unfilled.items }
-        ensures { node_seen self.new ≡ filled_node node (node_seen self.old) }
+        ensures filled { node_seen self.new ≡ filled_node node (node_seen self.old) }
+        ensures whole { (n : ℕ) → IsWhole n self.old → IsWhole n self.new }
     {
         self.unfilled[node] = false;
     }
 
     /// Fetches its next entry.
     pub(crate) fn fetch(&mut self)
-        ensures { node_seen self.new ≡ fetched_node (node_seen self.old) }
+        ensures fetched { node_seen self.new ≡ fetched_node (node_seen self.old) }
+        ensures whole { (n : ℕ) → IsWhole n self.old → IsWhole n self.new }
     {
         self.is_fetched = true;
+    }
+
+    /// Why it can't answer the batch of a worker.
+    pub(crate) fn why_not_answer(&self, worker: usize) -> Option<Reason>
+        requires is_there { worker < length self.now.workers.items }
+        requires owed { length self.now.replica.owed ≡ length self.now.workers.items }
+        ensures { idle_or result steps.Done ≡ may_answer worker (node_seen self.now) }
+    {
+        let owed = self.replica.owed(worker).unwrap_or(0);
+        self.workers[worker].why_not_answer(self.replica.is_down(), owed)
     }
 
     /// Answers the batch of a worker.
     pub(crate) fn answer(&mut self, worker: usize)
         requires is_there { worker < length self.old.workers.items }
         requires owed { length self.old.replica.owed ≡ length self.old.workers.items }
-        ensures { node_seen self.new ≡ answered_node worker (node_seen self.old) }
+        ensures answered { node_seen self.new ≡ answered_node worker (node_seen self.old) }
+        ensures whole { (n : ℕ) → IsWhole n self.old → IsWhole n self.new }
     {
         self.workers[worker].answer(!self.replica.is_down());
         self.replica.answered(worker);
@@ -147,23 +196,25 @@ impl Node {
 
     /// The next entry that it applies is refused.
     pub(crate) fn refuse(&mut self)
-        ensures { node_seen self.new ≡ refused_node (node_seen self.old) }
+        ensures refused { node_seen self.new ≡ refused_node (node_seen self.old) }
+        ensures whole { (n : ℕ) → IsWhole n self.old → IsWhole n self.new }
     {
         self.replica.refuse();
     }
 
-    /// Reserves its next entry, at the tail of the log: the updates that lead, or `None` where none does.
-    pub(crate) fn reserve(&mut self, tail: u64) -> Result<Option<Entry>, Memory>
-        ensures some { IfOk result (λ entry. IfSome entry (λ entry. (entry.node ≡ self.old.replica.node) × (items_of entry.jobs.items ≡ entry_jobs (node_seen self.old).waiting))) }
-        ensures none { IfOk result (λ entry. IfNone entry (entry_jobs (node_seen self.old).waiting ≡ [])) }
-        ensures reserved { IfOk result (λ entry. IsSome entry → node_seen self.new ≡ reserved_node (length self.old.unfilled.items) tail (node_seen self.old)) }
+    /// Reserves its next entry, at the tail of the log, for the updates that lead.
+    pub(crate) fn reserve(&mut self, tail: u64) -> Result<Entry, Memory>
+        requires leads { has_some (entry_jobs (node_seen self.old).waiting) ≡ true }
+        ensures entry { IfOk result (λ entry. entry_seen entry ≡ record { node = self.old.replica.node; jobs = entry_jobs (node_seen self.old).waiting }) }
+        ensures reserved { OnOk result (node_seen self.new ≡ reserved_node (length self.old.unfilled.items) tail (node_seen self.old)) }
+        ensures whole { (n : ℕ) → IsWhole n self.old → OnOk result (IsWhole n self.new) }
     {
         let Some(entry) = self.replica.take_entry()? else {
-            return Ok(None);
+            return Err(Memory);
         };
         self.at = tail;
         self.unfilled.fill(true);
-        Ok(Some(entry))
+        Ok(entry)
     }
 
     // The worker that serves a connection.
@@ -174,6 +225,24 @@ impl Node {
         self.replica.members()[serial].worker
     }
 
+    /// Whether a connection takes no more bytes.
+    pub(crate) fn has_ended(&self, serial: usize) -> bool
+        requires is_there { serial < length self.now.sessions.items }
+        requires clients { length self.now.sessions.items ≡ length self.now.replica.members }
+        ensures { (n : ℕ) → ArePaired n 0 self.now.sessions.items self.now.replica.members → result ≡ takes_none (nodes.client_at serial (node_seen self.now)) }
+    {
+        self.sessions[serial].has_ended() || self.replica.members()[serial].outbox.is_cut()
+    }
+
+    /// Whether a connection was closed.
+    pub(crate) fn is_closed(&self, serial: usize) -> bool
+        requires is_there { serial < length self.now.sessions.items }
+        requires clients { length self.now.sessions.items ≡ length self.now.replica.members }
+        ensures { result ≡ (nodes.client_at serial (node_seen self.now)).closed }
+    {
+        self.replica.members()[serial].is_closed
+    }
+
     /// Feeds bytes to a connection. Linear in the bytes and the jobs that they ask for.
     pub(crate) fn feed(&mut self, conn: ConnId, moment: u64, bytes: &[u8]) -> Result<(), Memory>
         requires clients { length self.old.sessions.items ≡ length self.old.replica.members }
@@ -182,8 +251,8 @@ impl Node {
         requires worker { (d : Member) → (slice_index_or self.old.replica.members conn.serial d).worker < length self.old.workers.items }
         requires named { (d : SessionState) → (slice_index_or self.old.sessions.items conn.serial d).connection ≡ connection_of conn }
         requires going { (d : SessionState) → (slice_index_or self.old.sessions.items conn.serial d).ended ≡ false }
-        requires fits { (d : SessionState) → (slice_index_or self.old.sessions.items conn.serial d).next + (length (slice_index_or self.old.sessions.items conn.serial d).rest + length bytes.now) + 1 < 2 ^ 64 }
-        ensures { OnOk result (node_seen self.new ≡ fed_node (connection_of conn) moment bytes.now (node_seen self.old)) }
+        ensures fed { OnOk result (node_seen self.new ≡ fed_node (connection_of conn) moment bytes.now (node_seen self.old)) }
+        ensures whole { (n : ℕ) → IsWhole n self.old → OnOk result (IsWhole n self.new) }
     {
         let serial = conn.serial as usize;
         let worker = self.worker_of(serial);
@@ -200,7 +269,8 @@ impl Node {
         requires worker { (d : Member) → (slice_index_or self.old.replica.members conn.serial d).worker < length self.old.workers.items }
         requires named { (d : SessionState) → (slice_index_or self.old.sessions.items conn.serial d).connection ≡ connection_of conn }
         requires counts { 0 < self.old.in_use }
-        ensures { OnOk result (node_seen self.new ≡ closed_node (connection_of conn) moment (node_seen self.old)) }
+        ensures closed { OnOk result (node_seen self.new ≡ closed_node (connection_of conn) moment (node_seen self.old)) }
+        ensures whole { (d : Member) → (n : ℕ) → (slice_index_or self.old.replica.members conn.serial d).is_closed ≡ false → IsWhole n self.old → OnOk result (IsWhole n self.new) }
     {
         let serial = conn.serial as usize;
         let worker = self.worker_of(serial);
@@ -216,7 +286,10 @@ impl Node {
         requires clients { length self.old.sessions.items ≡ length self.old.replica.members }
         requires numbered { AreNumbered self.old.replica.node 0 self.old.replica.members }
         requires passed { self.old.passed + 1 < 2 ^ 64 }
-        ensures { IsApplied self.old.replica.node (entry_seen entry.now) (node_seen self.old) (node_seen self.new) }
+        ensures applied { IsApplied self.old.replica.node (entry_seen entry.now) (node_seen self.old) (node_seen self.new) }
+        ensures whole { (n : ℕ) → IsWhole n self.old → IsWhole n self.new }
+        ensures numbered { (n : ℕ) → AreNumbered n 0 self.old.replica.members → AreNumbered n 0 self.new.replica.members }
+        ensures passed { self.new.passed ≡ self.old.passed + 1 }
     {
         if self.replica.is_down() {
             self.pass();
@@ -232,6 +305,8 @@ impl Node {
         requires clients { length self.old.sessions.items ≡ length self.old.replica.members }
         requires numbered { AreNumbered self.old.replica.node 0 self.old.replica.members }
         ensures advanced { IsAdvanced self.old.replica.node (entry_seen entry.now) (node_seen self.old) (node_seen self.new) }
+        ensures whole { (n : ℕ) → IsWhole n self.old → IsWhole n self.new }
+        ensures numbered { (n : ℕ) → AreNumbered n 0 self.old.replica.members → AreNumbered n 0 self.new.replica.members }
         ensures passed { self.new.passed ≡ self.old.passed }
     {
         if self.replica.apply(entry) {
@@ -243,7 +318,10 @@ impl Node {
     // Passes its next entry.
     fn pass(&mut self)
         requires { self.old.passed + 1 < 2 ^ 64 }
-        ensures { node_seen self.new ≡ passing (node_seen self.old) }
+        ensures seen { node_seen self.new ≡ passing (node_seen self.old) }
+        ensures whole { (n : ℕ) → IsWhole n self.old → IsWhole n self.new }
+        ensures replica { self.new.replica ≡ self.old.replica }
+        ensures passed { self.new.passed ≡ self.old.passed + 1 }
     {
         self.passed += 1;
         self.is_fetched = false;
@@ -254,31 +332,43 @@ impl Node {
         requires up { self.old.replica.down ≡ false }
         requires clients { length self.old.sessions.items ≡ length self.old.replica.members }
         requires numbered { AreNumbered self.old.replica.node 0 self.old.replica.members }
-        ensures { (tail : ℕ) → OnOk result (HasRun tail (node_seen self.old) (node_seen self.new)) }
+        ensures run { (tail : ℕ) → OnOk result (HasRun tail (node_seen self.old) (node_seen self.new)) }
+        ensures whole { (n : ℕ) → IsWhole n self.old → OnOk result (IsWhole n self.new) }
+        ensures passed { OnOk result (self.new.passed ≡ self.old.passed) }
     {
         self.replica.run_reads()?;
         Ok(())
     }
 
-    /// A worker takes the answer to its batch, where there is one, and all bytes that wait for its connections, at most `limit` for each,
-    /// are handed out. Linear in the node's connections and the bytes.
+    /// The number of the first entry that it hasn't fetched.
+    pub(crate) fn next_fetch(&self) -> u64
+        requires { self.now.is_fetched ≡ true → self.now.passed + 1 < 2 ^ 64 }
+        ensures { result ≡ next_fetch (node_seen self.now) }
+    {
+        if self.is_fetched {
+            self.passed + 1
+        } else {
+            self.passed
+        }
+    }
+
+    /// A worker takes the answer to its batch, where there is one, and all bytes that wait for its connections are handed out. Linear in
+    /// the node's connections and the bytes.
     pub(crate) fn collect(
         &mut self,
         worker: usize,
-        limit: usize,
         handed: &mut Vec<Handed>,
     ) -> Result<Option<bool>, Memory>
         requires is_there { worker < length self.old.workers.items }
         requires owed { length self.old.replica.owed ≡ length self.old.workers.items }
         requires clients { length self.old.sessions.items ≡ length self.old.replica.members }
-        requires some { 0 < limit }
-        requires short { AreShort limit self.old.replica.members }
         requires numbered { AreNumbered self.old.replica.node 0 self.old.replica.members }
         ensures node { OnOk result (node_seen self.new ≡ collected_node worker (node_seen self.old)) }
         ensures handed { OnOk result (map handed_seen handed.new.items ≡ map handed_seen handed.old.items ++ collected worker (node_seen self.old).clients) }
-        ensures answer { (d : Worker) → IfOk result (λ answer. IfSome answer (λ executed. (slice_index_or self.old.workers.items worker d).slot ≡ slots.Answered executed)) }
+        ensures answer { IfOk result (λ answer. answer ≡ executed_in (nodes.worker_at worker (node_seen self.old)).slot) }
+        ensures whole { (n : ℕ) → IsWhole n self.old → OnOk result (IsWhole n self.new) }
     {
-        collect(&mut self.replica, worker, limit, handed)?;
+        collect(&mut self.replica, worker, handed)?;
         let answer = self.workers[worker].collect();
         Ok(answer)
     }

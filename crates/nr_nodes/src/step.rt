@@ -1,8 +1,10 @@
 // The steps that a server of several nodes can take, and what comes of one.
-ghost use Rattle.std.specs.Prelude.{◌≡◌};
-ghost use Rattle.nr_nodes.specs.Seen.{reason_number};
+ghost use Rattle.std.specs.Prelude.{◌≡◌, map, [], None};
+ghost use Rattle.nr_model.specs.Nodes.Pasts.{is_done};
+ghost use Rattle.nr_nodes.specs.Seen.{reason_number, reason_name, outcome_seen, handed_seen};
 
 use nr_entry::ConnId;
+use std::alloc::Global;
 use std::fmt;
 
 /// A step that a server can take. Nodes and workers are numbered from 0.
@@ -92,6 +94,33 @@ pub struct Happened {
     pub answer: Option<Answered>,
 }
 
+impl Outcome {
+    /// Whether the step was enabled, and was taken.
+    pub fn is_done(self) -> bool
+        ensures { result ≡ is_done (outcome_seen self) }
+    {
+        match self {
+            Outcome::Opened(_) | Outcome::Done => true,
+            Outcome::Idle(_) => false,
+        }
+    }
+}
+
+impl Happened {
+    /// A step that handed out nothing and took no answer.
+    pub(crate) fn plain(alloc: Global, outcome: Outcome) -> Happened
+        ensures outcome { result.outcome ≡ outcome }
+        ensures handed { map handed_seen result.handed.items ≡ [] }
+        ensures answer { result.answer ≡ None }
+    {
+        Happened {
+            outcome,
+            handed: Vec::new(alloc),
+            answer: None,
+        }
+    }
+}
+
 impl Reason {
     /// Its number: 1 to 8, in the order in which reasons are looked for.
     pub fn number(self) -> u8
@@ -110,14 +139,12 @@ impl Reason {
     }
 }
 
-impl fmt::Display for Reason {
-    ghost use Rattle.std.specs.Prelude.{Some};
-    ghost use Rattle.nr_nodes.specs.Seen.{reason_name};
-
-    ghost output = { λ reason. Some (reason_name reason) };
-
-    fn fmt<W: fmt::Write>(&self, f: &mut fmt::Formatter<W>) -> fmt::Result {
-        f.write_str(match self {
+impl Reason {
+    /// Its name.
+    pub fn name(&self) -> &str
+        ensures { result.now ≡ reason_name self.now }
+    {
+        match self {
             Reason::NoSuch => "NoSuch",
             Reason::Ended => "Ended",
             Reason::TooMany => "TooMany",
@@ -126,6 +153,17 @@ impl fmt::Display for Reason {
             Reason::Nothing => "Nothing",
             Reason::Full => "Full",
             Reason::NotYet => "NotYet",
-        })
+        }
+    }
+}
+
+impl fmt::Display for Reason {
+    ghost use Rattle.std.specs.Prelude.{Some};
+    ghost use Rattle.nr_nodes.specs.Seen.{reason_name};
+
+    ghost output = { λ reason. Some (reason_name reason) };
+
+    fn fmt<W: fmt::Write>(&self, f: &mut fmt::Formatter<W>) -> fmt::Result {
+        f.write_str(self.name())
     }
 }

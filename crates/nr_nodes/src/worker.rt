@@ -1,12 +1,15 @@
 // A worker of a node: the jobs of its connections, and its slot.
-ghost use Rattle.std.specs.Prelude.{◌≡◌, ◌<◌, ◌+◌, ◌^◌, ◌++◌, ◌==◌, ℕ, Option, Some, None, IfSome, IfNone, IfOk, OnOk, OnErr, [], length, take, drop, true, false};
+ghost use Rattle.std.specs.Prelude.{◌≡◌, ℕ, Option, IfOk, OnOk, take, drop, unwrap_or};
 ghost use Rattle.nr_model.specs.Nodes as nodes;
-ghost use Rattle.nr_model.specs.Nodes.Steps.{most_batch_jobs, is_free, is_posted, is_lifted, is_answered, is_empty, posted_worker, posted_jobs, cleared};
-ghost use Rattle.nr_model.specs.Nodes.Pasts.{answer_in};
+ghost use Rattle.nr_model.specs.Nodes.Steps as steps;
+ghost use Rattle.nr_model.specs.Nodes.Steps.{is_free, is_posted, is_lifted, posted_worker, posted_jobs, cleared};
 ghost use Rattle.nr_entry.specs.Jobs.{items_of};
 ghost use Rattle.nr_nodes.specs.Workers.{slot_seen, worker_seen};
+ghost use Rattle.nr_nodes.specs.Batches.{post_outcome, lift_outcome, answer_outcome, executed_in};
+ghost use Rattle.nr_nodes.specs.Taken.{idle_or};
 ghost use Rattle.nr_nodes.specs.declared.worker.Slot.TheVariants as slots;
 
+use crate::step::Reason;
 use nr_blob::Memory;
 use nr_entry::Job;
 use std::alloc::Global;
@@ -51,12 +54,6 @@ impl Slot {
     {
         matches!(self, Slot::Lifted)
     }
-
-    pub(crate) fn is_answered(&self) -> bool
-        ensures { (owed : Option ℕ) → result ≡ is_answered (slot_seen self.now owed) }
-    {
-        matches!(self, Slot::Answered(_))
-    }
 }
 
 impl Worker {
@@ -70,11 +67,49 @@ impl Worker {
         }
     }
 
-    /// Posts its first jobs as a batch. Linear in the jobs that it keeps, where there are any.
+    /// Why it can't post a batch, where its node is up.
+    pub(crate) fn why_not_post(&self) -> Option<Reason>
+        ensures { (owed : Option ℕ) → idle_or result steps.Done ≡ post_outcome (worker_seen self.now owed) }
+    {
+        if !self.slot.is_free() {
+            return Some(Reason::Busy);
+        }
+        if self.pending.is_empty() {
+            return Some(Reason::Nothing);
+        }
+        None
+    }
+
+    /// Why its node, which is up, can't lift a batch of it.
+    pub(crate) fn why_not_lift(&self) -> Option<Reason>
+        ensures { (owed : Option ℕ) → idle_or result steps.Done ≡ lift_outcome (worker_seen self.now owed) }
+    {
+        if !self.slot.is_posted() {
+            return Some(Reason::Nothing);
+        }
+        None
+    }
+
+    /// Why its node can't answer its batch, of which so many jobs are neither applied nor run where it was lifted.
+    pub(crate) fn why_not_answer(&self, is_down: bool, owed: usize) -> Option<Reason>
+        ensures { (o : Option ℕ) → owed ≡ unwrap_or o 0 → idle_or result steps.Done ≡ answer_outcome is_down (worker_seen self.now o) }
+    {
+        if !self.slot.is_lifted() && !(is_down && self.slot.is_posted()) {
+            return Some(Reason::Nothing);
+        }
+        if !is_down && owed != 0 {
+            return Some(Reason::NotYet);
+        }
+        None
+    }
+
+    /// Posts its first jobs as a batch. Linear in the jobs that it keeps, where there are any. A worker posts at most 2^64 - 1 batches.
     pub(crate) fn post(&mut self, alloc: Global) -> Result<(), Memory>
-        requires { self.old.batches + 1 < 2 ^ 64 }
         ensures { (owed : Option ℕ) → OnOk result (worker_seen self.new owed ≡ posted_worker (worker_seen self.old owed)) }
     {
+        if self.batches == u64::MAX {
+            return Err(Memory);
+        }
         let batch = take_front(alloc, &mut self.pending, MOST_JOBS)?;
         self.batches += 1;
         self.slot = Slot::Posted(batch);
@@ -104,8 +139,7 @@ impl Worker {
     /// Takes the answer out of the slot, where there is one.
     pub(crate) fn collect(&mut self) -> Option<bool>
         ensures worker { (owed : Option ℕ) → worker_seen self.new owed ≡ record (worker_seen self.old owed) { slot = cleared (worker_seen self.old owed).slot } }
-        ensures some { IfSome result (λ executed. self.old.slot ≡ slots.Answered executed) }
-        ensures none { (owed : Option ℕ) → IfNone result (is_answered (slot_seen self.old.slot owed) ≡ false) }
+        ensures answer { (owed : Option ℕ) → result ≡ executed_in (slot_seen self.old.slot owed) }
     {
         if let Slot::Answered(executed) = self.slot {
             self.slot = Slot::Empty;

@@ -205,6 +205,13 @@ impl Outbox {
         }))
     }
 
+    /// How many bytes wait.
+    pub fn len(&self) -> usize
+        ensures { result ≡ length self.now.waiting }
+    {
+        self.buffer.len() - self.start
+    }
+
     /// Whether it takes no more.
     pub fn is_cut(&self) -> bool
         ensures { result ≡ self.now.cut }

@@ -4,6 +4,7 @@ ghost use Rattle.nr_model.specs.Servers.{fresh};
 ghost use Rattle.nr_model.specs.Entries.{entry_jobs, left_by_entry, read_jobs};
 ghost use Rattle.nr_entry.specs.Entry.{are_of};
 ghost use Rattle.nr_entry.specs.Jobs.{connection_of, items_of};
+ghost use Rattle.nr_entry.specs.Waiting.{has_some};
 ghost use Rattle.nr_replica.specs.Members.{fresh_member, closed_member, handed_member};
 ghost use Rattle.nr_replica.specs.Replicas.{IsApplied, HasRead, fallen};
 
@@ -178,6 +179,20 @@ impl Replica {
             return Ok(None);
         }
         Ok(Some(Entry::new(self.node, jobs)))
+    }
+
+    /// Whether an update leads: whether the next entry has a job. Its cost is that of [`Waiting::leads_update`].
+    pub fn leads_update(&self) -> bool
+        ensures { result ≡ has_some (entry_jobs (items_of self.now.waiting)) }
+    {
+        self.waiting.leads_update()
+    }
+
+    /// Whether a read leads. Its cost is that of [`Waiting::leads_read`].
+    pub fn leads_read(&self) -> bool
+        ensures { result ≡ has_some (read_jobs (items_of self.now.waiting)) }
+    {
+        self.waiting.leads_read()
     }
 
     /// Applies an entry. It falls, and answers false, where memory is refused on the way, or where 2^64 - 1 entries were applied: then nothing

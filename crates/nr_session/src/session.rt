@@ -1,5 +1,5 @@
 // The session of a connection: bytes in, jobs out. It owns the reader and the number of the next job, and touches nothing else.
-ghost use Rattle.std.specs.Prelude.{◌≡◌, ◌↔◌, ◌+◌, ◌<◌, ◌≤◌, ◌^◌, ◌++◌, [], true, false, None, Some, Err, OnOk, OnErr, IfOk, IfSome, IsNone, is_ok, unwrap_or, if◌then◌else◌, length};
+ghost use Rattle.std.specs.Prelude.{◌≡◌, ℕ, ◌↔◌, ◌+◌, ◌<◌, ◌≤◌, ◌^◌, ◌++◌, [], true, false, None, Some, Err, OnOk, OnErr, IfOk, IfSome, IsNone, is_ok, unwrap_or, if◌then◌else◌, length};
 ghost use Rattle.nr_model.specs.Items.{End};
 ghost use Rattle.nr_model.specs.Keyspace.{last_moment};
 ghost use Rattle.nr_model.specs.Worlds.{jobs_from};
@@ -75,6 +75,13 @@ fn feed_requests(
     }
 }
 
+// So many bytes more, or as many as can be counted.
+fn counted(fed: u64, more: usize) -> u64
+    ensures { (n : ℕ) → n ≤ fed + more → n < 2 ^ 64 → n ≤ result }
+{
+    fed.saturating_add(more as u64)
+}
+
 /// Why a session took no bytes.
 #[derive(Clone, Copy, Debug, PartialEq, Eq)]
 pub enum SessionError {
@@ -103,11 +110,13 @@ pub struct Session {
     reader: Reader,
     mode: Mode,
     next: u64,
+    // How many bytes it was fed: at least the next number and the bytes that are kept.
+    fed: u64,
     life: Life,
 }
 
 impl Model for Session {
-    ghost use Rattle.std.specs.Prelude.{◌≡◌, None};
+    ghost use Rattle.std.specs.Prelude.{◌≡◌, ◌+◌, ◌≤◌, None, length};
     ghost use Rattle.nr_entry.specs.Jobs.{connection_of};
     ghost use Rattle.nr_session.specs.declared.session.Life.TheVariants.{Open};
     ghost use Rattle.nr_session.specs.SessionState.{SessionState, coded_session};
@@ -119,7 +128,7 @@ impl Model for Session {
 
     ghost view = { λ s. record { connection = connection_of s.conn; rest = s.reader.rest; mode = s.mode; next = s.next; ended = has_ended s.life; gave_end = gave_end s.life } };
 
-    ghost invariant = { λ s. s.life ≡ Open → s.reader.closed ≡ None };
+    ghost invariant = { λ s. s.life ≡ Open → (s.reader.closed ≡ None) × (s.next + length s.reader.rest ≤ s.fed) };
 }
 
 impl Session {
@@ -132,6 +141,7 @@ impl Session {
             reader: Reader::new(alloc),
             mode: Mode::new(alloc),
             next: 0,
+            fed: 0,
             life: Life::Open,
         }
     }
@@ -141,6 +151,13 @@ impl Session {
         ensures { result ≡ self.now.ended }
     {
         self.life != Life::Open
+    }
+
+    /// Whether so many more bytes can be counted. So many as come to a connection always can.
+    pub fn fits(&self, bytes: usize) -> bool
+        ensures { result ≡ true → self.now.ended ≡ false → self.now.next + (length self.now.rest + bytes) + 1 < 2 ^ 64 }
+    {
+        (bytes as u64) < u64::MAX - self.fed
     }
 
     /// Takes bytes, and adds the jobs that they ask for, numbered on, each at the moment, in milliseconds, at most 2^53. A fault's error is
@@ -193,7 +210,10 @@ impl Session {
                 self.life = Life::GaveEnd;
                 Ok(())
             }
-            Ok(false) => Ok(()),
+            Ok(false) => {
+                self.fed = counted(self.fed, bytes.len());
+                Ok(())
+            }
             Err(Memory) => {
                 self.life = Life::Cut;
                 Err(SessionError::Memory)

@@ -1,11 +1,11 @@
-use Rattle.std.proofs.Common.{arith, ◌≡◌, ℕ, ◌+◌, ◌<◌, ◌≤◌, List, length, get_or, set, ap, sym, ◌∙◌, subst}
+use Rattle.std.proofs.Common.{arith, ◌≡◌, ℕ, ◌+◌, ◌<◌, ◌≤◌, List, length, get_or, set, ap, sym, ◌∙◌}
 use Rattle.std.specs.Prelude.{map}
 use Rattle.nr_replica.specs.declared.members.Member.{Member}
 use Rattle.nr_replica.specs.Members.{fresh_member}
 use Rattle.nr_replica.specs.Replicas.{ReplicaState}
 use Rattle.nr_nodes.specs.Seen.{handed_seen}
 use Rattle.nr_nodes.specs.Collected.{emptied_front, emptied_member}
-use Rattle.nr_nodes.proofs.Collected.{next_here, emptied_step, emptied_all, length-emptied, short_at, named_at, collected_step}
+use Rattle.nr_nodes.proofs.Collected.{next_here, emptied_step, emptied_all, length-emptied, named_at, collected_step}
 use Rattle.nr_nodes.proofs.collecting.collect.Goals as goal
 
 pub hand_out-requires-clause-is_there : goal.hand_out-requires-clause-is_there
@@ -15,19 +15,11 @@ hand_out-requires-clause-is_there c =
     let count = ap length c.members-serial-end.ensures in
     omega (arith, was, same, count, c.loop-serial-test.true)
 
-pub hand_out-requires-clause-short : goal.hand_out-requires-clause-short
-hand_out-requires-clause-short c = λ d.
-    let here : get_or c.loop-serial.replica.members c.loop-serial.serial d ≡ get_or c.args.replica.now.members c.loop-serial.serial d =
-    ap (λ (r : ReplicaState). get_or r.members c.loop-serial.serial d) c.loop-serial.invariant.members ∙ next_here c.args.worker c.loop-serial.serial c.args.replica.now.members d in
-    let count = ap length c.members-serial-end.ensures in
-    let within : c.loop-serial.serial < length c.args.replica.now.members = omega (arith, count, c.loop-serial-test.true) in
-    let short = short_at c.args.limit c.loop-serial.serial c.args.replica.now.members d c.requires.short within in
-    subst (λ (m : Member). length m.outbox.waiting ≤ c.args.limit) (sym here) short
-
 pub hand_out-requires-clause-named : goal.hand_out-requires-clause-named
 hand_out-requires-clause-named c = λ d.
     let here : get_or c.loop-serial.replica.members c.loop-serial.serial d ≡ get_or c.args.replica.now.members c.loop-serial.serial d =
-    ap (λ (r : ReplicaState). get_or r.members c.loop-serial.serial d) c.loop-serial.invariant.members ∙ next_here c.args.worker c.loop-serial.serial c.args.replica.now.members d in
+    ap (λ (r : ReplicaState). get_or r.members c.loop-serial.serial d) c.loop-serial.invariant.members
+    ∙ next_here c.args.worker c.loop-serial.serial c.args.replica.now.members d in
     let count = ap length c.members-serial-end.ensures in
     let within : c.loop-serial.serial < length c.args.replica.now.members = omega (arith, count, c.loop-serial-test.true) in
     let zero_first : 0 + c.loop-serial.serial ≡ c.loop-serial.serial = omega arith in
@@ -40,14 +32,19 @@ pub loop-serial-preserved : goal.loop-serial-preserved
 loop-serial-preserved c =
     let count = ap length c.members-serial-end.ensures in
     let within : c.loop-serial.serial < length c.args.replica.now.members = omega (arith, count, c.loop-serial-test.true) in
-    let now : c.loop-serial.replica.members ≡ emptied_front c.args.worker c.loop-serial.serial c.args.replica.now.members = ap (λ (r : ReplicaState). r.members) c.loop-serial.invariant.members in
+    let now : c.loop-serial.replica.members ≡ emptied_front c.args.worker c.loop-serial.serial c.args.replica.now.members =
+    ap (λ (r : ReplicaState). r.members) c.loop-serial.invariant.members in
     let d : Member = fresh_member (record { node = 0; serial = 0 }) 0 0 in
     let step = emptied_step c.args.worker c.loop-serial.serial c.args.replica.now.members c.loop-serial.replica.members d now within in
     record {
       members = c.in_ok-hand_out.ensures.members d
-          ∙ ap (λ (r : ReplicaState). record r { members = set c.loop-serial.replica.members c.loop-serial.serial (emptied_member c.args.worker (get_or c.loop-serial.replica.members c.loop-serial.serial d)) }) c.loop-serial.invariant.members
+          ∙ ap (λ (r : ReplicaState). record r {
+            members = set c.loop-serial.replica.members c.loop-serial.serial
+                (emptied_member c.args.worker (get_or c.loop-serial.replica.members c.loop-serial.serial d));
+          }) c.loop-serial.invariant.members
           ∙ ap (λ (members : List Member). record c.args.replica.now { members = members }) step;
-      handed = collected_step c.args.worker c.loop-serial.serial c.args.replica.now.members c.loop-serial.replica.members d (map handed_seen c.loop-serial.handed.items) (map handed_seen c.hand_out.new.handed.items) _
+      handed = collected_step c.args.worker c.loop-serial.serial c.args.replica.now.members c.loop-serial.replica.members d
+          (map handed_seen c.loop-serial.handed.items) (map handed_seen c.hand_out.new.handed.items) _
           now within (c.in_ok-hand_out.ensures.handed d) c.loop-serial.invariant.handed;
     }
 
@@ -56,4 +53,5 @@ returns-clause-members c =
     let count = ap length c.members-serial-end.ensures in
     let all : length c.args.replica.now.members ≤ c.loop-serial.serial = omega (arith, count, c.loop-serial-test.false) in
     c.loop-serial.invariant.members
-    ∙ ap (λ (members : List Member). record c.args.replica.now { members = members }) (emptied_all c.args.worker c.loop-serial.serial c.args.replica.now.members all)
+    ∙ ap (λ (members : List Member). record c.args.replica.now { members = members })
+    (emptied_all c.args.worker c.loop-serial.serial c.args.replica.now.members all)

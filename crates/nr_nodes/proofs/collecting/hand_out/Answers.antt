@@ -1,4 +1,4 @@
-use Rattle.std.proofs.Common.{rules, ◌≡◌, true, List, ◌++◌, get_or, ap, sym, ◌∙◌}
+use Rattle.std.proofs.Common.{rules, arith, ◌≡◌, ◌≤◌, true, List, length, ◌++◌, get_or, ap, sym, ◌∙◌}
 use Rattle.std.specs.Prelude.{map, ◌==◌}
 use Rattle.std.proofs.lemmas.List.{map-append}
 use Rattle.nr_model.specs.Worlds as worlds
@@ -13,9 +13,11 @@ returns-clause-handed c = λ d.
     let m : Member = get_or c.args.replica.now.members c.args.serial d in
     let served : c.is_served.result ≡ true = search rules in
     let worker : (m.worker == c.args.worker) ≡ true = sym (c.is_served.ensures d) ∙ served in
+    let all : length m.outbox.waiting ≤ c.waiting_for-waiting.result = omega (arith, c.waiting_for-waiting.ensures d) in
     let got = rw c.in-Some.is at (c.in_ok-piece.ensures.piece d) in
     let some = rw c.in-Some.is at c.in_ok-piece.ensures.some in
     ap (map handed_seen) c.in_ok-push.ensures.items
     ∙ map-append handed_seen c.args.handed.now.items _
     ∙ ap (λ (more : List worlds.Handed). map handed_seen c.args.handed.now.items ++ more)
-    (some_waits c.args.worker c.args.limit m (connection_of c.in-Some.piece.conn) c.in-Some.piece.bytes.items worker (c.requires.short d) (got.0 ∙ sym (c.requires.named d)) got.2 some)
+    (some_waits c.args.worker c.waiting_for-waiting.result m (connection_of c.in-Some.piece.conn) c.in-Some.piece.bytes.items worker all (got.0
+    ∙ sym (c.requires.named d)) got.2 some)

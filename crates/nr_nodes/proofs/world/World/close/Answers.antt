@@ -1,0 +1,168 @@
+use Rattle.std.proofs.Common.{rules, arith, refl, ◌≡◌, ◌<◌, get_or, length, ap, sym, ◌∙◌, subst, set, false}
+use Rattle.nr_model.specs.Nodes.Steps as steps
+use Rattle.nr_entry.specs.Jobs.{connection_of}
+use Rattle.nr_nodes.specs.declared.node.Node.{Node}
+use Rattle.nr_nodes.specs.WorldState.{WorldState}
+use Rattle.nr_nodes.specs.Whole.{IsHeld}
+use Rattle.nr_nodes.specs.Taken.{Steps}
+use Rattle.nr_nodes.specs.Seen.{reason_seen}
+use Rattle.nr_nodes.proofs.Connects.{idle_found, done_found, there_node, may_close, ready, used, closes_on}
+use Rattle.nr_nodes.proofs.world.World.close.Goals as goal
+
+pub returns-in-Some-clause-taken : goal.returns-in-Some-clause-taken
+returns-in-Some-clause-taken c =
+    let v : WorldState = record {
+      setup = c.self.inside.setup;
+      nodes = c.self.inside.nodes.items;
+      log = c.self.inside.log;
+      failed
+          = c.self.inside.has_failed;
+    } in
+    subst (λ (w : WorldState). Steps w w (steps.Close (connection_of c.args.conn) c.args.moment) (steps.Idle (reason_seen c.in-Some.reason))) c.self.view_is
+    (idle_found v (steps.Close (connection_of c.args.conn) c.args.moment) c.deref.result.now c.why_not_close.result c.in-Some.reason _
+    (λ setup world. refl) c.deref.ensures.value (c.why_not_close.ensures c.self.inside.setup c.args.moment) c.in-Some.is)
+
+pub index_mut-requires : goal.index_mut-requires
+index_mut-requires c =
+    let v : WorldState = record {
+      setup = c.self.inside.setup;
+      nodes = c.self.inside.nodes.items;
+      log = c.self.inside.log;
+      failed
+          = c.self.inside.has_failed;
+    } in
+    let held : IsHeld v = c.self.invariant c.if-self.false in
+    let e = done_found v (steps.Close (connection_of c.args.conn) c.args.moment) c.deref.result.now c.why_not_close.result (λ _. steps.Done)
+    c.deref.ensures.value (c.why_not_close.ensures c.self.inside.setup c.args.moment) c.in_default.is in
+    let within = there_node v.nodes (connection_of c.args.conn) (may_close v.setup v.nodes (connection_of c.args.conn) c.args.moment e).there in
+    omega (arith, within)
+
+pub close-requires-clause-clients : goal.close-requires-clause-clients
+close-requires-clause-clients c =
+    let v : WorldState = record {
+      setup = c.self.inside.setup;
+      nodes = c.self.inside.nodes.items;
+      log = c.self.inside.log;
+      failed
+          = c.self.inside.has_failed;
+    } in
+    let held : IsHeld v = c.self.invariant c.if-self.false in
+    let e = done_found v (steps.Close (connection_of c.args.conn) c.args.moment) c.deref.result.now c.why_not_close.result (λ _. steps.Done)
+    c.deref.ensures.value (c.why_not_close.ensures c.self.inside.setup c.args.moment) c.in_default.is in
+    let old = c.index_mut.result.now in
+    let at : old ≡ get_or v.nodes c.args.conn.node old = c.index_mut.ensures.value in
+    (ready v c.args.conn old held at (may_close v.setup v.nodes (connection_of c.args.conn) c.args.moment e).there).clients
+
+pub close-requires-clause-owed : goal.close-requires-clause-owed
+close-requires-clause-owed c =
+    let v : WorldState = record {
+      setup = c.self.inside.setup;
+      nodes = c.self.inside.nodes.items;
+      log = c.self.inside.log;
+      failed
+          = c.self.inside.has_failed;
+    } in
+    let held : IsHeld v = c.self.invariant c.if-self.false in
+    let e = done_found v (steps.Close (connection_of c.args.conn) c.args.moment) c.deref.result.now c.why_not_close.result (λ _. steps.Done)
+    c.deref.ensures.value (c.why_not_close.ensures c.self.inside.setup c.args.moment) c.in_default.is in
+    let old = c.index_mut.result.now in
+    let at : old ≡ get_or v.nodes c.args.conn.node old = c.index_mut.ensures.value in
+    (ready v c.args.conn old held at (may_close v.setup v.nodes (connection_of c.args.conn) c.args.moment e).there).whole.owed
+
+pub close-requires-clause-is_there : goal.close-requires-clause-is_there
+close-requires-clause-is_there c =
+    let v : WorldState = record {
+      setup = c.self.inside.setup;
+      nodes = c.self.inside.nodes.items;
+      log = c.self.inside.log;
+      failed
+          = c.self.inside.has_failed;
+    } in
+    let held : IsHeld v = c.self.invariant c.if-self.false in
+    let e = done_found v (steps.Close (connection_of c.args.conn) c.args.moment) c.deref.result.now c.why_not_close.result (λ _. steps.Done)
+    c.deref.ensures.value (c.why_not_close.ensures c.self.inside.setup c.args.moment) c.in_default.is in
+    let old = c.index_mut.result.now in
+    let at : old ≡ get_or v.nodes c.args.conn.node old = c.index_mut.ensures.value in
+    (ready v c.args.conn old held at (may_close v.setup v.nodes (connection_of c.args.conn) c.args.moment e).there).stands
+
+pub close-requires-clause-worker : goal.close-requires-clause-worker
+close-requires-clause-worker c =
+    let v : WorldState = record {
+      setup = c.self.inside.setup;
+      nodes = c.self.inside.nodes.items;
+      log = c.self.inside.log;
+      failed
+          = c.self.inside.has_failed;
+    } in
+    let held : IsHeld v = c.self.invariant c.if-self.false in
+    let e = done_found v (steps.Close (connection_of c.args.conn) c.args.moment) c.deref.result.now c.why_not_close.result (λ _. steps.Done)
+    c.deref.ensures.value (c.why_not_close.ensures c.self.inside.setup c.args.moment) c.in_default.is in
+    let old = c.index_mut.result.now in
+    let at : old ≡ get_or v.nodes c.args.conn.node old = c.index_mut.ensures.value in
+    (ready v c.args.conn old held at (may_close v.setup v.nodes (connection_of c.args.conn) c.args.moment e).there).worker
+
+pub close-requires-clause-named : goal.close-requires-clause-named
+close-requires-clause-named c =
+    let v : WorldState = record {
+      setup = c.self.inside.setup;
+      nodes = c.self.inside.nodes.items;
+      log = c.self.inside.log;
+      failed
+          = c.self.inside.has_failed;
+    } in
+    let held : IsHeld v = c.self.invariant c.if-self.false in
+    let e = done_found v (steps.Close (connection_of c.args.conn) c.args.moment) c.deref.result.now c.why_not_close.result (λ _. steps.Done)
+    c.deref.ensures.value (c.why_not_close.ensures c.self.inside.setup c.args.moment) c.in_default.is in
+    let old = c.index_mut.result.now in
+    let at : old ≡ get_or v.nodes c.args.conn.node old = c.index_mut.ensures.value in
+    (ready v c.args.conn old held at (may_close v.setup v.nodes (connection_of c.args.conn) c.args.moment e).there).named
+
+pub close-requires-clause-counts : goal.close-requires-clause-counts
+close-requires-clause-counts c =
+    let v : WorldState = record {
+      setup = c.self.inside.setup;
+      nodes = c.self.inside.nodes.items;
+      log = c.self.inside.log;
+      failed
+          = c.self.inside.has_failed;
+    } in
+    let held : IsHeld v = c.self.invariant c.if-self.false in
+    let e = done_found v (steps.Close (connection_of c.args.conn) c.args.moment) c.deref.result.now c.why_not_close.result (λ _. steps.Done)
+    c.deref.ensures.value (c.why_not_close.ensures c.self.inside.setup c.args.moment) c.in_default.is in
+    let old = c.index_mut.result.now in
+    let at : old ≡ get_or v.nodes c.args.conn.node old = c.index_mut.ensures.value in
+    used v c.args.conn c.args.moment old held at e
+
+pub invariant_of-self-2 : goal.invariant_of-self-2
+invariant_of-self-2 c = λ _.
+    let v : WorldState = record {
+      setup = c.self.inside.setup;
+      nodes = c.self.inside.nodes.items;
+      log = c.self.inside.log;
+      failed
+          = c.self.inside.has_failed;
+    } in
+    let held : IsHeld v = c.self.invariant c.if-self.false in
+    let e = done_found v (steps.Close (connection_of c.args.conn) c.args.moment) c.deref.result.now c.why_not_close.result (λ _. steps.Done)
+    c.deref.ensures.value (c.why_not_close.ensures c.self.inside.setup c.args.moment) c.in_default.is in
+    let old = c.index_mut.result.now in
+    let at : old ≡ get_or v.nodes c.args.conn.node old = c.index_mut.ensures.value in
+    (closes_on v c.args.conn c.args.moment old c.close.new.self held at e c.in_ok-close.ensures.closed c.in_ok-close.ensures.whole).1
+
+pub returns-clause-taken : goal.returns-clause-taken
+returns-clause-taken c =
+    let v : WorldState = record {
+      setup = c.self.inside.setup;
+      nodes = c.self.inside.nodes.items;
+      log = c.self.inside.log;
+      failed
+          = c.self.inside.has_failed;
+    } in
+    let held : IsHeld v = c.self.invariant c.if-self.false in
+    let e = done_found v (steps.Close (connection_of c.args.conn) c.args.moment) c.deref.result.now c.why_not_close.result (λ _. steps.Done)
+    c.deref.ensures.value (c.why_not_close.ensures c.self.inside.setup c.args.moment) c.in_default.is in
+    let old = c.index_mut.result.now in
+    let at : old ≡ get_or v.nodes c.args.conn.node old = c.index_mut.ensures.value in
+    subst (λ (w : WorldState). Steps w (record { setup = v.setup; nodes = set v.nodes c.args.conn.node c.close.new.self; log = v.log; failed = false })
+    (steps.Close (connection_of c.args.conn) c.args.moment) steps.Done) c.self.view_is
+    (closes_on v c.args.conn c.args.moment old c.close.new.self held at e c.in_ok-close.ensures.closed c.in_ok-close.ensures.whole).0

@@ -1,0 +1,111 @@
+use Rattle.std.proofs.Common.{rules, arith, refl, ◌≡◌, ◌<◌, get_or, length, ap, sym, ◌∙◌, subst, set, false}
+use Rattle.nr_model.specs.Nodes.Steps as steps
+use Rattle.nr_entry.specs.Jobs.{connection_of}
+use Rattle.nr_nodes.specs.declared.node.Node.{Node}
+use Rattle.nr_nodes.specs.WorldState.{WorldState}
+use Rattle.nr_nodes.specs.Whole.{IsHeld}
+use Rattle.nr_nodes.specs.Taken.{Steps}
+use Rattle.nr_nodes.specs.Seen.{reason_seen}
+use Rattle.nr_nodes.proofs.Connects.{idle_found, done_found, opened_in, held_many, held_whole, open_within, open_room, opens_on}
+use Rattle.nr_nodes.proofs.Paired.{paired_many}
+use Rattle.nr_nodes.proofs.world.World.open.Goals as goal
+
+pub returns-in-Some-clause-taken : goal.returns-in-Some-clause-taken
+returns-in-Some-clause-taken c =
+    let v : WorldState = record {
+      setup = c.self.inside.setup;
+      nodes = c.self.inside.nodes.items;
+      log = c.self.inside.log;
+      failed
+          = c.self.inside.has_failed;
+    } in
+    subst (λ (w : WorldState). Steps w w (steps.Open c.args.node c.args.worker) (steps.Idle (reason_seen c.in-Some.reason))) c.self.view_is
+    (idle_found v (steps.Open c.args.node c.args.worker) c.deref.result.now c.why_not_open.result c.in-Some.reason _ (λ setup world. refl)
+    c.deref.ensures.value c.why_not_open.ensures c.in-Some.is)
+
+pub why_not_open-requires-clause-sized : goal.why_not_open-requires-clause-sized
+why_not_open-requires-clause-sized c = ap length c.deref.ensures.value ∙ held_many _ (c.self.invariant c.if-self.false)
+
+pub index_mut-requires : goal.index_mut-requires
+index_mut-requires c =
+    let v : WorldState = record {
+      setup = c.self.inside.setup;
+      nodes = c.self.inside.nodes.items;
+      log = c.self.inside.log;
+      failed
+          = c.self.inside.has_failed;
+    } in
+    let e = done_found v (steps.Open c.args.node c.args.worker) c.deref.result.now c.why_not_open.result (opened_in c.args.node) c.deref.ensures.value
+    c.why_not_open.ensures c.in_default.is in
+    let held : IsHeld v = c.self.invariant c.if-self.false in
+    let within = open_within v c.args.node c.args.worker held e in
+    omega (arith, within)
+
+pub open-requires-clause-clients : goal.open-requires-clause-clients
+open-requires-clause-clients c =
+    let v : WorldState = record {
+      setup = c.self.inside.setup;
+      nodes = c.self.inside.nodes.items;
+      log = c.self.inside.log;
+      failed
+          = c.self.inside.has_failed;
+    } in
+    let e = done_found v (steps.Open c.args.node c.args.worker) c.deref.result.now c.why_not_open.result (opened_in c.args.node) c.deref.ensures.value
+    c.why_not_open.ensures c.in_default.is in
+    let held : IsHeld v = c.self.invariant c.if-self.false in
+    let old = c.index_mut.result.now in
+    let at : old ≡ get_or v.nodes c.args.node old = c.index_mut.ensures.value in
+    paired_many c.args.node 0 old.sessions.items old.replica.members (held_whole v c.args.node old held (open_within v c.args.node c.args.worker held e)
+    at).pairs
+
+pub open-requires-clause-counts : goal.open-requires-clause-counts
+open-requires-clause-counts c =
+    let v : WorldState = record {
+      setup = c.self.inside.setup;
+      nodes = c.self.inside.nodes.items;
+      log = c.self.inside.log;
+      failed
+          = c.self.inside.has_failed;
+    } in
+    let e = done_found v (steps.Open c.args.node c.args.worker) c.deref.result.now c.why_not_open.result (opened_in c.args.node) c.deref.ensures.value
+    c.why_not_open.ensures c.in_default.is in
+    let held : IsHeld v = c.self.invariant c.if-self.false in
+    let old = c.index_mut.result.now in
+    let at : old ≡ get_or v.nodes c.args.node old = c.index_mut.ensures.value in
+    open_room v c.args.node c.args.worker old held at c.queue_limit.ensures.allowed.most_connections e
+
+pub invariant_of-self-2 : goal.invariant_of-self-2
+invariant_of-self-2 c = λ _.
+    let v : WorldState = record {
+      setup = c.self.inside.setup;
+      nodes = c.self.inside.nodes.items;
+      log = c.self.inside.log;
+      failed
+          = c.self.inside.has_failed;
+    } in
+    let e = done_found v (steps.Open c.args.node c.args.worker) c.deref.result.now c.why_not_open.result (opened_in c.args.node) c.deref.ensures.value
+    c.why_not_open.ensures c.in_default.is in
+    let held : IsHeld v = c.self.invariant c.if-self.false in
+    let old = c.index_mut.result.now in
+    let at : old ≡ get_or v.nodes c.args.node old = c.index_mut.ensures.value in
+    (opens_on v c.args.node c.args.worker c.queue_limit.result old c.open.new.self c.in_ok-conn.conn held c.queue_limit.ensures.value at e
+    c.in_ok-conn.ensures.opened c.in_ok-conn.ensures.conn c.in_ok-conn.ensures.whole).1
+
+pub returns-clause-taken : goal.returns-clause-taken
+returns-clause-taken c =
+    let v : WorldState = record {
+      setup = c.self.inside.setup;
+      nodes = c.self.inside.nodes.items;
+      log = c.self.inside.log;
+      failed
+          = c.self.inside.has_failed;
+    } in
+    let e = done_found v (steps.Open c.args.node c.args.worker) c.deref.result.now c.why_not_open.result (opened_in c.args.node) c.deref.ensures.value
+    c.why_not_open.ensures c.in_default.is in
+    let held : IsHeld v = c.self.invariant c.if-self.false in
+    let old = c.index_mut.result.now in
+    let at : old ≡ get_or v.nodes c.args.node old = c.index_mut.ensures.value in
+    subst (λ (w : WorldState). Steps w (record { setup = v.setup; nodes = set v.nodes c.args.node c.open.new.self; log = v.log; failed = false })
+    (steps.Open c.args.node c.args.worker) (steps.Opened (connection_of c.in_ok-conn.conn))) c.self.view_is
+    (opens_on v c.args.node c.args.worker c.queue_limit.result old c.open.new.self c.in_ok-conn.conn held c.queue_limit.ensures.value at e
+    c.in_ok-conn.ensures.opened c.in_ok-conn.ensures.conn c.in_ok-conn.ensures.whole).0

@@ -1,0 +1,13 @@
+-- The nodes of a world alone, as the definitions see them, and which connections take bytes.
+use Rattle.std.specs.Prelude.{Bool, ◌||◌, List, [], map}
+use Rattle.nr_model.specs.Nodes as nodes
+use Rattle.nr_nodes.specs.declared.node.Node.{Node}
+use Rattle.nr_nodes.specs.Served.{node_seen}
+
+-- a world of these nodes, in which nothing was taken
+abbrev pub seen_world : List Node → nodes.World
+seen_world all = record { nodes = map node_seen all; taken = []; fed = []; closed = []; batches = [] }
+
+-- a connection takes no more bytes
+abbrev pub takes_none : nodes.Client → Bool
+takes_none client = client.ended || (client.closed || client.queue.cut)

@@ -1,0 +1,259 @@
+// Rounds of steps, until nothing is left to do.
+ghost use Rattle.std.specs.Prelude.{◌≡◌, [], ◌∷◌, true, IfOk, OnOk, OnErr, IsErr, flat_map, map};
+ghost use Rattle.std.specs.List.{range_with_len};
+ghost use Rattle.nr_model.specs.Nodes.Steps as steps;
+ghost use Rattle.nr_model.specs.Nodes.Settling.{lifting, reserving, answering};
+ghost use Rattle.nr_nodes.specs.Setups.{IsAllowed};
+ghost use Rattle.nr_nodes.specs.Seen.{handed_seen};
+ghost use Rattle.nr_nodes.specs.Settles.{Settles};
+ghost use Rattle.nr_nodes.specs.Rounds.{Runs, RunsBy, TakesTurns, Replays, ReplayEach, TakesRound};
+
+use crate::setup::Setup;
+use crate::step::Handed;
+use crate::world::World;
+use nr_blob::Memory;
+
+impl World {
+    /// Takes rounds of steps until nothing is done in one: then every batch was answered, every node has passed the whole log, and no byte
+    /// waits. Hands back all bytes that were handed out, in order. There are at most three rounds more than jobs were left.
+    pub fn settle(&mut self) -> Result<Vec<Handed>, Memory>
+        ensures settled { IfOk result (λ handed. Settles self.old self.new (map handed_seen handed.items)) }
+        ensures failed { OnErr result (self.new.failed ≡ true) }
+        ensures setup { self.new.setup ≡ self.old.setup }
+        ensures repeats { self.old.failed ≡ true → IsErr result }
+    {
+        if self.has_failed {
+            return Err(Memory);
+        }
+        let mut handed = Vec::new(self.alloc);
+        self.take_rounds(&mut handed)?;
+        Ok(handed)
+    }
+
+    // Rounds up to one in which nothing was done.
+    fn take_rounds(&mut self, handed: &mut Vec<Handed>) -> Result<(), Memory>
+        requires none { handed.old.items ≡ [] }
+        ensures settles { OnOk result (Settles self.old self.new (map handed_seen handed.new.items)) }
+        ensures failed { OnErr result (self.new.failed ≡ true) }
+        ensures setup { self.new.setup ≡ self.old.setup }
+    {
+        for _ in 0..u64::MAX {
+            if !self.take_round(handed)? {
+                return Ok(());
+            }
+        }
+        Err(self.fail())
+    }
+
+    // The world has failed.
+    fn fail(&mut self) -> Memory
+        ensures failed { self.new.failed ≡ true }
+        ensures setup { self.new.setup ≡ self.old.setup }
+    {
+        self.has_failed = true;
+        Memory
+    }
+
+    // A round, and whether a step of it was done.
+    fn take_round(&mut self, handed: &mut Vec<Handed>) -> Result<bool, Memory>
+        ensures round { IfOk result (λ done. TakesRound self.old self.new (map handed_seen handed.old.items) (map handed_seen handed.new.items) done) }
+        ensures allowed { IsAllowed self.old.setup }
+        ensures failed { OnErr result (self.new.failed ≡ true) }
+        ensures setup { self.new.setup ≡ self.old.setup }
+    {
+        let setup = self.setup();
+        let lifted = self.lift_all(setup)?;
+        let reserved = self.reserve_all(setup)?;
+        let applied = self.replay_all(setup.nodes())?;
+        let answered = self.answer_all(setup, handed)?;
+        Ok(lifted | reserved | applied | answered)
+    }
+
+    fn lift_all(&mut self, setup: Setup) -> Result<bool, Memory>
+        ensures runs { IfOk result (λ done. RunsBy self.old self.new (lifting setup) done) }
+        ensures failed { OnErr result (self.new.failed ≡ true) }
+        ensures setup { self.new.setup ≡ self.old.setup }
+    {
+        let mut done = false;
+        for node in 0..setup.nodes() {
+            done |= self.lift_each(node, setup.workers())?;
+        }
+        Ok(done)
+    }
+
+    // The workers of a node post, and it lifts.
+    fn lift_each(&mut self, node: usize, workers: usize) -> Result<bool, Memory>
+        ensures runs { IfOk result (λ done. RunsBy self.old self.new
+            (flat_map (λ w. steps.Post node w ∷ steps.Lift node w ∷ []) (range_with_len 0 workers)) done) }
+        ensures failed { OnErr result (self.new.failed ≡ true) }
+        ensures setup { self.new.setup ≡ self.old.setup }
+    {
+        let mut done = false;
+        for worker in 0..workers {
+            done |= self.lift_one(node, worker)?;
+        }
+        Ok(done)
+    }
+
+    fn lift_one(&mut self, node: usize, worker: usize) -> Result<bool, Memory>
+        ensures runs { IfOk result (λ done. RunsBy self.old self.new (steps.Post node worker ∷ steps.Lift node worker ∷ []) done) }
+        ensures failed { OnErr result (self.new.failed ≡ true) }
+        ensures setup { self.new.setup ≡ self.old.setup }
+    {
+        let posted = self.post(node, worker)?;
+        let lifted = self.lift(node, worker)?;
+        Ok(posted.is_done() | lifted.is_done())
+    }
+
+    fn reserve_all(&mut self, setup: Setup) -> Result<bool, Memory>
+        ensures runs { IfOk result (λ done. RunsBy self.old self.new (reserving setup) done) }
+        ensures failed { OnErr result (self.new.failed ≡ true) }
+        ensures setup { self.new.setup ≡ self.old.setup }
+    {
+        let mut done = false;
+        for node in 0..setup.nodes() {
+            done |= self.reserve_one(node, setup.nodes())?;
+        }
+        Ok(done)
+    }
+
+    // A node reserves an entry, and fills its cells.
+    fn reserve_one(&mut self, node: usize, nodes: usize) -> Result<bool, Memory>
+        ensures runs { IfOk result (λ done. RunsBy self.old self.new (steps.Reserve node ∷ map (steps.Fill node) (range_with_len 0 nodes)) done) }
+        ensures failed { OnErr result (self.new.failed ≡ true) }
+        ensures setup { self.new.setup ≡ self.old.setup }
+    {
+        let reserved = self.reserve(node)?;
+        let filled = self.fill_each(node, nodes)?;
+        Ok(reserved.is_done() | filled)
+    }
+
+    fn fill_each(&mut self, node: usize, nodes: usize) -> Result<bool, Memory>
+        ensures runs { IfOk result (λ done. RunsBy self.old self.new (map (steps.Fill node) (range_with_len 0 nodes)) done) }
+        ensures failed { OnErr result (self.new.failed ≡ true) }
+        ensures setup { self.new.setup ≡ self.old.setup }
+    {
+        let mut done = false;
+        for other in 0..nodes {
+            let filled = self.fill(node, other)?;
+            done |= filled.is_done();
+        }
+        Ok(done)
+    }
+
+    fn replay_all(&mut self, nodes: usize) -> Result<bool, Memory>
+        ensures replays { IfOk result (λ done. ReplayEach nodes self.old self.new done) }
+        ensures failed { OnErr result (self.new.failed ≡ true) }
+        ensures setup { self.new.setup ≡ self.old.setup }
+    {
+        let mut done = false;
+        for node in 0..nodes {
+            done |= self.replay(node)?;
+        }
+        Ok(done)
+    }
+
+    // A node applies and fetches in turn, until both are idle, and looks.
+    fn replay(&mut self, node: usize) -> Result<bool, Memory>
+        ensures replays { IfOk result (λ done. Replays node self.old self.new done) }
+        ensures failed { OnErr result (self.new.failed ≡ true) }
+        ensures setup { self.new.setup ≡ self.old.setup }
+    {
+        let applied = self.take_turns(node)?;
+        let looked = self.look(node)?;
+        Ok(applied | looked.is_done())
+    }
+
+    fn take_turns(&mut self, node: usize) -> Result<bool, Memory>
+        ensures turns { IfOk result (λ done. TakesTurns node self.old self.new done) }
+        ensures failed { OnErr result (self.new.failed ≡ true) }
+        ensures setup { self.new.setup ≡ self.old.setup }
+    {
+        let mut done = false;
+        for _ in 0..u64::MAX {
+            if !self.take_turn(node)? {
+                return Ok(done);
+            }
+            done = true;
+        }
+        Err(self.fail())
+    }
+
+    fn take_turn(&mut self, node: usize) -> Result<bool, Memory>
+        ensures runs { IfOk result (λ done. RunsBy self.old self.new (steps.Apply node ∷ steps.Fetch node ∷ []) done) }
+        ensures failed { OnErr result (self.new.failed ≡ true) }
+        ensures setup { self.new.setup ≡ self.old.setup }
+    {
+        let applied = self.apply(node)?;
+        let fetched = self.fetch(node)?;
+        Ok(applied.is_done() | fetched.is_done())
+    }
+
+    fn answer_all(&mut self, setup: Setup, handed: &mut Vec<Handed>) -> Result<bool, Memory>
+        ensures runs { IfOk result (λ done. Runs self.old self.new (answering setup)
+            (map handed_seen handed.old.items) (map handed_seen handed.new.items) done) }
+        ensures failed { OnErr result (self.new.failed ≡ true) }
+        ensures setup { self.new.setup ≡ self.old.setup }
+    {
+        let mut done = false;
+        for node in 0..setup.nodes() {
+            done |= self.answer_each(node, setup.workers(), handed)?;
+        }
+        Ok(done)
+    }
+
+    // A node answers its workers, and they collect.
+    fn answer_each(
+        &mut self,
+        node: usize,
+        workers: usize,
+        handed: &mut Vec<Handed>,
+    ) -> Result<bool, Memory>
+        ensures runs { IfOk result (λ done. Runs self.old self.new
+            (flat_map (λ w. steps.Answer node w ∷ steps.Collect node w ∷ []) (range_with_len 0 workers))
+            (map handed_seen handed.old.items) (map handed_seen handed.new.items) done) }
+        ensures failed { OnErr result (self.new.failed ≡ true) }
+        ensures setup { self.new.setup ≡ self.old.setup }
+    {
+        let mut done = false;
+        for worker in 0..workers {
+            done |= self.answer_one(node, worker, handed)?;
+        }
+        Ok(done)
+    }
+
+    fn answer_one(
+        &mut self,
+        node: usize,
+        worker: usize,
+        handed: &mut Vec<Handed>,
+    ) -> Result<bool, Memory>
+        ensures runs { IfOk result (λ done. Runs self.old self.new (steps.Answer node worker ∷ steps.Collect node worker ∷ [])
+            (map handed_seen handed.old.items) (map handed_seen handed.new.items) done) }
+        ensures failed { OnErr result (self.new.failed ≡ true) }
+        ensures setup { self.new.setup ≡ self.old.setup }
+    {
+        let answered = self.answer(node, worker)?;
+        let collected = self.collect_into(node, worker, handed)?;
+        Ok(answered.is_done() | collected)
+    }
+
+    // What a collect handed out goes behind the rest.
+    fn collect_into(
+        &mut self,
+        node: usize,
+        worker: usize,
+        handed: &mut Vec<Handed>,
+    ) -> Result<bool, Memory>
+        ensures runs { IfOk result (λ done. Runs self.old self.new (steps.Collect node worker ∷ [])
+            (map handed_seen handed.old.items) (map handed_seen handed.new.items) done) }
+        ensures failed { OnErr result (self.new.failed ≡ true) }
+        ensures setup { self.new.setup ≡ self.old.setup }
+    {
+        let mut happened = self.collect(node, worker)?;
+        match handed.append(&mut happened.handed) {
+            Ok(()) => Ok(happened.outcome.is_done()),
+            Err(_) => Err(self.fail()),
+        }
+    }
+}
