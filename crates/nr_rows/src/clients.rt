@@ -1,7 +1,7 @@
 // The connections of a row, by the numbers that the row gives them, with what each was handed.
 use nr_blob::Memory;
 use nr_entry::ConnId;
-use nr_world::Handed;
+use nr_nodes::Handed;
 use std::alloc::Global;
 use std::mem;
 
@@ -24,6 +24,11 @@ impl Clients {
         Clients {
             list: Vec::new(alloc),
         }
+    }
+
+    /// How many there are.
+    pub(crate) fn count(&self) -> usize {
+        self.list.len()
     }
 
     /// The connection of this name.

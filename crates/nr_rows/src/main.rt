@@ -1,10 +1,13 @@
-//! Plays files of rows on a whole server: what each connection sends, and the exact bytes that each is handed.
+//! Plays files of rows and of scripts on whole servers: what each connection sends and the exact bytes that each is handed, and steps with
+//! what they print.
 #![tactic(auto)]
 
 use failure::Failure;
 use play::play;
 use read::read;
-use report::show;
+use report::{show, show_scripts};
+use scripts::play_scripts;
+use server::setups;
 use std::hash::RandomState;
 use std::process::ExitCode;
 use std::{env, fs, io};
@@ -16,16 +19,31 @@ mod play;
 mod read;
 mod report;
 mod rows;
+mod scripts;
 mod server;
 mod text;
 
-// Plays the rows of a file, says what came of them, and whether all held.
+// Plays the rows of a text on servers of one node and of several, says what came of them, and whether all held.
+fn play_rows(rt: &HostRuntime, keys: RandomState, name: &str, text: &str) -> Result<bool, Failure> {
+    let rows = read(rt.alloc(), text)?;
+    let mut hold = true;
+    for setup in setups() {
+        let played = play(rt.alloc(), keys, setup, &rows)?;
+        show(rt, name, setup.nodes(), &played)?;
+        hold &= played.differences.is_empty();
+    }
+    Ok(hold)
+}
+
+// Plays a file: its scripts, where its name ends with `.scripts`, or else its rows.
 fn play_file(rt: &HostRuntime, keys: RandomState, name: &str) -> Result<bool, Failure> {
     let text = fs::read_to_string(rt, name)?;
-    let rows = read(rt.alloc(), text.as_str())?;
-    let played = play(rt.alloc(), keys, &rows)?;
-    show(rt, name, &played)?;
-    Ok(played.differences.is_empty())
+    if name.ends_with(".scripts") {
+        let played = play_scripts(rt.alloc(), keys, text.as_str())?;
+        show_scripts(rt, name, &played)?;
+        return Ok(played.misprints.is_empty());
+    }
+    play_rows(rt, keys, name, text.as_str())
 }
 
 // Says why the rows of a file were not played.

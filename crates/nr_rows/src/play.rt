@@ -1,10 +1,9 @@
 // Rows played on a server, each on a fresh one, with every difference from what is expected.
-ghost use Rattle.std.specs.Prelude.{OnOk};
-ghost use Rattle.nr_rows.specs.Counted.{IsCounted};
 
 use crate::failure::Failure;
 use crate::rows::{Claim, Fact, Input, Row};
 use crate::server::Server;
+use nr_nodes::Setup;
 use std::alloc::{AllocError, Global};
 use std::hash::RandomState;
 
@@ -39,10 +38,7 @@ fn mismatch_of(
     server: &mut Server,
     name: u64,
     fact: &Fact,
-) -> Result<Option<Mismatch>, AllocError>
-    requires { IsCounted server.old }
-    ensures { IsCounted server.new }
-{
+) -> Result<Option<Mismatch>, AllocError> {
     match fact {
         Fact::Handed(expected) => {
             let got = server.take_received(alloc, name);
@@ -67,10 +63,7 @@ fn compare(
     server: &mut Server,
     claims: &[Claim],
     differences: &mut Vec<Difference>,
-) -> Result<(), Failure>
-    requires { IsCounted server.old }
-    ensures { IsCounted server.new }
-{
+) -> Result<(), Failure> {
     for claim in claims {
         if let Some(mismatch) = mismatch_of(alloc, server, claim.name, &claim.fact)? {
             differences.push(Difference {
@@ -89,10 +82,7 @@ fn compare_rest(
     server: &mut Server,
     line: usize,
     differences: &mut Vec<Difference>,
-) -> Result<(), Failure>
-    requires { IsCounted server.old }
-    ensures { IsCounted server.new }
-{
+) -> Result<(), Failure> {
     for (name, got) in server.take_all(alloc)? {
         let expected = Vec::new(alloc);
         differences.push(Difference {
@@ -109,10 +99,7 @@ fn play_input(
     server: &mut Server,
     input: &Input,
     differences: &mut Vec<Difference>,
-) -> Result<(), Failure>
-    requires { IsCounted server.old }
-    ensures { OnOk result (IsCounted server.new) }
-{
+) -> Result<(), Failure> {
     server.act(alloc, input.name, input.moment, &input.action)?;
     compare(alloc, server, &input.claims, differences)?;
     compare_rest(alloc, server, input.line, differences)
@@ -121,10 +108,11 @@ fn play_input(
 fn play_row(
     alloc: Global,
     keys: RandomState,
+    setup: Setup,
     row: &Row,
     differences: &mut Vec<Difference>,
 ) -> Result<(), Failure> {
-    let mut server = Server::new(alloc, keys)?;
+    let mut server = Server::new(alloc, keys, setup)?;
     for input in &row.inputs {
         play_input(alloc, &mut server, input, differences)?;
     }
@@ -132,11 +120,16 @@ fn play_row(
 }
 
 /// Plays each row on a server of its own.
-pub(crate) fn play(alloc: Global, keys: RandomState, rows: &[Row]) -> Result<Played, Failure> {
+pub(crate) fn play(
+    alloc: Global,
+    keys: RandomState,
+    setup: Setup,
+    rows: &[Row],
+) -> Result<Played, Failure> {
     let mut inputs = 0usize;
     let mut differences = Vec::new(alloc);
     for row in rows {
-        play_row(alloc, keys, row, &mut differences)?;
+        play_row(alloc, keys, setup, row, &mut differences)?;
         inputs = inputs.saturating_add(row.inputs.len());
     }
     Ok(Played {

@@ -1,5 +1,6 @@
 // What came of a file's rows: a line for the file, or a line for each difference.
 use crate::play::{Difference, Mismatch, Played};
+use crate::scripts::PlayedScripts;
 use crate::text::Escaped;
 use std::{fmt, io};
 
@@ -17,16 +18,32 @@ impl fmt::Display for Difference {
     }
 }
 
-/// Shows each difference with its file and line, or where there is none how much was played.
-pub(crate) fn show(rt: &impl Print, file: &str, played: &Played) -> io::Result<()> {
+/// Shows each difference with its file and line and how many nodes there were, or where there is none how much was played.
+pub(crate) fn show(rt: &impl Print, file: &str, nodes: usize, played: &Played) -> io::Result<()> {
     for difference in &played.differences {
         let line = difference.line;
-        println!(rt; "{file}:{line}: {difference}")?;
+        println!(rt; "{file}:{line}: on {nodes} nodes: {difference}")?;
     }
     if played.differences.is_empty() {
         let rows = played.rows;
         let inputs = played.inputs;
-        println!(rt; "{file}: {rows} rows, {inputs} requests")?;
+        println!(rt; "{file}: {rows} rows, {inputs} requests on {nodes} nodes")?;
+    }
+    Ok(())
+}
+
+/// The same for scripts.
+pub(crate) fn show_scripts(rt: &impl Print, file: &str, played: &PlayedScripts) -> io::Result<()> {
+    for misprint in &played.misprints {
+        let line = misprint.line;
+        let expected = Escaped(&misprint.expected);
+        let got = Escaped(&misprint.got);
+        println!(rt; "{file}:{line}: expected {expected}, got {got}")?;
+    }
+    if played.misprints.is_empty() {
+        let scripts = played.scripts;
+        let steps = played.steps;
+        println!(rt; "{file}: {scripts} scripts, {steps} steps")?;
     }
     Ok(())
 }

@@ -1,13 +1,16 @@
-//! The text of scripts: lines read into what they say, and what a script's run prints.
+//! Scripts: lines read into the steps that they say, a server that takes them, and what is printed.
 #![tactic(auto)]
 
 pub use line::{Line, LineError, read_line};
 pub use parts::Lines;
+pub use player::{PlayError, Player};
 pub use written::{write_done, write_handed, write_idle, write_ok, write_opened, write_settled};
 
 mod laws;
 mod line;
 mod numbers;
+mod opened;
 mod parts;
+mod player;
 mod text;
 mod written;

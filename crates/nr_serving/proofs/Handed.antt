@@ -1,12 +1,11 @@
 -- The bytes handed to the connection, one by one.
-use Rattle.std.proofs.Common.{◌≡◌, ℕ, suc, ◌<◌, ◌≤◌, ◌+◌, ◌-◌, List, [], ◌∷◌, ◌++◌, length, drop, get_or, sym, ap, ◌∙◌, append_assoc, append-nil, map, add-one, take, arith}
+use Rattle.std.proofs.Common.{◌≡◌, ℕ, suc, ◌<◌, ◌≤◌, ◌+◌, List, [], ◌∷◌, ◌++◌, length, drop, get_or, sym, ap, ◌∙◌, append_assoc, append-nil, map, add-one}
 use Rattle.std.proofs.Math.Seq.{drop-cons}
-use Rattle.std.proofs.lemmas.List.{drop_all, take_all, drop-map, length-drop}
+use Rattle.std.proofs.lemmas.List.{drop_all}
 use Rattle.nr_model.specs.Bytes.{Bytes}
-use Rattle.nr_model.specs.Worlds.{handed_to, Handed as HandedBytes}
 use Rattle.nr_model.proofs.WorldsHanded.{handed_to-append}
-use Rattle.nr_world.specs.Seen.{handed_seen}
-use Rattle.nr_world.specs.declared.step.Handed.{Handed}
+use Rattle.nr_nodes.specs.Seen.{handed_seen}
+use Rattle.nr_nodes.specs.declared.step.Handed.{Handed}
 use Rattle.nr_serving.specs.Runs.{first, handed_bytes}
 
 -- the first, and then the others
@@ -26,10 +25,3 @@ one_written front all xs i x within is e =
 pub all_written : (front all : Bytes) (xs : List Handed) (i : ℕ) → length xs ≤ i → front ++ handed_bytes (drop i xs) ≡ all → front ≡ all
 all_written front all xs i end e =
     sym (append-nil front) ∙ ap (λ (l : List Handed). front ++ handed_bytes l) (sym (drop_all i xs end)) ∙ e
-
--- those behind the first so many, as a slice has them
-pub bytes_behind : (xs : List Handed) (seen : List HandedBytes) (n : ℕ) → map handed_seen xs ≡ seen
-    → handed_bytes (take (length xs - n) (drop n xs)) ≡ handed_to first (drop n seen)
-bytes_behind xs seen n same =
-    ap handed_bytes (take_all (length xs - n) (drop n xs) (rw length-drop (omega arith)))
-    ∙ ap (handed_to first) (sym (drop-map handed_seen n xs) ∙ ap (drop n) same)

@@ -1,4 +1,5 @@
 pub mod Written
 pub mod Handed
+pub mod Pasts
 pub mod Worlds
 pub mod Running

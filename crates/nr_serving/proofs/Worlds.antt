@@ -1,173 +1,175 @@
 -- What each step of a run does to the world.
-use Rattle.std.proofs.Common.{◌≡◌, ℕ, ◌+◌, List, [], ◌∷◌, ◌++◌, length, refl, sym, ap, ◌∙◌, arith, append-nil, add-zero, cond, true, false, not, Bool}
-use Rattle.std.specs.Prelude.{◌||◌, ◌&&◌, ◌==◌, nat_lt}
-use Rattle.std.specs.List.{list_any}
-use Rattle.std.proofs.lemmas.List.{map-append, length-append}
+use Rattle.std.proofs.Common.{◌≡◌, ℕ, List, [], ◌∷◌, ◌++◌, refl, sym, ap, ◌∙◌, subst, append-nil, true, false, not, Bool}
+use Rattle.std.specs.Prelude.{◌||◌, None}
+use Rattle.std.proofs.lemmas.Bool.{or_parts}
+use Rattle.std.proofs.lemmas.Grind.{flat_map-append}
 use Rattle.nr_model.specs.Bytes.{Bytes}
 use Rattle.nr_model.specs.Keyspace.{moment}
-use Rattle.nr_model.specs.Items.{same_connection}
-use Rattle.nr_model.specs.Requests.{framing_of, frames_within}
 use Rattle.nr_model.specs.Sequential.{past_from}
-use Rattle.nr_model.specs.Worlds.{Setup, Step, Open, Feed, World, Outcome, Done, Idle, Ended, NoSuch, Taken, Closing, Feeding, fed, outcome, idle_where, effect_by, after_step, world_after, is_closed, asked_by, fed_to, handed_to, waiting_for, own_jobs}
-use Rattle.nr_model.specs.Explains.{asked_jobs, jobs_executed}
-use Rattle.nr_model.proofs.WorldsExplained.{each_is_explained}
+use Rattle.nr_model.specs.Worlds.{Setup, Handed, Feeding, fed_to}
+use Rattle.nr_model.specs.Nodes.{World, fresh, node_at, client_of}
+use Rattle.nr_model.specs.Nodes.Steps.{Step, Open, Feed, Outcome, Done, NoSuch, Ended, Down, Refused, idle_where, is_client, outcome, effect}
+use Rattle.nr_model.specs.Nodes.Steps.{effect_by, after_step}
+use Rattle.nr_model.specs.Nodes.Pasts.{Event, IsEvent, IsPast, handed_in}
 use Rattle.nr_model.proofs.WorldsGrow.{fed_to-append, own_bytes}
-use Rattle.nr_world.specs.Ready.{bytes_in, bytes_of}
-use Rattle.nr_world.specs.Setups.{IsAllowed}
-use Rattle.nr_world.specs.WorldState.{WorldState, steps_of, world_of, has_ended, IsKept}
-use Rattle.nr_world.specs.Settled.{IsSettled as IsAtRest}
-use Rattle.nr_serving.specs.Runs.{first, alone, fed_bytes, emitted_bytes}
-use Rattle.nr_serving.specs.Serving.{IsOpen, IsSettled, IsFresh}
-use Rattle.std.proofs.Common.{lit≤}
+use Rattle.nr_model.proofs.NodesSteps.{a_client}
+use Rattle.nr_model.proofs.NodesSettledStill.{last_round}
+use Rattle.nr_nodes.specs.WorldState.{WorldState, Shows}
+use Rattle.nr_nodes.specs.Taken.{Steps}
+use Rattle.nr_nodes.specs.Settles.{Settles, HasSettled, events_of}
+use Rattle.nr_serving.specs.Runs.{first, alone, fed_bytes}
+use Rattle.nr_serving.specs.Serving.{IsOpen, GoesOn, IsAtRest, IsFresh, Serves}
+use Rattle.nr_model.specs.Nodes.Settling.{after_events}
+use Rattle.nr_serving.proofs.Pasts.{past_then, past_sized, past_shaped, still_there, client_is, rounds_kept}
 
--- the setup of a run is allowed
-pub alone_allowed : IsAllowed alone
-alone_allowed =
+-- a step was an event of the server of one connection, and the world behind it is shown
+record IsStep (new : WorldState) (step : Step) (o : Outcome) (world : World) : Type 0 where
+  refused : Refused
+  event : IsEvent alone world (record { step = step; outcome = o; handed = []; answer = None; refused = refused })
+  shows : Shows new (after_step alone world step refused)
+
+one_step : (old new : WorldState) (step : Step) (o : Outcome) (events : List Event) (world : World) → old.setup ≡ alone → Steps old new step o
+    → IsPast alone events world → Shows old world → IsStep new step o world
+one_step old new step o events world is steps past shows =
+    let t = steps.taken events world (subst (λ (s : Setup). IsPast s events world) (sym is) past) shows in
     record {
-      one_node = refl;
-      one_worker = refl;
-      two_places = lit≤ tt;
-      most_places = lit≤ tt;
-      one_connection = lit≤ tt;
-      most_connections = lit≤ tt;
-      least_queue = lit≤ tt;
-      most_queue = lit≤ tt;
+      refused = t.refused;
+      event = subst (λ (s : Setup). IsEvent s world (record { step = step; outcome = o; handed = []; answer = None; refused = t.refused })) is t.event;
+      shows = subst (λ (s : Setup). Shows new (after_step s world step t.refused)) is t.shows;
     }
 
--- one step more
-pub one_more : (v w : WorldState) (taken : Taken) → w.setup ≡ v.setup → w.past ≡ v.past ++ taken ∷ [] → world_of w ≡ after_step v.setup (world_of v) taken.step
-one_more v w taken same more =
-    (λ i. world_after (same i) (steps_of (more i)))
-    ∙ ap (world_after v.setup) (map-append (λ (t : Taken). t.step) v.past (taken ∷ []))
-    ∙ each_is_explained.one_more v.setup (steps_of v.past) taken.step
-
--- and its bytes are counted
-bytes_in-append : (xs ys : List Step) → bytes_in (xs ++ ys) ≡ bytes_in xs + bytes_in ys
-bytes_in-append [] ys = omega arith
-bytes_in-append (x ∷ xs) ys = let more : bytes_in (xs ++ ys) ≡ bytes_in xs + bytes_in ys = bytes_in-append xs ys in omega arith
-
-pub bytes_more : (v w : WorldState) (taken : Taken) → w.past ≡ v.past ++ taken ∷ []
-    → bytes_in (steps_of w.past) ≡ bytes_in (steps_of v.past) + bytes_of taken.step
-bytes_more v w taken more =
-    ap (λ (past : List Taken). bytes_in (steps_of past)) more
-    ∙ ap bytes_in (map-append (λ (t : Taken). t.step) v.past (taken ∷ []))
-    ∙ bytes_in-append (steps_of v.past) (taken.step ∷ [])
-    ∙ ap (λ (n : ℕ). bytes_in (steps_of v.past) + n) (add-zero (bytes_of taken.step))
-
--- A feed is done unless the connection has ended.
-fed_or_ended : (opened : ℕ) (closed : List Closing) (ended : Bool) → opened ≡ 1 → closed ≡ []
-    → idle_where (not (0 == 0 && nat_lt 0 opened)) NoSuch
-    (idle_where (ended || list_any (λ (k : Closing). same_connection k.connection first) closed) Ended Done) ≡ cond ended (Idle Ended) Done
-fed_or_ended opened closed ended one none =
-    rw (one, none) (elim ended as (λ e. idle_where (e || false) Ended Done ≡ cond e (Idle Ended) Done) [ true ↦ refl | false ↦ refl ])
-
-pub feed_outcome : (setup : Setup) (world : World) (time : ℕ) (bytes : Bytes) → world.opened ≡ 1 → world.closed ≡ []
-    → outcome setup world (Feed first time bytes) ≡ cond (asked_by world first).ended (Idle Ended) Done
-feed_outcome setup world time bytes one none = fed_or_ended world.opened world.closed (asked_by world first).ended one none
-
--- a feed of a connection that goes on
-fed_world : (v w : WorldState) (time : ℕ) (bytes : Bytes) (o : Outcome) → IsOpen v → w.setup ≡ v.setup
-    → w.past ≡ v.past ++ record { step = Feed first time bytes; outcome = o } ∷ []
-    → (asked_by (world_of v) first).ended ≡ false → world_of w ≡ fed (world_of v) first time bytes
-fed_world v w time bytes o is_open same more on =
-    one_more v w (record { step = Feed first time bytes; outcome = o }) same more
-    ∙ ap (λ (done : Outcome). effect_by done (world_of v) (Feed first time bytes))
-    (feed_outcome v.setup (world_of v) time bytes is_open.opened is_open.closed ∙ ap (λ (e : Bool). cond e (Idle Ended) Done) on)
-
-pub fed_more : (v w : WorldState) (time : ℕ) (bytes : Bytes) (o : Outcome) → IsOpen v → w.setup ≡ v.setup
-    → w.past ≡ v.past ++ record { step = Feed first time bytes; outcome = o } ∷ []
-    → (asked_by (world_of v) first).ended ≡ false → fed_bytes (world_of w) ≡ fed_bytes (world_of v) ++ bytes
-fed_more v w time bytes o is_open same more on =
-    let feeding : Feeding = record { connection = first; moment = moment time; bytes = bytes } in
-    ap fed_bytes (fed_world v w time bytes o is_open same more on)
-    ∙ fed_to-append first (world_of v).fed (feeding ∷ [])
-    ∙ ap (λ (l : Bytes). fed_bytes (world_of v) ++ l) (own_bytes first feeding refl)
-
-pub fed_handed : (v w : WorldState) (time : ℕ) (bytes : Bytes) (o : Outcome) → IsOpen v → w.setup ≡ v.setup
-    → w.past ≡ v.past ++ record { step = Feed first time bytes; outcome = o } ∷ []
-    → IsKept w → (asked_by (world_of v) first).ended ≡ false → w.handed ≡ v.handed
-fed_handed v w time bytes o is_open same more kept on =
-    kept.handed ∙ ap (λ (x : World). x.handed) (fed_world v w time bytes o is_open same more on) ∙ sym is_open.kept.handed
-
-pub fed_open : (v w : WorldState) (time : ℕ) (bytes : Bytes) (o : Outcome) → IsOpen v → w.setup ≡ v.setup
-    → w.past ≡ v.past ++ record { step = Feed first time bytes; outcome = o } ∷ []
-    → IsKept w → (asked_by (world_of v) first).ended ≡ false → IsOpen w
-fed_open v w time bytes o is_open same more kept on =
-    let moved = fed_world v w time bytes o is_open same more on in
+-- the connection was opened
+pub once_open : (v w : WorldState) (setup : Setup) (o : Outcome) → v.setup ≡ setup → setup ≡ alone → Shows v (fresh setup) → Steps v w (Open 0 0) o → IsFresh w
+unfolding past_from
+once_open v w setup o same one shows steps =
+    let s = one_step v w (Open 0 0) o [] (fresh alone) (same ∙ one) steps (tt, refl) (subst (λ (x : Setup). Shows v (fresh x)) one shows) in
+    let e : Event = record { step = Open 0 0; outcome = o; handed = []; answer = None; refused = s.refused } in
     record {
-      setup = same ∙ is_open.setup;
-      kept = kept;
-      opened = ap (λ (x : World). x.opened) moved ∙ is_open.opened;
-      closed = ap (λ (x : World). x.closed) moved ∙ is_open.closed;
-      counted =
-          bytes_more v w (record { step = Feed first time bytes; outcome = o }) more
-          ∙ ap (λ (n : ℕ). n + length bytes) is_open.counted
-          ∙ sym (ap length (fed_more v w time bytes o is_open same more on) ∙ length-append (fed_bytes (world_of v)) bytes);
-    }
-
--- where nothing waits, all that was emitted was handed out
-pub all_handed : (v : WorldState) → v.handed ≡ (world_of v).handed → (world_of v).closed ≡ [] → waiting_for (world_of v) first ≡ []
-    → handed_to first v.handed ≡ emitted_bytes (world_of v)
-all_handed v kept none waits =
-    let unclosed : is_closed (world_of v) first ≡ false =
-    ap (λ (closed : List Closing). list_any (λ (k : Closing). same_connection k.connection first) closed) none in
-    ap (handed_to first) kept
-    ∙ sym (append-nil (handed_to first (world_of v).handed))
-    ∙ ap (λ (l : Bytes). handed_to first (world_of v).handed ++ l) (sym waits)
-    ∙ (each_is_explained.explained v.setup (steps_of v.past)).accounts.whole first unclosed
-
--- a world that came to rest
-pub settles : (v w : WorldState) → IsOpen v → w.setup ≡ v.setup → IsAtRest v w → IsSettled w
-settles v w is_open same rest =
-    let closed = rest.closed ∙ is_open.closed in
-    record {
+      events = e ∷ [];
+      world = after_step alone (fresh alone) (Open 0 0) s.refused;
       is_open =
           record {
-            setup = same ∙ is_open.setup;
-            kept = rest.kept;
-            opened = rest.opened ∙ is_open.opened;
-            closed = closed;
-            counted = rest.bytes ∙ is_open.counted ∙ ap (λ (l : List Feeding). length (fed_to first l)) (sym rest.fed);
+            setup = steps.setup ∙ same ∙ one;
+            past = past_then alone [] (e ∷ []) (fresh alone) (tt, refl) (s.event, tt);
+            shows = s.shows;
+            there = refl;
+            closed = refl;
           };
-      executed = rest.executed first;
-      handed = all_handed w rest.kept.handed closed (rest.waits first);
+      goes_on = record { up = refl; takes = refl };
+      at_rest = record { executed = refl; handed = λ uncut. refl };
+      fed = refl;
+      handed = refl;
     }
 
--- whether its connection goes on
-unended : (opened : ℕ) (closed : List Closing) (ended : Bool) → opened ≡ 1 → closed ≡ []
-    → not (not (0 == 0 && nat_lt 0 opened) || (ended || list_any (λ (k : Closing). same_connection k.connection first) closed)) ≡ not ended
-unended opened closed ended one none = rw (one, none) (elim ended as (λ e. not (e || false) ≡ not e) [ true ↦ refl | false ↦ refl ])
+-- a feed of a connection that takes bytes
+feed_path : (a b d : Bool) → a ≡ false → b ≡ false → d ≡ false → idle_where a NoSuch (idle_where b Ended (idle_where d Down Done)) ≡ Done
+feed_path a b d e f g = rw (e, f, g)
 
-pub goes_on_is : (v : WorldState) → IsOpen v → not (has_ended (world_of v) first) ≡ not (asked_by (world_of v) first).ended
-goes_on_is v is_open = unended (world_of v).opened (world_of v).closed (asked_by (world_of v) first).ended is_open.opened is_open.closed
+takes_more : (e : Bool) → true ≡ not e → e ≡ false
+takes_more false is = refl
+takes_more true is = absurd (cc is)
 
--- the world of one connection that was just opened
-opened_once : World
-opened_once = world_after alone (Open 0 0 ∷ [])
+fed_done : (world : World) (time : ℕ) (bytes : Bytes) → GoesOn true world → outcome alone world (Feed first time bytes) ≡ Done
+fed_done world time bytes goes =
+    let client = client_of first world in
+    let over = client.ended || (client.closed || client.queue.cut) in
+    let on = or_parts (not (is_client world first)) over (takes_more (not (is_client world first) || over) goes.takes) in
+    feed_path (not (is_client world first)) over (node_at 0 world).down on.0 on.1 goes.up
 
-pub once_open : (v w : WorldState) (o : Outcome) → v.setup ≡ alone → v.past ≡ [] → w.setup ≡ v.setup
-    → w.past ≡ v.past ++ record { step = Open 0 0; outcome = o } ∷ []
-    → IsKept w → IsFresh w
-unfolding opened_once framing_of frames_within past_from
-once_open v w o one none same more kept =
-    let setup : w.setup ≡ alone = same ∙ one in
-    let past : w.past ≡ record { step = Open 0 0; outcome = o } ∷ [] = more ∙ ap (λ (l : List Taken). l ++ record { step = Open 0 0; outcome = o } ∷ []) none in
-    let is : world_of w ≡ opened_once = λ i. world_after (setup i) (steps_of (past i)) in
+-- more bytes were fed, and nothing was handed out
+record IsFed (new : WorldState) (piece : Bytes) (events : List Event) (world : World) : Type 0 where
+  all : List Event
+  next : World
+  is_open : IsOpen new all next
+  fed_is : fed_bytes next ≡ fed_bytes world ++ piece
+  handed_is : handed_in all ≡ handed_in events
+
+fed_on : (old new : WorldState) (time : ℕ) (piece : Bytes) (o : Outcome) (events : List Event) (world : World) → Steps old new (Feed first time piece) o
+    → IsOpen old events world → GoesOn true world → IsFed new piece events world
+fed_on old new time piece o events world steps is goes =
+    let step = Feed first time piece in
+    let s = one_step old new step o events world is.setup steps is.past is.shows in
+    let e : Event = record { step = step; outcome = o; handed = []; answer = None; refused = s.refused } in
+    let moved : after_step alone world step s.refused ≡ effect alone world step s.refused =
+    ap (λ (done : Outcome). effect_by done alone world step s.refused) (fed_done world time piece goes) in
+    let feeding : Feeding = record { connection = first; moment = moment time; bytes = piece } in
     record {
-      settled =
+      all = events ++ e ∷ [];
+      next = after_step alone world step s.refused;
+      is_open =
           record {
-            is_open =
-                record {
-                  setup = setup;
-                  kept = kept;
-                  opened = ap (λ (x : World). x.opened) is;
-                  closed = ap (λ (x : World). x.closed) is;
-                  counted = ap (λ (l : List Taken). bytes_in (steps_of l)) past ∙ ap (λ (x : World). length (fed_bytes x)) (sym is);
-                };
-            executed = ap (λ (x : World). own_jobs first (jobs_executed x)) is ∙ ap (λ (x : World). asked_jobs x first) (sym is);
-            handed = ap (handed_to first) (kept.handed ∙ ap (λ (x : World). x.handed) is) ∙ ap emitted_bytes (sym is);
+            setup = steps.setup ∙ is.setup;
+            past = past_then alone events (e ∷ []) world is.past (s.event, tt);
+            shows = s.shows;
+            there =
+                client_is (after_step alone world step s.refused) first
+                (still_there alone first world step s.refused (past_sized alone events world is.past) (past_shaped alone events world is.past)
+                (a_client world first is.there));
+            closed = ap (λ (w : World). w.closed) moved ∙ is.closed;
           };
-      fed = ap fed_bytes is;
-      handed = kept.handed ∙ ap (λ (x : World). x.handed) is;
-      goes_on = ap (λ (x : World). (asked_by x first).ended) is;
+      fed_is =
+          ap fed_bytes moved
+          ∙ fed_to-append first world.fed (feeding ∷ [])
+          ∙ ap (λ (l : Bytes). fed_bytes world ++ l) (own_bytes first feeding refl);
+      handed_is = flat_map-append (λ (x : Event). x.handed) events (e ∷ []) ∙ append-nil (handed_in events);
     }
+
+-- it came to rest, and nothing was fed
+record HasRested (new : WorldState) (handed : List Handed) (events : List Event) (world : World) : Type 0 where
+  all : List Event
+  next : World
+  is_open : IsOpen new all next
+  fed_is : fed_bytes next ≡ fed_bytes world
+  handed_is : handed_in all ≡ handed_in events ++ handed
+  at_rest : (node_at 0 next).down ≡ false → IsAtRest all next
+
+rested_on : (old new : WorldState) (handed : List Handed) (events : List Event) (world : World) → Settles old new handed → IsOpen old events world
+    → HasRested new handed events world
+rested_on old new handed events world settles is =
+    let h = subst (λ (s : Setup). HasSettled s new handed events world) is.setup
+    (settles.taken events world (subst (λ (s : Setup). IsPast s events world) (sym is.setup) is.past) is.shows) in
+    let later = events_of h.rounds in
+    let last = last_round alone world h.rounds h.are in
+    let kept = rounds_kept alone first world.fed world h.rounds h.are (record {
+      sized = past_sized alone events world is.past;
+      shaped = past_shaped alone events world is.past;
+      there = a_client world first is.there;
+      fed_is = refl;
+      closed = is.closed;
+    }) in
+    let there = client_is (after_events alone world later) first kept.there in
+    record {
+      all = events ++ later;
+      next = after_events alone world later;
+      is_open =
+          record {
+            setup = settles.setup ∙ is.setup;
+            past = past_then alone events later world is.past last.are;
+            shows = h.shows;
+            there = there;
+            closed = kept.closed;
+          };
+      fed_is = ap (λ (fed : List Feeding). fed_to first fed) kept.fed_is;
+      handed_is = flat_map-append (λ (x : Event). x.handed) events later ∙ ap (λ (l : List Handed). handed_in events ++ l) (sym h.handed_is);
+      at_rest = λ up. record {
+        executed = h.settled.executed first there up;
+        handed = λ uncut. h.settled.handed first (there, ap not up, uncut);
+      };
+    }
+
+-- a piece was served
+pub serves : (old mid new : WorldState) (time : ℕ) (piece : Bytes) (o : Outcome) (handed : List Handed) → Steps old mid (Feed first time piece) o
+    → Settles mid new handed → Serves old new piece handed
+serves old mid new time piece o handed steps settles = record {
+  served = λ events world is goes.
+      let f = fed_on old mid time piece o events world steps is goes in
+      let r = rested_on mid new handed f.all f.next settles f.is_open in
+      record {
+        all = r.all;
+        next = r.next;
+        is_open = r.is_open;
+        fed = r.fed_is ∙ f.fed_is;
+        handed_is = r.handed_is ∙ ap (λ (l : List Handed). l ++ handed) f.handed_is;
+        at_rest = r.at_rest;
+      };
+}

@@ -1,12 +1,15 @@
-//! Serving: one connection on any reader and writer, from its first byte to its end. The program calls it, on standard input and output.
+//! Serving: one connection on any reader and writer, from its first byte to its end, and scripts. The program calls it, on standard input and
+//! output.
 #![tactic(auto)]
 
 pub use fault::Fault;
 pub use moments::{MachineClock, Moments};
 pub use run::run_on;
+pub use script::script_on;
 
 mod bytes;
 mod fault;
 mod moments;
 mod run;
+mod script;
 mod serving;

@@ -1,13 +1,16 @@
 // One connection of a world: it is opened, fed a piece at a time, and settled behind each. Touches the world alone.
-ghost use Rattle.std.specs.Prelude.{◌≡◌, ◌<◌, ◌+◌, ◌^◌, ◌++◌, [], List, not, true, false, IfOk, OnOk, length};
-ghost use Rattle.nr_model.specs.Worlds.{asked_by, Handed as HandedBytes};
-ghost use Rattle.nr_world.specs.WorldState.{world_of};
-ghost use Rattle.nr_serving.specs.Runs.{first, fed_bytes, alone as one_connection};
-ghost use Rattle.nr_serving.specs.Serving.{IsOpen, IsSettled, IsFresh};
+ghost use Rattle.std.specs.Prelude.{◌≡◌, ◌<◌, IfOk, length, map};
+ghost use Rattle.nr_model.specs.Nodes as nodes;
+ghost use Rattle.nr_model.specs.Nodes.Steps as steps;
+ghost use Rattle.nr_nodes.specs.Seen.{handed_seen, outcome_seen};
+ghost use Rattle.nr_nodes.specs.Taken.{Steps};
+ghost use Rattle.nr_nodes.specs.WorldState.{Shows};
+ghost use Rattle.nr_serving.specs.Runs.{first, alone as one_connection};
+ghost use Rattle.nr_serving.specs.Serving.{IsFresh, Serves, GoesOn};
 
 use nr_blob::Memory;
 use nr_entry::ConnId;
-use nr_world::{Settled, Setup, Step, World};
+use nr_nodes::{Handed, Outcome, Setup, World};
 use std::alloc::Global;
 use std::hash::RandomState;
 
@@ -26,42 +29,33 @@ pub(crate) fn open(alloc: Global, keys: RandomState) -> Result<World, Memory>
     ensures { IfOk result IsFresh }
 {
     let mut world = World::new(alloc, keys, alone())?;
-    world.step(&Step::Open(0, 0))?;
+    world.open(0, 0)?;
     Ok(world)
 }
 
 // Feeds a piece.
-fn feed(alloc: Global, world: &mut World, moment: u64, piece: &[u8]) -> Result<(), Memory>
-    requires is_open { IsOpen world.old }
-    requires goes_on { (asked_by (world_of world.old) first).ended ≡ false }
-    requires fits { length (fed_bytes (world_of world.old)) + length piece.now < 2 ^ 63 }
-    ensures is_open { OnOk result (IsOpen world.new) }
-    ensures fed { OnOk result (fed_bytes (world_of world.new) ≡ fed_bytes (world_of world.old) ++ piece.now) }
-    ensures handed { OnOk result (world.new.handed ≡ world.old.handed) }
+fn feed(world: &mut World, moment: u64, piece: &[u8]) -> Result<Outcome, Memory>
+    ensures { IfOk result (λ outcome. Steps world.old world.new (steps.Feed first moment piece.now) (outcome_seen outcome)) }
 {
-    let bytes = Vec::from_slice(alloc, piece)?;
-    world.step(&Step::Feed(FIRST, moment, bytes))?;
-    Ok(())
+    let outcome = world.feed(FIRST, moment, piece)?;
+    Ok(outcome)
 }
 
-/// Feeds a piece, and has all that it asks for executed and handed out. Says whether the connection goes on.
-pub(crate) fn serve(
-    alloc: Global,
-    world: &mut World,
-    moment: u64,
-    piece: &[u8],
-) -> Result<bool, Memory>
-    requires settled { IsSettled world.old }
-    requires goes_on { (asked_by (world_of world.old) first).ended ≡ false }
-    requires fits { length (fed_bytes (world_of world.old)) + length piece.now < 2 ^ 63 }
-    ensures settled { OnOk result (IsSettled world.new) }
-    ensures fed { OnOk result (fed_bytes (world_of world.new) ≡ fed_bytes (world_of world.old) ++ piece.now) }
-    ensures handed { OnOk result ((more : List HandedBytes) × (world.new.handed ≡ world.old.handed ++ more)) }
-    ensures goes_on { IfOk result (λ more. more ≡ not (asked_by (world_of world.new) first).ended) }
+/// Feeds a piece, and has all that it asks for executed. Hands back what was handed out.
+pub(crate) fn serve(world: &mut World, moment: u64, piece: &[u8]) -> Result<Vec<Handed>, Memory>
+    ensures { IfOk result (λ handed. Serves world.old world.new piece.now (map handed_seen handed.items)) }
 {
-    feed(alloc, world, moment, piece)?;
-    match world.settle() {
-        Settled::Settled => Ok(!world.has_ended(FIRST)),
-        Settled::Memory => Err(Memory),
+    feed(world, moment, piece)?;
+    world.settle()
+}
+
+/// Whether the connection takes more bytes. Where its node is down there was no memory.
+pub(crate) fn goes_on(world: &World) -> Result<bool, Memory>
+    requires { 0 < length world.now.nodes }
+    ensures { IfOk result (λ more. (shown : nodes.World) → Shows world.now shown → GoesOn more shown) }
+{
+    if world.is_down(0) {
+        return Err(Memory);
     }
+    Ok(!world.has_ended(FIRST))
 }

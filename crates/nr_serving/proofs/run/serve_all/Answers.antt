@@ -1,56 +1,62 @@
--- Each piece is served, and then written.
-use Rattle.std.proofs.Common.{◌∙◌, sym, ap, take, inl, inr, arith, subst}
+-- Each piece is served, and what was handed out is written.
+use Rattle.std.proofs.Common.{◌≡◌, ◌∙◌, [], ap, take, arith, subst, true, false}
 use Rattle.std.specs.Io.KnownBytes.{Consumes}
 use Rattle.nr_model.proofs.WorldsLists.{take_none}
-use Rattle.std.proofs.Common.{[]}
-use Rattle.nr_serving.proofs.Running.{starting, none_read, at_end, not_served, not_written, one_piece, over, has_ended, has_not, failed, piece_counts}
+use Rattle.nr_serving.proofs.Running.{starting, none_read, not_served, not_written, one_piece, is_there, is_down, at_end, ended, goes, fails}
 use Rattle.nr_serving.proofs.run.serve_all.Goals as goal
 
-pub loop-goes_on-init : goal.loop-goes_on-init
-loop-goes_on-init g c = starting c.args.world.now _ _ c.requires.fresh
+pub loop-init : goal.loop-init
+loop-init g c = starting c.args.world.now _ _ c.requires.fresh
 
 pub returns-in_err-count : goal.returns-in_err-count
 returns-in_err-count g c =
-    let end = not_served c.loop-goes_on.world _ _ _ _ _ _ _ _ [] c.loop-goes_on.invariant (none_read _ _ c.in_err-count.ensures.bytes) in
-    (end.0, (end.1, end.2), failed c.from_residual.result _ c.from_residual.ensures.0)
+    fails c.from_residual.result _ _ _ _ c.from_residual.ensures.0
+    (not_served c.loop.world _ _ _ _ _ [] c.loop.invariant (none_read _ _ c.in_err-count.ensures.bytes))
 
 pub returns-then-count-eq0 : goal.returns-then-count-eq0
 returns-then-count-eq0 g c =
     let read = c.in_ok-count.ensures.bytes in
-    over c.loop-goes_on.world _ _ _ _ _ _ _
-    (at_end c.loop-goes_on.world _ _ _ _ _ _ _ _ c.loop-goes_on.invariant
-    (subst (Consumes _ _) (ap (λ n. take n c.read_piece.new.buffer) c.if-count-eq0.true ∙ take_none c.read_piece.new.buffer) read.0))
-    (inl (read.1 c.if-count-eq0.true (omega (arith, c.requires.room))))
+    at_end c.loop.world _ _ _ _ _ c.loop.invariant
+    (subst (Consumes _ _) (ap (λ n. take n c.read_piece.new.buffer) c.if-count-eq0.true ∙ take_none c.read_piece.new.buffer) read.0)
+    (read.1 c.if-count-eq0.true (omega (arith, c.requires.room)))
 
-pub serve-requires-clause-goes_on : goal.serve-requires-clause-goes_on
-serve-requires-clause-goes_on g c = has_not _ (sym c.loop-goes_on-test.true ∙ c.loop-goes_on.invariant.delivered)
+pub returns-in_err-handed : goal.returns-in_err-handed
+returns-in_err-handed g c =
+    fails c.from_residual-in_err-handed.result _ _ _ _ c.from_residual-in_err-handed.ensures.0
+    (not_served c.loop.world _ _ _ _ _ (take c.in_ok-count.count c.read_piece.new.buffer) c.loop.invariant c.in_ok-count.ensures.bytes.0)
 
-pub returns-in_err-goes_on : goal.returns-in_err-goes_on
-returns-in_err-goes_on g c =
-    let end = not_served c.loop-goes_on.world _ _ _ _ _ _ _ _
-    (take c.in_ok-count.count c.read_piece.new.buffer) c.loop-goes_on.invariant c.in_ok-count.ensures.bytes.0 in
-    (end.0, (end.1, end.2), failed c.from_residual-in_err-goes_on.result _ c.from_residual-in_err-goes_on.ensures.0)
+pub returns-in_err-write_all : goal.returns-in_err-write_all
+returns-in_err-write_all g c =
+    fails c.from_residual-in_err-write_all.result _ _ _ _ c.from_residual-in_err-write_all.ensures.0
+    (not_written c.loop.world c.serve.new.world _ _ _ _ _ _ (take c.in_ok-count.count c.read_piece.new.buffer) _ _ c.deref.ensures.value c.loop.invariant
+    c.in_ok-count.ensures.bytes.0 c.in_ok-handed.ensures c.in_err-write_all.ensures.some)
 
-pub returns-in_err-written : goal.returns-in_err-written
-returns-in_err-written g c =
-    let end = not_written c.loop-goes_on.world c.serve.new.world _ _ _ _ _ _ _ _ _
-    (take c.in_ok-count.count c.read_piece.new.buffer) c.loop-goes_on.invariant c.in_ok-count.ensures.bytes.0
-    c.in_ok-goes_on.ensures.settled c.in_ok-goes_on.ensures.fed c.in_ok-goes_on.ensures.handed c.in_err-written.ensures.some in
-    (end.0, (end.1, end.2), failed c.from_residual-in_err-written.result _ c.from_residual-in_err-written.ensures.0)
+pub goes_on-requires : goal.goes_on-requires
+goes_on-requires g c =
+    is_there c.serve.new.world _ _ _ _
+    (one_piece c.loop.world c.serve.new.world _ _ _ _ _ _ (take c.in_ok-count.count c.read_piece.new.buffer) _ _ c.deref.ensures.value c.loop.invariant
+    c.in_ok-count.ensures.bytes.0 c.in_ok-handed.ensures c.in_ok-write_all.ensures.all)
 
-pub loop-goes_on-preserved : goal.loop-goes_on-preserved
-loop-goes_on-preserved g c =
-    one_piece c.loop-goes_on.world c.serve.new.world _ _ _ _ _ _ _ _ _ _ _ _
-    (take c.in_ok-count.count c.read_piece.new.buffer) c.loop-goes_on.invariant c.in_ok-count.ensures.bytes.0
-    c.in_ok-goes_on.ensures.settled c.in_ok-goes_on.ensures.fed c.in_ok-goes_on.ensures.handed c.in_ok-written.ensures.all c.in_ok-written.ensures.count
-    c.in_ok-goes_on.ensures.goes_on
-    (piece_counts c.loop-goes_on.fed c.in_ok-count.count c.read_piece.new.buffer c.in_ok-count.ensures.bound)
+pub returns-in_err-more : goal.returns-in_err-more
+returns-in_err-more g c =
+    fails c.from_residual-in_err-more.result _ _ _ _ c.from_residual-in_err-more.ensures.0
+    (is_down c.serve.new.world _ _ _ _
+    (one_piece c.loop.world c.serve.new.world _ _ _ _ _ _ (take c.in_ok-count.count c.read_piece.new.buffer) _ _ c.deref.ensures.value c.loop.invariant
+    c.in_ok-count.ensures.bytes.0 c.in_ok-handed.ensures c.in_ok-write_all.ensures.all))
 
-pub returns-else-fed-le-MOST_FED : goal.returns-else-fed-le-MOST_FED
-returns-else-fed-le-MOST_FED g c =
-    over c.loop-goes_on.world _ _ _ _ _ _ _ c.loop-goes_on.invariant (inr (inr (omega (arith, c.loop-goes_on.invariant.counted, c.if-fed-le-MOST_FED.false))))
+pub returns-then-not-more : goal.returns-then-not-more
+returns-then-not-more g c =
+    let w = one_piece c.loop.world c.serve.new.world _ _ _ _ _ _ (take c.in_ok-count.count c.read_piece.new.buffer) _ _ c.deref.ensures.value c.loop.invariant
+    c.in_ok-count.ensures.bytes.0 c.in_ok-handed.ensures c.in_ok-write_all.ensures.all in
+    let stops : c.in_ok-more.more ≡ false = c.if-not-more.true in
+    ended c.serve.new.world _ _ _ _ w (rw (← stops) (c.in_ok-more.ensures w.world w.is_open.shows))
 
-pub returns-after-loop-goes_on : goal.returns-after-loop-goes_on
-returns-after-loop-goes_on g c =
-    over c.loop-goes_on.world _ _ _ _ _ _ _ c.loop-goes_on.invariant
-    (inr (inl (has_ended _ (sym c.loop-goes_on-test.false ∙ c.loop-goes_on.invariant.delivered))))
+pub loop-preserved : goal.loop-preserved
+loop-preserved g c =
+    let w = one_piece c.loop.world c.serve.new.world _ _ _ _ _ _ (take c.in_ok-count.count c.read_piece.new.buffer) _ _ c.deref.ensures.value c.loop.invariant
+    c.in_ok-count.ensures.bytes.0 c.in_ok-handed.ensures c.in_ok-write_all.ensures.all in
+    let on : c.in_ok-more.more ≡ true = c.if-not-more.false in
+    goes c.serve.new.world _ _ _ _ w (rw (← on) (c.in_ok-more.ensures w.world w.is_open.shows))
+
+pub returns : goal.returns
+returns g c = let b = is_down c.loop.world _ _ _ _ c.loop.invariant.written in (b.0, b.1, b.2, b.3, tt)
