@@ -13,7 +13,7 @@ use Rattle.nr_entry.specs.declared.run.Run.{Run}
 use Rattle.nr_entry.specs.Jobs.{connection_of, item_of, items_of}
 use Rattle.nr_entry.specs.Choice.{is_blocked, leads_among, is_taken, room_behind, leading_marks, room_after}
 use Rattle.nr_entry.specs.Waiting.{has_some, are_from}
-use Rattle.nr_entry.specs.Runs.{jobs_in, spread, marks_of, sum_of, front, is_kind_at, has_other, IsWithin}
+use Rattle.nr_entry.specs.Runs.{any_begins, jobs_in, spread, marks_of, sum_of, front, is_kind_at, has_other, IsWithin}
 use Rattle.nr_entry.proofs.Taking.{how_many}
 use Rattle.nr_entry.proofs.Fronts.{jobs_in-push}
 use Rattle.nr_entry.proofs.Marks.{is_blocked-push, blocked_as_before, leads_is, other_leads_not}
@@ -200,6 +200,30 @@ run_leads u c before (x ∷ seg) false own is =
     and_true true = refl
     and_true false = refl
 
+-- where no run begins with a job of the kind, none leads
+other_first : (u : Bool) (c : Connection) (before seg : Jobs) → are_from c seg ≡ true → is_kind_at u 0 seg ≡ false → leading (leads_among u) before seg ≡ []
+other_first u c before [] own is = refl
+other_first u c before (x ∷ seg) own is =
+    let parts = both (same_connection x.connection c) (are_from c seg) own in
+    let more = leading (leads_among u) (before ++ x ∷ []) seg in
+    ap (λ (b : Bool). cond b (x ∷ more) more) (other_leads_not u before x is)
+    ∙ leading_blocked u c (before ++ x ∷ []) seg parts.1 (now_blocked u c before x parts.0 is)
+
+neither : (a b : Bool) → (a || b) ≡ false → (a ≡ false) × (b ≡ false)
+neither true b e = absurd (cc e)
+neither false b e = (refl, e)
+
+pub none_begins : (u : Bool) (before : Jobs) (runs : List Run) → any_begins u runs ≡ false → leading (leads_among u) before (items_of (jobs_in runs)) ≡ []
+none_begins u before [] none = refl
+none_begins u before (r ∷ runs) none =
+    let leads = leads_among u in
+    let seg : Jobs = items_of r.jobs.items in
+    let parts = neither (is_kind_at u 0 seg) (any_begins u runs) none in
+    ap (leading leads before) (map-append item_of r.jobs.items (jobs_in runs))
+    ∙ leading-append leads before seg (items_of (jobs_in runs))
+    ∙ ap (λ (t : Jobs). t ++ leading leads (before ++ seg) (items_of (jobs_in runs))) (other_first u (connection_of r.conn) before seg r.own parts.0)
+    ∙ none_begins u (before ++ seg) runs parts.1
+
 -- whether a run of a connection blocks it
 or_and_none : (b s : Bool) → b ≡ (b || (s && false))
 or_and_none true s = refl
@@ -248,20 +272,23 @@ pub has_other_is : (u : Bool) (jobs : List Job) (len : ℕ) (other : Bool) → l
 has_other_is u jobs len true same is = let k = other_cuts u len (items_of jobs) is in let l = how_many jobs in sym (is ∙ sym (let t : nat_lt (front u len (items_of jobs)) len ≡ true = grind (arith, nat_tests) in t))
 has_other_is u jobs len false same is = let k : front u len (items_of jobs) < len → front u len (items_of jobs) ≡ length (items_of jobs) = no_other_whole u len (items_of jobs) is in let l = how_many jobs in sym (is ∙ sym (let t : nat_lt (front u len (items_of jobs)) len ≡ false = grind (arith, nat_tests) in t))
 
--- the counts of the runs that were looked at
-pub record Chose (u : Bool) (most : ℕ) (done : List Run) (counts : List ℕ) (room : ℕ) (blocked : ConnId → Bool) : Type 0 where
+-- the counts of the runs that were looked at; which connections are blocked is known where a run stands behind them
+pub record Chose (u : Bool) (most : ℕ) (done : List Run) (counts : List ℕ) (room : ℕ) (blocked : ConnId → Bool) (followed : Bool) : Type 0 where
   pub marks : marks_of counts done ≡ leading_marks (leads_among u) most [] (items_of (jobs_in done))
   pub left : room ≡ room_after (leads_among u) most [] (items_of (jobs_in done))
   pub within : IsWithin counts done
   pub total : sum_of counts + room ≡ most
-  pub block : 0 < room → (q : ConnId) → blocked q ≡ is_blocked u (connection_of q) (items_of (jobs_in done))
+  pub block : followed ≡ true → 0 < room → (q : ConnId) → blocked q ≡ is_blocked u (connection_of q) (items_of (jobs_in done))
 
-next_marked : (u : Bool) (most : ℕ) (done : List Run) (counts : List ℕ) (room : ℕ) (blocked : ConnId → Bool) (r : Run) → Chose u most done counts room blocked
+next_marked : (u : Bool) (most : ℕ) (done : List Run) (counts : List ℕ) (room : ℕ) (blocked : ConnId → Bool) (r : Run)
+    → Chose u most done counts room blocked true
     → Marked u room (items_of (jobs_in done)) (items_of r.jobs.items) (cond (blocked r.conn) 0 (front u room (items_of r.jobs.items)))
 next_marked u most done counts zero blocked r ch = marked_nothing u (items_of (jobs_in done)) (items_of r.jobs.items) (blocked r.conn)
-next_marked u most done counts (suc room) blocked r ch = marked_run u (suc room) (connection_of r.conn) (items_of (jobs_in done)) (items_of r.jobs.items) (blocked r.conn) r.own (ch.block (omega arith) r.conn)
+next_marked u most done counts (suc room) blocked r ch = marked_run u (suc room) (connection_of r.conn) (items_of (jobs_in done)) (items_of r.jobs.items)
+    (blocked r.conn) r.own (ch.block refl (omega arith) r.conn)
 
-pub room_for_next : (u : Bool) (most : ℕ) (done : List Run) (counts : List ℕ) (room : ℕ) (blocked : ConnId → Bool) (r : Run) (count : ℕ) → Chose u most done counts room blocked
+pub room_for_next : (u : Bool) (most : ℕ) (done : List Run) (counts : List ℕ) (room : ℕ) (blocked : ConnId → Bool) (r : Run) (count : ℕ)
+    → Chose u most done counts room blocked true
     → count ≡ cond (blocked r.conn) 0 (front u room (items_of r.jobs.items)) → count ≤ room
 room_for_next u most done counts room blocked r count ch is = omega (arith, is, (next_marked u most done counts room blocked r ch).room_for)
 
@@ -289,12 +316,13 @@ block_step true same cut other h = refl
 block_step false true cut other h = absurd (cc (h refl))
 block_step false false cut other h = refl
 
-pub chose_next : (u : Bool) (most : ℕ) (done : List Run) (counts : List ℕ) (room : ℕ) (blocked new : ConnId → Bool) (r : Run) (count : ℕ) (cut : Bool) → Chose u most done counts room blocked
+pub chose_next : (u : Bool) (most : ℕ) (done : List Run) (counts : List ℕ) (room : ℕ) (blocked new : ConnId → Bool) (r : Run) (count : ℕ)
+    (followed cut : Bool) → Chose u most done counts room blocked true
     → count ≡ cond (blocked r.conn) 0 (front u room (items_of r.jobs.items))
     → cut ≡ (nat_lt count room && nat_lt count (length r.jobs.items))
-    → ((q : ConnId) → new q ≡ (blocked q || (same_connection (connection_of r.conn) (connection_of q) && cut)))
-    → Chose u most (done ++ r ∷ []) (counts ++ count ∷ []) (room - count) new
-chose_next u most done counts room blocked new r count cut ch is is_cut adds =
+    → ((q : ConnId) → new q ≡ (blocked q || (same_connection (connection_of r.conn) (connection_of q) && (followed && cut))))
+    → Chose u most (done ++ r ∷ []) (counts ++ count ∷ []) (room - count) new followed
+chose_next u most done counts room blocked new r count followed cut ch is is_cut adds =
     let before : Jobs = items_of (jobs_in done) in
     let seg : Jobs = items_of r.jobs.items in
     let m = next_marked u most done counts room blocked r ch in
@@ -319,11 +347,12 @@ chose_next u most done counts room blocked new r count cut ch is is_cut adds =
           ∙ ap (room_after leads most []) (sym all);
       within = within-push counts done count r ch.within fits;
       total = omega (arith, sum-push counts count, ch.total, is, m.room_for);
-      block = λ some q.
-          let was = ch.block (omega arith) in
+      block = λ behind some q.
+          let was = ch.block refl (omega arith) in
           let c : Connection = connection_of r.conn in
           let d : Connection = connection_of q in
           adds q
+          ∙ ap (λ (b : Bool). blocked q || (same_connection c d && (b && cut))) behind
           ∙ at_blocked (blocked r.conn) refl some q
           ∙ ap (λ (b : Bool). b || (same_connection c d && has_other u seg)) (was q)
           ∙ sym (blocked_by_run u d c before seg r.own)
@@ -332,7 +361,9 @@ chose_next u most done counts room blocked new r count cut ch is is_cut adds =
   where
     at_blocked : (b : Bool) → blocked r.conn ≡ b → 0 < room - count → (q : ConnId) → (blocked q || (same_connection (connection_of r.conn) (connection_of q) && cut)) ≡ (blocked q || (same_connection (connection_of r.conn) (connection_of q) && has_other u (items_of r.jobs.items)))
     at_blocked true e some q = block_step (blocked q) (same_connection (connection_of r.conn) (connection_of q)) cut (has_other u (items_of r.jobs.items))
-        (λ same. ch.block (omega arith) q ∙ ap (λ (d : Connection). is_blocked u d (items_of (jobs_in done))) (sym (same-is (connection_of r.conn) (connection_of q) same)) ∙ sym (ch.block (omega arith) r.conn) ∙ e)
+        (λ same. ch.block refl (omega arith) q
+        ∙ ap (λ (d : Connection). is_blocked u d (items_of (jobs_in done))) (sym (same-is (connection_of r.conn) (connection_of q) same))
+        ∙ sym (ch.block refl (omega arith) r.conn) ∙ e)
     at_blocked false e some q =
         let whole : count ≡ front u room (items_of r.jobs.items) = is ∙ ap (λ (b : Bool). cond b 0 (front u room (items_of r.jobs.items))) e in
         let few : front u room (items_of r.jobs.items) < room = omega arith in

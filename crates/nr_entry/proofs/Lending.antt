@@ -2,7 +2,7 @@
 use Rattle.std.proofs.Common.{◌≡◌, ℕ, zero, suc, ◌+◌, ◌-◌, ◌≤◌, List, Bool, true, false, [], ◌∷◌, ◌++◌, length, take, drop, refl, sym, ap, ◌∙◌, length-append, length-drop, arith}
 use Rattle.std.specs.Prelude.{replicate, ◌&&◌}
 use Rattle.nr_model.specs.Items.{Connection, Item, same_connection}
-use Rattle.std.proofs.lemmas.List.{length-replicate}
+use Rattle.std.proofs.lemmas.List.{length-replicate, length-take}
 use Rattle.nr_model.specs.Entries.{Jobs, leading, left_after}
 use Rattle.nr_entry.specs.declared.job.Job.{Job}
 use Rattle.nr_entry.specs.declared.run.Run.{Run}
@@ -68,12 +68,19 @@ none_lent (k ∷ counts) [] w none = absurd w
 none_lent (zero ∷ counts) (r ∷ runs) w none = ap (λ (t : List Job). r.jobs.items ++ t) (none_lent counts runs w.1 (omega (arith, none)))
 none_lent (suc k ∷ counts) (r ∷ runs) w none = absurd (omega (arith, none))
 
-pub others_count : (counts : List ℕ) (runs : List Run) → IsWithin counts runs → length (others_of counts runs) + (sum_of counts) ≡ length (jobs_in runs)
+others_count : (counts : List ℕ) (runs : List Run) → IsWithin counts runs → length (others_of counts runs) + (sum_of counts) ≡ length (jobs_in runs)
 others_count [] [] w = omega arith
 others_count [] (r ∷ runs) w = absurd w
 others_count (k ∷ counts) [] w = absurd w
 others_count (k ∷ counts) (r ∷ runs) w =
     omega (arith, w.0, others_count counts runs w.1, length-append (drop k r.jobs.items) (others_of counts runs), length-drop k r.jobs.items, length-append r.jobs.items (jobs_in runs))
+
+first_count : (counts : List ℕ) (runs : List Run) → IsWithin counts runs → length (first_of counts runs) ≡ sum_of counts
+first_count [] [] w = refl
+first_count [] (r ∷ runs) w = absurd w
+first_count (k ∷ counts) [] w = absurd w
+first_count (k ∷ counts) (r ∷ runs) w = omega
+    (arith, w.0, first_count counts runs w.1, length-append (take k r.jobs.items) (first_of counts runs), length-take k r.jobs.items)
 
 -- each lent job is of its connection
 first_belong : (k : ℕ) (c : Connection) (cs : List Connection) (xs ys : List Job) → k ≤ length xs → are_from c (items_of xs) ≡ true → belong cs (items_of ys) ≡ true → belong (replicate k c ++ cs) (items_of (take k xs ++ ys)) ≡ true
@@ -125,20 +132,30 @@ lent_taken leads most counts runs new taken l = taken_lead leads most (jobs_in r
 pub lent_left : (leads : Jobs → Item → Bool) (most : ℕ) (counts : List ℕ) (runs new : List Run) (taken : List Job) → Lent leads most counts runs new taken → items_of (jobs_in new) ≡ left_after leads most [] (items_of (jobs_in runs))
 lent_left leads most counts runs new taken l = others_left leads most (jobs_in runs) (jobs_in new) (marks_of counts runs) l.marks (l.others ∙ sym (unmarked_others counts runs l.within))
 
-pub lent_whole : (leads : Jobs → Item → Bool) (most : ℕ) (counts : List ℕ) (runs new : List Run) (taken : List Job) (n : ℕ) → Lent leads most counts runs new taken → n ≡ sum_of counts → filled (gaps_where n new) taken (jobs_in new) ≡ jobs_in runs
-lent_whole leads most counts runs new taken zero l is = l.others ∙ none_lent counts runs l.within (sym is)
-lent_whole leads most counts runs new taken (suc n) l is =
-    ap (λ (t : List Bool). filled t taken (jobs_in new)) l.gaps
-    ∙ ap (λ (t : List Job). filled (marks_of counts runs) t (jobs_in new)) l.first
-    ∙ ap (λ (t : List Job). filled (marks_of counts runs) (first_of counts runs) t) l.others
-    ∙ filled_whole counts runs l.within
+pub lent_count : (leads : Jobs → Item → Bool) (most : ℕ) (counts : List ℕ) (runs new : List Run) (taken : List Job) → Lent leads most counts runs new taken
+    → length taken ≡ sum_of counts
+lent_count leads most counts runs new taken l = ap length l.first ∙ first_count counts runs l.within
+
+pub lent_whole : (leads : Jobs → Item → Bool) (most : ℕ) (counts : List ℕ) (runs new : List Run) (taken : List Job) → Lent leads most counts runs new taken
+    → filled (gaps_where (length taken) new) taken (jobs_in new) ≡ jobs_in runs
+lent_whole leads most counts runs new taken l = by_count (length taken) (lent_count leads most counts runs new taken l)
+  where
+    by_count : (n : ℕ) → n ≡ sum_of counts → filled (gaps_where n new) taken (jobs_in new) ≡ jobs_in runs
+    by_count zero is = l.others ∙ none_lent counts runs l.within (sym is)
+    by_count (suc n) is =
+        ap (λ (t : List Bool). filled t taken (jobs_in new)) l.gaps
+        ∙ ap (λ (t : List Job). filled (marks_of counts runs) t (jobs_in new)) l.first
+        ∙ ap (λ (t : List Job). filled (marks_of counts runs) (first_of counts runs) t) l.others
+        ∙ filled_whole counts runs l.within
 
 pub lent_own : (leads : Jobs → Item → Bool) (most : ℕ) (counts : List ℕ) (runs new : List Run) (taken : List Job) → Lent leads most counts runs new taken → belong (owners_in new) (items_of taken) ≡ true
 lent_own leads most counts runs new taken l =
     ap (λ (t : List Connection). belong t (items_of taken)) l.owners ∙ ap (λ (t : List Job). belong (owners_of counts runs) (items_of t)) l.first ∙ lent_belong counts runs l.within
 
-pub lent_length : (leads : Jobs → Item → Bool) (most : ℕ) (counts : List ℕ) (runs new : List Run) (taken : List Job) → Lent leads most counts runs new taken → length (jobs_in new) + (sum_of counts) ≡ length (jobs_in runs)
-lent_length leads most counts runs new taken l = omega (arith, ap length l.others, others_count counts runs l.within)
+pub lent_length : (leads : Jobs → Item → Bool) (most : ℕ) (counts : List ℕ) (runs new : List Run) (taken : List Job)
+    → Lent leads most counts runs new taken → length (jobs_in new) + length taken ≡ length (jobs_in runs)
+lent_length leads most counts runs new taken l = omega
+    (arith, ap length l.others, others_count counts runs l.within, lent_count leads most counts runs new taken l)
 
 -- what is seen where nothing is lent
 pub seen_settled : (n : ℕ) (runs : List Run) (jobs : List Job) → n ≡ 0 → lent_in runs ≡ 0 → jobs_in runs ≡ jobs

@@ -97,6 +97,21 @@ left_by_all leads (suc room) before (x ∷ jobs) h =
       | false ↦ ap (λ (t : Jobs). x ∷ t) (left_by_all leads (suc room) after jobs (omega arith))
     ]
 
+-- and where none leads, all are left
+pub left_where_none : (leads : Jobs → Item → Bool) (room : ℕ) (before jobs : Jobs) → leading leads before jobs ≡ [] → left_after leads room before jobs ≡ jobs
+left_where_none leads zero before jobs none = left_none leads before jobs
+left_where_none leads (suc room) before [] none = refl
+left_where_none leads (suc room) before (x ∷ jobs) none =
+    let after = before ++ x ∷ [] in
+    let more = leading leads after jobs in
+    (elim (leads before x) as
+    (λ m. cond m (x ∷ more) more ≡ []
+    → elim m [ true ↦ left_after leads room after jobs | false ↦ x ∷ left_after leads (suc room) after jobs ] ≡ x ∷ jobs) [
+      | true ↦ λ e. absurd (cc e)
+      | false ↦ λ e. ap (λ (t : Jobs). x ∷ t) (left_where_none leads (suc room) after jobs e)
+    ])
+    none
+
 -- marks by what they mark
 pub map-marked : {A B : Type 0} (f : A → B) (marks : List Bool) (xs : List A) → map f (marked marks xs) ≡ marked marks (map f xs)
 map-marked f [] xs = refl

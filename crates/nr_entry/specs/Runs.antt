@@ -1,13 +1,17 @@
 -- Runs of jobs, each of one connection.
-use Rattle.std.specs.Prelude.{ℕ, zero, suc, ◌+◌, ◌-◌, ◌≤◌, Bool, true, false, not, ◌==◌, List, [], ◌∷◌, ◌++◌, length, take, drop, replicate}
+use Rattle.std.specs.Prelude.{ℕ, zero, suc, ◌+◌, ◌-◌, ◌≤◌, Bool, true, false, not, ◌||◌, ◌==◌, Option, Some, None, List}
+use Rattle.std.specs.Prelude.{[], ◌∷◌, ◌++◌, length, take, drop, replicate}
 use Rattle.std.specs.List.{list_any}
+use Rattle.std.specs.BTreeSet.{contains}
 use Rattle.std.specs.VecDeque.{deque_len}
 use mathlib.Core.Bool.{beq}
-use Rattle.nr_model.specs.Items.{Connection, is_update}
+use Rattle.nr_model.specs.Items.{Connection, same_connection, is_update}
 use Rattle.nr_model.specs.Entries.{Jobs}
+use Rattle.nr_entry.specs.declared.blocked.Blocked.{Blocked}
+use Rattle.nr_entry.specs.declared.conn.ConnId.{ConnId}
 use Rattle.nr_entry.specs.declared.job.Job.{Job}
 use Rattle.nr_entry.specs.declared.run.Run.{Run}
-use Rattle.nr_entry.specs.Jobs.{connection_of}
+use Rattle.nr_entry.specs.Jobs.{connection_of, conn_cmp, items_of}
 
 -- the jobs that are here, in order
 abbrev pub jobs_in : List Run → List Job
@@ -70,6 +74,10 @@ is_kind_at updates index [] = false
 is_kind_at updates zero (job ∷ jobs) = beq (is_update job.deed) updates
 is_kind_at updates (suc index) (job ∷ jobs) = is_kind_at updates index jobs
 
+-- a run begins with a job of a kind
+abbrev pub any_begins : Bool → List Run → Bool
+any_begins updates runs = list_any (λ run. is_kind_at updates 0 (items_of run.jobs.items)) runs
+
 -- there is a count for each run, and each run has so many jobs
 abbrev pub IsWithin : List ℕ → List Run → Type 0
 IsWithin [] [] = Unit {0}
@@ -88,3 +96,11 @@ sum_of (count ∷ counts) = count + sum_of counts
 -- a job of the run is here
 abbrev pub has_jobs : Run → Bool
 has_jobs run = not (deque_len run.jobs == 0)
+
+-- the connection is the last one that was blocked, or one of the others
+abbrev pub is_last : Option ConnId → ConnId → Bool
+is_last None conn = false
+is_last (Some last) conn = same_connection (connection_of last) (connection_of conn)
+
+abbrev pub holds : Blocked → ConnId → Bool
+holds blocked conn = is_last blocked.last conn || contains conn_cmp blocked.others conn

@@ -10,6 +10,7 @@ pub use shares::Shares;
 pub use waiting::Waiting;
 
 mod batch;
+mod blocked;
 mod choice;
 mod conn;
 mod entry;

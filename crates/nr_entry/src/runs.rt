@@ -1,58 +1,92 @@
 // Which jobs of runs lead, and how they are lent and taken back.
-ghost use Rattle.std.specs.Prelude.{◌≡◌, ◌≤◌, ◌<◌, ◌+◌, ◌++◌, ◌||◌, ◌&&◌, ℕ, nat_lt, cond, [], length, vec_len, vec_capacity, IfOk, OnOk, IsTrue};
-ghost use Rattle.std.specs.BTreeSet.{contains};
+ghost use Rattle.std.specs.Prelude.{◌≡◌, ◌≤◌, ◌<◌, ◌+◌, ◌++◌, ◌||◌, ◌&&◌, ℕ, nat_lt, cond, [], length, take, vec_len, vec_capacity, IfOk, OnOk, OnErr, IsTrue};
 ghost use Rattle.std.specs.List.{filter};
 ghost use Rattle.nr_model.specs.Items.{same_connection};
-ghost use Rattle.nr_model.specs.Entries.{leading};
-ghost use Rattle.nr_entry.specs.Jobs.{connection_of, conn_cmp, items_of};
+ghost use Rattle.nr_model.specs.Entries.{leading, left_after};
+ghost use Rattle.nr_entry.specs.Jobs.{connection_of, items_of};
 ghost use Rattle.nr_entry.specs.Choice.{is_blocked, leads_among, leading_marks};
-ghost use Rattle.nr_entry.specs.Runs.{jobs_in, lent_in, gaps_in, owners_in, first_of, owners_of, others_of, marks_of, front, has_other, has_jobs, sum_of, IsWithin};
+ghost use Rattle.nr_entry.specs.Runs.{any_begins, jobs_in, lent_in, gaps_in, gaps_where, owners_in, first_of, owners_of};
+ghost use Rattle.nr_entry.specs.Runs.{others_of, marks_of, front, has_other, has_jobs, holds, sum_of, IsWithin};
 ghost use Rattle.nr_entry.specs.Waiting.{belong, filled, has_some};
 
+use crate::blocked::Blocked;
 use crate::conn::ConnId;
 use crate::job::Job;
 use crate::run::Run;
 use nr_blob::Memory;
 use std::alloc::Global;
-use std::collections::{BTreeSet, VecDeque};
+use std::collections::VecDeque;
 
-/// How many jobs of each run are taken, its first ones, and how many these are together.
-#[derive(Drop)]
-pub(crate) struct Chosen {
-    pub(crate) counts: Vec<usize>,
-    pub(crate) total: usize,
+/// Lends the jobs that lead among the updates, or among the reads: the first so many of them. It takes n log n steps for n runs, and a
+/// step for each job that is lent: n steps where no run begins with such a job. Beside the room for the jobs it takes memory only where
+/// there are three runs or more, or more than the counts have room for.
+pub(crate) fn lend_leading(
+    alloc: Global,
+    runs: &mut [Run],
+    counts: &mut Vec<usize>,
+    updates: bool,
+    most: usize,
+) -> Result<Vec<Job>, Memory>
+    requires { lent_in runs.old ≡ 0 }
+    ensures taken { IfOk result (λ taken. items_of taken.items ≡ take most (leading (leads_among updates) [] (items_of (jobs_in runs.old)))) }
+    ensures left { OnOk result (items_of (jobs_in runs.new) ≡ left_after (leads_among updates) most [] (items_of (jobs_in runs.old))) }
+    ensures whole { IfOk result (λ taken. filled (gaps_where (length taken.items) runs.new) taken.items (jobs_in runs.new) ≡ jobs_in runs.old) }
+    ensures count { IfOk result (λ taken. length (jobs_in runs.new) + length taken.items ≡ length (jobs_in runs.old)) }
+    ensures lent { IfOk result (λ taken. lent_in runs.new ≡ length taken.items) }
+    ensures owners { IfOk result (λ taken. IsTrue (belong (owners_in runs.new) (items_of taken.items))) }
+    ensures err { OnErr result (runs.new ≡ runs.old) }
+{
+    if !any_begins(runs, updates) {
+        return Ok(Vec::new(alloc));
+    }
+    let total = choose(alloc, runs, updates, most, counts)?;
+    let mut taken = Vec::with_capacity(alloc, total)?;
+    lend(runs, counts, &mut taken);
+    Ok(taken)
 }
 
-/// Chooses the jobs that lead among the updates, or among the reads: the first so many of them. It takes n log n steps for n runs, and a
-/// step for each job that is chosen.
-pub(crate) fn choose(
+// Whether a run begins with a job of a kind. Where none does, none leads.
+fn any_begins(runs: &[Run], updates: bool) -> bool
+    ensures { result ≡ any_begins updates runs.now }
+{
+    runs.iter().any(|run| run.is_kind_at(0, updates))
+}
+
+// Chooses the jobs that lead among the updates, or among the reads: the first so many of them. Of each run its first ones are chosen: how
+// many comes into the buffer, and the result is how many these are together.
+fn choose(
     alloc: Global,
     runs: &[Run],
     updates: bool,
     most: usize,
-) -> Result<Chosen, Memory>
-    ensures marks { IfOk result (λ chosen. marks_of chosen.counts.items runs.now ≡ leading_marks (leads_among updates) most [] (items_of (jobs_in runs.now))) }
-    ensures within { IfOk result (λ chosen. IsWithin chosen.counts.items runs.now) }
-    ensures total { IfOk result (λ chosen. chosen.total ≡ sum_of chosen.counts.items) }
+    counts: &mut Vec<usize>,
+) -> Result<usize, Memory>
+    ensures marks { OnOk result (marks_of counts.new.items runs.now ≡ leading_marks (leads_among updates) most [] (items_of (jobs_in runs.now))) }
+    ensures within { OnOk result (IsWithin counts.new.items runs.now) }
+    ensures total { IfOk result (λ total. total ≡ sum_of counts.new.items) }
 {
-    let mut counts = Vec::with_capacity(alloc, runs.len())?;
-    let mut blocked = BTreeSet::new(alloc);
+    counts.clear();
+    counts.reserve(runs.len())?;
+    let mut blocked = Blocked::new(alloc);
     let mut room = most;
-    for run in runs {
+    for index in 0..runs.len() {
+        let run = &runs[index];
         let count = count_leading(run, &blocked, updates, room);
-        block(&mut blocked, run.conn, is_cut(run, count, room))?;
+        let is_followed = index + 1 < runs.len();
+        block(
+            &mut blocked,
+            run.conn,
+            is_followed & is_cut(run, count, room),
+        )?;
         room -= count;
         counts.push(count)?;
     }
-    Ok(Chosen {
-        counts,
-        total: most - room,
-    })
+    Ok(most - room)
 }
 
 // How many jobs of a run lead, where jobs of the other kind wait for these connections.
-fn count_leading(run: &Run, blocked: &BTreeSet<ConnId>, updates: bool, room: usize) -> usize
-    ensures { result ≡ cond (contains conn_cmp blocked.now run.now.conn) 0 (front updates room (items_of run.now.jobs.items)) }
+fn count_leading(run: &Run, blocked: &Blocked, updates: bool, room: usize) -> usize
+    ensures { result ≡ cond (holds blocked.now run.now.conn) 0 (front updates room (items_of run.now.jobs.items)) }
 {
     if blocked.contains(&run.conn) {
         0
@@ -69,8 +103,8 @@ fn is_cut(run: &Run, count: usize, room: usize) -> bool
 }
 
 // Blocks a connection where something is true.
-fn block(blocked: &mut BTreeSet<ConnId>, conn: ConnId, is_cut: bool) -> Result<(), Memory>
-    ensures { OnOk result ((q : ConnId) → contains conn_cmp blocked.new q ≡ (contains conn_cmp blocked.old q || (same_connection (connection_of conn) (connection_of q) && is_cut))) }
+fn block(blocked: &mut Blocked, conn: ConnId, is_cut: bool) -> Result<(), Memory>
+    ensures { OnOk result ((q : ConnId) → holds blocked.new q ≡ (holds blocked.old q || (same_connection (connection_of conn) (connection_of q) && is_cut))) }
 {
     if is_cut {
         blocked.insert(conn)?;
@@ -78,8 +112,8 @@ fn block(blocked: &mut BTreeSet<ConnId>, conn: ConnId, is_cut: bool) -> Result<(
     Ok(())
 }
 
-/// Lends the first so many jobs of each run. It takes no memory.
-pub(crate) fn lend(runs: &mut [Run], counts: &[usize], taken: &mut Vec<Job>)
+// Lends the first so many jobs of each run. It takes no memory.
+fn lend(runs: &mut [Run], counts: &[usize], taken: &mut Vec<Job>)
     requires within { IsWithin counts.now runs.old }
     requires lent { lent_in runs.old ≡ 0 }
     requires room { vec_len taken.old + (sum_of counts.now) ≤ vec_capacity taken.old }

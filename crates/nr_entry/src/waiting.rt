@@ -9,7 +9,7 @@ use crate::entry::MOST_JOBS;
 use crate::job::Job;
 use crate::lifting::add_all;
 use crate::run::Run;
-use crate::runs::{any_leads, choose, lend, settle, take_back};
+use crate::runs::{any_leads, lend_leading, settle, take_back};
 use nr_blob::Memory;
 use std::alloc::Global;
 use std::marker::Model;
@@ -22,6 +22,8 @@ pub struct Waiting {
     // How many jobs wait, with those that are lent, and how many are lent.
     count: usize,
     lent: usize,
+    // How many jobs are taken of each run: filled anew by each call, and kept so that it takes no memory.
+    counts: Vec<usize>,
 }
 
 impl Model for Waiting {
@@ -50,6 +52,7 @@ impl Waiting {
             runs: Vec::new(alloc),
             count: 0,
             lent: 0,
+            counts: Vec::new(alloc),
         }
     }
 
@@ -75,7 +78,8 @@ impl Waiting {
 
     /// Lends the jobs of the next entry: the first [`MOST_JOBS`] updates before which no read of their connection waits. They are taken
     /// out for good, or given back. It takes a step for each of them, and n log n steps for n runs of jobs of one connection that wait,
-    /// however long these are.
+    /// however long these are: n steps where no run begins with an update. Beside the room for the jobs it takes memory only where three
+    /// runs or more wait, or more than in any call before.
     pub fn lend_updates(&mut self) -> Result<Vec<Job>, Memory>
         requires { self.old.gaps ≡ [] }
         ensures taken { IfOk result (λ taken. items_of taken.items ≡ entry_jobs (items_of self.old.jobs)) }
@@ -87,10 +91,14 @@ impl Waiting {
         ensures most { IfOk result (λ taken. length taken.items ≤ most_entry_jobs) }
         ensures own { (node : ℕ) → IsTrue (are_of node (items_of self.old.jobs)) → IfOk result (λ taken. IsTrue (are_of node (items_of taken.items))) }
     {
-        let chosen = choose(self.alloc, &self.runs, true, MOST_JOBS)?;
-        let mut taken = Vec::with_capacity(self.alloc, chosen.total)?;
-        lend(&mut self.runs, &chosen.counts, &mut taken);
-        self.lent = chosen.total;
+        let taken = lend_leading(
+            self.alloc,
+            &mut self.runs,
+            &mut self.counts,
+            true,
+            MOST_JOBS,
+        )?;
+        self.lent = taken.len();
         Ok(taken)
     }
 
@@ -112,7 +120,8 @@ impl Waiting {
         self.lent = 0;
     }
 
-    /// Takes the reads before which no update of their connection waits. It takes as many steps as `lend_updates`.
+    /// Takes the reads before which no update of their connection waits. It takes as many steps and as much memory as `lend_updates`, where
+    /// reads stand for updates.
     pub fn take_reads(&mut self) -> Result<Vec<Job>, Memory>
         requires { self.old.gaps ≡ [] }
         ensures taken { IfOk result (λ taken. items_of taken.items ≡ read_jobs (items_of self.old.jobs)) }
@@ -120,11 +129,15 @@ impl Waiting {
         ensures whole { OnOk result ((self.new.gaps ≡ []) × (self.new.lent ≡ [])) }
         ensures err { OnErr result (self.new ≡ self.old) }
     {
-        let chosen = choose(self.alloc, &self.runs, false, self.count)?;
-        let mut taken = Vec::with_capacity(self.alloc, chosen.total)?;
-        lend(&mut self.runs, &chosen.counts, &mut taken);
+        let taken = lend_leading(
+            self.alloc,
+            &mut self.runs,
+            &mut self.counts,
+            false,
+            self.count,
+        )?;
         settle(&mut self.runs);
-        self.count -= chosen.total;
+        self.count -= taken.len();
         Ok(taken)
     }
 

@@ -1,6 +1,6 @@
 -- A world whose connections are opened, fed and closed.
-use Rattle.std.proofs.Common.{◌≡◌, ℕ, zero, suc, ◌+◌, ◌<◌, ◌≤◌, ◌^◌, Bool, true, false, cond, List, [], ◌∷◌, ◌++◌, length, map, get_or, set, refl, ap, sym, ◌∙◌, subst, arith, None, Some, Option, ltb}
-use Rattle.std.specs.Prelude.{not, ◌&&◌, ◌||◌, nat_lt, nat_le}
+use Rattle.std.proofs.Common.{◌≡◌, ℕ, ◌+◌, ◌<◌, ◌≤◌, ◌^◌, Bool, true, false, cond, List, [], length, map, get_or, set, refl, ap, sym, ◌∙◌, subst, arith, None, Some, Option, ltb}
+use Rattle.std.specs.Prelude.{not, ◌&&◌, ◌||◌, nat_le}
 use Rattle.std.proofs.lemmas.Bool.{and_parts, and_left, or_parts, or_left, ltb-true, le-ltb, lt-ltb, not_from_true, not_from_false, not-false, cond-true, cond-false, leb-false}
 use Rattle.std.proofs.lemmas.List.{length-map}
 use Rattle.nr_model.specs.Bytes.{Bytes}
@@ -25,9 +25,9 @@ use Rattle.nr_nodes.specs.Workers.{worker_seen}
 use Rattle.nr_replica.specs.Members.{fresh_member}
 use Rattle.nr_nodes.specs.WorldState.{WorldState, Shows}
 use Rattle.nr_nodes.specs.Whole.{ArePaired, IsWhole, AreWhole, IsHeld}
-use Rattle.nr_nodes.specs.Taken.{idle_or, Takes, Steps}
+use Rattle.nr_nodes.specs.Taken.{idle_or, Steps}
 use Rattle.nr_nodes.specs.Connected.{seen_world, takes_none}
-use Rattle.nr_nodes.proofs.Sides.{length-both, get_or-both}
+use Rattle.nr_nodes.proofs.Sides.{length-both}
 use Rattle.nr_nodes.proofs.Paired.{paired_many, pair_at, some_in_use, client_of_pair}
 use Rattle.nr_nodes.proofs.Shown.{seen_at, node_is, nodes_many, shows_changed, whole_at, whole_set, held_on, takes_nothing}
 

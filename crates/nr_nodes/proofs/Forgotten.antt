@@ -6,20 +6,23 @@ use Rattle.nr_entry.specs.Jobs.{items_of}
 use Rattle.nr_nodes.specs.declared.worker.Worker.{Worker}
 use Rattle.nr_nodes.specs.Workers.{slot_seen, worker_seen}
 use Rattle.nr_nodes.specs.Served.{workers_seen}
+use Rattle.nr_nodes.specs.Listed.{lists_of}
 use Rattle.nr_nodes.specs.Forgotten.{IsForgotten, AreForgotten}
 
 first_one : (ws : List Worker) (x d : Worker) → 0 < length ws → IsForgotten (get_or ws 0 d) x → AreForgotten 1 ws (set ws 0 x)
 first_one [] x d h f = absurd (omega arith)
 first_one (w ∷ ws) x d h f = (f, refl)
 
-further : (n : ℕ) (olds news : List Worker) (x d : Worker) → AreForgotten n olds news → n < length news → IsForgotten (get_or news n d) x → AreForgotten (suc n) olds (set news n x)
+further : (n : ℕ) (olds news : List Worker) (x d : Worker) → AreForgotten n olds news → n < length news → IsForgotten (get_or news n d) x
+    → AreForgotten (suc n) olds (set news n x)
 further zero olds news x d h k f = subst (λ (ws : List Worker). AreForgotten 1 ws (set news 0 x)) (sym h) (first_one news x d k f)
 further (suc n) [] [] x d h k f = absurd (omega arith)
 further (suc n) [] (new ∷ news) x d h k f = absurd h
 further (suc n) (old ∷ olds) [] x d h k f = absurd h
 further (suc n) (old ∷ olds) (new ∷ news) x d h k f = (h.0, further n olds news x d h.1 (omega arith) f)
 
-pub forgotten_step : (n : ℕ) (olds news : List Worker) (x d : Worker) → AreForgotten n olds news → n < length news → IsForgotten (get_or news n d) x → AreForgotten (n + 1) olds (set news n x)
+pub forgotten_step : (n : ℕ) (olds news : List Worker) (x d : Worker) → AreForgotten n olds news → n < length news → IsForgotten (get_or news n d) x
+    → AreForgotten (n + 1) olds (set news n x)
 forgotten_step n olds news x d h k f =
     let e : suc n ≡ n + 1 = omega arith in
     subst (λ m. AreForgotten m olds (set news n x)) e (further n olds news x d h k f)
@@ -30,6 +33,16 @@ same_length (suc n) [] [] h = refl
 same_length (suc n) [] (new ∷ news) h = absurd h
 same_length (suc n) (old ∷ olds) [] h = absurd h
 same_length (suc n) (old ∷ olds) (new ∷ news) h = ap suc (same_length n olds news h.1)
+
+pub same_lists : (n : ℕ) (olds news : List Worker) → AreForgotten n olds news → lists_of news ≡ lists_of olds
+same_lists zero olds news h = ap lists_of (sym h)
+same_lists (suc n) [] [] h = refl
+same_lists (suc n) [] (new ∷ news) h = absurd h
+same_lists (suc n) (old ∷ olds) [] h = absurd h
+same_lists (suc n) (old ∷ olds) (new ∷ news) h =
+    let first = h.0.serials in
+    let more = same_lists n olds news h.1 in
+    λ i. first i ∷ more i
 
 -- once all are, it is what the definitions say
 pub forgotten_all : (n : ℕ) (olds news : List Worker) (owed : List (Option ℕ)) → length olds ≤ n → AreForgotten n olds news

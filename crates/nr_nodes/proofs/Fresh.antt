@@ -1,5 +1,5 @@
 -- A world with nothing in it.
-use Rattle.std.proofs.Common.{◌≡◌, ℕ, zero, suc, ◌+◌, ◌<◌, ◌≤◌, false, List, [], ◌∷◌, ◌++◌, length, map, replicate, refl, ap, sym, ◌∙◌, subst, arith}
+use Rattle.std.proofs.Common.{◌≡◌, ℕ, zero, suc, ◌+◌, false, List, [], ◌∷◌, ◌++◌, length, map, replicate, refl, ap, sym, ◌∙◌, subst, arith}
 use Rattle.std.proofs.Math.Seq.{drop-nil}
 use Rattle.std.proofs.lemmas.List.{map-append}
 use Rattle.nr_model.specs.Worlds.{Setup}
@@ -9,7 +9,7 @@ use Rattle.nr_nodes.specs.declared.log.Log.{Log}
 use Rattle.nr_nodes.specs.Served.{node_seen}
 use Rattle.nr_nodes.specs.Logs.{log_seen}
 use Rattle.nr_nodes.specs.Whole.{IsWhole, AreWhole, IsHeld}
-use Rattle.nr_nodes.specs.WorldState.{WorldState, Shows}
+use Rattle.nr_nodes.specs.WorldState.{Shows}
 use Rattle.nr_nodes.proofs.Changed.{replicate-push}
 
 -- a whole node behind the others

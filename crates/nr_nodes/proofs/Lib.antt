@@ -12,10 +12,12 @@ pub mod Runs
 pub mod Fresh
 pub mod Standing
 pub mod Batches
+pub mod Behind
 pub mod Logged
 pub mod Paired
 pub mod Connects
 pub mod Rounds
 pub mod Joined
 pub mod Kept
+pub mod Listed
 pub mod Replayed

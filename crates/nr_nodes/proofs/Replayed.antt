@@ -26,7 +26,8 @@ use Rattle.nr_nodes.specs.Advanced.{IsApplied, HasRun}
 use Rattle.nr_nodes.specs.WorldState.{WorldState, Shows}
 use Rattle.nr_nodes.specs.Whole.{IsWhole, AreWhole, IsHeld}
 use Rattle.nr_nodes.specs.Taken.{Steps}
-use Rattle.nr_nodes.specs.Replayed.{IsWithin, IsNext, IsAhead, HasLooked, HavePassed, least_of, ComesTo}
+use Rattle.nr_nodes.specs.Batches.{ComesTo}
+use Rattle.nr_nodes.specs.Replayed.{IsWithin, IsNext, IsAhead, HasLooked, HavePassed, least_of}
 use Rattle.nr_nodes.proofs.Shown.{nodes_many, tail_is, node_is, shows_changed, whole_at, whole_set, held_on, takes_done}
 use Rattle.nr_nodes.proofs.Kept.{paired_long}
 use Rattle.nr_nodes.proofs.Joined.{none_yet, one_more, looked_up}

@@ -19,6 +19,7 @@ use Rattle.nr_nodes.specs.declared.step.Handed as out
 use Rattle.nr_nodes.specs.Seen.{handed_seen}
 use Rattle.nr_nodes.specs.WorldState.{WorldState, Shows}
 use Rattle.nr_nodes.specs.Taken.{Takes, Steps}
+use Rattle.nr_nodes.specs.Behind.{CollectsBehind}
 use Rattle.nr_nodes.specs.Settles.{events_of, Settles}
 use Rattle.nr_nodes.specs.Rounds.{EndsIdle, AreLooks, IsRun, Runs, RunsBy, TakesTurns, Replays, ReplayEach, IsRoundTaken, TakesRound, AreBusy, TakesRounds}
 
@@ -258,13 +259,11 @@ runs_step old new step outcome d none takes is =
     subst (λ (b : Bool). RunsBy old new (step ∷ []) b) (sym is) (runs_one old new step outcome [] None [] [] none takes refl)
 
 -- what a collect handed out, behind what was handed out before
-pub collects : (old new : WorldState) (n w : ℕ) (o : Outcome) (answer : Option Answering) (first more all : List out.Handed) (d : Bool)
-    → Takes old new (Collect n w) o (map handed_seen more) answer → all ≡ first ++ more → d ≡ is_done o
-    → Runs old new (Collect n w ∷ []) (map handed_seen first) (map handed_seen all) d
-collects old new n w o answer first more all d takes is done =
-    subst (λ (b : Bool). Runs old new (Collect n w ∷ []) (map handed_seen first) (map handed_seen all) b) (sym done)
-    (runs_one old new (Collect n w) o (map handed_seen more) answer (map handed_seen first) (map handed_seen all) refl takes
-    (ap (map handed_seen) is ∙ map-append handed_seen first more))
+pub collects : (old new : WorldState) (n w : ℕ) (o : Outcome) (answer : Option Answering) (first all : List Handed) (d : Bool)
+    → CollectsBehind old new n w o first all answer → d ≡ is_done o → Runs old new (Collect n w ∷ []) first all d
+collects old new n w o answer first all d c done =
+    subst (λ (b : Bool). Runs old new (Collect n w ∷ []) first all b) (sym done)
+    (runs_one old new (Collect n w) o c.more answer first all refl c.taken c.behind)
 
 -- other words for what was done, and the same steps
 runs_as : (a b : WorldState) (s t : List Step) (x y : List Handed) (d g : Bool) → s ≡ t → g ≡ d → Runs a b s x y d → Runs a b t x y g

@@ -6,11 +6,13 @@ pub mod Dropped
 pub mod Forgotten
 pub mod Advanced
 pub mod Logs
+pub mod Listed
 pub mod Collected
 pub mod Batches
 pub mod WorldState
 pub mod Whole
 pub mod Taken
+pub mod Behind
 pub mod Settles
 pub mod Standing
 pub mod Ran

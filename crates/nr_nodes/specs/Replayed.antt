@@ -1,16 +1,13 @@
 -- How a node goes through the log: what it needs to go on, what many entries and a look do to it, and which entries every node has passed.
 use Rattle.std.specs.Prelude.{◌≡◌, ◌⊎◌, ◌+◌, ◌-◌, ◌<◌, ◌≤◌, ◌^◌, ℕ, true, min, cond, List, [], ◌∷◌, length, None}
 use Rattle.nr_model.specs.Nodes as nodes
-use Rattle.nr_model.specs.Nodes.Steps as steps
 use Rattle.nr_model.specs.Nodes.Steps.{Cut, Refused, advanced, advanced_by, with_reads}
-use Rattle.nr_model.specs.Nodes.Pasts.{Event, IsPast}
 use Rattle.nr_replica.specs.Members.{AreNumbered}
 use Rattle.nr_nodes.specs.declared.node.Node.{Node}
 use Rattle.nr_nodes.specs.declared.log.Log.{Log}
 use Rattle.nr_nodes.specs.Logs.{log_seen}
 use Rattle.nr_nodes.specs.Advanced.{IsOf}
 use Rattle.nr_nodes.specs.Whole.{IsWhole}
-use Rattle.nr_nodes.specs.WorldState.{WorldState, Shows}
 
 -- a node is whole, and the log has each entry that it hasn't passed
 pub record IsWithin (log : Log) (node : Node) : Type 0 where
@@ -55,7 +52,3 @@ HavePassed count (node ∷ nodes) = (count ≤ node.passed) × HavePassed count 
 abbrev pub least_of : ℕ → List Node → ℕ
 least_of most [] = most
 least_of most (node ∷ nodes) = least_of (min most node.passed) nodes
-
--- this is the outcome of a step, whatever past the world has
-pub record ComesTo (v : WorldState) (step : steps.Step) (outcome : steps.Outcome) : Type 0 where
-  pub is : (events : List Event) (world : nodes.World) → IsPast v.setup events world → Shows v world → steps.outcome v.setup world step ≡ outcome

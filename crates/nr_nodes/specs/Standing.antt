@@ -1,5 +1,5 @@
 -- How a connection and a node stand in a world.
-use Rattle.std.specs.Prelude.{ℕ, Bool, not, ◌||◌}
+use Rattle.std.specs.Prelude.{Bool, not, ◌||◌}
 use Rattle.nr_model.specs.Items.{Connection}
 use Rattle.nr_model.specs.Nodes.{World, client_of}
 use Rattle.nr_model.specs.Nodes.Steps.{is_client}

@@ -1,6 +1,5 @@
 -- What holds of each node of a world, whatever it shows.
-use Rattle.std.specs.Prelude.{◌≡◌, ◌+◌, ◌<◌, ◌^◌, ℕ, suc, Bool, false, ◌||◌, List, [], ◌∷◌, length}
-use Rattle.nr_model.specs.Worlds.{Setup}
+use Rattle.std.specs.Prelude.{◌≡◌, ◌+◌, ◌<◌, ◌^◌, ℕ, suc, ◌||◌, List, [], ◌∷◌, length}
 use Rattle.nr_model.specs.Nodes as nodes
 use Rattle.nr_model.specs.Nodes.Steps.{in_use}
 use Rattle.nr_model.specs.Nodes.Pasts.{Event, IsPast}
@@ -9,6 +8,7 @@ use Rattle.nr_replica.specs.declared.members.Member.{Member}
 use Rattle.nr_nodes.specs.declared.node.Node.{Node}
 use Rattle.nr_nodes.specs.Served.{node_seen}
 use Rattle.nr_nodes.specs.Logs.{log_seen}
+use Rattle.nr_nodes.specs.Listed.{lists_of, AreListed}
 use Rattle.nr_nodes.specs.WorldState.{WorldState, Shows}
 
 -- a connection's session has its name, and takes no bytes exactly where they asked for its end or it was closed
@@ -29,6 +29,7 @@ pub record IsWhole (n : ℕ) (node : Node) : Type 0 where
   pub pairs : ArePaired n 0 node.sessions.items node.replica.members
   pub owed : length node.replica.owed ≡ length node.workers.items
   pub counted : node.in_use ≡ in_use (node_seen node)
+  pub listed : AreListed (lists_of node.workers.items) node.replica.members
 
 -- node n is the first of these, and each is whole
 abbrev pub AreWhole : ℕ → List Node → Type 0

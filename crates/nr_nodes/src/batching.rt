@@ -1,18 +1,18 @@
 // Batches: a worker posts one, its node lifts and answers it, and the worker takes the answer, and what waits for its connections.
-ghost use Rattle.std.specs.Prelude.{◌≡◌, ◌-◌, true, false, Bool, IfOk, IfNone, OnOk, OnErr, IsErr, map, slice_index_or};
+ghost use Rattle.std.specs.Prelude.{◌≡◌, ◌-◌, ◌++◌, true, false, Bool, IfOk, IfNone, OnOk, OnErr, IsErr, map, slice_index_or};
 ghost use Rattle.std.specs.Option.{option_map};
 ghost use Rattle.nr_model.specs.Nodes.Steps as steps;
 ghost use Rattle.nr_nodes.specs.Batches.{HasWorker, ComesTo, IsPlace, IsCollected};
+ghost use Rattle.nr_nodes.specs.Behind.{CollectsBehind};
 ghost use Rattle.nr_nodes.specs.Seen.{outcome_seen, handed_seen, answer_seen};
 ghost use Rattle.nr_nodes.specs.Served.{node_seen};
 ghost use Rattle.nr_nodes.specs.Taken.{Steps, Takes, idle_or};
 ghost use Rattle.nr_nodes.specs.Whole.{IsWhole};
 
 use crate::node::Node;
-use crate::step::{Answered, Happened, Outcome, Reason};
+use crate::step::{Answered, Handed, Happened, Outcome, Reason};
 use crate::world::World;
 use nr_blob::Memory;
-use std::alloc::Global;
 
 impl World {
     // Whether there is such a worker.
@@ -113,11 +113,33 @@ impl World {
         self.nodes[node].why_not_answer(worker)
     }
 
-    /// A worker of a node takes the answer to its batch, and hands out all bytes that wait for its connections. Linear in the node's
-    /// connections and the bytes.
+    /// A worker of a node takes the answer to its batch, and hands out all bytes that wait for its connections. Linear in those of its
+    /// connections that aren't closed, and the bytes.
     pub fn collect(&mut self, node: usize, worker: usize) -> Result<Happened, Memory>
         ensures taken { IfOk result (λ happened. Takes self.old self.new (steps.Collect node worker)
             (outcome_seen happened.outcome) (map handed_seen happened.handed.items) (option_map answer_seen happened.answer)) }
+        ensures failed { OnErr result (self.new.failed ≡ true) }
+        ensures setup { self.new.setup ≡ self.old.setup }
+        ensures repeats { self.old.failed ≡ true → IsErr result }
+    {
+        let mut handed = Vec::new(self.alloc);
+        let (outcome, answer) = self.collect_behind(node, worker, &mut handed)?;
+        Ok(Happened {
+            outcome,
+            handed,
+            answer,
+        })
+    }
+
+    /// A collect whose bytes go behind those that were handed out before. It costs what a collect costs.
+    pub(crate) fn collect_behind(
+        &mut self,
+        node: usize,
+        worker: usize,
+        handed: &mut Vec<Handed>,
+    ) -> Result<(Outcome, Option<Answered>), Memory>
+        ensures taken { IfOk result (λ came. CollectsBehind self.old self.new node worker (outcome_seen came.0)
+            (map handed_seen handed.old.items) (map handed_seen handed.new.items) (option_map answer_seen came.1)) }
         ensures failed { OnErr result (self.new.failed ≡ true) }
         ensures setup { self.new.setup ≡ self.old.setup }
         ensures repeats { self.old.failed ≡ true → IsErr result }
@@ -126,39 +148,36 @@ impl World {
             return Err(Memory);
         }
         if !self.is_worker(node, worker) {
-            return Ok(Happened::plain(self.alloc, Outcome::Idle(Reason::NoSuch)));
+            return Ok((Outcome::Idle(Reason::NoSuch), None));
         }
         self.has_failed = true;
-        let happened = collect_at(self.alloc, &mut self.nodes[node], node, worker)?;
+        let came = collect_at(&mut self.nodes[node], node, worker, handed)?;
         self.has_failed = false;
-        Ok(happened)
+        Ok(came)
     }
 }
 
-// What a collect at a worker of a node comes to.
+// What a collect at a worker of a node comes to. Its bytes go behind those that were handed out before.
 fn collect_at(
-    alloc: Global,
     node: &mut Node,
     number: usize,
     worker: usize,
-) -> Result<Happened, Memory>
+    handed: &mut Vec<Handed>,
+) -> Result<(Outcome, Option<Answered>), Memory>
     requires { IsPlace number worker node.old }
-    ensures collected { IfOk result (λ happened. IsCollected number worker (node_seen node.old) (node_seen node.new)
-        (outcome_seen happened.outcome) (map handed_seen happened.handed.items) (option_map answer_seen happened.answer)) }
+    ensures collected { IfOk result (λ came. IsCollected number worker (node_seen node.old) (node_seen node.new)
+        (outcome_seen came.0) (steps.collected worker (node_seen node.old).clients) (option_map answer_seen came.1)) }
+    ensures handed { OnOk result (map handed_seen handed.new.items ≡ map handed_seen handed.old.items ++ steps.collected worker (node_seen node.old).clients) }
     ensures whole { OnOk result (IsWhole number node.new) }
 {
     let batches = node.workers[worker].batches;
-    let mut handed = Vec::new(alloc);
-    let executed = node.collect(worker, &mut handed)?;
+    let before = handed.len();
+    let executed = node.collect(worker, handed)?;
     let answer = answer_to(number, worker, batches, executed);
-    if answer.is_none() && handed.is_empty() {
-        return Ok(Happened::plain(alloc, Outcome::Idle(Reason::Nothing)));
+    if answer.is_none() && handed.len() == before {
+        return Ok((Outcome::Idle(Reason::Nothing), None));
     }
-    Ok(Happened {
-        outcome: Outcome::Done,
-        handed,
-        answer,
-    })
+    Ok((Outcome::Done, answer))
 }
 
 // The answer to the last of so many batches of a worker.

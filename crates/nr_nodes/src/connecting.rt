@@ -57,7 +57,8 @@ impl World {
         Ok(Outcome::Done)
     }
 
-    /// Closes a connection, at a moment in milliseconds. Linear in the jobs that its worker hasn't posted.
+    /// Closes a connection, at a moment in milliseconds. Linear in the jobs that its worker hasn't posted, and in the worker's connections
+    /// that aren't closed.
     pub fn close(&mut self, conn: ConnId, moment: u64) -> Result<Outcome, Memory>
         ensures taken { IfOk result (λ outcome. Steps self.old self.new (steps.Close (connection_of conn) moment) (outcome_seen outcome)) }
         ensures failed { OnErr result (self.new.failed ≡ true) }

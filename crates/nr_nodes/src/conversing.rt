@@ -1,8 +1,9 @@
 // What a connection's bytes and its close come to, and the jobs that wait at its worker for that.
-ghost use Rattle.std.specs.Prelude.{◌≡◌, ◌≤◌, ◌++◌, not, true, false, OnOk, filter, option_to_list};
+ghost use Rattle.std.specs.Prelude.{◌≡◌, ◌≤◌, ◌++◌, [], not, true, false, OnOk, filter, option_to_list};
 ghost use Rattle.std.specs.Option.{option_map};
 ghost use Rattle.nr_model.specs.Items.{Item, same_connection};
 ghost use Rattle.nr_model.specs.Keyspace.{moment, last_moment};
+ghost use Rattle.nr_model.specs.Modes.{plain};
 ghost use Rattle.nr_model.specs.Worlds.{jobs_from, own_jobs};
 ghost use Rattle.nr_model.specs.Nodes.Steps.{fed_client, asked_next, closed_client, close_job};
 ghost use Rattle.nr_entry.specs.Jobs.{connection_of, item_of, items_of};
@@ -58,7 +59,7 @@ pub(crate) fn close_session(
     pending: &mut Vec<Job>,
 ) -> Result<(), Memory>
     requires { session.old.connection ≡ connection_of conn }
-    ensures ended { session.new ≡ record session.old { ended = true } }
+    ensures ended { session.new ≡ record session.old { rest = []; mode = plain; ended = true } }
     ensures client { (member : Member) → client_seen session.new (closed_member member) ≡ closed_client (client_seen session.old member) }
     ensures jobs { (member : Member) → OnOk result (items_of pending.new.items
         ≡ filter (λ (job : Item). not (same_connection job.connection (connection_of conn))) (items_of pending.old.items)
@@ -73,7 +74,7 @@ pub(crate) fn close_session(
 // The job of a session's end, if it needs one.
 fn end_session(session: &mut Session, milliseconds: u64, dropped: Option<u64>) -> Option<Job>
     ensures job { option_map item_of result ≡ end_of dropped (moment milliseconds) session.old }
-    ensures ended { session.new ≡ record session.old { ended = true } }
+    ensures ended { session.new ≡ record session.old { rest = []; mode = plain; ended = true } }
 {
     session.close(capped(milliseconds), dropped)
 }

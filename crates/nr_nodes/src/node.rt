@@ -18,6 +18,7 @@ ghost use Rattle.nr_nodes.specs.Batches.{may_post, may_lift, may_answer, execute
 ghost use Rattle.nr_nodes.specs.Taken.{idle_or};
 ghost use Rattle.nr_nodes.specs.Whole.{IsWhole, ArePaired};
 ghost use Rattle.nr_nodes.specs.Connected.{takes_none};
+ghost use Rattle.nr_nodes.specs.Listed.{lists_of, AreListed};
 ghost use Rattle.nr_nodes.specs.Served.{node_seen, entry_seen, opened_node, posted_node, reserved_node, filled_node, fetched_node, answered_node, refused_node, workers_seen};
 
 use crate::collecting::collect;
@@ -52,6 +53,7 @@ pub struct Node {
 fn fresh_workers(alloc: Global, count: usize) -> Result<Vec<Worker>, Memory>
     ensures seen { IfOk result (λ workers. workers_seen workers.items (replicate count None) ≡ replicate count nodes.fresh_worker) }
     ensures count { IfOk result (λ workers. length workers.items ≡ count) }
+    ensures serials { IfOk result (λ workers. lists_of workers.items ≡ replicate count []) }
 {
     let mut workers = Vec::with_capacity(alloc, count)?;
     for _ in 0..count {
@@ -62,6 +64,7 @@ fn fresh_workers(alloc: Global, count: usize) -> Result<Vec<Worker>, Memory>
 
 impl Node {
     /// No connection and no key. Strangers choose the keys, so the hasher takes a seed of its own.
+    #[tactic(auto, using(crate::proofs::Listed::listed_none))]
     pub(crate) fn new(
         alloc: Global,
         keys: RandomState,
@@ -92,6 +95,7 @@ impl Node {
         worker: usize,
         limit: usize,
     ) -> Result<ConnId, Memory>
+        requires is_there { worker < length self.old.workers.items }
         requires clients { length self.old.sessions.items ≡ length self.old.replica.members }
         requires counts { self.old.in_use + 1 < 2 ^ 64 }
         ensures opened { OnOk result (node_seen self.new ≡ opened_node limit self.old.replica.node worker (node_seen self.old)) }
@@ -100,6 +104,7 @@ impl Node {
     {
         let conn = self.replica.open(worker, limit)?;
         self.sessions.push(Session::new(alloc, conn))?;
+        self.workers[worker].serials.push(conn.serial as usize)?;
         self.in_use += 1;
         Ok(conn)
     }
@@ -261,7 +266,7 @@ impl Node {
         Ok(())
     }
 
-    /// Closes a connection. Linear in the jobs that its worker hasn't posted.
+    /// Closes a connection. Linear in the jobs that its worker hasn't posted, and in the worker's connections that aren't closed.
     pub(crate) fn close(&mut self, conn: ConnId, moment: u64) -> Result<(), Memory>
         requires clients { length self.old.sessions.items ≡ length self.old.replica.members }
         requires owed { length self.old.replica.owed ≡ length self.old.workers.items }
@@ -270,12 +275,19 @@ impl Node {
         requires named { (d : SessionState) → (slice_index_or self.old.sessions.items conn.serial d).connection ≡ connection_of conn }
         requires counts { 0 < self.old.in_use }
         ensures closed { OnOk result (node_seen self.new ≡ closed_node (connection_of conn) moment (node_seen self.old)) }
-        ensures whole { (d : Member) → (n : ℕ) → (slice_index_or self.old.replica.members conn.serial d).is_closed ≡ false → IsWhole n self.old → OnOk result (IsWhole n self.new) }
+        ensures whole { (d : Member) → (n : ℕ) → (slice_index_or self.old.replica.members conn.serial d).is_closed ≡ false → IsWhole n self.old
+            → OnOk result (IsWhole n self.new) }
     {
         let serial = conn.serial as usize;
-        let worker = self.worker_of(serial);
-        let pending = &mut self.workers[worker].pending;
-        close_session(&mut self.sessions[serial], conn, moment, pending)?;
+        let at = self.worker_of(serial);
+        let worker = &mut self.workers[at];
+        close_session(
+            &mut self.sessions[serial],
+            conn,
+            moment,
+            &mut worker.pending,
+        )?;
+        worker.forget(serial);
         self.replica.close(serial);
         self.in_use -= 1;
         Ok(())
@@ -353,7 +365,7 @@ impl Node {
     }
 
     /// A worker takes the answer to its batch, where there is one, and all bytes that wait for its connections are handed out. Linear in
-    /// the node's connections and the bytes.
+    /// those of its connections that aren't closed, and the bytes.
     pub(crate) fn collect(
         &mut self,
         worker: usize,
@@ -363,13 +375,15 @@ impl Node {
         requires owed { length self.old.replica.owed ≡ length self.old.workers.items }
         requires clients { length self.old.sessions.items ≡ length self.old.replica.members }
         requires numbered { AreNumbered self.old.replica.node 0 self.old.replica.members }
+        requires listed { AreListed (lists_of self.old.workers.items) self.old.replica.members }
         ensures node { OnOk result (node_seen self.new ≡ collected_node worker (node_seen self.old)) }
         ensures handed { OnOk result (map handed_seen handed.new.items ≡ map handed_seen handed.old.items ++ collected worker (node_seen self.old).clients) }
         ensures answer { IfOk result (λ answer. answer ≡ executed_in (nodes.worker_at worker (node_seen self.old)).slot) }
         ensures whole { (n : ℕ) → IsWhole n self.old → OnOk result (IsWhole n self.new) }
     {
-        collect(&mut self.replica, worker, handed)?;
-        let answer = self.workers[worker].collect();
+        let worker = &mut self.workers[worker];
+        collect(&mut self.replica, &worker.serials, handed)?;
+        let answer = worker.collect();
         Ok(answer)
     }
 }

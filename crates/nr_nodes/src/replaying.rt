@@ -7,7 +7,8 @@ ghost use Rattle.nr_nodes.specs.Logs.{log_seen};
 ghost use Rattle.nr_nodes.specs.Served.{node_seen};
 ghost use Rattle.nr_nodes.specs.Whole.{IsWhole};
 ghost use Rattle.nr_nodes.specs.WorldState.{Shows};
-ghost use Rattle.nr_nodes.specs.Replayed.{IsWithin, IsNext, IsAhead, HasLooked, HavePassed, least_of, ComesTo};
+ghost use Rattle.nr_nodes.specs.Replayed.{IsWithin, IsNext, IsAhead, HasLooked, HavePassed, least_of};
+ghost use Rattle.nr_nodes.specs.Batches.{ComesTo};
 ghost use Rattle.nr_nodes.specs.Seen.{outcome_seen};
 ghost use Rattle.nr_nodes.specs.Taken.{Steps, idle_or};
 

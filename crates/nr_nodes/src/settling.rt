@@ -15,7 +15,8 @@ use nr_blob::Memory;
 
 impl World {
     /// Takes rounds of steps until nothing is done in one: then every batch was answered, every node has passed the whole log, and no byte
-    /// waits. Hands back all bytes that were handed out, in order. There are at most three rounds more than jobs were left.
+    /// waits. Hands back all bytes that were handed out, in order. There are at most three rounds more than jobs were left, and each costs
+    /// as its steps do: a connection that is closed costs nothing.
     pub fn settle(&mut self) -> Result<Vec<Handed>, Memory>
         ensures settled { IfOk result (λ handed. Settles self.old self.new (map handed_seen handed.items)) }
         ensures failed { OnErr result (self.new.failed ≡ true) }
@@ -250,10 +251,7 @@ impl World {
         ensures failed { OnErr result (self.new.failed ≡ true) }
         ensures setup { self.new.setup ≡ self.old.setup }
     {
-        let mut happened = self.collect(node, worker)?;
-        match handed.append(&mut happened.handed) {
-            Ok(()) => Ok(happened.outcome.is_done()),
-            Err(_) => Err(self.fail()),
-        }
+        let (outcome, _) = self.collect_behind(node, worker, handed)?;
+        Ok(outcome.is_done())
     }
 }

@@ -65,6 +65,9 @@ impl Model for Outbox {
 /// The most bytes that ever come to a queue, 2^63.
 const MOST_BYTES: u64 = 9_223_372_036_854_775_808;
 
+/// The most bytes that are copied out where all that waits is handed out: then the buffer stays for those that come next.
+const MOST_COPIED: usize = 1024;
+
 impl Outbox {
     /// Nothing waits. At most `limit` bytes ever wait. It takes no memory.
     pub fn new(alloc: Global, conn: ConnId, limit: usize) -> Outbox
@@ -165,17 +168,19 @@ impl Outbox {
         self.is_cut = true;
     }
 
-    /// Takes no more from now on, and drops what waits.
+    /// Takes no more from now on, and lets go of what waits and of its memory.
     pub fn close(&mut self)
         ensures { self.new ≡ cut_off (record self.old { waiting = [] }) }
     {
         self.buffer.clear();
+        self.buffer.shrink_to_fit();
         self.start = 0;
         self.cut();
     }
 
-    /// Hands out at most so many of the first bytes that wait, and at least one, or `None` where nothing waits. Linear in them; where all
-    /// are handed out nothing is copied. Where memory runs out nothing is changed.
+    /// Hands out at most so many of the first bytes that wait, and at least one, or `None` where nothing waits. Linear in them: they are
+    /// copied into a piece of their own size, and the buffer keeps its room for those that come next. More than 1,024 bytes that are all
+    /// that waits are moved out with the buffer, and not copied. Where memory runs out nothing is changed.
     pub fn take_piece(&mut self, alloc: Global, most: usize) -> Result<Option<Piece>, Memory>
         requires { 0 < most }
         ensures piece { IfOk result (λ piece. IfSome piece (λ piece. (connection_of piece.conn ≡ self.old.connection) × (piece.from ≡ self.old.handed) × (piece.bytes.items ≡ take most self.old.waiting))) }
@@ -189,7 +194,7 @@ impl Outbox {
             return Ok(None);
         }
         let from = self.handed;
-        let bytes = if self.start == 0 && waiting <= most {
+        let bytes = if self.start == 0 && waiting <= most && waiting > MOST_COPIED {
             mem::replace(&mut self.buffer, Vec::new(alloc))
         } else {
             let count = cmp::min(most, waiting);

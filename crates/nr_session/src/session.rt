@@ -221,15 +221,17 @@ impl Session {
         }
     }
 
-    /// Ends the session. The close has no reply, and the number of the first job that was dropped, else the next; there is none
-    /// exactly where the session gave an end and nothing was dropped.
+    /// Ends the session, and lets go of the bytes and the queued commands that it keeps. The close has no reply, and the number of the first
+    /// job that was dropped, else the next; there is none exactly where the session gave an end and nothing was dropped.
     pub fn close(&mut self, moment: u64, dropped: Option<u64>) -> Option<Job>
         requires in_time { moment ≤ last_moment }
         ensures none { IsNone result ↔ ((self.old.gave_end ≡ true) × (dropped ≡ None)) }
         ensures job { IfSome result (λ job. item_of job
             ≡ record { connection = self.old.connection; number = unwrap_or dropped self.old.next; moment = moment; deed = End None }) }
-        ensures ended { self.new ≡ record self.old { ended = true } }
+        ensures ended { self.new ≡ record self.old { rest = []; mode = plain; ended = true } }
     {
+        self.reader = Reader::new(self.alloc);
+        self.mode = Mode::new(self.alloc);
         if self.life == Life::GaveEnd && dropped.is_none() {
             return None;
         }

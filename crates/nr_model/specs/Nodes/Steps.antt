@@ -7,7 +7,7 @@ use Rattle.nr_model.specs.Replies.{reply_text}
 use Rattle.nr_model.specs.Keyspace.{moment}
 use Rattle.nr_model.specs.Commands.{served}
 use Rattle.nr_model.specs.Items.{Connection, same_connection, End, Item}
-use Rattle.nr_model.specs.Modes.{Conversation, framed_conversation}
+use Rattle.nr_model.specs.Modes.{Conversation, framed_conversation, plain}
 use Rattle.nr_model.specs.Sequential.Events.{Emission}
 use Rattle.nr_model.specs.Servers.{fresh, after_all, emitted_all}
 use Rattle.nr_model.specs.Entries.{Jobs, entry_jobs, left_by_entry, read_jobs, left_by_reads, entry_items}
@@ -360,7 +360,7 @@ abbrev pub dropped_at : Client → Connection → Node → Jobs
 dropped_at client c node = own_jobs c (worker_at client.worker node).pending
 
 abbrev pub closed_client : Client → Client
-closed_client client = record client { rest = []; closed = true; queue = cut_off (record client.queue { waiting = [] }) }
+closed_client client = record client { rest = []; mode = plain; closed = true; queue = cut_off (record client.queue { waiting = [] }) }
 
 abbrev pub closed_node : Connection → ℕ → Node → Node
 closed_node c time node =

@@ -1,9 +1,7 @@
-use Rattle.std.proofs.Common.{rules, refl, true, false, ◌≡◌, get_or, sym, ◌∙◌}
-use Rattle.nr_model.specs.Nodes as nodes
+use Rattle.std.proofs.Common.{rules, true, ◌≡◌, get_or, sym, ◌∙◌}
 use Rattle.nr_model.specs.Nodes.Steps as steps
 use Rattle.nr_entry.specs.Jobs.{connection_of}
-use Rattle.nr_nodes.specs.Connected.{seen_world, takes_none}
-use Rattle.nr_nodes.specs.Served.{node_seen}
+use Rattle.nr_nodes.specs.Connected.{seen_world}
 use Rattle.nr_nodes.proofs.Paired.{paired_many}
 use Rattle.nr_nodes.proofs.Connects.{there_node, there_serial, whole_of}
 use Rattle.nr_nodes.proofs.connecting.why_not_close.Goals as goal

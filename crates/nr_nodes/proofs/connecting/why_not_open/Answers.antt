@@ -1,4 +1,4 @@
-use Rattle.std.proofs.Common.{rules, arith, refl, true, false, ◌≡◌, ◌<◌, ◌≤◌, get_or, length, ap, sym, ◌∙◌}
+use Rattle.std.proofs.Common.{rules, arith, refl, true, false, ◌≡◌, ◌<◌, get_or, length, ap, sym, ◌∙◌}
 use Rattle.std.specs.Prelude.{nat_le}
 use Rattle.std.proofs.lemmas.Bool.{and_from, lt-ltb, le-leb, lt-leb}
 use Rattle.nr_model.specs.Nodes.Steps as steps

@@ -1,4 +1,4 @@
-use Rattle.std.proofs.Common.{rules, ◌≡◌, ◌<◌, ◌≤◌, List, ap, subst, take, map, length, get_or, ◌∙◌}
+use Rattle.std.proofs.Common.{rules, ◌≡◌, ◌<◌, ◌≤◌, List, subst, map, length, get_or, ◌∙◌}
 use Rattle.std.proofs.lemmas.List.{take_all}
 use Rattle.nr_nodes.specs.declared.step.Step.{Step}
 use Rattle.nr_nodes.specs.Seen.{step_seen}

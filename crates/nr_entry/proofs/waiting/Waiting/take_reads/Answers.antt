@@ -1,66 +1,45 @@
-use Rattle.std.proofs.Common.{◌≡◌, ◌++◌, ℕ, List, [], length, take, drop, sym, ap, subst, ◌∙◌, arith}
+use Rattle.std.proofs.Common.{◌≡◌, ℕ, List, length, sym, ap, ◌∙◌, arith}
 use Rattle.nr_model.specs.Entries.{leads_as_read}
 use Rattle.nr_entry.specs.declared.run.Run.{Run}
-use Rattle.nr_entry.specs.declared.job.Job.{Job}
-use Rattle.nr_entry.specs.Jobs.{items_of}
-use Rattle.nr_entry.specs.Choice.{leading_marks}
-use Rattle.nr_entry.specs.Runs.{jobs_in, lent_in, gaps_where, first_of, others_of, marks_of, owners_of, sum_of, IsWithin}
+use Rattle.nr_entry.specs.Runs.{jobs_in, lent_in, gaps_where}
 use Rattle.nr_entry.specs.Waiting.{Held}
 use Rattle.nr_entry.proofs.Taking.{all_taken, all_left}
 use Rattle.nr_entry.proofs.Fronts.{whole_slice}
-use Rattle.nr_entry.proofs.Lending.{Lent, lent_taken, lent_left, lent_length, nothing_lent, no_owners, others_count}
+use Rattle.nr_entry.proofs.Lending.{nothing_lent, no_owners}
 use Rattle.nr_entry.proofs.waiting.Waiting.take_reads.Goals as goal
-use Rattle.nr_entry.proofs.waiting.Waiting.take_reads.Goals.{After-drop-chosen-2}
+use Rattle.nr_entry.proofs.waiting.Waiting.take_reads.Goals.{After-len}
 
-pub lend-requires-clause-lent : goal.lend-requires-clause-lent
-lend-requires-clause-lent c =
+pub lend_leading-requires : goal.lend_leading-requires
+lend_leading-requires c =
     ap lent_in c.deref_mut.ensures.value ∙ c.self.invariant.1 ∙ nothing_lent c.self.inside.lent c.self.inside.runs.items c.self.invariant.1 (ap (λ (h : Held). h.gaps) c.self.view_is ∙ c.requires)
 
-moved : (c : After-drop-chosen-2) → Lent leads_as_read c.self.inside.count c.in_ok-chosen.chosen.counts.items c.self.inside.runs.items c.lend.new.runs c.lend.new.taken.items
-moved c =
-    let counts : List ℕ = c.in_ok-chosen.chosen.counts.items in
-    let ks : c.deref-2.result.now ≡ counts = c.deref-2.ensures.value in
-    let rs : c.deref_mut.result.now ≡ c.self.inside.runs.items = c.deref_mut.ensures.value in
-    record {
-      marks = subst (λ (t : List Run). marks_of counts t ≡ leading_marks leads_as_read c.self.inside.count [] (items_of (jobs_in t))) c.deref.ensures.value c.in_ok-chosen.ensures.marks;
-      within = subst (λ (t : List Run). IsWithin counts t) c.deref.ensures.value c.in_ok-chosen.ensures.within;
-      first = c.lend.ensures.taken ∙ ap (λ (t : List Job). t ++ first_of c.deref-2.result.now c.deref_mut.result.now) c.in_ok-taken.ensures.items ∙ ap (λ (t : List ℕ). first_of t c.deref_mut.result.now) ks ∙ ap (first_of counts) rs;
-      others = c.lend.ensures.left ∙ ap (λ (t : List ℕ). others_of t c.deref_mut.result.now) ks ∙ ap (others_of counts) rs;
-      gaps = c.lend.ensures.gaps ∙ ap (λ (t : List ℕ). marks_of t c.deref_mut.result.now) ks ∙ ap (marks_of counts) rs;
-      owners = c.lend.ensures.owners ∙ ap (λ (t : List ℕ). owners_of t c.deref_mut.result.now) ks ∙ ap (owners_of counts) rs;
-      lent = c.lend.ensures.lent ∙ ap sum_of ks;
-    }
-
-none : (c : After-drop-chosen-2) → c.self.inside.lent ≡ 0
+none : (c : After-len) → c.self.inside.lent ≡ 0
 none c = nothing_lent c.self.inside.lent c.self.inside.runs.items c.self.invariant.1 (ap (λ (h : Held). h.gaps) c.self.view_is ∙ c.requires)
 
-seen : (c : After-drop-chosen-2) → jobs_in c.self.inside.runs.items ≡ c.args.self.now.jobs
-seen c = ap (λ (h : Held). h.jobs) c.self.view_is
+seen : (c : After-len) → jobs_in c.deref_mut.result.now ≡ c.args.self.now.jobs
+seen c = ap jobs_in c.deref_mut.ensures.value ∙ ap (λ (h : Held). h.jobs) c.self.view_is
 
-whole : (c : After-drop-chosen-2) → take c.self.inside.runs.len (c.lend.new.runs ++ drop (length c.lend.new.runs) c.self.inside.runs.items) ≡ c.lend.new.runs
-whole c = whole_slice c.lend.new.runs c.self.inside.runs.items c.self.inside.runs.len (c.lend.auto.runs ∙ ap length c.deref_mut.ensures.value) (sym c.deref_mut.ensures.len ∙ ap length c.deref_mut.ensures.value)
+room : (c : After-len) → c.self.inside.count ≡ length (jobs_in c.deref_mut.result.now)
+room c = omega (arith, c.self.invariant.0, none c, ap (λ (t : List Run). length (jobs_in t)) c.deref_mut.ensures.value)
 
-left : (c : After-drop-chosen-2) → jobs_in c.settle.new.runs.items ≡ jobs_in c.lend.new.runs
-left c = c.settle.ensures.jobs ∙ ap jobs_in (whole c)
+left : (c : After-len) → jobs_in c.settle.new.runs.items ≡ jobs_in c.lend_leading.new.runs
+left c = c.settle.ensures.jobs
+    ∙ ap jobs_in (whole_slice c.lend_leading.new.runs c.self.inside.runs.items c.self.inside.runs.len
+    (c.lend_leading.auto.runs ∙ ap length c.deref_mut.ensures.value) (sym c.deref_mut.ensures.len ∙ ap length c.deref_mut.ensures.value))
 
-pub overflow_sub-self : goal.overflow_sub-self
-overflow_sub-self c =
-    let counts = c.in_ok-chosen.chosen.counts.items in
-    omega (arith, others_count counts c.deref.result.now c.in_ok-chosen.ensures.within, ap (λ (t : List Run). length (jobs_in t)) c.deref.ensures.value, c.in_ok-chosen.ensures.total, c.self.invariant.0)
-
-pub invariant_of-self : goal.invariant_of-self
-invariant_of-self c = (
-  omega (arith, ap length (left c), lent_length _ _ _ _ _ _ (moved c), c.in_ok-chosen.ensures.total, c.self.invariant.0, none c),
-  c.settle.ensures.lent ∙ sym (none c),
+pub invariant_of-self-2 : goal.invariant_of-self-2
+invariant_of-self-2 c = (
+  omega (arith, none c.before, room c.before, c.len.ensures, c.in_ok-taken.taken.ok.0, ap length (left c.before), c.in_ok-taken.ensures.count),
+  c.settle.ensures.lent ∙ sym (none c.before),
 )
 
 pub returns-clause-taken : goal.returns-clause-taken
-returns-clause-taken c =
-    rw (← seen c) (all_taken leads_as_read c.self.inside.count (jobs_in c.self.inside.runs.items) c.lend.new.taken.items (omega (arith, c.self.invariant.0, none c)) (lent_taken _ _ _ _ _ _ (moved c)))
+returns-clause-taken c = rw (← seen c.before)
+    (all_taken leads_as_read c.self.inside.count (jobs_in c.deref_mut.result.now) c.in_ok-taken.taken.items (room c.before) c.in_ok-taken.ensures.taken)
 
 pub returns-clause-left : goal.returns-clause-left
-returns-clause-left c =
-    rw (left c, ← seen c) (all_left leads_as_read c.self.inside.count (jobs_in c.self.inside.runs.items) (jobs_in c.lend.new.runs) (omega (arith, c.self.invariant.0, none c)) (lent_left _ _ _ _ _ _ (moved c)))
+returns-clause-left c = rw (left c.before, ← seen c.before)
+    (all_left leads_as_read c.self.inside.count (jobs_in c.deref_mut.result.now) (jobs_in c.lend_leading.new.runs) (room c.before) c.in_ok-taken.ensures.left)
 
 pub returns-clause-whole : goal.returns-clause-whole
-returns-clause-whole c = (ap (λ (n : ℕ). gaps_where n c.settle.new.runs.items) (none c), no_owners c.settle.new.runs.items c.settle.ensures.lent)
+returns-clause-whole c = (ap (λ (n : ℕ). gaps_where n c.settle.new.runs.items) (none c.before), no_owners c.settle.new.runs.items c.settle.ensures.lent)

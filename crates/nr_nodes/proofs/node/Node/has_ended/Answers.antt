@@ -1,4 +1,4 @@
-use Rattle.std.proofs.Common.{rules, ◌≡◌, ℕ, get_or, ap, sym, ◌∙◌}
+use Rattle.std.proofs.Common.{rules, ◌≡◌, get_or, ap, sym, ◌∙◌}
 use Rattle.nr_replica.specs.Members.{fresh_member}
 use Rattle.nr_replica.specs.declared.members.Member.{Member}
 use Rattle.nr_nodes.proofs.Connects.{ended_first, ended_second}

@@ -1,7 +1,7 @@
 use Rattle.std.proofs.Common.{rules, ◌≡◌, ◌<◌, length, get_or}
 use Rattle.nr_model.specs.Nodes.Steps as steps
 use Rattle.nr_nodes.specs.Seen.{reason_seen}
-use Rattle.nr_nodes.specs.Replayed.{ComesTo}
+use Rattle.nr_nodes.specs.Batches.{ComesTo}
 use Rattle.nr_nodes.proofs.Shown.{takes_nothing}
 use Rattle.nr_nodes.proofs.Replayed.{opens, apply_there, within_by, apply_more, let_go_ready, applied_all}
 use Rattle.nr_nodes.proofs.world.World.apply.Goals as goal

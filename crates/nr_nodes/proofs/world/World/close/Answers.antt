@@ -1,7 +1,6 @@
-use Rattle.std.proofs.Common.{rules, arith, refl, ◌≡◌, ◌<◌, get_or, length, ap, sym, ◌∙◌, subst, set, false}
+use Rattle.std.proofs.Common.{arith, refl, ◌≡◌, get_or, subst, set, false}
 use Rattle.nr_model.specs.Nodes.Steps as steps
 use Rattle.nr_entry.specs.Jobs.{connection_of}
-use Rattle.nr_nodes.specs.declared.node.Node.{Node}
 use Rattle.nr_nodes.specs.WorldState.{WorldState}
 use Rattle.nr_nodes.specs.Whole.{IsHeld}
 use Rattle.nr_nodes.specs.Taken.{Steps}

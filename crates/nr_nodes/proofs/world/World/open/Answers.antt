@@ -1,4 +1,4 @@
-use Rattle.std.proofs.Common.{rules, arith, refl, ◌≡◌, ◌<◌, get_or, length, ap, sym, ◌∙◌, subst, set, false}
+use Rattle.std.proofs.Common.{arith, refl, ◌≡◌, ◌<◌, get_or, length, ap, sym, ◌∙◌, subst, set, false}
 use Rattle.nr_model.specs.Nodes.Steps as steps
 use Rattle.nr_entry.specs.Jobs.{connection_of}
 use Rattle.nr_nodes.specs.declared.node.Node.{Node}
@@ -6,7 +6,8 @@ use Rattle.nr_nodes.specs.WorldState.{WorldState}
 use Rattle.nr_nodes.specs.Whole.{IsHeld}
 use Rattle.nr_nodes.specs.Taken.{Steps}
 use Rattle.nr_nodes.specs.Seen.{reason_seen}
-use Rattle.nr_nodes.proofs.Connects.{idle_found, done_found, opened_in, held_many, held_whole, open_within, open_room, opens_on}
+use Rattle.nr_nodes.proofs.Standing.{has_worker}
+use Rattle.nr_nodes.proofs.Connects.{idle_found, done_found, may_open, opened_in, held_many, held_whole, open_within, open_room, opens_on}
 use Rattle.nr_nodes.proofs.Paired.{paired_many}
 use Rattle.nr_nodes.proofs.world.World.open.Goals as goal
 
@@ -40,6 +41,23 @@ index_mut-requires c =
     let held : IsHeld v = c.self.invariant c.if-self.false in
     let within = open_within v c.args.node c.args.worker held e in
     omega (arith, within)
+
+pub open-requires-clause-is_there : goal.open-requires-clause-is_there
+open-requires-clause-is_there c =
+    let v : WorldState = record {
+      setup = c.self.inside.setup;
+      nodes = c.self.inside.nodes.items;
+      log = c.self.inside.log;
+      failed
+          = c.self.inside.has_failed;
+    } in
+    let e = done_found v (steps.Open c.args.node c.args.worker) c.deref.result.now c.why_not_open.result (opened_in c.args.node) c.deref.ensures.value
+    c.why_not_open.ensures c.in_default.is in
+    let held : IsHeld v = c.self.invariant c.if-self.false in
+    let old : Node = c.index_mut.result.now in
+    let at : old ≡ get_or v.nodes c.args.node old = c.index_mut.ensures.value in
+    let has = has_worker v c.args.node c.args.worker held (may_open v.setup v.nodes c.args.node c.args.worker _ e).worker in
+    subst (λ (x : Node). c.args.worker < length x.workers.items) (sym at) (has.place old).stands
 
 pub open-requires-clause-clients : goal.open-requires-clause-clients
 open-requires-clause-clients c =

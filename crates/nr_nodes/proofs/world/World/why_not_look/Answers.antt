@@ -1,5 +1,4 @@
-use Rattle.std.proofs.Common.{rules, arith, ◌≡◌, ◌-◌, ◌<◌, not, length, get_or, ap, sym, ◌∙◌}
-use Rattle.nr_model.specs.Nodes as nodes
+use Rattle.std.proofs.Common.{rules, arith, ◌≡◌, ◌<◌, not, length, get_or, ap, sym, ◌∙◌}
 use Rattle.nr_model.specs.Nodes.Steps as steps
 use Rattle.nr_nodes.specs.Served.{node_seen}
 use Rattle.nr_nodes.proofs.Replayed.{held_by, inside_by, fetch_fits, next_ready, there_by, such_by, look_asked, look_down, look_nothing, look_filled}
