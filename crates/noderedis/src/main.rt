@@ -1,65 +1,106 @@
-//! A Redis server: the program. It reads its words, serves one connection on standard input and output or plays a script, and says why it
-//! failed.
+//! A Redis server: the program. It reads its words, serves connections by TCP or one on standard input and output, or plays a script, and says
+//! why it failed.
 #![tactic(auto)]
 
-use nr_serving::{Fault, MachineClock, run_on, script_on};
+use nr_config::{Task, WordsError, words};
+use nr_server::{listen_on, serve_on, settings_on};
+use nr_service_ends::{MachineClock, Open};
+use nr_serving::{Fault, run_on, script_on};
 use std::hash::RandomState;
-use std::io::{self, ErrorKind};
+use std::io::{self, BufWriter, ErrorKind};
 use std::process::ExitCode;
 use std::{env, fs};
-use words::{Task, words};
 
-mod words;
+/// How many bytes of replies are written at once.
+const WRITTEN: usize = 65_536;
 
 fn serve_input(rt: &HostRuntime) -> io::Result<Result<(), Fault>> {
+    let alloc = rt.alloc();
     let keys = RandomState::new(rt)?;
     let clock = MachineClock { runtime: rt };
-    Ok(run_on(rt.alloc(), keys, &mut rt.stdin(), &mut rt.stdout(), &clock))
+    let mut writer = BufWriter::with_capacity(alloc, WRITTEN, rt.stdout())?;
+    Ok(run_on(alloc, keys, &mut rt.stdin(), &mut writer, &clock))
+}
+
+// The bytes of a file, or the fault of one that can't be read.
+fn read_file(rt: &HostRuntime, file: &str, fault: Fault) -> io::Result<Result<Vec<u8>, Fault>> {
+    match fs::read(rt, file) {
+        Ok(text) => Ok(Ok(text)),
+        Err(error) if error.kind() == ErrorKind::OutOfMemory => Err(error),
+        Err(_) => Ok(Err(fault)),
+    }
 }
 
 fn play_script(rt: &HostRuntime, file: &str) -> io::Result<Result<(), Fault>> {
     let keys = RandomState::new(rt)?;
-    match fs::read(rt, file) {
+    match read_file(rt, file, Fault::Script)? {
         Ok(text) => Ok(script_on(rt.alloc(), keys, &text, &mut rt.stdout())),
-        Err(error) if error.kind() == ErrorKind::OutOfMemory => Err(error),
-        Err(_) => Ok(Err(Fault::Script)),
+        Err(fault) => Ok(Err(fault)),
     }
 }
 
+fn serve_clients(rt: &HostRuntime, file: &str) -> io::Result<Result<(), Fault>> {
+    match read_file(rt, file, Fault::Settings)? {
+        Ok(text) => serve_with(rt, &text),
+        Err(fault) => Ok(Err(fault)),
+    }
+}
+
+// Serves with the settings of this text.
+fn serve_with(rt: &HostRuntime, text: &[u8]) -> io::Result<Result<(), Fault>> {
+    let alloc = rt.alloc();
+    let settings = match settings_on(alloc, text) {
+        Ok(settings) => settings,
+        Err(fault) => return Ok(Err(fault)),
+    };
+    let sockets = match listen_on(alloc, rt, &settings) {
+        Ok(sockets) => sockets,
+        Err(fault) => return Ok(Err(fault)),
+    };
+    println!(rt; "noderedis: listening on {}", settings.listen)?;
+    eprintln!(rt; "noderedis: one thread serves all nodes")?;
+    let keys = RandomState::new(rt)?;
+    let clock = MachineClock { runtime: rt };
+    Ok(serve_on(alloc, keys, &settings, sockets, clock, &Open))
+}
+
 // Says why the program ends, in one line.
-fn fail(rt: &HostRuntime, fault: Fault) -> io::Result<ExitCode> {
+fn fail(rt: &HostRuntime, fault: &Fault) -> io::Result<ExitCode> {
     eprintln!(rt; "{fault}")?;
     Ok(ExitCode::from(fault.status()))
 }
 
-fn refuse(rt: &HostRuntime, error: &clap::Error) -> io::Result<ExitCode> {
-    if error.kind() == clap::error::ErrorKind::OutOfMemory {
-        return fail(rt, Fault::Memory);
+fn refuse(rt: &HostRuntime, error: &WordsError) -> io::Result<ExitCode> {
+    match error {
+        WordsError::Memory => fail(rt, &Fault::Memory),
+        WordsError::Asked(message) | WordsError::Refused(message) => {
+            message.print(rt)?;
+            Ok(ExitCode::from(message.exit_code() as u8))
+        }
     }
-    error.print(rt)?;
-    Ok(ExitCode::from(error.exit_code() as u8))
 }
 
 fn perform(rt: &HostRuntime) -> io::Result<ExitCode> {
     let alloc = rt.alloc();
     let given: Vec<String> = env::args(rt)?.collect(alloc)?;
-    let task = match words(alloc, given.as_slice()) {
+    let task = match words(alloc, given) {
         Ok(task) => task,
         Err(error) => return refuse(rt, &error),
     };
     let done = match &task {
         Task::Run => serve_input(rt)?,
         Task::Script(file) => play_script(rt, file.as_str())?,
+        Task::Serve(file) => serve_clients(rt, file.as_str())?,
     };
     match done {
         Ok(()) => Ok(ExitCode::SUCCESS),
-        Err(fault) => fail(rt, fault),
+        Err(fault) => fail(rt, &fault),
     }
 }
 
 fn main(rt: HostRuntime) -> io::Result<ExitCode> {
     match perform(&rt) {
-        Err(error) if error.kind() == ErrorKind::OutOfMemory => fail(&rt, Fault::Memory),
+        Err(error) if error.kind() == ErrorKind::OutOfMemory => fail(&rt, &Fault::Memory),
         done => done,
     }
 }

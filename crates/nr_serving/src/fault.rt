@@ -1,4 +1,4 @@
-// Why a run failed, with the line that the program prints for it and its exit status.
+// Why the program failed, with the line that it prints and its exit status.
 ghost use Rattle.std.specs.Prelude.{◌≡◌};
 ghost use Rattle.nr_serving.specs.Faults.{status_of};
 
@@ -6,8 +6,8 @@ use nr_blob::Memory;
 use std::alloc::AllocError;
 use std::fmt;
 
-/// Why a run failed.
-#[derive(Clone, Copy, Debug, PartialEq, Eq)]
+/// Why the program failed.
+#[derive(Debug, Drop, PartialEq, Eq)]
 pub enum Fault {
     /// The input could not be read.
     Read,
@@ -19,6 +19,18 @@ pub enum Fault {
     BadStep(u64),
     /// The script could not be read.
     Script,
+    /// The settings could not be read.
+    Settings,
+    /// The settings aren't TOML.
+    NotToml,
+    /// No setting has this name.
+    UnknownKey(String),
+    /// The value of the setting of this name is of another type, or out of its range.
+    BadValue(String),
+    /// The server could not listen at this address.
+    CannotListen(String),
+    /// No connection can come any more.
+    Listener,
 }
 
 impl Fault {
@@ -26,9 +38,7 @@ impl Fault {
     pub fn status(&self) -> u8
         ensures { result ≡ status_of self.now }
     {
-        match self {
-            Fault::Read | Fault::Write | Fault::Memory | Fault::BadStep(_) | Fault::Script => 1,
-        }
+        1
     }
 }
 
@@ -46,6 +56,12 @@ impl fmt::Display for Fault {
             Fault::Memory => f.write_str("noderedis: out of memory"),
             Fault::BadStep(line) => write!(f, "noderedis: line {line}: bad step"),
             Fault::Script => f.write_str("noderedis: cannot read the script"),
+            Fault::Settings => f.write_str("noderedis: cannot read the settings"),
+            Fault::NotToml => f.write_str("noderedis: settings: not toml"),
+            Fault::UnknownKey(key) => write!(f, "noderedis: settings: unknown key {key}"),
+            Fault::BadValue(key) => write!(f, "noderedis: settings: bad value {key}"),
+            Fault::CannotListen(address) => write!(f, "noderedis: cannot listen on {address}"),
+            Fault::Listener => f.write_str("noderedis: listener failed"),
         }
     }
 }

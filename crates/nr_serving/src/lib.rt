@@ -3,13 +3,11 @@
 #![tactic(auto)]
 
 pub use fault::Fault;
-pub use moments::{MachineClock, Moments};
 pub use run::run_on;
 pub use script::script_on;
 
 mod bytes;
 mod fault;
-mod moments;
 mod run;
 mod script;
 mod serving;

@@ -7,9 +7,9 @@ ghost use Rattle.nr_serving.specs.Runs.{handed_bytes, IsServed};
 
 use crate::bytes::{flush, read_piece, write_bytes};
 use crate::fault::Fault;
-use crate::moments::Moments;
 use crate::serving::{FIRST, goes_on, open, serve};
 use nr_nodes::{Handed, World};
+use nr_service_ends::Moments;
 use std::alloc::Global;
 use std::hash::RandomState;
 use std::io::{Read, Write};

@@ -12,8 +12,12 @@ mod readers;
 #[cfg(test)]
 mod scripts;
 #[cfg(test)]
+mod service;
+#[cfg(test)]
 mod serving;
 #[cfg(test)]
 mod settings;
+#[cfg(test)]
+mod tcp;
 #[cfg(test)]
 mod worlds;

@@ -1,5 +1,6 @@
 // Readers and writers that fail: no clause says when one does.
-use nr_serving::{Fault, MachineClock, run_on};
+use nr_service_ends::MachineClock;
+use nr_serving::{Fault, run_on};
 use std::hash::RandomState;
 use std::io::{self, ErrorKind, Read, Write};
 use std::test::Fail;

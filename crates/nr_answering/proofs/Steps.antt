@@ -1,0 +1,175 @@
+-- Each step that a service asks for, as one by which the nodes go on.
+use Rattle.std.proofs.Common.{◌≡◌, ℕ, ◌<◌, Bool, true, false, not, cond, inl, inr, List, [], ◌∷◌, ◌++◌, length, refl, ap, sym, ◌∙◌, subst, arith, append-nil, ltb}
+use Rattle.std.specs.Prelude.{◌||◌, nat_le, Option, Some, None, IfSome, is_some, option_map}
+use Rattle.std.proofs.lemmas.Bool.{cases_Bool, and_parts, or_parts, ltb-true, not-false}
+use Rattle.std.proofs.lemmas.Grind.{flat_map-append}
+use Rattle.nr_model.specs.Bytes.{Bytes}
+use Rattle.nr_model.specs.Keyspace.{moment}
+use Rattle.nr_model.specs.Items.{Connection}
+use Rattle.nr_model.specs.Worlds.{Setup, Feeding, Handed}
+use Rattle.nr_model.specs.Nodes.{World, node_at, client_of}
+use Rattle.nr_model.specs.Nodes.Steps.{Step, Open, Feed, NoSuch, Ended, TooMany, Down, Outcome, Opened, Done, Idle, Refused, idle_where, is_worker, is_client, in_use, outcome, opened, effect_by, after_step}
+use Rattle.nr_model.specs.Nodes.Pasts.{Event, IsPast, handed_in}
+use Rattle.nr_model.specs.Nodes.Settling.{after_events}
+use Rattle.nr_service_ends.specs.declared.answers.Standing.TheVariants as standings
+use Rattle.nr_nodes.specs.Standing.{has_ended}
+use Rattle.nr_nodes.specs.WorldState.{WorldState, Shows}
+use Rattle.nr_nodes.specs.Taken.{Steps}
+use Rattle.nr_nodes.specs.Settles.{Settles, events_of}
+use Rattle.nr_entry.specs.declared.conn.ConnId.{ConnId}
+use Rattle.nr_entry.specs.Jobs.{connection_of}
+use Rattle.nr_answering.specs.Moves.{IsFurther, Moves}
+use Rattle.nr_answering.specs.Stands.{StandsIn}
+use Rattle.nr_answering.proofs.Apart.{connection_at, is_there, is_feed, step_fed, opened_count, grows_absent}
+use Rattle.nr_answering.proofs.Pasts.{past_led, each_led, past_then, both_are, after_both, rounds_are, rounds_fed}
+
+abbrev IsNew : World → World → Option Connection → Type 0
+IsNew world after opened = IfSome opened (λ (c : Connection). (is_client world c ≡ false) × (is_client after c ≡ true))
+
+-- a step
+step_moves : (old new : WorldState) (step : Step) (o : Outcome) (feedings : List Feeding) (opened : Option Connection) → Steps old new step o
+    → ((events : List Event) (world : World) (refused : Refused) → IsPast old.setup events world → Shows old world → o ≡ outcome old.setup world step
+    → ((after_step old.setup world step refused).fed ≡ world.fed ++ feedings) × IsNew world (after_step old.setup world step refused) opened)
+    → Moves old new feedings [] opened
+step_moves old new step o feedings opened steps is = record {
+  setup = steps.setup;
+  further = λ events world past shows.
+      let t = steps.taken events world past shows in
+      let told = is events world t.refused past shows t.event.outcome_is in
+      record {
+        events = record { step = step; outcome = o; handed = []; answer = None; refused = t.refused } ∷ [];
+        are = (t.event, tt);
+        shows = t.shows;
+        fed = told.0;
+        handed_is = refl;
+        is_new = told.1;
+      };
+}
+
+-- that neither feeds nor opens
+pub plain_moves : (old new : WorldState) (step : Step) (o : Outcome) → is_feed step ≡ false → Steps old new step o → Moves old new [] [] None
+plain_moves old new step o is steps =
+    step_moves old new step o [] None steps
+    (λ events world refused past shows e. (step_fed old.setup world step refused is ∙ sym (append-nil world.fed), tt))
+
+-- a feed of a connection that takes bytes
+stands_open : (down over : Bool) → standings.Open ≡ cond down standings.Down (cond over standings.Over standings.Open) → (down ≡ false) × (over ≡ false)
+stands_open true over e = absurd (cc e)
+stands_open false true e = absurd (cc e)
+stands_open false false e = (refl, refl)
+
+feed_path : (a b d : Bool) → a ≡ false → b ≡ false → d ≡ false → idle_where a NoSuch (idle_where b Ended (idle_where d Down Done)) ≡ Done
+feed_path a b d e f g = rw (e, f, g)
+
+pub feed_moves : (old new : WorldState) (c : Connection) (time : ℕ) (bytes : Bytes) (o : Outcome) → StandsIn old c standings.Open
+    → Steps old new (Feed c time bytes) o → Moves old new (record { connection = c; moment = moment time; bytes = bytes } ∷ []) [] None
+feed_moves old new c time bytes o stands steps =
+    step_moves old new (Feed c time bytes) o (record { connection = c; moment = moment time; bytes = bytes } ∷ []) None steps
+    (λ events world refused past shows e.
+    let client = client_of c world in
+    let over = client.ended || (client.closed || client.queue.cut) in
+    let takes = stands_open (node_at c.node world).down (has_ended world c) (stands world shows) in
+    let on = or_parts (not (is_client world c)) over takes.1 in
+    let done = feed_path (not (is_client world c)) over (node_at c.node world).down on.0 on.1 takes.0 in
+    (ap (λ (d : Outcome). (effect_by d old.setup world (Feed c time bytes) refused).fed) done, tt))
+
+-- an open that opened a connection
+opened_by : (a b d : Bool) (x c : Connection) → Opened c ≡ idle_where a NoSuch (idle_where b TooMany (idle_where d Down (Opened x)))
+    → (a ≡ false) × (c ≡ x)
+opened_by true b d x c e = absurd (cc e)
+opened_by false true d x c e = absurd (cc e)
+opened_by false false true x c e = absurd (cc e)
+opened_by false false false x c e =
+    (refl, ap (λ (o : Outcome). elim o [ Opened y ↦ y | Done ↦ c | Idle reason ↦ c ]) e)
+
+not_yet : (world : World) (n : ℕ) → is_client world (connection_at n (length (node_at n world).clients)) ≡ false
+not_yet world n =
+    let count = length (node_at n world).clients in
+    elim (cases_Bool (is_client world (connection_at n count))) [
+      | inl e ↦
+          let both = and_parts (ltb n (length world.nodes)) (ltb count count) e in
+          let below : count < count = ltb-true count count both.1 in
+          absurd (omega arith)
+      | inr e ↦ e
+    ]
+
+pub open_moves : (old new : WorldState) (n w : ℕ) (c : Connection) → Steps old new (Open n w) (Opened c) → Moves old new [] [] (Some c)
+open_moves old new n w c steps =
+    step_moves old new (Open n w) (Opened c) [] (Some c) steps
+    (λ events world refused past shows e.
+    let setup = old.setup in
+    let node = node_at n world in
+    let is = opened_by (not (is_worker setup n w)) (nat_le setup.connections (in_use node)) node.down (connection_at n (length node.clients)) c e in
+    let moved : after_step setup world (Open n w) refused ≡ opened setup n w world =
+    ap (λ (d : Outcome). effect_by d setup world (Open n w) refused) (sym e) in
+    let led = past_led setup events world past in
+    let below : n < setup.nodes = ltb-true n setup.nodes (and_parts (ltb n setup.nodes) (ltb w setup.workers) (not-false (is_worker setup n w) is.0)).0 in
+    let many : length world.nodes ≡ setup.nodes = led.many in
+    let there : n < length world.nodes = omega arith in
+    let count = opened_count setup n w world there in
+    let after : is_client (opened setup n w world) (connection_at n (length node.clients)) ≡ true =
+    is_there (opened setup n w world) n (length node.clients) (omega arith) in (
+      step_fed setup world (Open n w) refused refl ∙ sym (append-nil world.fed),
+      (
+        ap (is_client world) is.1 ∙ not_yet world n,
+        ap (λ (x : World). is_client x c) moved ∙ ap (is_client (opened setup n w world)) is.1 ∙ after,
+      ),
+    ))
+
+-- rounds of steps
+pub settle_moves : (old new : WorldState) (handed : List Handed) → Settles old new handed → Moves old new [] handed None
+settle_moves old new handed settles = record {
+  setup = settles.setup;
+  further = λ events world past shows.
+      let h = settles.taken events world past shows in
+      record {
+        events = events_of h.rounds;
+        are = rounds_are old.setup world h.rounds h.are;
+        shows = h.shows;
+        fed = rounds_fed old.setup world h.rounds h.are ∙ sym (append-nil world.fed);
+        handed_is = sym h.handed_is;
+        is_new = tt;
+      };
+}
+
+-- nothing, and more behind it
+pub none_moves : (v : WorldState) → Moves v v [] [] None
+none_moves v = record {
+  setup = refl;
+  further = λ events world past shows.
+      record { events = []; are = tt; shows = shows; fed = sym (append-nil world.fed); handed_is = refl; is_new = tt };
+}
+
+new_since : (world middle after : World) (opened : Option Connection) → ((c : Connection) → is_client middle c ≡ false → is_client world c ≡ false)
+    → IsNew middle after opened → IsNew world after opened
+new_since world middle after None earlier is = tt
+new_since world middle after (Some c) earlier is = (earlier c is.0, is.1)
+
+pub moves_on : (a b c : WorldState) (opened : Option Connection) → Moves a b [] [] None → Moves b c [] [] opened → Moves a c [] [] opened
+moves_on a b c opened first second = record {
+  setup = second.setup ∙ first.setup;
+  further = λ events world past shows.
+      let f = first.further events world past shows in
+      let setup = a.setup in
+      let middle = after_events setup world f.events in
+      let later = past_then setup events f.events world past f.are in
+      let t = subst (λ (s : Setup). IsFurther s c [] [] opened middle) first.setup
+      (second.further (events ++ f.events) middle (subst (λ (s : Setup). IsPast s (events ++ f.events) middle) (sym first.setup) later) f.shows) in
+      let led = past_led setup events world past in
+      let grown = each_led setup world (handed_in events) f.events led.many led.apart f.are in
+      let last = after_both setup world f.events t.events in
+      record {
+        events = f.events ++ t.events;
+        are = both_are setup world f.events t.events f.are t.are;
+        shows = subst (Shows c) (sym last) t.shows;
+        fed = ap (λ (w : World). w.fed) last ∙ t.fed ∙ append-nil middle.fed ∙ f.fed;
+        handed_is = flat_map-append (λ (e : Event). e.handed) f.events t.events ∙ (λ i. f.handed_is i ++ t.handed_is i);
+        is_new = subst (λ (w : World). IsNew world w opened) (sym last)
+            (new_since world middle (after_events setup middle t.events) opened (λ d absent. grows_absent world middle d grown.grows absent) t.is_new);
+      };
+}
+
+-- none took it, and the next one did, or didn't
+pub none_is : (o : Option ConnId) → is_some o ≡ false → None ≡ option_map connection_of o
+none_is None is = refl
+none_is (Some conn) is = absurd (cc is)

@@ -1,0 +1,191 @@
+-- What each call adds to every story.
+use Rattle.std.proofs.Common.{◌≡◌, ℕ, true, false, cond, Option, Some, None, List, [], ◌∷◌, ◌++◌, length, refl, ap, sym, ◌∙◌, subst, append-nil}
+use Rattle.std.specs.Prelude.{IfSome, IfNone}
+use Rattle.std.specs.Option.{option_map}
+use Rattle.std.proofs.lemmas.Grind.{flat_map-append}
+use Rattle.std.proofs.lemmas.List.{length-map}
+use Rattle.nr_model.specs.Bytes.{Bytes}
+use Rattle.nr_model.specs.Keyspace.{moment}
+use Rattle.nr_model.specs.Items.{Connection, same_connection}
+use Rattle.nr_model.specs.Worlds.{Setup, Feeding, Handed, handed_to, fed_to}
+use Rattle.nr_model.specs.Nodes.{World}
+use Rattle.nr_model.specs.Nodes.Steps.{is_client}
+use Rattle.nr_model.specs.Nodes.Pasts.{Event, IsPast, handed_in}
+use Rattle.nr_model.specs.Nodes.Settling.{after_events}
+use Rattle.nr_entry.specs.declared.conn.ConnId.{ConnId}
+use Rattle.nr_entry.specs.Jobs.{connection_of}
+use Rattle.nr_nodes.specs.Served.{node_seen}
+use Rattle.nr_nodes.specs.WorldState.{WorldState}
+use Rattle.nr_service_ends.specs.Stories.{Story, IsOpened, IsFed, HasWorked, IsClosed, Keeps}
+use Rattle.nr_answering.specs.Kept.{Taps, is_conn, kept_at, IsPut, AreKept, IsTapped}
+use Rattle.nr_answering.specs.State.{AnsweringState, IsSound}
+use Rattle.nr_answering.specs.Led.{HasLedTo}
+use Rattle.nr_answering.specs.Moves.{IsFurther, Moves}
+use Rattle.nr_answering.proofs.Apart.{other_client, grows_absent}
+use Rattle.nr_answering.proofs.Pasts.{past_led, each_led, past_then}
+use Rattle.nr_answering.proofs.Found.{same_conn, conn_same, is_conn_itself}
+
+-- a story goes on
+led_on : (old new : AnsweringState) (story next : Story) (feedings : List Feeding) (handed : List Handed) (opened : Option Connection)
+    → Moves old.world new.world feedings handed opened → HasLedTo old story → next.fed ≡ story.fed ++ feedings → next.handed ≡ story.handed ++ handed
+    → HasLedTo new next
+led_on old new story next feedings handed opened moves led fed out =
+    let setup = old.world.setup in
+    let f = moves.further led.events led.world led.past led.shows in
+    let past = past_then setup led.events f.events led.world led.past f.are in
+    record {
+      events = led.events ++ f.events;
+      world = after_events setup led.world f.events;
+      past = subst (λ (s : Setup). IsPast s (led.events ++ f.events) (after_events setup led.world f.events)) (sym moves.setup) past;
+      shows = f.shows;
+      fed = fed ∙ ap (λ (l : List Feeding). l ++ feedings) led.fed ∙ sym f.fed;
+      handed = out ∙ (λ i. led.handed i ++ sym f.handed_is i) ∙ sym (flat_map-append (λ (e : Event). e.handed) led.events f.events);
+    }
+
+same_story : (old new : AnsweringState) (story : Story) (opened : Option Connection) → Moves old.world new.world [] [] opened → HasLedTo old story
+    → HasLedTo new story
+same_story old new story opened moves led =
+    led_on old new story story [] [] opened moves led (sym (append-nil story.fed)) (sym (append-nil story.handed))
+
+-- what is kept stays kept for connections that are there
+sound_on : (old new : WorldState) (before after : Taps) (feedings : List Feeding) (handed : List Handed) (opened : Option Connection)
+    → IsSound old before → Moves old new feedings handed opened
+    → ((events : List Event) (world : World) → (f : IsFurther old.setup new feedings handed opened world) → (c : Connection)
+    → is_client (after_events old.setup world f.events) c ≡ false → kept_at c before ≡ None → kept_at c after ≡ None)
+    → IsSound new after
+sound_on old new before after feedings handed opened sound moves none =
+    let setup = old.setup in
+    let f = moves.further sound.events sound.shown sound.past sound.shows in
+    let led = past_led setup sound.events sound.shown sound.past in
+    let grown = each_led setup sound.shown (handed_in sound.events) f.events led.many led.apart f.are in
+    let world = after_events setup sound.shown f.events in
+    let past = past_then setup sound.events f.events sound.shown sound.past f.are in
+    record {
+      events = sound.events ++ f.events;
+      shown = world;
+      past = subst (λ (s : Setup). IsPast s (sound.events ++ f.events) world) (sym moves.setup) past;
+      shows = f.shows;
+      absent = λ c absent. none sound.events sound.shown f c absent (sound.absent c (grows_absent sound.shown world c grown.grows absent));
+    }
+
+pub sound_kept : (old new : WorldState) (before after : Taps) (feedings : List Feeding) (handed : List Handed) → IsSound old before
+    → Moves old new feedings handed None → ((c : Connection) → kept_at c before ≡ None → kept_at c after ≡ None) → IsSound new after
+sound_kept old new before after feedings handed sound moves none =
+    sound_on old new before after feedings handed None sound moves (λ events world f c absent was. none c was)
+
+-- behind each change of the taps
+pub put_none : (old new : Taps) (conn : ConnId) → IsPut conn None old new → (c : Connection) → kept_at c old ≡ None → kept_at c new ≡ None
+put_none old new conn put c none =
+    put.at c ∙ elim (is_conn c conn) as (λ b. cond b None (kept_at c old) ≡ None) [ true ↦ refl | false ↦ none ]
+
+pub added_absent : (old new : Taps) (handed : List Handed) → AreKept handed old new → (c : Connection) → kept_at c old ≡ None → kept_at c new ≡ None
+added_absent old new handed put c none =
+    put.at c ∙ ap (option_map (λ (bytes : Bytes). bytes ++ handed_to c handed)) none
+
+opened_none : (old new : Taps) (conn : ConnId) (c : Connection) → IsPut conn (Some []) old new → is_conn c conn ≡ false → kept_at c old ≡ None
+    → kept_at c new ≡ None
+opened_none old new conn c put other none = put.at c ∙ ap (λ b. cond b (Some []) (kept_at c old)) other ∙ none
+
+-- another connection than the one that was opened
+apart_from : (world : World) (conn : ConnId) (c : Connection) → is_client world (connection_of conn) ≡ true → is_client world c ≡ false
+    → is_conn c conn ≡ false
+apart_from world conn c here absent = sym (conn_same c conn) ∙ other_client world (connection_of conn) c here absent
+
+pub sound_opened : (old new : WorldState) (before after : Taps) (conn : ConnId) → IsSound old before → Moves old new [] [] (Some (connection_of conn))
+    → IsPut conn (Some []) before after → IsSound new after
+sound_opened old new before after conn sound moves put =
+    sound_on old new before after [] [] (Some (connection_of conn)) sound moves
+    (λ events world f c absent was. opened_none before after conn c put
+    (apart_from (after_events old.setup world f.events) conn c f.is_new.1 absent) was)
+
+abbrev pub Kept : AnsweringState → Connection → Option Bytes
+Kept a c = kept_at c a.taps
+
+others_kept : (old new : Taps) (conn : ConnId) (w : Option Bytes) → IsPut conn w old new
+    → (other : Connection) → same_connection other (connection_of conn) ≡ false → kept_at other new ≡ kept_at other old
+others_kept old new conn w put other apart = put.at other ∙ ap (λ b. cond b w (kept_at other old)) (sym (same_conn other conn) ∙ apart)
+
+own_kept : (old new : Taps) (conn : ConnId) (w : Option Bytes) → IsPut conn w old new → kept_at (connection_of conn) new ≡ w
+own_kept old new conn w put =
+    put.at (connection_of conn) ∙ ap (λ b. cond b w (kept_at (connection_of conn) old)) (is_conn_itself conn)
+
+-- a connection was opened
+pub is_opened : (old new : AnsweringState) (conn : ConnId) → IsSound old.world old.taps → Moves old.world new.world [] [] (Some (connection_of conn))
+    → IsPut conn (Some []) old.taps new.taps → IsOpened (connection_of conn) (HasLedTo old) (HasLedTo new) (Kept old) (Kept new)
+is_opened old new conn sound moves put =
+    let c = connection_of conn in
+    let setup = old.world.setup in
+    record {
+      past = λ story led. same_story old new story (Some c) moves led;
+      fed = λ story led.
+          let is_new = (moves.further led.events led.world led.past led.shows).is_new in
+          ap (fed_to c) led.fed ∙ (past_led setup led.events led.world led.past).apart.fed c is_new.0;
+      handed = λ story led.
+          let is_new = (moves.further led.events led.world led.past led.shows).is_new in
+          ap (handed_to c) led.handed ∙ (past_led setup led.events led.world led.past).apart.handed c is_new.0;
+      closed = sound.absent c (moves.further sound.events sound.shown sound.past sound.shows).is_new.0;
+      kept = own_kept old.taps new.taps conn (Some []) put;
+      others = others_kept old.taps new.taps conn (Some []) put;
+    }
+
+-- none was
+pub is_same : (old new : AnsweringState) → Moves old.world new.world [] [] None → new.taps ≡ old.taps
+    → Keeps (HasLedTo old) (HasLedTo new) (Kept old) (Kept new)
+is_same old new moves same = record {
+  past = λ story led. same_story old new story None moves led;
+  kept = λ c. ap (kept_at c) same;
+}
+
+-- bytes were fed
+pub is_fed : (old new : AnsweringState) (c : Connection) (time : ℕ) (bytes : Bytes)
+    → Moves old.world new.world (record { connection = c; moment = moment time; bytes = bytes } ∷ []) [] None → new.taps ≡ old.taps
+    → IsFed c time bytes (HasLedTo old) (HasLedTo new) (Kept old) (Kept new)
+is_fed old new c time bytes moves same = record {
+  past = λ story led.
+      let feedings : List Feeding = record { connection = c; moment = moment time; bytes = bytes } ∷ [] in
+      led_on old new story (record { fed = story.fed ++ feedings; handed = story.handed }) feedings [] None moves led refl (sym (append-nil story.handed));
+  kept = λ other. ap (kept_at other) same;
+}
+
+-- bytes were handed out
+pub has_worked : (old new : AnsweringState) (handed : List Handed) → Moves old.world new.world [] handed None → AreKept handed old.taps new.taps
+    → HasWorked (HasLedTo old) (HasLedTo new) (Kept old) (Kept new)
+has_worked old new handed moves put = record {
+  handed = handed;
+  past = λ story led.
+      led_on old new story (record { fed = story.fed; handed = story.handed ++ handed }) [] handed None moves led (sym (append-nil story.fed)) refl;
+  kept = put.at;
+}
+
+-- a connection was closed
+pub is_closed : (old new : AnsweringState) (conn : ConnId) → Moves old.world new.world [] [] None → IsPut conn None old.taps new.taps
+    → IsClosed (connection_of conn) (HasLedTo old) (HasLedTo new) (Kept old) (Kept new)
+is_closed old new conn moves put = record {
+  past = λ story led. same_story old new story None moves led;
+  kept = own_kept old.taps new.taps conn None put;
+  others = others_kept old.taps new.taps conn None put;
+}
+
+-- as many nodes as the setup says
+pub nodes_many : (world : WorldState) (taps : Taps) → IsSound world taps → length world.nodes ≡ world.setup.nodes
+nodes_many world taps sound =
+    sym (length-map world.nodes node_seen) ∙ ap length sound.shows.nodes ∙ (past_led world.setup sound.events sound.shown sound.past).many
+
+-- a connection was opened, or none was
+pub sound_tapped : (old new : WorldState) (before after : Taps) (opened : Option ConnId) → IsSound old before
+    → Moves old new [] [] (option_map connection_of opened) → IsTapped opened before after → IsSound new after
+sound_tapped old new before after None sound moves same =
+    sound_kept old new before after [] [] sound moves (λ c none. ap (kept_at c) same ∙ none)
+sound_tapped old new before after (Some conn) sound moves put = sound_opened old new before after conn sound moves put
+
+-- in terms of what was opened
+pub opened_told : (old new : AnsweringState) (opened : Option ConnId) → IsSound old.world old.taps
+    → Moves old.world new.world [] [] (option_map connection_of opened) → IsTapped opened old.taps new.taps
+    → IfSome opened (λ (conn : ConnId). IsOpened (connection_of conn) (HasLedTo old) (HasLedTo new) (Kept old) (Kept new))
+opened_told old new None sound moves tapped = tt
+opened_told old new (Some conn) sound moves put = is_opened old new conn sound moves put
+
+pub none_told : (old new : AnsweringState) (opened : Option ConnId) → Moves old.world new.world [] [] (option_map connection_of opened)
+    → IsTapped opened old.taps new.taps → IfNone opened (Keeps (HasLedTo old) (HasLedTo new) (Kept old) (Kept new))
+none_told old new None moves same = is_same old new moves same
+none_told old new (Some conn) moves put = tt

@@ -1,0 +1,23 @@
+use Rattle.std.proofs.Common.{[], ◌∷◌, false, refl, subst}
+use Rattle.nr_model.specs.Keyspace.{moment}
+use Rattle.nr_model.specs.Worlds.{Feeding}
+use Rattle.nr_entry.specs.Jobs.{connection_of}
+use Rattle.nr_service_ends.specs.Stories.{IsFed}
+use Rattle.nr_answering.specs.State.{AnsweringState}
+use Rattle.nr_answering.specs.Led.{HasLedTo}
+use Rattle.nr_answering.proofs.Told.{Kept, sound_kept, is_fed}
+use Rattle.nr_answering.proofs.answering.AnsweringAnswers.feed.Goals as goal
+
+pub invariant_of-self-2 : goal.invariant_of-self-2
+invariant_of-self-2 c = λ up.
+    let taps = c.self.inside.taps.by_conn.entries in
+    let fed : Feeding = record { connection = connection_of c.args.conn; moment = moment c.args.moment; bytes = c.args.bytes.now } in
+    sound_kept c.self.inside.world c.feed.new.world taps taps (fed ∷ []) [] (c.self.invariant c.if-self.false) c.in_ok-feed.ensures (λ d none. none)
+
+pub returns : goal.returns
+returns c =
+    let conn = connection_of c.args.conn in
+    let old : AnsweringState = record { world = c.self.inside.world; taps = c.self.inside.taps.by_conn.entries; failed = c.self.inside.has_failed } in
+    let new : AnsweringState = record { world = c.feed.new.world; taps = c.self.inside.taps.by_conn.entries; failed = false } in
+    subst (λ (a : AnsweringState). IsFed conn c.args.moment c.args.bytes.now (HasLedTo a) (HasLedTo new) (Kept a) (Kept new)) c.self.view_is
+    (is_fed old new conn c.args.moment c.args.bytes.now c.in_ok-feed.ensures refl)

@@ -1,0 +1,30 @@
+use Rattle.std.proofs.Common.{false, subst}
+use Rattle.nr_entry.specs.Jobs.{connection_of}
+use Rattle.nr_service_ends.specs.Stories.{IsOpened, Keeps}
+use Rattle.nr_answering.specs.State.{AnsweringState}
+use Rattle.nr_answering.specs.Led.{HasLedTo}
+use Rattle.nr_answering.proofs.Told.{Kept, sound_tapped, opened_told, none_told}
+use Rattle.std.specs.Prelude.{IfSome, IfNone}
+use Rattle.nr_entry.specs.declared.conn.ConnId.{ConnId}
+use Rattle.nr_answering.proofs.answering.AnsweringAnswers.open.Goals as goal
+
+pub invariant_of-self-2 : goal.invariant_of-self-2
+invariant_of-self-2 c = λ up.
+    sound_tapped c.self.inside.world c.open_tapped.new.world c.self.inside.taps.by_conn.entries c.open_tapped.new.taps.by_conn.entries
+    c.in_ok-opened.opened (c.self.invariant c.if-self.false) c.in_ok-opened.ensures.moves c.in_ok-opened.ensures.taps
+
+pub returns-clause-opened : goal.returns-clause-opened
+returns-clause-opened c =
+    let old : AnsweringState = record { world = c.self.inside.world; taps = c.self.inside.taps.by_conn.entries; failed = c.self.inside.has_failed } in
+    let new : AnsweringState = record { world = c.open_tapped.new.world; taps = c.open_tapped.new.taps.by_conn.entries; failed = false } in
+    subst (λ (a : AnsweringState). IfSome c.in_ok-opened.opened
+    (λ (conn : ConnId). IsOpened (connection_of conn) (HasLedTo a) (HasLedTo new) (Kept a) (Kept new)))
+    c.self.view_is
+    (opened_told old new c.in_ok-opened.opened (c.self.invariant c.if-self.false) c.in_ok-opened.ensures.moves c.in_ok-opened.ensures.taps)
+
+pub returns-clause-none : goal.returns-clause-none
+returns-clause-none c =
+    let old : AnsweringState = record { world = c.self.inside.world; taps = c.self.inside.taps.by_conn.entries; failed = c.self.inside.has_failed } in
+    let new : AnsweringState = record { world = c.open_tapped.new.world; taps = c.open_tapped.new.taps.by_conn.entries; failed = false } in
+    subst (λ (a : AnsweringState). IfNone c.in_ok-opened.opened (Keeps (HasLedTo a) (HasLedTo new) (Kept a) (Kept new))) c.self.view_is
+    (none_told old new c.in_ok-opened.opened c.in_ok-opened.ensures.moves c.in_ok-opened.ensures.taps)

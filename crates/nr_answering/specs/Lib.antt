@@ -1,0 +1,5 @@
+pub mod Kept
+pub mod State
+pub mod Led
+pub mod Stands
+pub mod Moves

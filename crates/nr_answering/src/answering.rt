@@ -1,0 +1,151 @@
+// The server of several nodes with the bytes that it handed out and that weren't written yet.
+ghost use Rattle.std.specs.Prelude.{◌≡◌, false, [], None, IfOk};
+ghost use Rattle.std.specs.Option.{option_map};
+ghost use Rattle.nr_model.specs.Items.{Connection};
+ghost use Rattle.nr_entry.specs.Jobs.{connection_of};
+ghost use Rattle.nr_answering.specs.Kept.{kept_at, IsTapped};
+ghost use Rattle.nr_answering.specs.Moves.{Moves};
+ghost use Rattle.nr_answering.specs.Led.{HasLedTo};
+
+use crate::moving;
+use crate::taps::Taps;
+use nr_blob::Memory;
+use nr_entry::ConnId;
+use nr_nodes::{Setup, World};
+use nr_service_ends::{Answers, Standing};
+use std::alloc::Global;
+use std::hash::RandomState;
+use std::marker::Model;
+
+/// The server of several nodes, as a service asks it.
+#[derive(Drop)]
+pub struct Answering {
+    world: World,
+    taps: Taps,
+    has_failed: bool,
+}
+
+impl Model for Answering {
+    ghost use Rattle.std.specs.Prelude.{◌≡◌, false};
+    ghost use Rattle.nr_answering.specs.State.{AnsweringState, coded_answering, IsSound};
+
+    ghost Value = { AnsweringState };
+
+    ghost coded = { coded_answering };
+
+    ghost view = { λ a. record { world = a.world; taps = a.taps.by_conn.entries; failed = a.has_failed } };
+
+    ghost invariant = { λ a. a.has_failed ≡ false → IsSound a.world a.taps.by_conn.entries };
+}
+
+impl Answering {
+    /// No connection and no key. Strangers choose the keys, so the hashers take a seed of their own.
+    pub fn new(alloc: Global, keys: RandomState, setup: Setup) -> Result<Answering, Memory>
+        ensures setup { IfOk result (λ answering. answering.world.setup ≡ setup) }
+        ensures works { IfOk result (λ answering. answering.failed ≡ false) }
+        ensures past { IfOk result (λ answering. HasLedTo answering (record { fed = []; handed = [] })) }
+        ensures kept { IfOk result (λ answering. (c : Connection) → kept_at c answering.taps ≡ None) }
+    {
+        let world = World::new(alloc, keys, setup)?;
+        Ok(Answering {
+            world,
+            taps: Taps::new(alloc),
+            has_failed: false,
+        })
+    }
+
+    /// How large it is.
+    pub fn setup(&self) -> Setup
+        ensures { result ≡ self.now.world.setup }
+    {
+        self.world.setup()
+    }
+}
+
+// Opens a connection, and an empty tap for it.
+fn open_tapped(world: &mut World, taps: &mut Taps, number: u64) -> Result<Option<ConnId>, Memory>
+    ensures moves { IfOk result (λ opened. Moves world.old world.new [] [] (option_map connection_of opened)) }
+    ensures taps { IfOk result (λ opened. IsTapped opened taps.old.by_conn.entries taps.new.by_conn.entries) }
+{
+    match moving::open(world, number)? {
+        Some(conn) => {
+            taps.open(conn)?;
+            Ok(Some(conn))
+        }
+        None => Ok(None),
+    }
+}
+
+impl Answers for Answering {
+    ghost use Rattle.nr_answering.specs.Kept.{kept_at};
+    ghost use Rattle.nr_answering.specs.Led.{HasLedTo};
+    ghost use Rattle.nr_answering.specs.Stands.{Stands};
+
+    ghost is_past = { HasLedTo };
+
+    ghost kept = { λ a c. kept_at c a.taps };
+
+    ghost stands = { Stands };
+
+    /// A connection goes to the node and the worker of its number, in turn, or to the next node that takes it.
+    fn open(&mut self, number: u64) -> Result<Option<ConnId>, Memory> {
+        if self.has_failed {
+            return Err(Memory);
+        }
+        self.has_failed = true;
+        let opened = open_tapped(&mut self.world, &mut self.taps, number)?;
+        self.has_failed = false;
+        Ok(opened)
+    }
+
+    fn standing(&self, conn: ConnId) -> Standing {
+        if self.has_failed {
+            return Standing::Down;
+        }
+        moving::standing(&self.world, conn)
+    }
+
+    fn is_down(&self) -> bool {
+        self.has_failed || moving::is_down(&self.world)
+    }
+
+    fn feed(&mut self, conn: ConnId, moment: u64, bytes: &[u8]) -> Result<(), Memory> {
+        if self.has_failed {
+            return Err(Memory);
+        }
+        self.has_failed = true;
+        moving::feed(&mut self.world, conn, moment, bytes)?;
+        self.has_failed = false;
+        Ok(())
+    }
+
+    fn work(&mut self) -> Result<(), Memory> {
+        if self.has_failed {
+            return Err(Memory);
+        }
+        self.has_failed = true;
+        let handed = moving::settle(&mut self.world)?;
+        self.taps.put_each(handed)?;
+        self.has_failed = false;
+        Ok(())
+    }
+
+    fn pending(&self, conn: ConnId) -> &[u8] {
+        self.taps.bytes(conn)
+    }
+
+    fn written(&mut self, conn: ConnId, count: usize) {
+        self.taps.let_go(conn, count);
+    }
+
+    fn close(&mut self, conn: ConnId, moment: u64) -> Result<(), Memory> {
+        if self.has_failed {
+            return Err(Memory);
+        }
+        self.has_failed = true;
+        moving::close(&mut self.world, conn, moment)?;
+        self.taps.close(conn);
+        self.has_failed = false;
+        Ok(())
+    }
+}

@@ -1,0 +1,115 @@
+// What a service asks of the nodes, as steps of their world.
+ghost use Rattle.std.specs.Prelude.{◌≡◌, ◌<◌, ◌%◌, ◌/◌, [], ◌∷◌, None, IfOk, OnOk, length, map};
+ghost use Rattle.std.specs.List.{list_all};
+ghost use Rattle.std.specs.Option.{option_map};
+ghost use Rattle.nr_model.specs.Keyspace.{moment as moment_of};
+ghost use Rattle.nr_model.specs.Nodes as nodes;
+ghost use Rattle.nr_entry.specs.Jobs.{connection_of};
+ghost use Rattle.nr_nodes.specs.Seen.{handed_seen};
+ghost use Rattle.nr_nodes.specs.WorldState.{Shows};
+ghost use Rattle.nr_service_ends.specs.declared.answers.Standing.TheVariants as standings;
+ghost use Rattle.nr_answering.specs.Moves.{Moves};
+ghost use Rattle.nr_answering.specs.Stands.{StandsIn};
+
+use nr_blob::Memory;
+use nr_entry::ConnId;
+use nr_nodes::{Handed, Outcome, Setup, World};
+use nr_service_ends::Standing;
+
+// A worker of a node.
+#[derive(Clone, Copy)]
+struct Place {
+    node: usize,
+    worker: usize,
+}
+
+// Where the connection that was accepted as this number is opened: connections go to the nodes in turn, and to the workers of each in turn.
+fn place_of(setup: Setup, number: u64) -> Place
+    ensures node { result.node ≡ number % setup.nodes }
+    ensures worker { result.worker ≡ (number / setup.nodes) % setup.workers }
+{
+    let nodes = setup.nodes() as u64;
+    let workers = setup.workers() as u64;
+    Place {
+        node: (number % nodes) as usize,
+        worker: (number / nodes % workers) as usize,
+    }
+}
+
+fn open_at(world: &mut World, node: usize, worker: usize) -> Result<Option<ConnId>, Memory>
+    ensures { IfOk result (λ opened. Moves world.old world.new [] [] (option_map connection_of opened)) }
+{
+    match world.open(node, worker)? {
+        Outcome::Opened(conn) => Ok(Some(conn)),
+        Outcome::Done | Outcome::Idle(_) => Ok(None),
+    }
+}
+
+/// Opens a connection at the place of its number, or at that worker of the next node that takes it.
+pub(crate) fn open(world: &mut World, number: u64) -> Result<Option<ConnId>, Memory>
+    ensures { IfOk result (λ opened. Moves world.old world.new [] [] (option_map connection_of opened)) }
+{
+    let setup = world.setup();
+    let place = place_of(setup, number);
+    for passed in 0..setup.nodes() {
+        let node = (place.node + passed) % setup.nodes();
+        let opened = open_at(world, node, place.worker)?;
+        if opened.is_some() {
+            return Ok(opened);
+        }
+    }
+    Ok(None)
+}
+
+/// Feeds bytes to a connection that takes them, at a moment in milliseconds.
+pub(crate) fn feed(world: &mut World, conn: ConnId, moment: u64, bytes: &[u8]) -> Result<(), Memory>
+    requires { StandsIn world.old (connection_of conn) standings.Open }
+    ensures { OnOk result (Moves world.old world.new
+        (record { connection = connection_of conn; moment = moment_of moment; bytes = bytes.now } ∷ []) [] None) }
+{
+    world.feed(conn, moment, bytes)?;
+    Ok(())
+}
+
+/// Has all work done that is at hand. Hands back what was handed out, in order.
+pub(crate) fn settle(world: &mut World) -> Result<Vec<Handed>, Memory>
+    ensures { IfOk result (λ handed. Moves world.old world.new [] (map handed_seen handed.items) None) }
+{
+    let handed = world.settle()?;
+    Ok(handed)
+}
+
+/// Closes a connection, where it isn't closed yet, at a moment in milliseconds.
+pub(crate) fn close(world: &mut World, conn: ConnId, moment: u64) -> Result<(), Memory>
+    ensures { OnOk result (Moves world.old world.new [] [] None) }
+{
+    world.close(conn, moment)?;
+    Ok(())
+}
+
+/// How a connection stands.
+pub(crate) fn standing(world: &World, conn: ConnId) -> Standing
+    requires { length world.now.nodes ≡ world.now.setup.nodes }
+    ensures { StandsIn world.now (connection_of conn) result }
+{
+    if conn.node < world.setup().nodes() && world.is_down(conn.node) {
+        return Standing::Down;
+    }
+    if world.has_ended(conn) {
+        return Standing::Over;
+    }
+    Standing::Open
+}
+
+/// Whether every node is down.
+pub(crate) fn is_down(world: &World) -> bool
+    requires { length world.now.nodes ≡ world.now.setup.nodes }
+    ensures { (shown : nodes.World) → Shows world.now shown → result ≡ list_all (λ node. node.down) shown.nodes }
+{
+    for node in 0..world.setup().nodes() {
+        if !world.is_down(node) {
+            return false;
+        }
+    }
+    true
+}

@@ -1,0 +1,41 @@
+-- What a settings file gives, and what is told of one that is refused.
+use Rattle.std.specs.Prelude.{◌≡◌, ◌⊎◌, List, ℕ, Some, None}
+use Rattle.std.specs.Str.{IsUtf8}
+use Rattle.toml.specs.Data.{Members}
+use Rattle.toml.specs.Parse.{parse_document}
+use Rattle.nr_config.specs.declared.error.ConfigError.{ConfigError}
+use Rattle.nr_config.specs.declared.error.ConfigError.TheVariants as errors
+use Rattle.nr_config.specs.declared.settings.Settings.{Settings}
+use Rattle.nr_config.specs.Faults.{Refuses, Sets}
+use Rattle.nr_config.specs.Keys.{HasNoFault}
+use Rattle.nr_serving.specs.declared.fault.Fault.{Fault}
+use Rattle.nr_serving.specs.declared.fault.Fault.TheVariants as faults
+
+-- the fault of the program that tells this error
+abbrev pub IsOf : ConfigError → Fault → Type 0
+IsOf errors.NotToml fault = fault ≡ faults.NotToml
+IsOf (errors.UnknownKey key) fault = fault ≡ faults.UnknownKey key
+IsOf (errors.BadValue key) fault = fault ≡ faults.BadValue key
+IsOf errors.Memory fault = fault ≡ faults.Memory
+
+-- the bytes are a text that is TOML without fault, and each setting is as it says, or at its default
+pub record AreSet (bytes : List ℕ) (settings : Settings) : Type 0 where
+  pub text : IsUtf8 bytes
+  pub file : Members
+  pub toml : parse_document bytes ≡ Some file
+  pub faultless : HasNoFault file
+  pub sets : Sets file settings
+
+-- what is told of bytes, or want of memory
+abbrev pub IsToldOf : List ℕ → Fault → Type 0
+IsToldOf bytes faults.Read = ⊥
+IsToldOf bytes faults.Write = ⊥
+IsToldOf bytes faults.Memory = Unit {0}
+IsToldOf bytes (faults.BadStep line) = ⊥
+IsToldOf bytes faults.Script = ⊥
+IsToldOf bytes faults.Settings = ⊥
+IsToldOf bytes faults.NotToml = (¬ (IsUtf8 bytes)) ⊎ (parse_document bytes ≡ None)
+IsToldOf bytes (faults.UnknownKey key) = IsUtf8 bytes × Refuses bytes (errors.UnknownKey key)
+IsToldOf bytes (faults.BadValue key) = IsUtf8 bytes × Refuses bytes (errors.BadValue key)
+IsToldOf bytes (faults.CannotListen address) = ⊥
+IsToldOf bytes faults.Listener = ⊥

@@ -1,0 +1,150 @@
+-- What is read and written for one client.
+use Rattle.std.proofs.Common.{◌≡◌, ℕ, [], ◌∷◌, ◌++◌, take, drop, refl, sym, ap, ◌∙◌, subst, append-nil}
+use Rattle.std.specs.Prelude.{Option, IfSome}
+use Rattle.std.specs.Option.{option_map}
+use Rattle.std.proofs.lemmas.List.Elements.{All-nil, All-cons}
+use Rattle.nr_model.specs.Bytes.{Bytes}
+use Rattle.nr_model.specs.Items.{Connection}
+use Rattle.nr_model.specs.Keyspace.{moment}
+use Rattle.nr_model.specs.Worlds.{Feeding, fed_to, handed_to}
+use Rattle.nr_model.proofs.WorldsLists.{same_self}
+use Rattle.nr_model.proofs.WorldsGrow.{fed_to-append, own_bytes, other_bytes}
+use Rattle.nr_service.specs.Serving.{connection}
+use Rattle.nr_service.specs.Steps.{ServesOne}
+use Rattle.nr_service.specs.declared.client.Client.{Client}
+use Rattle.nr_service_ends.specs.Stories.{Story, Past, Kept, kept_bytes, IsFed, IsWritten}
+use Rattle.nr_service_ends.specs.Streams.{GrowsBy}
+use Rattle.nr_service.proofs.Apart.{flips}
+use Rattle.nr_service.proofs.Known.{grows_none, fed_more, sent_more}
+use Rattle.nr_service.proofs.Served.{one_served, nothing_fed, serves_then}
+
+abbrev feeding_of : Connection → ℕ → Bytes → Feeding
+feeding_of c now bytes = record { connection = c; moment = moment now; bytes = bytes }
+
+abbrev with_feeding : Story → Connection → ℕ → Bytes → Story
+with_feeding story c now bytes = record story { fed = story.fed ++ feeding_of c now bytes ∷ [] }
+
+-- bytes were read and fed
+pub fed_one : {A S : Type 0} (was_received was_sent : S → Option Bytes) (is_past : A → Past) (keeps : A → Kept) (now : ℕ) (before after : A)
+    (old new : Client S)
+    (bytes : Bytes) → new.conn ≡ old.conn
+    → was_received new.stream ≡ option_map (λ (front : Bytes). front ++ bytes) (was_received old.stream)
+    → was_sent new.stream ≡ was_sent old.stream
+    → IsFed (connection old) now bytes (is_past before) (is_past after) (keeps before) (keeps after)
+    → ServesOne was_received was_sent is_past keeps now before after old new
+fed_one {A} {S} was_received was_sent is_past keeps now before after old new bytes same grows sent fed =
+    let c = connection old in
+    let one : connection new ≡ c = ap (λ conn. record { node = conn.node; serial = conn.serial }) same in
+    let own : (story : Story) → fed_to c (story.fed ++ feeding_of c now bytes ∷ []) ≡ fed_to c story.fed ++ bytes = λ story.
+    fed_to-append c story.fed (feeding_of c now bytes ∷ []) ∙ ap (λ (b : Bytes). fed_to c story.fed ++ b)
+    (own_bytes c (feeding_of c now bytes) (same_self c)) in
+    record {
+      beside = λ others. record {
+        further = λ story a.
+            let next = with_feeding story c now bytes in
+            record {
+              next = next;
+              more = feeding_of c now bytes ∷ [];
+              fed = refl;
+              in_time = All-cons (λ (feeding : Feeding). feeding.moment ≡ moment now) (feeding_of c now bytes) [] refl (All-nil _);
+              served = one_served was_received was_sent (is_past before) (is_past after) (keeps before) (keeps after) story next old new others one
+                  (fed.past story a.past)
+                  (record {
+                    fed = λ other differs.
+                        fed_to-append other story.fed (feeding_of c now bytes ∷ [])
+                        ∙ ap (λ (b : Bytes). fed_to other story.fed ++ b) (other_bytes other (feeding_of c now bytes) (flips c other ∙ differs))
+                        ∙ append-nil (fed_to other story.fed);
+                    handed = λ other differs. refl;
+                    kept = λ other differs. fed.kept other;
+                  })
+                  (λ s. record {
+                    pending = s.pending;
+                    kept = ap (keeps after) one ∙ fed.kept c ∙ s.kept;
+                    received = fed_more (was_received old.stream) (was_received new.stream) bytes (fed_to c story.fed) (fed_to (connection new) next.fed) grows
+                        (sym (ap (λ (d : Connection). fed_to d next.fed) one ∙ own story)) s.received;
+                    sent = subst (λ (o : Option Bytes). IfSome o (λ front. handed_to (connection new) story.handed ≡ front ++ s.pending)) (sym sent)
+                        (subst (λ (d : Connection). IfSome (was_sent old.stream) (λ front. handed_to d story.handed ≡ front ++ s.pending)) (sym one) s.sent);
+                  })
+                  a;
+            };
+      };
+    }
+
+-- nothing was done
+pub still_one : {A S : Type 0} (was_received was_sent : S → Option Bytes) (is_past : A → Past) (keeps : A → Kept) (now : ℕ) (state : A) (old new : Client S)
+    → new.conn ≡ old.conn → was_received new.stream ≡ was_received old.stream → was_sent new.stream ≡ was_sent old.stream
+    → ServesOne was_received was_sent is_past keeps now state state old new
+still_one was_received was_sent is_past keeps now state old new same received sent =
+    let one : connection new ≡ connection old = ap (λ conn. record { node = conn.node; serial = conn.serial }) same in
+    record {
+      beside = λ others. record {
+        further = λ story a.
+            nothing_fed was_received was_sent now (is_past state) (keeps state) story story (new ∷ others) refl
+            (one_served was_received was_sent (is_past state) (is_past state) (keeps state) (keeps state) story story old new others one a.past
+            (record { fed = λ other differs. refl; handed = λ other differs. refl; kept = λ other differs. refl })
+            (λ s. record {
+              pending = s.pending;
+              kept = ap (keeps state) one ∙ s.kept;
+              received = subst (λ (o : Option Bytes). IfSome o (λ bytes. bytes ≡ fed_to (connection new) story.fed)) (sym received)
+                  (subst (λ (d : Connection). IfSome (was_received old.stream) (λ bytes. bytes ≡ fed_to d story.fed)) (sym one) s.received);
+              sent = subst (λ (o : Option Bytes). IfSome o (λ bytes. handed_to (connection new) story.handed ≡ bytes ++ s.pending)) (sym sent)
+                  (subst (λ (d : Connection). IfSome (was_sent old.stream) (λ bytes. handed_to d story.handed ≡ bytes ++ s.pending)) (sym one) s.sent);
+            })
+            a);
+      };
+    }
+
+-- it was tried to read, and no bytes came
+pub nothing_read : {A S : Type 0} (was_received was_sent : S → Option Bytes) (is_past : A → Past) (keeps : A → Kept) (now : ℕ) (state : A)
+    (old new : Client S) (bytes : Bytes)
+    → new.conn ≡ old.conn → GrowsBy 0 bytes (was_received old.stream) (was_received new.stream) → was_sent new.stream ≡ was_sent old.stream
+    → ServesOne was_received was_sent is_past keeps now state state old new
+nothing_read was_received was_sent is_past keeps now state old new bytes same received sent =
+    still_one was_received was_sent is_past keeps now state old new same (grows_none bytes _ _ received) sent
+
+-- it was tried to write, and no bytes were taken
+pub nothing_written : {A S : Type 0} (was_received was_sent : S → Option Bytes) (is_past : A → Past) (keeps : A → Kept) (now : ℕ) (state : A)
+    (old new : Client S) (bytes : Bytes)
+    → new.conn ≡ old.conn → was_received new.stream ≡ was_received old.stream → GrowsBy 0 bytes (was_sent old.stream) (was_sent new.stream)
+    → ServesOne was_received was_sent is_past keeps now state state old new
+nothing_written was_received was_sent is_past keeps now state old new bytes same received sent =
+    still_one was_received was_sent is_past keeps now state old new same received (grows_none bytes _ _ sent)
+
+-- bytes that are kept were written
+pub written_one : {A S : Type 0} (was_received was_sent : S → Option Bytes) (is_past : A → Past) (keeps : A → Kept) (now : ℕ) (before after : A)
+    (old new : Client S)
+    (bytes : Bytes) (count : ℕ) → new.conn ≡ old.conn → bytes ≡ kept_bytes ((keeps before) (connection old))
+    → was_received new.stream ≡ was_received old.stream → GrowsBy count bytes (was_sent old.stream) (was_sent new.stream)
+    → IsWritten (connection old) count (is_past before) (is_past after) (keeps before) (keeps after)
+    → ServesOne was_received was_sent is_past keeps now before after old new
+written_one was_received was_sent is_past keeps now before after old new bytes count same all received grows written =
+    let one : connection new ≡ connection old = ap (λ conn. record { node = conn.node; serial = conn.serial }) same in
+    record {
+      beside = λ others. record {
+        further = λ story a.
+            nothing_fed was_received was_sent now (is_past after) (keeps after) story story (new ∷ others) refl
+            (one_served was_received was_sent (is_past before) (is_past after) (keeps before) (keeps after) story story old new others one
+            (written.past story a.past)
+            (record { fed = λ other differs. refl; handed = λ other differs. refl; kept = λ other differs. written.others other differs })
+            (λ s.
+            let kept : bytes ≡ s.pending = all ∙ ap kept_bytes s.kept in
+            record {
+              pending = drop count s.pending;
+              kept = ap (keeps after) one ∙ written.kept ∙ ap (λ (o : Option Bytes). option_map (λ (b : Bytes). drop count b) o) s.kept;
+              received = subst (λ (o : Option Bytes). IfSome o (λ bytes. bytes ≡ fed_to (connection new) story.fed)) (sym received)
+                  (subst (λ (d : Connection). IfSome (was_received old.stream) (λ bytes. bytes ≡ fed_to d story.fed)) (sym one) s.received);
+              sent = sent_more (was_sent old.stream) (was_sent new.stream) count s.pending (handed_to (connection new) story.handed)
+                  (grows ∙ ap (λ (b : Bytes). option_map (λ (front : Bytes). front ++ take count b) (was_sent old.stream)) kept)
+                  (subst (λ (d : Connection). IfSome (was_sent old.stream) (λ bytes. handed_to d story.handed ≡ bytes ++ s.pending)) (sym one) s.sent);
+            })
+            a);
+      };
+    }
+
+-- one step on it behind another
+pub one_then : {A S : Type 0} (was_received was_sent : S → Option Bytes) (is_past : A → Past) (keeps : A → Kept) (now : ℕ) (a b c : A) (x y z : Client S)
+    → ServesOne was_received was_sent is_past keeps now a b x y → ServesOne was_received was_sent is_past keeps now b c y z
+    → ServesOne was_received was_sent is_past keeps now a c x z
+one_then was_received was_sent is_past keeps now a b c x y z p q = record {
+  beside = λ others. serves_then was_received was_sent is_past keeps now a b c (x ∷ others) (y ∷ others) (z ∷ others) (p.beside others) (q.beside others);
+}

@@ -1,0 +1,32 @@
+// A connection that is served, and the stream of its bytes.
+ghost use Rattle.std.specs.Prelude.{◌≡◌};
+
+use nr_entry::ConnId;
+
+/// A connection that is served.
+#[derive(Drop)]
+pub struct Client<S> {
+    pub conn: ConnId,
+    pub stream: S,
+    /// Its input has ended: nothing more is read.
+    pub is_ending: bool,
+    /// Its stream failed.
+    pub is_broken: bool,
+    /// It wasn't read in this turn, since too much waited for it.
+    pub is_held: bool,
+}
+
+impl<S> Client<S> {
+    pub(crate) fn new(conn: ConnId, stream: S) -> Self
+        ensures conn { result.conn ≡ conn }
+        ensures stream { result.stream ≡ stream }
+    {
+        Client {
+            conn,
+            stream,
+            is_ending: false,
+            is_broken: false,
+            is_held: false,
+        }
+    }
+}

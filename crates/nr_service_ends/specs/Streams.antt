@@ -1,0 +1,24 @@
+-- What was read and written by a stream.
+use Rattle.std.specs.Prelude.{◌≡◌, ℕ, ◌++◌, take, Option}
+use Rattle.std.specs.Option.{option_map}
+use Rattle.nr_model.specs.Bytes.{Bytes}
+use Rattle.nr_service_ends.specs.declared.stream.Received.{Received}
+use Rattle.nr_service_ends.specs.declared.stream.Received.TheVariants as received
+use Rattle.nr_service_ends.specs.declared.stream.Sent.{Sent}
+use Rattle.nr_service_ends.specs.declared.stream.Sent.TheVariants as sent
+
+-- how many bytes came, or were taken
+abbrev pub received_count : Received → ℕ
+received_count (received.Bytes count) = count
+received_count received.Nothing = 0
+received_count received.End = 0
+received_count received.Failed = 0
+
+abbrev pub sent_count : Sent → ℕ
+sent_count (sent.Bytes count) = count
+sent_count sent.Nothing = 0
+sent_count sent.Failed = 0
+
+-- where they are known, bytes grow by the first so many of these
+abbrev pub GrowsBy : ℕ → Bytes → Option Bytes → Option Bytes → Type 0
+GrowsBy count bytes old new = new ≡ option_map (λ (before : Bytes). before ++ take count bytes) old

@@ -1,0 +1,50 @@
+// Which calls of a socket may do something. The system tells of changes alone, so what it told is kept until a call finds nothing to do.
+use std::alloc::Global;
+use std::sync::Arc;
+use std::sync::atomic::{AtomicBool, Ordering};
+
+/// Whether bytes may be there to be read, and room for bytes to be written, and whether the peer sends no more: the end of what it sent is
+/// told of once, maybe long before it is read. The socket and the list of all sockets share it.
+#[derive(Drop)]
+pub(crate) struct Readiness {
+    is_readable: AtomicBool,
+    is_writable: AtomicBool,
+    is_ending: AtomicBool,
+}
+
+pub(crate) type Shared = Arc<Readiness, Global>;
+
+impl Readiness {
+    /// Both may be, and the peer may send.
+    pub(crate) fn new() -> Readiness {
+        Readiness {
+            is_readable: AtomicBool::new(true),
+            is_writable: AtomicBool::new(true),
+            is_ending: AtomicBool::new(false),
+        }
+    }
+
+    pub(crate) fn is_readable(&self) -> bool {
+        self.is_readable.load(Ordering::Relaxed)
+    }
+
+    pub(crate) fn is_writable(&self) -> bool {
+        self.is_writable.load(Ordering::Relaxed)
+    }
+
+    pub(crate) fn is_ending(&self) -> bool {
+        self.is_ending.load(Ordering::Relaxed)
+    }
+
+    pub(crate) fn set_ending(&self) {
+        self.is_ending.store(true, Ordering::Relaxed);
+    }
+
+    pub(crate) fn set_readable(&self, may_be: bool) {
+        self.is_readable.store(may_be, Ordering::Relaxed);
+    }
+
+    pub(crate) fn set_writable(&self, may_be: bool) {
+        self.is_writable.store(may_be, Ordering::Relaxed);
+    }
+}

@@ -1,0 +1,103 @@
+// The server by TCP, over loopback.
+use nr_config::Settings;
+use nr_server::{listen_on, serve_on};
+use nr_service_ends::{Gate, Go, MachineClock};
+use std::alloc::Global;
+use std::hash::RandomState;
+use std::io::{BufRead, BufReader, Read, Write};
+use std::net::{Net, SocketAddr, TcpStream};
+use std::sync::atomic::{AtomicBool, Ordering};
+use std::test::Fail;
+use std::{io, thread};
+
+// Turns are taken until the clients are done.
+#[derive(Drop)]
+struct Until(AtomicBool);
+
+impl Gate for Until {
+    fn turn(&self, _: usize, _: usize, _: u64) -> Go {
+        if self.0.load(Ordering::SeqCst) {
+            Go::Stop
+        } else {
+            Go::On
+        }
+    }
+}
+
+// The number of a reply `:N`.
+fn number(reply: &str) -> Option<u64> {
+    reply.strip_prefix(":")?.strip_suffix("\r\n")?.parse().ok()
+}
+
+// What a client is answered to 1,000 INCR n, in pipelines of 10.
+fn count_up(net: &impl Net, alloc: Global, address: SocketAddr) -> io::Result<Vec<u64>> {
+    let mut stream = TcpStream::connect(net, address)?;
+    let mut numbers = Vec::new(alloc);
+    for _ in 0..100 {
+        stream.write_all(&b"INCR n\r\n".repeat(alloc, 10)?)?;
+        let mut reader = BufReader::new(alloc, &mut stream)?;
+        for _ in 0..10 {
+            let mut reply = String::new(alloc);
+            reader.read_line(&mut reply)?;
+            numbers.push(number(&reply).unwrap_or(0))?;
+        }
+    }
+    Ok(numbers)
+}
+
+// What a client is answered to GET n, and to its QUIT.
+fn last_answer(net: &impl Net, alloc: Global, address: SocketAddr) -> io::Result<Vec<u8>> {
+    let mut stream = TcpStream::connect(net, address)?;
+    stream.write_all(b"GET n\r\nQUIT\r\n")?;
+    let mut answer = Vec::new(alloc);
+    stream.read_to_end(&mut answer)?;
+    Ok(answer)
+}
+
+fn settings(alloc: Global) -> Result<Settings, Fail> {
+    Ok(Settings {
+        listen: String::from_str(alloc, "127.0.0.1:0")?,
+        nodes: 2,
+        places: 1_024,
+        workers: 2,
+        connections: 256,
+        queue_limit: 67_108_864,
+    })
+}
+
+// Four clients, each with 1,000 INCR n in pipelines of 10: each client's numbers rise, and all 4,000 differ.
+#[test]
+fn tcp(rt: HostRuntime) -> Result<(), Fail> {
+    let settings = settings(rt.alloc())?;
+    let sockets = listen_on(rt.alloc(), &rt, &settings)?;
+    let address = sockets.address()?;
+    let keys = RandomState::new(&rt)?;
+    let gate = Until(AtomicBool::new(false));
+    let clock = MachineClock { runtime: &rt };
+    let jobs = vec![in rt.alloc(); 0u8; 4]?;
+    let (served, (counted, last)) = thread::join(
+        &rt,
+        || serve_on(rt.alloc(), keys, &settings, sockets, clock, &gate),
+        || {
+            let counted = thread::map_vec(&rt, jobs, &|_| count_up(&rt, rt.alloc(), address).ok());
+            let last = last_answer(&rt, rt.alloc(), address).ok();
+            gate.0.store(true, Ordering::SeqCst);
+            (counted.ok(), last)
+        },
+    );
+    assert!(&rt; served == Ok(()));
+    let mut all = Vec::new(rt.alloc());
+    for numbers in counted.expect(&rt, "threads") {
+        let numbers = numbers.expect(&rt, "numbers");
+        assert!(&rt; numbers.is_sorted());
+        all.extend_from_slice(&numbers)?;
+    }
+    all.sort_unstable();
+    assert!(&rt; all.len() == 4_000);
+    for (before, number) in all.iter().enumerate() {
+        assert!(&rt; *number == before as u64 + 1);
+    }
+    let last = last.expect(&rt, "an answer");
+    assert!(&rt; last.as_slice() == b"$4\r\n4000\r\n+OK\r\n".as_slice());
+    Ok(())
+}
