@@ -1,5 +1,6 @@
 // Settings and words: that calls succeed with memory at hand, the lines of faults, and what TOML and `clap` make of plain texts.
 use nr_config::{Settings, Task, WordsError, words};
+use nr_server::settings_on;
 use std::alloc::Global;
 use std::test::Fail;
 
@@ -77,5 +78,26 @@ fn reads_words(rt: HostRuntime) -> Result<(), Fail> {
             assert!(rt; task(rt.alloc(), line)?.as_str() == wanted, "{line}");
         }
     }
+    Ok(())
+}
+
+// What the program tells of the bytes of a settings file, with its status.
+fn told(alloc: Global, bytes: &[u8]) -> Result<String, Fail> {
+    match settings_on(alloc, bytes) {
+        Ok(_) => Ok(format!(in alloc; "none")?),
+        Err(fault) => Ok(format!(in alloc; "{fault}, {}", fault.status())?),
+    }
+}
+
+#[test]
+fn tells_faults_of_bytes(rt: HostRuntime) -> Result<(), Fail> {
+    let alloc = rt.alloc();
+    assert!(&rt; told(alloc, b"")?.as_str() == "none");
+    assert!(&rt; told(alloc, b"nodes = 9")?.as_str() == "noderedis: settings: bad value nodes, 1");
+    assert!(&rt; told(alloc, b"port = 1")?.as_str() == "noderedis: settings: unknown key port, 1");
+    assert!(&rt;
+        told(alloc, b"port = 1\nnodes = 0")?.as_str() == "noderedis: settings: bad value nodes, 1"
+    );
+    assert!(&rt; told(alloc, b"listen = '\xff'")?.as_str() == "noderedis: settings: not toml, 1");
     Ok(())
 }
