@@ -3,23 +3,20 @@
 #![tactic(auto)]
 
 use nr_config::{Task, WordsError, words};
+use nr_fault::Fault;
 use nr_server::{listen_on, serve_on, settings_on};
 use nr_service_ends::{MachineClock, Open};
-use nr_serving::{Fault, run_on, script_on};
+use nr_serving::{run_on, script_on};
 use std::hash::RandomState;
-use std::io::{self, BufWriter, ErrorKind};
+use std::io::{self, ErrorKind};
 use std::process::ExitCode;
 use std::{env, fs};
-
-/// How many bytes of replies are written at once.
-const WRITTEN: usize = 65_536;
 
 fn serve_input(rt: &HostRuntime) -> io::Result<Result<(), Fault>> {
     let alloc = rt.alloc();
     let keys = RandomState::new(rt)?;
     let clock = MachineClock { runtime: rt };
-    let mut writer = BufWriter::with_capacity(alloc, WRITTEN, rt.stdout())?;
-    Ok(run_on(alloc, keys, &mut rt.stdin(), &mut writer, &clock))
+    Ok(run_on(alloc, keys, rt.stdin(), rt.stdout(), clock))
 }
 
 // The bytes of a file, or the fault of one that can't be read.

@@ -79,6 +79,11 @@ other_client world d c here absent =
       | inr e ↦ e
     ]
 
+-- the same nodes have the same connections
+pub same_client : (a b : World) (c : Connection) → a.nodes ≡ b.nodes → is_client a c ≡ is_client b c
+same_client a b c same =
+    ap (λ (nodes : List Node). ltb c.node (length nodes) && ltb c.serial (length (get_or nodes c.node no_node).clients)) same
+
 -- nodes and connections go on being there
 pub record Grows (before after : World) : Type 0 where
   pub many : length after.nodes ≡ length before.nodes
@@ -198,6 +203,38 @@ pub step_fed : (setup : Setup) (world : World) (step : Step) (refused : Refused)
     → (after_step setup world step refused).fed ≡ world.fed
 step_fed setup world step refused is =
     by_outcome (λ (w : World). w.fed ≡ world.fed) (outcome setup world step) setup world step refused refl (effect_fed setup world step refused is)
+
+-- the connections closed, where a step is no close
+abbrev pub is_close : Step → Bool
+is_close (Close c time) = true
+is_close _ = false
+
+looked_closed : (down : Bool) (a b : World) → a.closed ≡ b.closed → (cond down a b).closed ≡ b.closed
+looked_closed true a b e = e
+looked_closed false a b e = refl
+
+effect_closed : (setup : Setup) (world : World) (step : Step) (refused : Refused) → is_close step ≡ false
+    → (effect setup world step refused).closed ≡ world.closed
+effect_closed setup world (Open n w) refused is = refl
+effect_closed setup world (Feed c time bytes) refused is = refl
+effect_closed setup world (Post n w) refused is = refl
+effect_closed setup world (Lift n w) refused is = refl
+effect_closed setup world (Reserve n) refused is = refl
+effect_closed setup world (Fill n t) refused is = refl
+effect_closed setup world (Fetch n) refused is = refl
+effect_closed setup world (Apply n) refused is = refl
+effect_closed setup world (Look n) refused is =
+    let ahead = advanced_by (tail_of world - (node_at n world).passed) refused n (log_of world.taken) (node_at n world) in
+    looked_closed ahead.down (with_node n ahead world) _ refl
+effect_closed setup world (Answer n w) refused is = refl
+effect_closed setup world (Collect n w) refused is = refl
+effect_closed setup world (Close c time) refused is = absurd (cc is)
+effect_closed setup world (Refuse n) refused is = refl
+
+pub step_closed : (setup : Setup) (world : World) (step : Step) (refused : Refused) → is_close step ≡ false
+    → (after_step setup world step refused).closed ≡ world.closed
+step_closed setup world step refused is =
+    by_outcome (λ (w : World). w.closed ≡ world.closed) (outcome setup world step) setup world step refused refl (effect_closed setup world step refused is)
 
 -- a feed that is enabled is of a connection that is there
 idle_by : (P : World → Type 0) (setup : Setup) (world : World) (step : Step) (refused : Refused) (holds : Bool) (reason : Reason) (otherwise : Outcome)

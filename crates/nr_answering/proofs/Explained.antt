@@ -8,20 +8,18 @@ use Rattle.nr_answering.specs.Led.{StoryLaw}
 
 pub stories_are_explained : StoryLaw
 stories_are_explained a story led =
-    let law = nodes_are_explained.explained a.world.setup led.events led.world led.past in
+    let law = nodes_are_explained.explained story.setup led.events led.world led.is.past in
     record {
       events = led.events;
       world = led.world;
       items = law.0;
-      past = led.past;
-      fed = led.fed;
-      handed = led.handed;
+      is = led.is;
       explains = law.1;
       begins = λ c.
           let begins = law.1.accounts.beginning c in
           let waits = waiting_for led.world c in (
             waits ++ begins.0,
-            ap (λ (hs : List Handed). handed_to c hs ++ (waits ++ begins.0)) led.handed
+            ap (λ (hs : List Handed). handed_to c hs ++ (waits ++ begins.0)) led.is.handed
                 ∙ sym (append_assoc (handed_to c (handed_in led.events)) waits begins.0) ∙ begins.1,
           );
     }

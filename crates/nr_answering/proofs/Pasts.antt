@@ -15,7 +15,7 @@ use Rattle.nr_model.specs.Nodes.Pasts.{Event, AreEvents, IsEvent, IsPast, is_don
 use Rattle.nr_model.specs.Nodes.Settling.{IsRound, AreRounds, after_events, for_workers, lifting, reserving, in_turn, applying, answering, round_of}
 use Rattle.nr_nodes.specs.Settles.{events_of}
 use Rattle.nr_answering.proofs.Names.{names, is_open, step_alike}
-use Rattle.nr_answering.proofs.Apart.{AreOwn, IsApart, Grows, alike_grows, grows_absent, other_client, fed_more, handed_more, handed_apart, by_hand, step_own, is_feed, step_fed, feed_by, open_by, opened_own, opened_grows}
+use Rattle.nr_answering.proofs.Apart.{AreOwn, IsApart, Grows, alike_grows, grows_absent, other_client, fed_more, handed_more, handed_apart, by_hand, step_own, is_feed, step_fed, is_close, step_closed, feed_by, open_by, opened_own, opened_grows}
 
 -- opens, and the other steps
 by_open : (P : Step → Type 0) → ((n w : ℕ) → P (Open n w)) → ((step : Step) → is_open step ≡ false → P step) → (step : Step) → P step
@@ -174,58 +174,71 @@ rounds_are setup world (events ∷ []) are = subst (AreEvents setup world) (sym 
 rounds_are setup world (events ∷ next ∷ more) are =
     both_are setup world events (events_of (next ∷ more)) are.0.are (rounds_are setup (after_events setup world events) (next ∷ more) are.2)
 
--- no step of a round is a feed
-abbrev feeds : List Step → Bool
-feeds steps = list_any is_feed steps
+-- no step of a round is a feed or a close
+abbrev is_outer : Step → Bool
+is_outer step = is_feed step || is_close step
 
-none_both : (xs ys : List Step) → feeds xs ≡ false → feeds ys ≡ false → feeds (xs ++ ys) ≡ false
-none_both xs ys first second = list_any-append is_feed xs ys ∙ (λ i. first i || second i)
+abbrev outer : List Step → Bool
+outer steps = list_any is_outer steps
 
-none_each : (f : ℕ → List Step) (xs : List ℕ) → ((x : ℕ) → feeds (f x) ≡ false) → feeds (flat_map f xs) ≡ false
+none_both : (xs ys : List Step) → outer xs ≡ false → outer ys ≡ false → outer (xs ++ ys) ≡ false
+none_both xs ys first second = list_any-append is_outer xs ys ∙ (λ i. first i || second i)
+
+none_each : (f : ℕ → List Step) (xs : List ℕ) → ((x : ℕ) → outer (f x) ≡ false) → outer (flat_map f xs) ≡ false
 none_each f [] each = refl
 none_each f (x ∷ xs) each = none_both (f x) (flat_map f xs) (each x) (none_each f xs each)
 
-none_fill : (n : ℕ) (xs : List ℕ) → feeds (map (Fill n) xs) ≡ false
+none_fill : (n : ℕ) (xs : List ℕ) → outer (map (Fill n) xs) ≡ false
 none_fill n [] = refl
 none_fill n (x ∷ xs) = none_fill n xs
 
-none_for : (setup : Setup) (f : ℕ → ℕ → List Step) → ((n w : ℕ) → feeds (f n w) ≡ false) → feeds (for_workers setup f) ≡ false
+none_for : (setup : Setup) (f : ℕ → ℕ → List Step) → ((n w : ℕ) → outer (f n w) ≡ false) → outer (for_workers setup f) ≡ false
 none_for setup f each =
     none_each (λ n. flat_map (f n) (range_with_len 0 setup.workers)) (range_with_len 0 setup.nodes)
     (λ n. none_each (f n) (range_with_len 0 setup.workers) (each n))
 
-none_turn : (n turns : ℕ) → feeds (in_turn n turns) ≡ false
+none_turn : (n turns : ℕ) → outer (in_turn n turns) ≡ false
 none_turn n zero = refl
 none_turn n (suc turns) = none_turn n turns
 
-none_applying : (n : ℕ) (turns : List ℕ) → feeds (applying n turns) ≡ false
+none_applying : (n : ℕ) (turns : List ℕ) → outer (applying n turns) ≡ false
 none_applying n [] = refl
 none_applying n (many ∷ more) = none_both (in_turn n many) (Look n ∷ applying (suc n) more) (none_turn n many) (none_applying (suc n) more)
 
-none_round : (setup : Setup) (turns : List ℕ) → feeds (round_of setup turns) ≡ false
+none_round : (setup : Setup) (turns : List ℕ) → outer (round_of setup turns) ≡ false
 none_round setup turns =
     none_both (lifting setup) (reserving setup ++ (applying 0 turns ++ answering setup)) (none_for setup (λ n w. Post n w ∷ Lift n w ∷ []) (λ n w. refl))
     (none_both (reserving setup) (applying 0 turns ++ answering setup)
     (none_each (λ n. Reserve n ∷ map (Fill n) (range_with_len 0 setup.nodes)) (range_with_len 0 setup.nodes) (λ n. none_fill n (range_with_len 0 setup.nodes)))
     (none_both (applying 0 turns) (answering setup) (none_applying 0 turns) (none_for setup (λ n w. Answer n w ∷ Collect n w ∷ []) (λ n w. refl))))
 
--- so rounds feed nothing
-same_fed : (setup : Setup) (world : World) (events : List Event) → feeds (map (λ (e : Event). e.step) events) ≡ false
-    → (after_events setup world events).fed ≡ world.fed
-same_fed setup world [] none = refl
-same_fed setup world (e ∷ events) none =
-    let both = or_parts (is_feed e.step) (feeds (map (λ (d : Event). d.step) events)) none in
-    same_fed setup (after_event setup world e) events both.1 ∙ step_fed setup world e.step e.refused both.0
+-- so rounds feed and close nothing
+abbrev pub Same : World → World → Type 0
+Same world after = (after.fed ≡ world.fed) × (after.closed ≡ world.closed)
 
-round_fed : (setup : Setup) (world : World) (events : List Event) → IsRound setup world events → (after_events setup world events).fed ≡ world.fed
-round_fed setup world events round = same_fed setup world events (ap feeds round.steps ∙ none_round setup round.turns)
+same_on : (a b c : World) → Same a b → Same b c → Same a c
+same_on a b c first second = (second.0 ∙ first.0, second.1 ∙ first.1)
 
-pub rounds_fed : (setup : Setup) (world : World) (rounds : List (List Event)) → AreRounds setup world rounds
-    → (after_events setup world (events_of rounds)).fed ≡ world.fed
-rounds_fed setup world [] are = absurd are
-rounds_fed setup world (events ∷ []) are =
-    ap (λ (es : List Event). (after_events setup world es).fed) (append-nil events) ∙ round_fed setup world events are.0
-rounds_fed setup world (events ∷ next ∷ more) are =
-    ap (λ (w : World). w.fed) (after_both setup world events (events_of (next ∷ more)))
-    ∙ rounds_fed setup (after_events setup world events) (next ∷ more) are.2
-    ∙ round_fed setup world events are.0
+same_told : (setup : Setup) (world : World) (events : List Event) → outer (map (λ (e : Event). e.step) events) ≡ false
+    → Same world (after_events setup world events)
+same_told setup world [] none = (refl, refl)
+same_told setup world (e ∷ events) none =
+    let both = or_parts (is_outer e.step) (outer (map (λ (d : Event). d.step) events)) none in
+    let plain = or_parts (is_feed e.step) (is_close e.step) both.0 in
+    let next = after_event setup world e in
+    same_on world next (after_events setup next events) (step_fed setup world e.step e.refused plain.0, step_closed setup world e.step e.refused plain.1)
+    (same_told setup next events both.1)
+
+round_same : (setup : Setup) (world : World) (events : List Event) → IsRound setup world events → Same world (after_events setup world events)
+round_same setup world events round = same_told setup world events (ap outer round.steps ∙ none_round setup round.turns)
+
+pub rounds_same : (setup : Setup) (world : World) (rounds : List (List Event)) → AreRounds setup world rounds
+    → Same world (after_events setup world (events_of rounds))
+rounds_same setup world [] are = absurd are
+rounds_same setup world (events ∷ []) are =
+    subst (λ (es : List Event). Same world (after_events setup world es)) (sym (append-nil events)) (round_same setup world events are.0)
+rounds_same setup world (events ∷ next ∷ more) are =
+    let middle = after_events setup world events in
+    subst (Same world) (sym (after_both setup world events (events_of (next ∷ more))))
+    (same_on world middle (after_events setup middle (events_of (next ∷ more))) (round_same setup world events are.0)
+    (rounds_same setup middle (next ∷ more) are.2))

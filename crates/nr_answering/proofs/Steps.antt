@@ -18,10 +18,10 @@ use Rattle.nr_nodes.specs.Taken.{Steps}
 use Rattle.nr_nodes.specs.Settles.{Settles, events_of}
 use Rattle.nr_entry.specs.declared.conn.ConnId.{ConnId}
 use Rattle.nr_entry.specs.Jobs.{connection_of}
-use Rattle.nr_answering.specs.Moves.{IsFurther, Moves}
+use Rattle.nr_answering.specs.Moves.{IsFurther, Moves, Rests}
 use Rattle.nr_answering.specs.Stands.{StandsIn}
-use Rattle.nr_answering.proofs.Apart.{connection_at, is_there, is_feed, step_fed, opened_count, grows_absent}
-use Rattle.nr_answering.proofs.Pasts.{past_led, each_led, past_then, both_are, after_both, rounds_are, rounds_fed}
+use Rattle.nr_answering.proofs.Apart.{connection_at, is_there, is_feed, step_fed, is_close, step_closed, opened_count, grows_absent}
+use Rattle.nr_answering.proofs.Pasts.{past_led, each_led, past_then, both_are, after_both, rounds_are, rounds_same}
 
 abbrev IsNew : World → World → Option Connection → Type 0
 IsNew world after opened = IfSome opened (λ (c : Connection). (is_client world c ≡ false) × (is_client after c ≡ true))
@@ -30,7 +30,7 @@ IsNew world after opened = IfSome opened (λ (c : Connection). (is_client world 
 step_moves : (old new : WorldState) (step : Step) (o : Outcome) (feedings : List Feeding) (opened : Option Connection) → Steps old new step o
     → ((events : List Event) (world : World) (refused : Refused) → IsPast old.setup events world → Shows old world → o ≡ outcome old.setup world step
     → ((after_step old.setup world step refused).fed ≡ world.fed ++ feedings) × IsNew world (after_step old.setup world step refused) opened)
-    → Moves old new feedings [] opened
+    → Moves old new feedings [] opened (is_close step)
 step_moves old new step o feedings opened steps is = record {
   setup = steps.setup;
   further = λ events world past shows.
@@ -41,13 +41,15 @@ step_moves old new step o feedings opened steps is = record {
         are = (t.event, tt);
         shows = t.shows;
         fed = told.0;
+        closed = step_closed old.setup world step t.refused;
         handed_is = refl;
         is_new = told.1;
       };
 }
 
 -- that neither feeds nor opens
-pub plain_moves : (old new : WorldState) (step : Step) (o : Outcome) → is_feed step ≡ false → Steps old new step o → Moves old new [] [] None
+pub plain_moves : (old new : WorldState) (step : Step) (o : Outcome) → is_feed step ≡ false → Steps old new step o
+    → Moves old new [] [] None (is_close step)
 plain_moves old new step o is steps =
     step_moves old new step o [] None steps
     (λ events world refused past shows e. (step_fed old.setup world step refused is ∙ sym (append-nil world.fed), tt))
@@ -62,7 +64,7 @@ feed_path : (a b d : Bool) → a ≡ false → b ≡ false → d ≡ false → i
 feed_path a b d e f g = rw (e, f, g)
 
 pub feed_moves : (old new : WorldState) (c : Connection) (time : ℕ) (bytes : Bytes) (o : Outcome) → StandsIn old c standings.Open
-    → Steps old new (Feed c time bytes) o → Moves old new (record { connection = c; moment = moment time; bytes = bytes } ∷ []) [] None
+    → Steps old new (Feed c time bytes) o → Moves old new (record { connection = c; moment = moment time; bytes = bytes } ∷ []) [] None false
 feed_moves old new c time bytes o stands steps =
     step_moves old new (Feed c time bytes) o (record { connection = c; moment = moment time; bytes = bytes } ∷ []) None steps
     (λ events world refused past shows e.
@@ -93,7 +95,7 @@ not_yet world n =
       | inr e ↦ e
     ]
 
-pub open_moves : (old new : WorldState) (n w : ℕ) (c : Connection) → Steps old new (Open n w) (Opened c) → Moves old new [] [] (Some c)
+pub open_moves : (old new : WorldState) (n w : ℕ) (c : Connection) → Steps old new (Open n w) (Opened c) → Moves old new [] [] (Some c) false
 open_moves old new n w c steps =
     step_moves old new (Open n w) (Opened c) [] (Some c) steps
     (λ events world refused past shows e.
@@ -117,27 +119,32 @@ open_moves old new n w c steps =
     ))
 
 -- rounds of steps
-pub settle_moves : (old new : WorldState) (handed : List Handed) → Settles old new handed → Moves old new [] handed None
+settle_moves : (old new : WorldState) (handed : List Handed) → Settles old new handed → Moves old new [] handed None false
 settle_moves old new handed settles = record {
   setup = settles.setup;
   further = λ events world past shows.
       let h = settles.taken events world past shows in
+      let same = rounds_same old.setup world h.rounds h.are in
       record {
         events = events_of h.rounds;
         are = rounds_are old.setup world h.rounds h.are;
         shows = h.shows;
-        fed = rounds_fed old.setup world h.rounds h.are ∙ sym (append-nil world.fed);
+        fed = same.0 ∙ sym (append-nil world.fed);
+        closed = λ none. same.1;
         handed_is = sym h.handed_is;
         is_new = tt;
       };
 }
 
+pub settle_rests : (old new : WorldState) (handed : List Handed) → Settles old new handed → Rests old new handed
+settle_rests old new handed settles = record { moves = settle_moves old new handed settles; settles = settles }
+
 -- nothing, and more behind it
-pub none_moves : (v : WorldState) → Moves v v [] [] None
+pub none_moves : (v : WorldState) → Moves v v [] [] None false
 none_moves v = record {
   setup = refl;
   further = λ events world past shows.
-      record { events = []; are = tt; shows = shows; fed = sym (append-nil world.fed); handed_is = refl; is_new = tt };
+      record { events = []; are = tt; shows = shows; fed = sym (append-nil world.fed); closed = λ none. refl; handed_is = refl; is_new = tt };
 }
 
 new_since : (world middle after : World) (opened : Option Connection) → ((c : Connection) → is_client middle c ≡ false → is_client world c ≡ false)
@@ -145,7 +152,8 @@ new_since : (world middle after : World) (opened : Option Connection) → ((c : 
 new_since world middle after None earlier is = tt
 new_since world middle after (Some c) earlier is = (earlier c is.0, is.1)
 
-pub moves_on : (a b c : WorldState) (opened : Option Connection) → Moves a b [] [] None → Moves b c [] [] opened → Moves a c [] [] opened
+pub moves_on : (a b c : WorldState) (opened : Option Connection) → Moves a b [] [] None false → Moves b c [] [] opened false
+    → Moves a c [] [] opened false
 moves_on a b c opened first second = record {
   setup = second.setup ∙ first.setup;
   further = λ events world past shows.
@@ -153,7 +161,7 @@ moves_on a b c opened first second = record {
       let setup = a.setup in
       let middle = after_events setup world f.events in
       let later = past_then setup events f.events world past f.are in
-      let t = subst (λ (s : Setup). IsFurther s c [] [] opened middle) first.setup
+      let t = subst (λ (s : Setup). IsFurther s c [] [] opened false middle) first.setup
       (second.further (events ++ f.events) middle (subst (λ (s : Setup). IsPast s (events ++ f.events) middle) (sym first.setup) later) f.shows) in
       let led = past_led setup events world past in
       let grown = each_led setup world (handed_in events) f.events led.many led.apart f.are in
@@ -163,6 +171,7 @@ moves_on a b c opened first second = record {
         are = both_are setup world f.events t.events f.are t.are;
         shows = subst (Shows c) (sym last) t.shows;
         fed = ap (λ (w : World). w.fed) last ∙ t.fed ∙ append-nil middle.fed ∙ f.fed;
+        closed = λ none. ap (λ (w : World). w.closed) last ∙ t.closed none ∙ f.closed none;
         handed_is = flat_map-append (λ (e : Event). e.handed) f.events t.events ∙ (λ i. f.handed_is i ++ t.handed_is i);
         is_new = subst (λ (w : World). IsNew world w opened) (sym last)
             (new_since world middle (after_events setup middle t.events) opened (λ d absent. grows_absent world middle d grown.grows absent) t.is_new);

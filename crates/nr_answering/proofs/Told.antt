@@ -1,5 +1,5 @@
 -- What each call adds to every story.
-use Rattle.std.proofs.Common.{◌≡◌, ℕ, true, false, cond, Option, Some, None, List, [], ◌∷◌, ◌++◌, length, refl, ap, sym, ◌∙◌, subst, append-nil}
+use Rattle.std.proofs.Common.{◌≡◌, ℕ, Bool, true, false, cond, Option, Some, None, List, [], ◌∷◌, ◌++◌, length, refl, ap, sym, ◌∙◌, subst, append-nil}
 use Rattle.std.specs.Prelude.{IfSome, IfNone}
 use Rattle.std.specs.Option.{option_map}
 use Rattle.std.proofs.lemmas.Grind.{flat_map-append}
@@ -10,50 +10,71 @@ use Rattle.nr_model.specs.Items.{Connection, same_connection}
 use Rattle.nr_model.specs.Worlds.{Setup, Feeding, Handed, handed_to, fed_to}
 use Rattle.nr_model.specs.Nodes.{World}
 use Rattle.nr_model.specs.Nodes.Steps.{is_client}
-use Rattle.nr_model.specs.Nodes.Pasts.{Event, IsPast, handed_in}
-use Rattle.nr_model.specs.Nodes.Settling.{after_events}
+use Rattle.nr_model.specs.Nodes.Pasts.{Event, AreEvents, IsPast, handed_in}
+use Rattle.nr_model.specs.Nodes.Settling.{IsSettled, after_events}
 use Rattle.nr_entry.specs.declared.conn.ConnId.{ConnId}
 use Rattle.nr_entry.specs.Jobs.{connection_of}
 use Rattle.nr_nodes.specs.Served.{node_seen}
-use Rattle.nr_nodes.specs.WorldState.{WorldState}
+use Rattle.nr_nodes.specs.WorldState.{WorldState, Shows}
+use Rattle.nr_nodes.specs.Settles.{Settles, events_of}
 use Rattle.nr_service_ends.specs.Stories.{Story, IsOpened, IsFed, HasWorked, IsClosed, Keeps}
 use Rattle.nr_answering.specs.Kept.{Taps, is_conn, kept_at, IsPut, AreKept, IsTapped}
 use Rattle.nr_answering.specs.State.{AnsweringState, IsSound}
-use Rattle.nr_answering.specs.Led.{HasLedTo}
-use Rattle.nr_answering.specs.Moves.{IsFurther, Moves}
-use Rattle.nr_answering.proofs.Apart.{other_client, grows_absent}
-use Rattle.nr_answering.proofs.Pasts.{past_led, each_led, past_then}
+use Rattle.nr_answering.specs.Led.{IsOf, HasLedTo, IsAtRest}
+use Rattle.nr_answering.specs.Moves.{IsFurther, Moves, Rests}
+use Rattle.nr_answering.proofs.Apart.{same_client, other_client, grows_absent}
+use Rattle.nr_answering.proofs.Pasts.{past_led, each_led, past_then, rounds_are, rounds_same}
 use Rattle.nr_answering.proofs.Found.{same_conn, conn_same, is_conn_itself}
 
+-- The events of a story, and more behind them: a story that goes on by what these feed, hand out and close.
+story_on : (setup : Setup) (story next : Story) (events more : List Event) (world : World) (feedings : List Feeding) (handed : List Handed)
+    → IsOf story events world → setup ≡ story.setup → next.setup ≡ story.setup → AreEvents setup world more
+    → (after_events setup world more).fed ≡ world.fed ++ feedings → handed_in more ≡ handed
+    → (next.closed ≡ [] → (story.closed ≡ []) × ((after_events setup world more).closed ≡ world.closed))
+    → next.fed ≡ story.fed ++ feedings → next.handed ≡ story.handed ++ handed
+    → IsOf next (events ++ more) (after_events setup world more)
+story_on setup story next events more world feedings handed is sized same are feeds hands closes fed out =
+    let after = after_events setup world more in
+    let past = past_then setup events more world (subst (λ (s : Setup). IsPast s events world) (sym sized) is.past) are in
+    record {
+      past = subst (λ (s : Setup). IsPast s (events ++ more) after) (sized ∙ sym same) past;
+      fed = fed ∙ ap (λ (l : List Feeding). l ++ feedings) is.fed ∙ sym feeds;
+      handed = out ∙ (λ i. is.handed i ++ sym hands i) ∙ sym (flat_map-append (λ (e : Event). e.handed) events more);
+      closed = λ none. let both = closes none in both.1 ∙ is.closed both.0;
+    }
+
+-- its past, at the setup that what answers has
+past_of_led : (a : AnsweringState) (story : Story) → (led : HasLedTo a story) → IsPast a.world.setup led.events led.world
+past_of_led a story led = subst (λ (s : Setup). IsPast s led.events led.world) (sym led.sized) led.is.past
+
 -- a story goes on
-led_on : (old new : AnsweringState) (story next : Story) (feedings : List Feeding) (handed : List Handed) (opened : Option Connection)
-    → Moves old.world new.world feedings handed opened → HasLedTo old story → next.fed ≡ story.fed ++ feedings → next.handed ≡ story.handed ++ handed
-    → HasLedTo new next
-led_on old new story next feedings handed opened moves led fed out =
+led_on : (old new : AnsweringState) (story next : Story) (feedings : List Feeding) (handed : List Handed) (opened : Option Connection) (closes : Bool)
+    → Moves old.world new.world feedings handed opened closes → HasLedTo old story → next.setup ≡ story.setup → next.fed ≡ story.fed ++ feedings
+    → next.handed ≡ story.handed ++ handed → (next.closed ≡ [] → (closes ≡ false) × (story.closed ≡ [])) → HasLedTo new next
+led_on old new story next feedings handed opened closes moves led same fed out shut =
     let setup = old.world.setup in
-    let f = moves.further led.events led.world led.past led.shows in
-    let past = past_then setup led.events f.events led.world led.past f.are in
+    let f = moves.further led.events led.world (past_of_led old story led) led.shows in
     record {
       events = led.events ++ f.events;
       world = after_events setup led.world f.events;
-      past = subst (λ (s : Setup). IsPast s (led.events ++ f.events) (after_events setup led.world f.events)) (sym moves.setup) past;
+      is = story_on setup story next led.events f.events led.world feedings handed led.is led.sized same f.are f.fed f.handed_is
+          (λ none. let both = shut none in (both.1, f.closed both.0)) fed out;
+      sized = moves.setup ∙ led.sized ∙ sym same;
       shows = f.shows;
-      fed = fed ∙ ap (λ (l : List Feeding). l ++ feedings) led.fed ∙ sym f.fed;
-      handed = out ∙ (λ i. led.handed i ++ sym f.handed_is i) ∙ sym (flat_map-append (λ (e : Event). e.handed) led.events f.events);
     }
 
-same_story : (old new : AnsweringState) (story : Story) (opened : Option Connection) → Moves old.world new.world [] [] opened → HasLedTo old story
+same_story : (old new : AnsweringState) (story : Story) (opened : Option Connection) → Moves old.world new.world [] [] opened false → HasLedTo old story
     → HasLedTo new story
 same_story old new story opened moves led =
-    led_on old new story story [] [] opened moves led (sym (append-nil story.fed)) (sym (append-nil story.handed))
+    led_on old new story story [] [] opened false moves led refl (sym (append-nil story.fed)) (sym (append-nil story.handed)) (λ none. (refl, none))
 
 -- what is kept stays kept for connections that are there
 sound_on : (old new : WorldState) (before after : Taps) (feedings : List Feeding) (handed : List Handed) (opened : Option Connection)
-    → IsSound old before → Moves old new feedings handed opened
-    → ((events : List Event) (world : World) → (f : IsFurther old.setup new feedings handed opened world) → (c : Connection)
+    (closes : Bool) → IsSound old before → Moves old new feedings handed opened closes
+    → ((events : List Event) (world : World) → (f : IsFurther old.setup new feedings handed opened closes world) → (c : Connection)
     → is_client (after_events old.setup world f.events) c ≡ false → kept_at c before ≡ None → kept_at c after ≡ None)
     → IsSound new after
-sound_on old new before after feedings handed opened sound moves none =
+sound_on old new before after feedings handed opened closes sound moves none =
     let setup = old.setup in
     let f = moves.further sound.events sound.shown sound.past sound.shows in
     let led = past_led setup sound.events sound.shown sound.past in
@@ -68,10 +89,16 @@ sound_on old new before after feedings handed opened sound moves none =
       absent = λ c absent. none sound.events sound.shown f c absent (sound.absent c (grows_absent sound.shown world c grown.grows absent));
     }
 
-pub sound_kept : (old new : WorldState) (before after : Taps) (feedings : List Feeding) (handed : List Handed) → IsSound old before
-    → Moves old new feedings handed None → ((c : Connection) → kept_at c before ≡ None → kept_at c after ≡ None) → IsSound new after
-sound_kept old new before after feedings handed sound moves none =
-    sound_on old new before after feedings handed None sound moves (λ events world f c absent was. none c was)
+pub sound_kept : (old new : WorldState) (before after : Taps) (feedings : List Feeding) (handed : List Handed) (closes : Bool) → IsSound old before
+    → Moves old new feedings handed None closes → ((c : Connection) → kept_at c before ≡ None → kept_at c after ≡ None) → IsSound new after
+sound_kept old new before after feedings handed closes sound moves none =
+    sound_on old new before after feedings handed None closes sound moves (λ events world f c absent was. none c was)
+
+-- in each world that is shown, bytes are kept for its connections alone
+absent_in : (world : WorldState) (taps : Taps) (shown : World) → IsSound world taps → Shows world shown → (c : Connection)
+    → is_client shown c ≡ false → kept_at c taps ≡ None
+absent_in world taps shown sound shows c absent =
+    sound.absent c (same_client sound.shown shown c (sym sound.shows.nodes ∙ shows.nodes) ∙ absent)
 
 -- behind each change of the taps
 pub put_none : (old new : Taps) (conn : ConnId) → IsPut conn None old new → (c : Connection) → kept_at c old ≡ None → kept_at c new ≡ None
@@ -91,10 +118,10 @@ apart_from : (world : World) (conn : ConnId) (c : Connection) → is_client worl
     → is_conn c conn ≡ false
 apart_from world conn c here absent = sym (conn_same c conn) ∙ other_client world (connection_of conn) c here absent
 
-pub sound_opened : (old new : WorldState) (before after : Taps) (conn : ConnId) → IsSound old before → Moves old new [] [] (Some (connection_of conn))
+pub sound_opened : (old new : WorldState) (before after : Taps) (conn : ConnId) → IsSound old before → Moves old new [] [] (Some (connection_of conn)) false
     → IsPut conn (Some []) before after → IsSound new after
 sound_opened old new before after conn sound moves put =
-    sound_on old new before after [] [] (Some (connection_of conn)) sound moves
+    sound_on old new before after [] [] (Some (connection_of conn)) false sound moves
     (λ events world f c absent was. opened_none before after conn c put
     (apart_from (after_events old.setup world f.events) conn c f.is_new.1 absent) was)
 
@@ -110,26 +137,29 @@ own_kept old new conn w put =
     put.at (connection_of conn) ∙ ap (λ b. cond b w (kept_at (connection_of conn) old)) (is_conn_itself conn)
 
 -- a connection was opened
-pub is_opened : (old new : AnsweringState) (conn : ConnId) → IsSound old.world old.taps → Moves old.world new.world [] [] (Some (connection_of conn))
-    → IsPut conn (Some []) old.taps new.taps → IsOpened (connection_of conn) (HasLedTo old) (HasLedTo new) (Kept old) (Kept new)
+pub is_opened : (old new : AnsweringState) (conn : ConnId) → IsSound old.world old.taps
+    → Moves old.world new.world [] [] (Some (connection_of conn)) false → IsPut conn (Some []) old.taps new.taps
+    → IsOpened (connection_of conn) (HasLedTo old) (HasLedTo new) (Kept old) (Kept new)
 is_opened old new conn sound moves put =
     let c = connection_of conn in
     let setup = old.world.setup in
     record {
       past = λ story led. same_story old new story (Some c) moves led;
       fed = λ story led.
-          let is_new = (moves.further led.events led.world led.past led.shows).is_new in
-          ap (fed_to c) led.fed ∙ (past_led setup led.events led.world led.past).apart.fed c is_new.0;
+          let past = past_of_led old story led in
+          let is_new = (moves.further led.events led.world past led.shows).is_new in
+          ap (fed_to c) led.is.fed ∙ (past_led setup led.events led.world past).apart.fed c is_new.0;
       handed = λ story led.
-          let is_new = (moves.further led.events led.world led.past led.shows).is_new in
-          ap (handed_to c) led.handed ∙ (past_led setup led.events led.world led.past).apart.handed c is_new.0;
+          let past = past_of_led old story led in
+          let is_new = (moves.further led.events led.world past led.shows).is_new in
+          ap (handed_to c) led.is.handed ∙ (past_led setup led.events led.world past).apart.handed c is_new.0;
       closed = sound.absent c (moves.further sound.events sound.shown sound.past sound.shows).is_new.0;
       kept = own_kept old.taps new.taps conn (Some []) put;
       others = others_kept old.taps new.taps conn (Some []) put;
     }
 
 -- none was
-pub is_same : (old new : AnsweringState) → Moves old.world new.world [] [] None → new.taps ≡ old.taps
+pub is_same : (old new : AnsweringState) → Moves old.world new.world [] [] None false → new.taps ≡ old.taps
     → Keeps (HasLedTo old) (HasLedTo new) (Kept old) (Kept new)
 is_same old new moves same = record {
   past = λ story led. same_story old new story None moves led;
@@ -138,30 +168,64 @@ is_same old new moves same = record {
 
 -- bytes were fed
 pub is_fed : (old new : AnsweringState) (c : Connection) (time : ℕ) (bytes : Bytes)
-    → Moves old.world new.world (record { connection = c; moment = moment time; bytes = bytes } ∷ []) [] None → new.taps ≡ old.taps
+    → Moves old.world new.world (record { connection = c; moment = moment time; bytes = bytes } ∷ []) [] None false → new.taps ≡ old.taps
     → IsFed c time bytes (HasLedTo old) (HasLedTo new) (Kept old) (Kept new)
 is_fed old new c time bytes moves same = record {
   past = λ story led.
       let feedings : List Feeding = record { connection = c; moment = moment time; bytes = bytes } ∷ [] in
-      led_on old new story (record { fed = story.fed ++ feedings; handed = story.handed }) feedings [] None moves led refl (sym (append-nil story.handed));
+      led_on old new story (record story { fed = story.fed ++ feedings }) feedings [] None false moves led refl refl (sym (append-nil story.handed))
+      (λ none. (refl, none));
   kept = λ other. ap (kept_at other) same;
 }
 
--- bytes were handed out
-pub has_worked : (old new : AnsweringState) (handed : List Handed) → Moves old.world new.world [] handed None → AreKept handed old.taps new.taps
-    → HasWorked (HasLedTo old) (HasLedTo new) (Kept old) (Kept new)
-has_worked old new handed moves put = record {
-  handed = handed;
-  past = λ story led.
-      led_on old new story (record { fed = story.fed; handed = story.handed ++ handed }) [] handed None moves led (sym (append-nil story.fed)) refl;
-  kept = put.at;
-}
+-- bytes were handed out, and the world behind that is settled
+rests_on : (old new : AnsweringState) (story : Story) (handed : List Handed) → IsSound new.world new.taps → Settles old.world new.world handed
+    → new.failed ≡ false → HasLedTo old story → IsAtRest new (record story { handed = story.handed ++ handed })
+rests_on old new story handed sound settles works led =
+    let setup = old.world.setup in
+    let past = past_of_led old story led in
+    let h = settles.taken led.events led.world past led.shows in
+    let more = events_of h.rounds in
+    let after = after_events setup led.world more in
+    let same = rounds_same setup led.world h.rounds h.are in
+    record {
+      events = led.events ++ more;
+      world = after;
+      is = story_on setup story (record story { handed = story.handed ++ handed }) led.events more led.world [] handed led.is led.sized refl
+          (rounds_are setup led.world h.rounds h.are) (same.0 ∙ sym (append-nil led.world.fed)) (sym h.handed_is) (λ none. (none, same.1))
+          (sym (append-nil story.fed)) refl;
+      sized = settles.setup ∙ led.sized;
+      shows = h.shows;
+      works = works;
+      settled = subst (λ (s : Setup). IsSettled s (led.events ++ more) after) led.sized h.settled;
+      absent = absent_in new.world new.taps after sound h.shows;
+    }
+
+pub has_worked : (old new : AnsweringState) (handed : List Handed) → IsSound old.world old.taps → new.failed ≡ false → Rests old.world new.world handed
+    → AreKept handed old.taps new.taps → HasWorked (HasLedTo old) (HasLedTo new) (IsAtRest new) (Kept old) (Kept new)
+has_worked old new handed sound works rests put =
+    let after = sound_kept old.world new.world old.taps new.taps [] handed false sound rests.moves (added_absent old.taps new.taps handed put) in
+    record {
+      handed = handed;
+      past = λ story led.
+          led_on old new story (record story { handed = story.handed ++ handed }) [] handed None false rests.moves led refl (sym (append-nil story.fed)) refl
+          (λ none. (refl, none));
+      rest = λ story led. rests_on old new story handed after rests.settles works led;
+      kept = put.at;
+    }
 
 -- a connection was closed
-pub is_closed : (old new : AnsweringState) (conn : ConnId) → Moves old.world new.world [] [] None → IsPut conn None old.taps new.taps
+not_none : (closed : List Connection) (c : Connection) → closed ++ c ∷ [] ≡ [] → ⊥
+not_none [] c e = absurd (cc e)
+not_none (d ∷ closed) c e = absurd (cc e)
+
+pub is_closed : (old new : AnsweringState) (conn : ConnId) → Moves old.world new.world [] [] None true → IsPut conn None old.taps new.taps
     → IsClosed (connection_of conn) (HasLedTo old) (HasLedTo new) (Kept old) (Kept new)
 is_closed old new conn moves put = record {
-  past = λ story led. same_story old new story None moves led;
+  past = λ story led.
+      let c = connection_of conn in
+      led_on old new story (record story { closed = story.closed ++ c ∷ [] }) [] [] None true moves led refl (sym (append-nil story.fed))
+      (sym (append-nil story.handed)) (λ none. absurd (not_none story.closed c none));
   kept = own_kept old.taps new.taps conn None put;
   others = others_kept old.taps new.taps conn None put;
 }
@@ -173,19 +237,19 @@ nodes_many world taps sound =
 
 -- a connection was opened, or none was
 pub sound_tapped : (old new : WorldState) (before after : Taps) (opened : Option ConnId) → IsSound old before
-    → Moves old new [] [] (option_map connection_of opened) → IsTapped opened before after → IsSound new after
+    → Moves old new [] [] (option_map connection_of opened) false → IsTapped opened before after → IsSound new after
 sound_tapped old new before after None sound moves same =
-    sound_kept old new before after [] [] sound moves (λ c none. ap (kept_at c) same ∙ none)
+    sound_kept old new before after [] [] false sound moves (λ c none. ap (kept_at c) same ∙ none)
 sound_tapped old new before after (Some conn) sound moves put = sound_opened old new before after conn sound moves put
 
 -- in terms of what was opened
 pub opened_told : (old new : AnsweringState) (opened : Option ConnId) → IsSound old.world old.taps
-    → Moves old.world new.world [] [] (option_map connection_of opened) → IsTapped opened old.taps new.taps
+    → Moves old.world new.world [] [] (option_map connection_of opened) false → IsTapped opened old.taps new.taps
     → IfSome opened (λ (conn : ConnId). IsOpened (connection_of conn) (HasLedTo old) (HasLedTo new) (Kept old) (Kept new))
 opened_told old new None sound moves tapped = tt
 opened_told old new (Some conn) sound moves put = is_opened old new conn sound moves put
 
-pub none_told : (old new : AnsweringState) (opened : Option ConnId) → Moves old.world new.world [] [] (option_map connection_of opened)
+pub none_told : (old new : AnsweringState) (opened : Option ConnId) → Moves old.world new.world [] [] (option_map connection_of opened) false
     → IsTapped opened old.taps new.taps → IfNone opened (Keeps (HasLedTo old) (HasLedTo new) (Kept old) (Kept new))
 none_told old new None moves same = is_same old new moves same
 none_told old new (Some conn) moves put = tt

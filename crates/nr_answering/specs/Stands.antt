@@ -1,5 +1,6 @@
 -- How a connection stands.
-use Rattle.std.specs.Prelude.{◌≡◌, false, cond}
+use Rattle.std.specs.Prelude.{◌≡◌, Bool, false, cond}
+use Rattle.std.specs.List.{list_all}
 use Rattle.nr_model.specs.Items.{Connection}
 use Rattle.nr_model.specs.Nodes.{World, node_at}
 use Rattle.nr_nodes.specs.Standing.{has_ended}
@@ -18,3 +19,7 @@ StandsIn v c standing = (world : World) → Shows v world → standing ≡ stand
 
 abbrev pub Stands : AnsweringState → Connection → Standing → Type 0
 Stands a c standing = a.failed ≡ false → StandsIn a.world c standing
+
+-- whether every node is down, in each world that is shown
+abbrev pub AreDown : AnsweringState → Bool → Type 0
+AreDown a down = a.failed ≡ false → (world : World) → Shows a.world world → down ≡ list_all (λ node. node.down) world.nodes

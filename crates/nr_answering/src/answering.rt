@@ -6,6 +6,7 @@ ghost use Rattle.nr_entry.specs.Jobs.{connection_of};
 ghost use Rattle.nr_answering.specs.Kept.{kept_at, IsTapped};
 ghost use Rattle.nr_answering.specs.Moves.{Moves};
 ghost use Rattle.nr_answering.specs.Led.{HasLedTo};
+ghost use Rattle.nr_service_ends.specs.Stories.{beginning};
 
 use crate::moving;
 use crate::taps::Taps;
@@ -43,7 +44,7 @@ impl Answering {
     pub fn new(alloc: Global, keys: RandomState, setup: Setup) -> Result<Answering, Memory>
         ensures setup { IfOk result (λ answering. answering.world.setup ≡ setup) }
         ensures works { IfOk result (λ answering. answering.failed ≡ false) }
-        ensures past { IfOk result (λ answering. HasLedTo answering (record { fed = []; handed = [] })) }
+        ensures past { IfOk result (λ answering. HasLedTo answering (beginning setup)) }
         ensures kept { IfOk result (λ answering. (c : Connection) → kept_at c answering.taps ≡ None) }
     {
         let world = World::new(alloc, keys, setup)?;
@@ -64,7 +65,7 @@ impl Answering {
 
 // Opens a connection, and an empty tap for it.
 fn open_tapped(world: &mut World, taps: &mut Taps, number: u64) -> Result<Option<ConnId>, Memory>
-    ensures moves { IfOk result (λ opened. Moves world.old world.new [] [] (option_map connection_of opened)) }
+    ensures moves { IfOk result (λ opened. Moves world.old world.new [] [] (option_map connection_of opened) false) }
     ensures taps { IfOk result (λ opened. IsTapped opened taps.old.by_conn.entries taps.new.by_conn.entries) }
 {
     match moving::open(world, number)? {
@@ -78,14 +79,18 @@ fn open_tapped(world: &mut World, taps: &mut Taps, number: u64) -> Result<Option
 
 impl Answers for Answering {
     ghost use Rattle.nr_answering.specs.Kept.{kept_at};
-    ghost use Rattle.nr_answering.specs.Led.{HasLedTo};
-    ghost use Rattle.nr_answering.specs.Stands.{Stands};
+    ghost use Rattle.nr_answering.specs.Led.{HasLedTo, IsAtRest};
+    ghost use Rattle.nr_answering.specs.Stands.{Stands, AreDown};
 
     ghost is_past = { HasLedTo };
+
+    ghost is_settled = { IsAtRest };
 
     ghost kept = { λ a c. kept_at c a.taps };
 
     ghost stands = { Stands };
+
+    ghost falls = { AreDown };
 
     /// A connection goes to the node and the worker of its number, in turn, or to the next node that takes it.
     fn open(&mut self, number: u64) -> Result<Option<ConnId>, Memory> {

@@ -1,5 +1,5 @@
 // What a service asks of the nodes, as steps of their world.
-ghost use Rattle.std.specs.Prelude.{◌≡◌, ◌<◌, ◌%◌, ◌/◌, [], ◌∷◌, None, IfOk, OnOk, length, map};
+ghost use Rattle.std.specs.Prelude.{◌≡◌, ◌<◌, ◌%◌, ◌/◌, true, false, [], ◌∷◌, None, IfOk, OnOk, length, map};
 ghost use Rattle.std.specs.List.{list_all};
 ghost use Rattle.std.specs.Option.{option_map};
 ghost use Rattle.nr_model.specs.Keyspace.{moment as moment_of};
@@ -8,7 +8,7 @@ ghost use Rattle.nr_entry.specs.Jobs.{connection_of};
 ghost use Rattle.nr_nodes.specs.Seen.{handed_seen};
 ghost use Rattle.nr_nodes.specs.WorldState.{Shows};
 ghost use Rattle.nr_service_ends.specs.declared.answers.Standing.TheVariants as standings;
-ghost use Rattle.nr_answering.specs.Moves.{Moves};
+ghost use Rattle.nr_answering.specs.Moves.{Moves, Rests};
 ghost use Rattle.nr_answering.specs.Stands.{StandsIn};
 
 use nr_blob::Memory;
@@ -37,7 +37,7 @@ fn place_of(setup: Setup, number: u64) -> Place
 }
 
 fn open_at(world: &mut World, node: usize, worker: usize) -> Result<Option<ConnId>, Memory>
-    ensures { IfOk result (λ opened. Moves world.old world.new [] [] (option_map connection_of opened)) }
+    ensures { IfOk result (λ opened. Moves world.old world.new [] [] (option_map connection_of opened) false) }
 {
     match world.open(node, worker)? {
         Outcome::Opened(conn) => Ok(Some(conn)),
@@ -47,7 +47,7 @@ fn open_at(world: &mut World, node: usize, worker: usize) -> Result<Option<ConnI
 
 /// Opens a connection at the place of its number, or at that worker of the next node that takes it.
 pub(crate) fn open(world: &mut World, number: u64) -> Result<Option<ConnId>, Memory>
-    ensures { IfOk result (λ opened. Moves world.old world.new [] [] (option_map connection_of opened)) }
+    ensures { IfOk result (λ opened. Moves world.old world.new [] [] (option_map connection_of opened) false) }
 {
     let setup = world.setup();
     let place = place_of(setup, number);
@@ -65,7 +65,7 @@ pub(crate) fn open(world: &mut World, number: u64) -> Result<Option<ConnId>, Mem
 pub(crate) fn feed(world: &mut World, conn: ConnId, moment: u64, bytes: &[u8]) -> Result<(), Memory>
     requires { StandsIn world.old (connection_of conn) standings.Open }
     ensures { OnOk result (Moves world.old world.new
-        (record { connection = connection_of conn; moment = moment_of moment; bytes = bytes.now } ∷ []) [] None) }
+        (record { connection = connection_of conn; moment = moment_of moment; bytes = bytes.now } ∷ []) [] None false) }
 {
     world.feed(conn, moment, bytes)?;
     Ok(())
@@ -73,7 +73,7 @@ pub(crate) fn feed(world: &mut World, conn: ConnId, moment: u64, bytes: &[u8]) -
 
 /// Has all work done that is at hand. Hands back what was handed out, in order.
 pub(crate) fn settle(world: &mut World) -> Result<Vec<Handed>, Memory>
-    ensures { IfOk result (λ handed. Moves world.old world.new [] (map handed_seen handed.items) None) }
+    ensures { IfOk result (λ handed. Rests world.old world.new (map handed_seen handed.items)) }
 {
     let handed = world.settle()?;
     Ok(handed)
@@ -81,7 +81,7 @@ pub(crate) fn settle(world: &mut World) -> Result<Vec<Handed>, Memory>
 
 /// Closes a connection, where it isn't closed yet, at a moment in milliseconds.
 pub(crate) fn close(world: &mut World, conn: ConnId, moment: u64) -> Result<(), Memory>
-    ensures { OnOk result (Moves world.old world.new [] [] None) }
+    ensures { OnOk result (Moves world.old world.new [] [] None true) }
 {
     world.close(conn, moment)?;
     Ok(())

@@ -1,10 +1,10 @@
 // Serving by TCP, in one thread.
 use nr_answering::Answering;
 use nr_config::Settings;
+use nr_fault::Fault;
 use nr_nodes::Setup;
 use nr_service::{Ended, Service};
 use nr_service_ends::{Gate, Moments};
-use nr_serving::Fault;
 use nr_sockets::Sockets;
 use std::alloc::Global;
 use std::hash::RandomState;

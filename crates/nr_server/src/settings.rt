@@ -3,7 +3,7 @@ ghost use Rattle.std.specs.Prelude.{IfOk, IfErr};
 ghost use Rattle.nr_server.specs.Files.{AreSet, IsToldOf, IsOf};
 
 use nr_config::{ConfigError, Settings};
-use nr_serving::Fault;
+use nr_fault::Fault;
 use std::alloc::Global;
 use std::str;
 

@@ -1,5 +1,5 @@
 -- What is read and written for one client.
-use Rattle.std.proofs.Common.{◌≡◌, ℕ, [], ◌∷◌, ◌++◌, take, drop, refl, sym, ap, ◌∙◌, subst, append-nil}
+use Rattle.std.proofs.Common.{◌≡◌, ℕ, true, [], ◌∷◌, ◌++◌, take, drop, refl, sym, ap, ◌∙◌, subst, append-nil}
 use Rattle.std.specs.Prelude.{Option, IfSome}
 use Rattle.std.specs.Option.{option_map}
 use Rattle.std.proofs.lemmas.List.Elements.{All-nil, All-cons}
@@ -10,7 +10,7 @@ use Rattle.nr_model.specs.Worlds.{Feeding, fed_to, handed_to}
 use Rattle.nr_model.proofs.WorldsLists.{same_self}
 use Rattle.nr_model.proofs.WorldsGrow.{fed_to-append, own_bytes, other_bytes}
 use Rattle.nr_service.specs.Serving.{connection}
-use Rattle.nr_service.specs.Steps.{ServesOne}
+use Rattle.nr_service.specs.Steps.{ServesOne, settled_past}
 use Rattle.nr_service.specs.declared.client.Client.{Client}
 use Rattle.nr_service_ends.specs.Stories.{Story, Past, Kept, kept_bytes, IsFed, IsWritten}
 use Rattle.nr_service_ends.specs.Streams.{GrowsBy}
@@ -25,14 +25,13 @@ abbrev with_feeding : Story → Connection → ℕ → Bytes → Story
 with_feeding story c now bytes = record story { fed = story.fed ++ feeding_of c now bytes ∷ [] }
 
 -- bytes were read and fed
-pub fed_one : {A S : Type 0} (was_received was_sent : S → Option Bytes) (is_past : A → Past) (keeps : A → Kept) (now : ℕ) (before after : A)
-    (old new : Client S)
-    (bytes : Bytes) → new.conn ≡ old.conn
+pub fed_one : {A S : Type 0} (was_received was_sent : S → Option Bytes) (has_ended : S → Type 0) (is_past : A → Past) (keeps : A → Kept) (now : ℕ)
+    (before after : A) (old new : Client S) (bytes : Bytes) → new.conn ≡ old.conn
     → was_received new.stream ≡ option_map (λ (front : Bytes). front ++ bytes) (was_received old.stream)
-    → was_sent new.stream ≡ was_sent old.stream
+    → was_sent new.stream ≡ was_sent old.stream → (new.is_ending ≡ true → has_ended new.stream)
     → IsFed (connection old) now bytes (is_past before) (is_past after) (keeps before) (keeps after)
-    → ServesOne was_received was_sent is_past keeps now before after old new
-fed_one {A} {S} was_received was_sent is_past keeps now before after old new bytes same grows sent fed =
+    → ServesOne was_received was_sent has_ended is_past keeps now before after old new
+fed_one {A} {S} was_received was_sent has_ended is_past keeps now before after old new bytes same grows sent ended fed =
     let c = connection old in
     let one : connection new ≡ c = ap (λ conn. record { node = conn.node; serial = conn.serial }) same in
     let own : (story : Story) → fed_to c (story.fed ++ feeding_of c now bytes ∷ []) ≡ fed_to c story.fed ++ bytes = λ story.
@@ -45,9 +44,11 @@ fed_one {A} {S} was_received was_sent is_past keeps now before after old new byt
             record {
               next = next;
               more = feeding_of c now bytes ∷ [];
+              setup = refl;
               fed = refl;
+              closed = refl;
               in_time = All-cons (λ (feeding : Feeding). feeding.moment ≡ moment now) (feeding_of c now bytes) [] refl (All-nil _);
-              served = one_served was_received was_sent (is_past before) (is_past after) (keeps before) (keeps after) story next old new others one
+              served = one_served was_received was_sent has_ended (is_past before) (is_past after) (keeps before) (keeps after) story next old new others one
                   (fed.past story a.past)
                   (record {
                     fed = λ other differs.
@@ -64,6 +65,7 @@ fed_one {A} {S} was_received was_sent is_past keeps now before after old new byt
                         (sym (ap (λ (d : Connection). fed_to d next.fed) one ∙ own story)) s.received;
                     sent = subst (λ (o : Option Bytes). IfSome o (λ front. handed_to (connection new) story.handed ≡ front ++ s.pending)) (sym sent)
                         (subst (λ (d : Connection). IfSome (was_sent old.stream) (λ front. handed_to d story.handed ≡ front ++ s.pending)) (sym one) s.sent);
+                    ended = ended;
                   })
                   a;
             };
@@ -71,16 +73,17 @@ fed_one {A} {S} was_received was_sent is_past keeps now before after old new byt
     }
 
 -- nothing was done
-pub still_one : {A S : Type 0} (was_received was_sent : S → Option Bytes) (is_past : A → Past) (keeps : A → Kept) (now : ℕ) (state : A) (old new : Client S)
-    → new.conn ≡ old.conn → was_received new.stream ≡ was_received old.stream → was_sent new.stream ≡ was_sent old.stream
-    → ServesOne was_received was_sent is_past keeps now state state old new
-still_one was_received was_sent is_past keeps now state old new same received sent =
+pub still_one : {A S : Type 0} (was_received was_sent : S → Option Bytes) (has_ended : S → Type 0) (is_past : A → Past) (keeps : A → Kept) (now : ℕ) (state : A)
+    (old new : Client S) → new.conn ≡ old.conn → was_received new.stream ≡ was_received old.stream → was_sent new.stream ≡ was_sent old.stream
+    → ((old.is_ending ≡ true → has_ended old.stream) → new.is_ending ≡ true → has_ended new.stream)
+    → ServesOne was_received was_sent has_ended is_past keeps now state state old new
+still_one was_received was_sent has_ended is_past keeps now state old new same received sent ended =
     let one : connection new ≡ connection old = ap (λ conn. record { node = conn.node; serial = conn.serial }) same in
     record {
       beside = λ others. record {
         further = λ story a.
-            nothing_fed was_received was_sent now (is_past state) (keeps state) story story (new ∷ others) refl
-            (one_served was_received was_sent (is_past state) (is_past state) (keeps state) (keeps state) story story old new others one a.past
+            nothing_fed was_received was_sent has_ended now (is_past state) (keeps state) story story (new ∷ others) refl refl refl
+            (one_served was_received was_sent has_ended (is_past state) (is_past state) (keeps state) (keeps state) story story old new others one a.past
             (record { fed = λ other differs. refl; handed = λ other differs. refl; kept = λ other differs. refl })
             (λ s. record {
               pending = s.pending;
@@ -89,42 +92,47 @@ still_one was_received was_sent is_past keeps now state old new same received se
                   (subst (λ (d : Connection). IfSome (was_received old.stream) (λ bytes. bytes ≡ fed_to d story.fed)) (sym one) s.received);
               sent = subst (λ (o : Option Bytes). IfSome o (λ bytes. handed_to (connection new) story.handed ≡ bytes ++ s.pending)) (sym sent)
                   (subst (λ (d : Connection). IfSome (was_sent old.stream) (λ bytes. handed_to d story.handed ≡ bytes ++ s.pending)) (sym one) s.sent);
+              ended = ended s.ended;
             })
             a);
       };
     }
 
 -- it was tried to read, and no bytes came
-pub nothing_read : {A S : Type 0} (was_received was_sent : S → Option Bytes) (is_past : A → Past) (keeps : A → Kept) (now : ℕ) (state : A)
-    (old new : Client S) (bytes : Bytes)
+pub nothing_read : {A S : Type 0} (was_received was_sent : S → Option Bytes) (has_ended : S → Type 0) (is_past : A → Past) (keeps : A → Kept) (now : ℕ)
+    (state : A) (old new : Client S) (bytes : Bytes)
     → new.conn ≡ old.conn → GrowsBy 0 bytes (was_received old.stream) (was_received new.stream) → was_sent new.stream ≡ was_sent old.stream
-    → ServesOne was_received was_sent is_past keeps now state state old new
-nothing_read was_received was_sent is_past keeps now state old new bytes same received sent =
-    still_one was_received was_sent is_past keeps now state old new same (grows_none bytes _ _ received) sent
+    → (new.is_ending ≡ true → has_ended new.stream)
+    → ServesOne was_received was_sent has_ended is_past keeps now state state old new
+nothing_read was_received was_sent has_ended is_past keeps now state old new bytes same received sent ended =
+    still_one was_received was_sent has_ended is_past keeps now state old new same (grows_none bytes _ _ received) sent (λ _. ended)
 
 -- it was tried to write, and no bytes were taken
-pub nothing_written : {A S : Type 0} (was_received was_sent : S → Option Bytes) (is_past : A → Past) (keeps : A → Kept) (now : ℕ) (state : A)
-    (old new : Client S) (bytes : Bytes)
+pub nothing_written : {A S : Type 0} (was_received was_sent : S → Option Bytes) (has_ended : S → Type 0) (is_past : A → Past) (keeps : A → Kept) (now : ℕ)
+    (state : A) (old new : Client S) (bytes : Bytes)
     → new.conn ≡ old.conn → was_received new.stream ≡ was_received old.stream → GrowsBy 0 bytes (was_sent old.stream) (was_sent new.stream)
-    → ServesOne was_received was_sent is_past keeps now state state old new
-nothing_written was_received was_sent is_past keeps now state old new bytes same received sent =
-    still_one was_received was_sent is_past keeps now state old new same received (grows_none bytes _ _ sent)
+    → new.is_ending ≡ old.is_ending → (has_ended old.stream → has_ended new.stream)
+    → ServesOne was_received was_sent has_ended is_past keeps now state state old new
+nothing_written was_received was_sent has_ended is_past keeps now state old new bytes same received sent going ended =
+    still_one was_received was_sent has_ended is_past keeps now state old new same received (grows_none bytes _ _ sent)
+    (λ was is. ended (was (sym going ∙ is)))
 
 -- bytes that are kept were written
-pub written_one : {A S : Type 0} (was_received was_sent : S → Option Bytes) (is_past : A → Past) (keeps : A → Kept) (now : ℕ) (before after : A)
-    (old new : Client S)
-    (bytes : Bytes) (count : ℕ) → new.conn ≡ old.conn → bytes ≡ kept_bytes ((keeps before) (connection old))
+pub written_one : {A S : Type 0} (was_received was_sent : S → Option Bytes) (has_ended : S → Type 0) (is_past is_settled : A → Past) (keeps : A → Kept)
+    (now : ℕ) (before after : A) (old new : Client S) (bytes : Bytes) (count : ℕ) → new.conn ≡ old.conn → bytes ≡ kept_bytes ((keeps before) (connection old))
     → was_received new.stream ≡ was_received old.stream → GrowsBy count bytes (was_sent old.stream) (was_sent new.stream)
-    → IsWritten (connection old) count (is_past before) (is_past after) (keeps before) (keeps after)
-    → ServesOne was_received was_sent is_past keeps now before after old new
-written_one was_received was_sent is_past keeps now before after old new bytes count same all received grows written =
+    → new.is_ending ≡ old.is_ending → (has_ended old.stream → has_ended new.stream)
+    → IsWritten (connection old) count (is_past before) (is_past after) (is_settled before) (is_settled after) (keeps before) (keeps after)
+    → ServesOne was_received was_sent has_ended (settled_past is_past is_settled) keeps now before after old new
+written_one was_received was_sent has_ended is_past is_settled keeps now before after old new bytes count same all received grows going ended written =
     let one : connection new ≡ connection old = ap (λ conn. record { node = conn.node; serial = conn.serial }) same in
     record {
       beside = λ others. record {
         further = λ story a.
-            nothing_fed was_received was_sent now (is_past after) (keeps after) story story (new ∷ others) refl
-            (one_served was_received was_sent (is_past before) (is_past after) (keeps before) (keeps after) story story old new others one
-            (written.past story a.past)
+            nothing_fed was_received was_sent has_ended now (settled_past is_past is_settled after) (keeps after) story story (new ∷ others) refl refl refl
+            (one_served was_received was_sent has_ended (settled_past is_past is_settled before) (settled_past is_past is_settled after) (keeps before)
+            (keeps after) story story old new others one
+            (record { past = written.past story a.past.past; rest = written.rest story a.past.rest })
             (record { fed = λ other differs. refl; handed = λ other differs. refl; kept = λ other differs. written.others other differs })
             (λ s.
             let kept : bytes ≡ s.pending = all ∙ ap kept_bytes s.kept in
@@ -136,15 +144,18 @@ written_one was_received was_sent is_past keeps now before after old new bytes c
               sent = sent_more (was_sent old.stream) (was_sent new.stream) count s.pending (handed_to (connection new) story.handed)
                   (grows ∙ ap (λ (b : Bytes). option_map (λ (front : Bytes). front ++ take count b) (was_sent old.stream)) kept)
                   (subst (λ (d : Connection). IfSome (was_sent old.stream) (λ bytes. handed_to d story.handed ≡ bytes ++ s.pending)) (sym one) s.sent);
+              ended = λ is. ended (s.ended (sym going ∙ is));
             })
             a);
       };
     }
 
 -- one step on it behind another
-pub one_then : {A S : Type 0} (was_received was_sent : S → Option Bytes) (is_past : A → Past) (keeps : A → Kept) (now : ℕ) (a b c : A) (x y z : Client S)
-    → ServesOne was_received was_sent is_past keeps now a b x y → ServesOne was_received was_sent is_past keeps now b c y z
-    → ServesOne was_received was_sent is_past keeps now a c x z
-one_then was_received was_sent is_past keeps now a b c x y z p q = record {
-  beside = λ others. serves_then was_received was_sent is_past keeps now a b c (x ∷ others) (y ∷ others) (z ∷ others) (p.beside others) (q.beside others);
+pub one_then : {A S : Type 0} (was_received was_sent : S → Option Bytes) (has_ended : S → Type 0) (is_past : A → Past) (keeps : A → Kept) (now : ℕ) (a b c : A)
+    (x y z : Client S)
+    → ServesOne was_received was_sent has_ended is_past keeps now a b x y → ServesOne was_received was_sent has_ended is_past keeps now b c y z
+    → ServesOne was_received was_sent has_ended is_past keeps now a c x z
+one_then was_received was_sent has_ended is_past keeps now a b c x y z p q = record {
+  beside = λ others. serves_then was_received was_sent has_ended is_past keeps now a b c (x ∷ others) (y ∷ others) (z ∷ others) (p.beside others)
+      (q.beside others);
 }

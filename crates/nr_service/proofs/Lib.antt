@@ -3,5 +3,7 @@ pub mod Known
 pub mod Served
 pub mod Feeding
 pub mod Working
+pub mod Closing
+pub mod Left
 pub mod Turns
 pub mod Within

@@ -1,8 +1,7 @@
 -- How a step on one client leaves the others, and steps behind one another.
-use Rattle.std.proofs.Common.{◌≡◌, ℕ, false, List, [], ◌∷◌, ◌++◌, length, map, take, drop, refl, sym, ap, ◌∙◌, subst, arith, append_assoc, append-nil}
+use Rattle.std.proofs.Common.{◌≡◌, ℕ, false, List, [], ◌∷◌, ◌++◌, map, refl, sym, ap, ◌∙◌, subst, append_assoc, append-nil}
 use Rattle.std.specs.Prelude.{Option, IfSome, All}
 use Rattle.std.specs.List.Sorted.{IsPermutation}
-use Rattle.std.proofs.lemmas.List.{drop_all, take_all}
 use Rattle.std.proofs.lemmas.List.Elements.{All-nil, All-cons, All-head, All-tail, All-append}
 use Rattle.std.proofs.lemmas.List.Sorted.{All-permutation, IsPermutation-map}
 use Rattle.std.proofs.lemmas.Map.Keys.{IsDistinct-head, IsDistinct-IsPermutation}
@@ -18,16 +17,17 @@ use Rattle.nr_service_ends.specs.Stories.{Story, Past, Kept, KeepsOthers}
 use Rattle.nr_service.proofs.Apart.{flips, of_others}
 
 -- one for which nothing was fed, handed out or written
-pub served_still : {S : Type 0} (was_received was_sent : S → Option Bytes) (old_kept new_kept : Kept) (story next : Story) (client : Client S)
-    → fed_to (connection client) next.fed ≡ fed_to (connection client) story.fed
+pub served_still : {S : Type 0} (was_received was_sent : S → Option Bytes) (has_ended : S → Type 0) (old_kept new_kept : Kept) (story next : Story)
+    (client : Client S) → fed_to (connection client) next.fed ≡ fed_to (connection client) story.fed
     → handed_to (connection client) next.handed ≡ handed_to (connection client) story.handed
     → new_kept (connection client) ≡ old_kept (connection client)
-    → IsServed was_received was_sent old_kept story client → IsServed was_received was_sent new_kept next client
-served_still was_received was_sent old_kept new_kept story next client fed handed kept s = record {
+    → IsServed was_received was_sent has_ended old_kept story client → IsServed was_received was_sent has_ended new_kept next client
+served_still was_received was_sent has_ended old_kept new_kept story next client fed handed kept s = record {
   pending = s.pending;
   kept = kept ∙ s.kept;
   received = subst (λ (b : Bytes). IfSome (was_received client.stream) (λ bytes. bytes ≡ b)) (sym fed) s.received;
   sent = subst (λ (b : Bytes). IfSome (was_sent client.stream) (λ bytes. b ≡ bytes ++ s.pending)) (sym handed) s.sent;
+  ended = s.ended;
 }
 
 -- what a step on one connection leaves of the others
@@ -37,108 +37,99 @@ pub record LeavesOthers (c : Connection) (old_kept new_kept : Kept) (story next 
   pub kept : KeepsOthers c old_kept new_kept
 
 -- the other clients, behind a step on one
-pub others_served : {S : Type 0} (was_received was_sent : S → Option Bytes) (old_kept new_kept : Kept) (story next : Story) (client : Client S)
-    (others : List (Client S)) → LeavesOthers (connection client) old_kept new_kept story next
+pub others_served : {S : Type 0} (was_received was_sent : S → Option Bytes) (has_ended : S → Type 0) (old_kept new_kept : Kept) (story next : Story)
+    (client : Client S) (others : List (Client S)) → LeavesOthers (connection client) old_kept new_kept story next
     → IsDistinct same_connection (map connection (client ∷ others))
-    → All (IsServed was_received was_sent old_kept story) others → All (IsServed was_received was_sent new_kept next) others
-others_served was_received was_sent old_kept new_kept story next client others leaves apart all =
-    of_others (IsServed was_received was_sent old_kept story) (IsServed was_received was_sent new_kept next) (connection client)
+    → All (IsServed was_received was_sent has_ended old_kept story) others → All (IsServed was_received was_sent has_ended new_kept next) others
+others_served was_received was_sent has_ended old_kept new_kept story next client others leaves apart all =
+    of_others (IsServed was_received was_sent has_ended old_kept story) (IsServed was_received was_sent has_ended new_kept next) (connection client)
     (λ other differs s.
-    served_still was_received was_sent old_kept new_kept story next other (leaves.fed (connection other) differs) (leaves.handed (connection other) differs)
+    served_still was_received was_sent has_ended old_kept new_kept story next other (leaves.fed (connection other) differs)
+    (leaves.handed (connection other) differs)
     (leaves.kept (connection other) differs) s)
     others (IsDistinct-head same_connection (connection client) (map connection others) apart) all
 
 -- all of them, where one was served
-pub one_served : {S : Type 0} (was_received was_sent : S → Option Bytes) (before after : Past) (old_kept new_kept : Kept) (story next : Story)
-    (old new : Client S) (others : List (Client S)) → connection new ≡ connection old → after next
+pub one_served : {S : Type 0} (was_received was_sent : S → Option Bytes) (has_ended : S → Type 0) (before after : Past) (old_kept new_kept : Kept)
+    (story next : Story) (old new : Client S) (others : List (Client S)) → connection new ≡ connection old → after next
     → LeavesOthers (connection old) old_kept new_kept story next
-    → (IsServed was_received was_sent old_kept story old → IsServed was_received was_sent new_kept next new)
-    → AreServed was_received was_sent before old_kept story (old ∷ others) → AreServed was_received was_sent after new_kept next (new ∷ others)
-one_served was_received was_sent before after old_kept new_kept story next old new others same past leaves step a = record {
+    → (IsServed was_received was_sent has_ended old_kept story old → IsServed was_received was_sent has_ended new_kept next new)
+    → AreServed was_received was_sent has_ended before old_kept story (old ∷ others) → AreServed was_received was_sent has_ended after new_kept next
+    (new ∷ others)
+one_served was_received was_sent has_ended before after old_kept new_kept story next old new others same past leaves step a = record {
   past = past;
-  each = All-cons (IsServed was_received was_sent new_kept next) new others (step (All-head (IsServed was_received was_sent old_kept story) old others a.each))
-      (others_served was_received was_sent old_kept new_kept story next old others leaves a.apart
-      (All-tail (IsServed was_received was_sent old_kept story) old others a.each));
+  each = All-cons (IsServed was_received was_sent has_ended new_kept next) new others
+      (step (All-head (IsServed was_received was_sent has_ended old_kept story) old others a.each))
+      (others_served was_received was_sent has_ended old_kept new_kept story next old others leaves a.apart
+      (All-tail (IsServed was_received was_sent has_ended old_kept story) old others a.each));
   apart = subst (λ (c : Connection). IsDistinct same_connection (c ∷ map connection others)) (sym same) a.apart;
 }
 
 -- the order of the clients makes no difference
-pub served_moved : {S : Type 0} (was_received was_sent : S → Option Bytes) (is_past : Past) (kept : Kept) (story : Story) (xs ys : List (Client S))
-    → IsPermutation xs ys → AreServed was_received was_sent is_past kept story xs → AreServed was_received was_sent is_past kept story ys
-served_moved was_received was_sent is_past kept story xs ys moved a = record {
+pub served_moved : {S : Type 0} (was_received was_sent : S → Option Bytes) (has_ended : S → Type 0) (is_past : Past) (kept : Kept) (story : Story)
+    (xs ys : List (Client S))
+    → IsPermutation xs ys → AreServed was_received was_sent has_ended is_past kept story xs → AreServed was_received was_sent has_ended is_past kept story ys
+served_moved was_received was_sent has_ended is_past kept story xs ys moved a = record {
   past = a.past;
-  each = All-permutation (IsServed was_received was_sent kept story) xs ys moved a.each;
+  each = All-permutation (IsServed was_received was_sent has_ended kept story) xs ys moved a.each;
   apart = IsDistinct-IsPermutation same_connection flips (map connection xs) (map connection ys) (IsPermutation-map connection xs ys moved) a.apart;
 }
 
-pub has_moved : {S : Type 0} (was_received was_sent : S → Option Bytes) (now : ℕ) (is_past : Past) (kept : Kept) (story : Story) (xs ys : List (Client S))
-    → IsPermutation xs ys → HasServed was_received was_sent now is_past kept story xs → HasServed was_received was_sent now is_past kept story ys
-has_moved was_received was_sent now is_past kept story xs ys moved h = record {
+pub has_moved : {S : Type 0} (was_received was_sent : S → Option Bytes) (has_ended : S → Type 0) (now : ℕ) (is_past : Past) (kept : Kept) (story : Story)
+    (xs ys : List (Client S)) → IsPermutation xs ys → HasServed was_received was_sent has_ended now is_past kept story xs
+    → HasServed was_received was_sent has_ended now is_past kept story ys
+has_moved was_received was_sent has_ended now is_past kept story xs ys moved h = record {
   next = h.next;
   more = h.more;
+  setup = h.setup;
   fed = h.fed;
+  closed = h.closed;
   in_time = h.in_time;
-  served = served_moved was_received was_sent is_past kept h.next xs ys moved h.served;
+  served = served_moved was_received was_sent has_ended is_past kept h.next xs ys moved h.served;
 }
 
 -- nothing was fed
-pub nothing_fed : {S : Type 0} (was_received was_sent : S → Option Bytes) (now : ℕ) (is_past : Past) (kept : Kept) (story next : Story)
-    (clients : List (Client S)) → next.fed ≡ story.fed → AreServed was_received was_sent is_past kept next clients
-    → HasServed was_received was_sent now is_past kept story clients
-nothing_fed was_received was_sent now is_past kept story next clients same a = record {
+pub nothing_fed : {S : Type 0} (was_received was_sent : S → Option Bytes) (has_ended : S → Type 0) (now : ℕ) (is_past : Past) (kept : Kept) (story next : Story)
+    (clients : List (Client S)) → next.setup ≡ story.setup → next.fed ≡ story.fed → next.closed ≡ story.closed
+    → AreServed was_received was_sent has_ended is_past kept next clients
+    → HasServed was_received was_sent has_ended now is_past kept story clients
+nothing_fed was_received was_sent has_ended now is_past kept story next clients sized same shut a = record {
   next = next;
   more = [];
+  setup = sized;
   fed = same ∙ sym (append-nil story.fed);
+  closed = shut;
   in_time = All-nil (λ (feeding : Feeding). feeding.moment ≡ moment now);
   served = a;
 }
 
 -- nothing was done
-pub serves_none : {A S : Type 0} (was_received was_sent : S → Option Bytes) (is_past : A → Past) (keeps : A → Kept) (now : ℕ) (state : A)
-    (clients : List (Client S)) → Serves was_received was_sent is_past keeps now state state clients clients
-serves_none was_received was_sent is_past keeps now state clients = record {
-  further = λ story a. nothing_fed was_received was_sent now (is_past state) (keeps state) story story clients refl a;
+pub serves_none : {A S : Type 0} (was_received was_sent : S → Option Bytes) (has_ended : S → Type 0) (is_past : A → Past) (keeps : A → Kept) (now : ℕ)
+    (state : A) (clients : List (Client S)) → Serves was_received was_sent has_ended is_past keeps now state state clients clients
+serves_none was_received was_sent has_ended is_past keeps now state clients = record {
+  further = λ story a. nothing_fed was_received was_sent has_ended now (is_past state) (keeps state) story story clients refl refl refl a;
+}
+
+-- served further by a story, and further by the one that goes on from it
+pub has_then : {S : Type 0} (was_received was_sent : S → Option Bytes) (has_ended : S → Type 0) (now : ℕ) (between after : Past) (between_kept kept : Kept)
+    (story : Story) (xs ys : List (Client S)) (first : HasServed was_received was_sent has_ended now between between_kept story xs)
+    → HasServed was_received was_sent has_ended now after kept first.next ys → HasServed was_received was_sent has_ended now after kept story ys
+has_then was_received was_sent has_ended now between after between_kept kept story xs ys first second = record {
+  next = second.next;
+  more = first.more ++ second.more;
+  setup = second.setup ∙ first.setup;
+  fed = second.fed ∙ ap (λ (l : List Feeding). l ++ second.more) first.fed ∙ append_assoc story.fed first.more second.more;
+  closed = second.closed ∙ first.closed;
+  in_time = All-append (λ (feeding : Feeding). feeding.moment ≡ moment now) first.more second.more first.in_time second.in_time;
+  served = second.served;
 }
 
 -- one step behind another
-pub serves_then : {A S : Type 0} (was_received was_sent : S → Option Bytes) (is_past : A → Past) (keeps : A → Kept) (now : ℕ) (a b c : A)
-    (xs ys zs : List (Client S)) → Serves was_received was_sent is_past keeps now a b xs ys → Serves was_received was_sent is_past keeps now b c ys zs
-    → Serves was_received was_sent is_past keeps now a c xs zs
-serves_then was_received was_sent is_past keeps now a b c xs ys zs p q = record {
+pub serves_then : {A S : Type 0} (was_received was_sent : S → Option Bytes) (has_ended : S → Type 0) (is_past : A → Past) (keeps : A → Kept) (now : ℕ)
+    (a b c : A) (xs ys zs : List (Client S)) → Serves was_received was_sent has_ended is_past keeps now a b xs ys
+    → Serves was_received was_sent has_ended is_past keeps now b c ys zs → Serves was_received was_sent has_ended is_past keeps now a c xs zs
+serves_then was_received was_sent has_ended is_past keeps now a b c xs ys zs p q = record {
   further = λ story s.
       let first = p.further story s in
-      let second = q.further first.next first.served in
-      record {
-        next = second.next;
-        more = first.more ++ second.more;
-        fed = second.fed ∙ ap (λ (l : List Feeding). l ++ second.more) first.fed ∙ append_assoc story.fed first.more second.more;
-        in_time = All-append (λ (feeding : Feeding). feeding.moment ≡ moment now) first.more second.more first.in_time second.in_time;
-        served = second.served;
-      };
+      has_then was_received was_sent has_ended now (is_past b) (is_past c) (keeps b) (keeps c) story ys zs first (q.further first.next first.served);
 }
-
--- all elements that were lent stand there again
-all_back : {A : Type 0} (len : ℕ) (new old : List A) → length new ≡ length old → len ≡ length old → take len (new ++ drop (length new) old) ≡ new
-all_back len new old same is =
-    ap (λ (xs : List _). take len (new ++ xs)) (drop_all (length new) old (omega arith)) ∙ ap (take len) (append-nil new) ∙ take_all len new (omega arith)
-
--- a step on a list of which all elements were lent in the step before
-pub serves_back : {A S : Type 0} (was_received was_sent : S → Option Bytes) (is_past : A → Past) (keeps : A → Kept) (now : ℕ) (a b c : A)
-    (xs lent ys zs : List (Client S)) (len : ℕ) → lent ≡ xs → length ys ≡ length xs → len ≡ length xs
-    → Serves was_received was_sent is_past keeps now a b lent ys
-    → Serves was_received was_sent is_past keeps now b c (take len (ys ++ drop (length ys) xs)) zs
-    → Serves was_received was_sent is_past keeps now a c xs zs
-serves_back {A} {S} was_received was_sent is_past keeps now a b c xs lent ys zs len all same is p q =
-    serves_then was_received was_sent is_past keeps now a b c xs ys zs
-    (subst (λ (l : List (Client S)). Serves was_received was_sent is_past keeps now a b l ys) all p)
-    (subst (λ (l : List (Client S)). Serves was_received was_sent is_past keeps now b c l zs) (all_back len ys xs same is) q)
-
--- no two clients have one connection behind it
-pub apart_back : {A S : Type 0} (was_received was_sent : S → Option Bytes) (is_past : A → Past) (keeps : A → Kept) (now : ℕ) (a b : A)
-    (xs lent ys : List (Client S)) (len : ℕ) → lent ≡ xs → length ys ≡ length xs → len ≡ length xs
-    → Serves was_received was_sent is_past keeps now a b lent ys
-    → (story : Story) → AreServed was_received was_sent (is_past a) (keeps a) story xs
-    → IsDistinct same_connection (map connection (take len (ys ++ drop (length ys) xs)))
-apart_back {A} {S} was_received was_sent is_past keeps now a b xs lent ys len all same is p story served =
-    subst (λ (l : List (Client S)). IsDistinct same_connection (map connection l)) (sym (all_back len ys xs same is))
-    (p.further story (subst (λ (l : List (Client S)). AreServed was_received was_sent (is_past a) (keeps a) story l) (sym all) served)).served.apart

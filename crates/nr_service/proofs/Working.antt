@@ -2,14 +2,14 @@
 use Rattle.std.proofs.Common.{◌≡◌, ℕ, zero, suc, ◌<◌, false, inl, inr, List, [], ◌∷◌, ◌++◌, length, get_or, refl, sym, ap, ◌∙◌, subst, arith, get_or-set_same}
 use Rattle.std.proofs.Math.ListN.{set, length-set}
 use Rattle.std.specs.Prelude.{Option, Some, None, IfSome, map}
-use Rattle.std.specs.List.{remove, swap_remove}
+use Rattle.std.specs.List.{remove}
 use Rattle.std.specs.List.Sorted.{IsPermutation}
 use Rattle.std.specs.Option.{option_map}
 use Rattle.std.proofs.lemmas.Bool.{cases_Bool}
 use Rattle.std.proofs.lemmas.List.{take-set, drop-set-lt}
-use Rattle.std.proofs.lemmas.List.Elements.{All-cons, All-tail, All-weaker}
-use Rattle.std.proofs.lemmas.List.Sorted.{IsPermutation-remove, IsPermutation-swap_remove, IsPermutation-sym, IsPermutation-to_front}
-use Rattle.std.proofs.lemmas.Map.Keys.{IsDistinct-cons, IsDistinct-tail}
+use Rattle.std.proofs.lemmas.List.Elements.{All-cons, All-weaker}
+use Rattle.std.proofs.lemmas.List.Sorted.{IsPermutation-remove, IsPermutation-sym, IsPermutation-to_front}
+use Rattle.std.proofs.lemmas.Map.Keys.{IsDistinct-cons}
 use Rattle.nr_entry.specs.Jobs.{connection_of}
 use Rattle.nr_entry.specs.declared.conn.ConnId.{ConnId}
 use Rattle.nr_model.specs.Bytes.{Bytes}
@@ -17,49 +17,92 @@ use Rattle.nr_model.specs.Items.{Connection, same_connection}
 use Rattle.nr_model.specs.Worlds.{handed_to, fed_to}
 use Rattle.nr_model.proofs.WorldsHanded.{handed_to-append}
 use Rattle.nr_model.proofs.WorldsLists.{same_is}
-use Rattle.nr_service.specs.Serving.{connection, IsServed}
-use Rattle.nr_service.specs.Steps.{Serves, ServesOne}
+use Rattle.nr_service.specs.Serving.{connection, IsServed, AreServed}
+use Rattle.nr_service.specs.Steps.{Serves, ServesOne, IsSettledPast, settled_past, HasServed, HasSettled, Exchanges}
 use Rattle.nr_service.specs.declared.client.Client.{Client}
-use Rattle.nr_service_ends.specs.Stories.{Story, Past, Kept, Keeps, IsOpened, HasWorked, IsClosed}
+use Rattle.nr_service_ends.specs.Stories.{Story, Past, Kept, Keeps, IsOpened, HasWorked}
 use Rattle.nr_service.proofs.Apart.{from_others}
 use Rattle.nr_service.proofs.Known.{handed_more, none_known}
-use Rattle.nr_service.proofs.Served.{served_still, others_served, served_moved, has_moved, nothing_fed}
+use Rattle.nr_service.proofs.Served.{served_still, others_served, served_moved, has_moved, has_then, nothing_fed}
 
--- bytes were handed out
-pub worked : {A S : Type 0} (was_received was_sent : S → Option Bytes) (is_past : A → Past) (keeps : A → Kept) (now : ℕ) (before after : A)
-    (clients : List (Client S))
-    → HasWorked (is_past before) (is_past after) (keeps before) (keeps after) → Serves was_received was_sent is_past keeps now before after clients clients
-worked was_received was_sent is_past keeps now before after clients w = record {
+-- bytes were handed out, and nothing is left to be done
+pub worked_all : {S : Type 0} (was_received was_sent : S → Option Bytes) (has_ended : S → Type 0) (now : ℕ) (before after settled : Past)
+    (old_kept new_kept : Kept) (clients : List (Client S)) → HasWorked before after settled old_kept new_kept
+    → (story : Story) → AreServed was_received was_sent has_ended before old_kept story clients
+    → HasServed was_received was_sent has_ended now (IsSettledPast after settled) new_kept story clients
+worked_all was_received was_sent has_ended now before after settled old_kept new_kept clients w story a =
+    let next : Story = record story { handed = story.handed ++ w.handed } in
+    nothing_fed was_received was_sent has_ended now (IsSettledPast after settled) new_kept story next clients refl refl refl
+    (record {
+      past = record { past = w.past story a.past; rest = w.rest story a.past };
+      each = All-weaker (IsServed was_received was_sent has_ended old_kept story) (IsServed was_received was_sent has_ended new_kept next)
+          (λ client s. record {
+            pending = s.pending ++ handed_to (connection client) w.handed;
+            kept = w.kept (connection client)
+                ∙ ap (λ (o : Option Bytes). option_map (λ (bytes : Bytes). bytes ++ handed_to (connection client) w.handed) o) s.kept;
+            received = s.received;
+            sent = handed_more (was_sent client.stream) s.pending (handed_to (connection client) story.handed) (handed_to (connection client) w.handed)
+                (handed_to (connection client) next.handed) (handed_to-append (connection client) story.handed w.handed) s.sent;
+            ended = s.ended;
+          })
+          clients a.each;
+      apart = a.apart;
+    })
+
+-- a past that is settled is one
+has_settled : {S : Type 0} (was_received was_sent : S → Option Bytes) (has_ended : S → Type 0) (now : ℕ) (is_past is_settled : Past) (kept : Kept)
+    (story : Story) (clients : List (Client S)) → HasServed was_received was_sent has_ended now (IsSettledPast is_past is_settled) kept story clients
+    → HasSettled was_received was_sent has_ended now is_past is_settled kept story clients
+has_settled was_received was_sent has_ended now is_past is_settled kept story clients h = record {
+  has = record {
+    next = h.next;
+    more = h.more;
+    setup = h.setup;
+    fed = h.fed;
+    closed = h.closed;
+    in_time = h.in_time;
+    served = record { past = h.served.past.past; each = h.served.each; apart = h.served.apart };
+  };
+  rest = h.served.past.rest;
+}
+
+pub worked : {A S : Type 0} (was_received was_sent : S → Option Bytes) (has_ended : S → Type 0) (is_past is_settled : A → Past) (keeps : A → Kept) (now : ℕ)
+    (before after : A) (clients : List (Client S)) → HasWorked (is_past before) (is_past after) (is_settled after) (keeps before) (keeps after)
+    → Serves was_received was_sent has_ended is_past keeps now before after clients clients
+worked was_received was_sent has_ended is_past is_settled keeps now before after clients w = record {
   further = λ story a.
-      let next : Story = record story { handed = story.handed ++ w.handed } in
-      nothing_fed was_received was_sent now (is_past after) (keeps after) story next clients refl
-      (record {
-        past = w.past story a.past;
-        each = All-weaker (IsServed was_received was_sent (keeps before) story) (IsServed was_received was_sent (keeps after) next)
-            (λ client s. record {
-              pending = s.pending ++ handed_to (connection client) w.handed;
-              kept = w.kept (connection client)
-                  ∙ ap (λ (o : Option Bytes). option_map (λ (bytes : Bytes). bytes ++ handed_to (connection client) w.handed) o) s.kept;
-              received = s.received;
-              sent = handed_more (was_sent client.stream) s.pending (handed_to (connection client) story.handed) (handed_to (connection client) w.handed)
-                  (handed_to (connection client) next.handed) (handed_to-append (connection client) story.handed w.handed) s.sent;
-            })
-            clients a.each;
-        apart = a.apart;
-      });
+      (has_settled was_received was_sent has_ended now (is_past after) (is_settled after) (keeps after) story clients
+      (worked_all was_received was_sent has_ended now (is_past before) (is_past after) (is_settled after) (keeps before) (keeps after) clients w story a)).has;
+}
+
+-- the clients were served, all work was done, and what is kept was written
+pub exchanged : {A S : Type 0} (was_received was_sent : S → Option Bytes) (has_ended : S → Type 0) (is_past is_settled : A → Past) (keeps : A → Kept)
+    (now : ℕ) (a b c d : A) (xs ys zs : List (Client S)) → Serves was_received was_sent has_ended is_past keeps now a b xs ys
+    → HasWorked (is_past b) (is_past c) (is_settled c) (keeps b) (keeps c)
+    → Serves was_received was_sent has_ended (settled_past is_past is_settled) keeps now c d ys zs
+    → Exchanges was_received was_sent has_ended is_past is_settled keeps now a d xs zs
+exchanged was_received was_sent has_ended is_past is_settled keeps now a b c d xs ys zs p w q = record {
+  further = λ story s.
+      let first = p.further story s in
+      let second = worked_all was_received was_sent has_ended now (is_past b) (is_past c) (is_settled c) (keeps b) (keeps c) ys w first.next first.served in
+      let third = q.further second.next second.served in
+      has_settled was_received was_sent has_ended now (is_past d) (is_settled d) (keeps d) story zs
+      (has_then was_received was_sent has_ended now (is_past b) (settled_past is_past is_settled d) (keeps b) (keeps d) story ys zs first
+      (has_then was_received was_sent has_ended now (settled_past is_past is_settled c) (settled_past is_past is_settled d) (keeps c) (keeps d) first.next ys zs
+      second third));
 }
 
 -- nothing was fed or handed out
-pub kept_all : {A S : Type 0} (was_received was_sent : S → Option Bytes) (is_past : A → Past) (keeps : A → Kept) (now : ℕ) (before after : A)
-    (clients : List (Client S))
-    → Keeps (is_past before) (is_past after) (keeps before) (keeps after) → Serves was_received was_sent is_past keeps now before after clients clients
-kept_all was_received was_sent is_past keeps now before after clients k = record {
+pub kept_all : {A S : Type 0} (was_received was_sent : S → Option Bytes) (has_ended : S → Type 0) (is_past : A → Past) (keeps : A → Kept) (now : ℕ)
+    (before after : A) (clients : List (Client S)) → Keeps (is_past before) (is_past after) (keeps before) (keeps after)
+    → Serves was_received was_sent has_ended is_past keeps now before after clients clients
+kept_all was_received was_sent has_ended is_past keeps now before after clients k = record {
   further = λ story a.
-      nothing_fed was_received was_sent now (is_past after) (keeps after) story story clients refl
+      nothing_fed was_received was_sent has_ended now (is_past after) (keeps after) story story clients refl refl refl
       (record {
         past = k.past story a.past;
-        each = All-weaker (IsServed was_received was_sent (keeps before) story) (IsServed was_received was_sent (keeps after) story)
-            (λ client s. served_still was_received was_sent (keeps before) (keeps after) story story client refl refl (k.kept (connection client)) s)
+        each = All-weaker (IsServed was_received was_sent has_ended (keeps before) story) (IsServed was_received was_sent has_ended (keeps after) story)
+            (λ client s. served_still was_received was_sent has_ended (keeps before) (keeps after) story story client refl refl (k.kept (connection client)) s)
             clients a.each;
         apart = a.apart;
       });
@@ -74,31 +117,32 @@ kept_apart keeps c d bytes closed kept =
     ]
 
 -- a client more, of a connection that was opened
-pub opened_one : {A S : Type 0} (was_received was_sent : S → Option Bytes) (is_past : A → Past) (keeps : A → Kept) (now : ℕ) (before after : A)
-    (clients : List (Client S)) (client : Client S)
-    → IfSome (was_received client.stream) (λ bytes. bytes ≡ []) → IfSome (was_sent client.stream) (λ bytes. bytes ≡ [])
+pub opened_one : {A S : Type 0} (was_received was_sent : S → Option Bytes) (has_ended : S → Type 0) (is_past : A → Past) (keeps : A → Kept) (now : ℕ)
+    (before after : A) (clients : List (Client S)) (client : Client S)
+    → client.is_ending ≡ false → IfSome (was_received client.stream) (λ bytes. bytes ≡ []) → IfSome (was_sent client.stream) (λ bytes. bytes ≡ [])
     → IsOpened (connection client) (is_past before) (is_past after) (keeps before) (keeps after)
-    → Serves was_received was_sent is_past keeps now before after clients (clients ++ client ∷ [])
-opened_one was_received was_sent is_past keeps now before after clients client received sent o = record {
+    → Serves was_received was_sent has_ended is_past keeps now before after clients (clients ++ client ∷ [])
+opened_one was_received was_sent has_ended is_past keeps now before after clients client going received sent o = record {
   further = λ story a.
       let c = connection client in
-      let apart = from_others (IsServed was_received was_sent (keeps before) story) c
+      let apart = from_others (IsServed was_received was_sent has_ended (keeps before) story) c
       (λ other s. kept_apart (keeps before) c (connection other) s.pending o.closed s.kept) clients
       a.each in
       let distinct = IsDistinct-cons same_connection c (map connection clients) apart a.apart in
-      nothing_fed was_received was_sent now (is_past after) (keeps after) story story (clients ++ client ∷ []) refl
-      (served_moved was_received was_sent (is_past after) (keeps after) story (client ∷ clients) (clients ++ client ∷ [])
+      nothing_fed was_received was_sent has_ended now (is_past after) (keeps after) story story (clients ++ client ∷ []) refl refl refl
+      (served_moved was_received was_sent has_ended (is_past after) (keeps after) story (client ∷ clients) (clients ++ client ∷ [])
       (IsPermutation-sym _ _ (IsPermutation-to_front clients client))
       (record {
         past = o.past story a.past;
-        each = All-cons (IsServed was_received was_sent (keeps after) story) client clients
+        each = All-cons (IsServed was_received was_sent has_ended (keeps after) story) client clients
             (record {
               pending = [];
               kept = o.kept;
               received = none_known (was_received client.stream) [] received (fed_to c story.fed) (sym (o.fed story a.past));
               sent = handed_none (was_sent client.stream) (handed_to c story.handed) (o.handed story a.past) sent;
+              ended = λ is. absurd (cc (is, going));
             })
-            (others_served was_received was_sent (keeps before) (keeps after) story story client clients
+            (others_served was_received was_sent has_ended (keeps before) (keeps after) story story client clients
             (record { fed = λ other differs. refl; handed = λ other differs. refl; kept = λ other differs. o.others other differs }) distinct a.each);
         apart = distinct;
       }));
@@ -109,51 +153,23 @@ opened_one was_received was_sent is_past keeps now before after clients client r
     handed_none (Some bytes) handed e none = e ∙ sym (ap (λ (b : Bytes). b ++ []) none)
 
 -- it stands behind the others
-pub opened_behind : {A S : Type 0} (was_received was_sent : S → Option Bytes) (is_past : A → Past) (keeps : A → Kept) (now : ℕ) (before after : A)
-    (clients all : List (Client S)) (client : Client S) (conn : ConnId) (stream : S) → client.conn ≡ conn → client.stream ≡ stream
+pub opened_behind : {A S : Type 0} (was_received was_sent : S → Option Bytes) (has_ended : S → Type 0) (is_past : A → Past) (keeps : A → Kept) (now : ℕ)
+    (before after : A)
+    (clients all : List (Client S)) (client : Client S) (conn : ConnId) (stream : S) → client.conn ≡ conn → client.stream ≡ stream → client.is_ending ≡ false
     → all ≡ clients ++ client ∷ []
     → IfSome (was_received stream) (λ bytes. bytes ≡ []) → IfSome (was_sent stream) (λ bytes. bytes ≡ [])
     → IsOpened (connection_of conn) (is_past before) (is_past after) (keeps before) (keeps after)
-    → Serves was_received was_sent is_past keeps now before after clients all
-opened_behind {A} {S} was_received was_sent is_past keeps now before after clients all client conn stream same_conn same_stream is received sent o =
-    subst (λ (ys : List (Client S)). Serves was_received was_sent is_past keeps now before after clients ys) (sym is)
-    (opened_one was_received was_sent is_past keeps now before after clients client
+    → Serves was_received was_sent has_ended is_past keeps now before after clients all
+opened_behind {A} {S} was_received was_sent has_ended is_past keeps now before after clients all client conn stream same_conn same_stream going is received sent
+    o =
+    subst (λ (ys : List (Client S)). Serves was_received was_sent has_ended is_past keeps now before after clients ys) (sym is)
+    (opened_one was_received was_sent has_ended is_past keeps now before after clients client going
     (subst (λ (t : S). IfSome (was_received t) (λ bytes. bytes ≡ [])) (sym same_stream) received)
     (subst (λ (t : S). IfSome (was_sent t) (λ bytes. bytes ≡ [])) (sym same_stream) sent)
     (subst (λ (d : ConnId). IsOpened (connection_of d) (is_past before) (is_past after) (keeps before) (keeps after)) (sym same_conn) o))
 
--- a client less, of a connection that was closed
-closed_first : {A S : Type 0} (was_received was_sent : S → Option Bytes) (is_past : A → Past) (keeps : A → Kept) (now : ℕ) (before after : A)
-    (client : Client S)
-    (others : List (Client S)) → IsClosed (connection client) (is_past before) (is_past after) (keeps before) (keeps after)
-    → Serves was_received was_sent is_past keeps now before after (client ∷ others) others
-closed_first was_received was_sent is_past keeps now before after client others k = record {
-  further = λ story a.
-      nothing_fed was_received was_sent now (is_past after) (keeps after) story story others refl
-      (record {
-        past = k.past story a.past;
-        each = others_served was_received was_sent (keeps before) (keeps after) story story client others
-            (record { fed = λ other differs. refl; handed = λ other differs. refl; kept = λ other differs. k.others other differs }) a.apart
-            (All-tail (IsServed was_received was_sent (keeps before) story) client others a.each);
-        apart = IsDistinct-tail same_connection (connection client) (map connection others) a.apart;
-      });
-}
-
--- it is taken from the list
-pub closed_one : {A S : Type 0} (was_received was_sent : S → Option Bytes) (is_past : A → Past) (keeps : A → Kept) (now : ℕ) (before after : A)
-    (client : Client S)
-    (clients others : List (Client S)) (index : ℕ) → index < length clients → client ≡ get_or clients index client
-    → others ≡ swap_remove clients index client → IsClosed (connection client) (is_past before) (is_past after) (keeps before) (keeps after)
-    → Serves was_received was_sent is_past keeps now before after clients others
-closed_one {A} {S} was_received was_sent is_past keeps now before after client clients others index within is rest k = record {
-  further = λ story a.
-      (closed_first was_received was_sent is_past keeps now before after client others k).further story
-      (served_moved was_received was_sent (is_past before) (keeps before) story clients (client ∷ others)
-      (subst (λ (ys : List (Client S)). IsPermutation clients (client ∷ ys)) (sym rest) (IsPermutation-swap_remove clients index client within is)) a);
-}
-
 -- another element in its place
-set_moved : {A : Type 0} (xs : List A) (i : ℕ) (y : A) → i < length xs → IsPermutation (set xs i y) (y ∷ remove xs i)
+pub set_moved : {A : Type 0} (xs : List A) (i : ℕ) (y : A) → i < length xs → IsPermutation (set xs i y) (y ∷ remove xs i)
 set_moved xs i y within =
     let inside : i < length (set xs i y) = subst (λ (n : ℕ). i < n) (sym (length-set xs i y)) within in
     let rest : remove (set xs i y) i ≡ remove xs i = (λ k. take-set xs i y k ++ drop-set-lt (suc i) xs i y (omega arith) k) in
@@ -165,20 +181,26 @@ get_or_within [] i a b within = absurd (omega arith)
 get_or_within (x ∷ xs) zero a b within = refl
 get_or_within (x ∷ xs) (suc i) a b within = get_or_within xs i a b (omega arith)
 
+-- another element of the same value in its place
+pub map_set_same : {A B : Type 0} (f : A → B) (xs : List A) (i : ℕ) (item new : A) → i < length xs → f new ≡ f (get_or xs i item)
+    → map f (set xs i new) ≡ map f xs
+map_set_same f [] i item new within same = absurd (omega arith)
+map_set_same f (x ∷ xs) zero item new within same = ap (λ y. y ∷ map f xs) same
+map_set_same f (x ∷ xs) (suc i) item new within same = ap (λ ys. f x ∷ ys) (map_set_same f xs i item new (omega arith) same)
+
 -- one of them was served
-pub served_at : {A S : Type 0} (was_received was_sent : S → Option Bytes) (is_past : A → Past) (keeps : A → Kept) (now : ℕ) (before after : A)
-    (clients : List (Client S))
-    (index : ℕ) (item new : Client S) → index < length clients
-    → ServesOne was_received was_sent is_past keeps now before after (get_or clients index item) new
-    → Serves was_received was_sent is_past keeps now before after clients (set clients index new)
-served_at was_received was_sent is_past keeps now before after clients index item new within one =
+pub served_at : {A S : Type 0} (was_received was_sent : S → Option Bytes) (has_ended : S → Type 0) (is_past : A → Past) (keeps : A → Kept) (now : ℕ)
+    (before after : A) (clients : List (Client S)) (index : ℕ) (item new : Client S) → index < length clients
+    → ServesOne was_received was_sent has_ended is_past keeps now before after (get_or clients index item) new
+    → Serves was_received was_sent has_ended is_past keeps now before after clients (set clients index new)
+served_at was_received was_sent has_ended is_past keeps now before after clients index item new within one =
     let old = get_or clients index item in
     let is : old ≡ get_or clients index old = get_or_within clients index item old within in
     record {
       further = λ story a.
-          has_moved was_received was_sent now (is_past after) (keeps after) story (new ∷ remove clients index) (set clients index new)
+          has_moved was_received was_sent has_ended now (is_past after) (keeps after) story (new ∷ remove clients index) (set clients index new)
           (IsPermutation-sym _ _ (set_moved clients index new within))
           ((one.beside (remove clients index)).further story
-          (served_moved was_received was_sent (is_past before) (keeps before) story clients (old ∷ remove clients index)
+          (served_moved was_received was_sent has_ended (is_past before) (keeps before) story clients (old ∷ remove clients index)
           (IsPermutation-remove clients index old within is) a));
     }

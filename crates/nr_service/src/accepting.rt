@@ -1,6 +1,6 @@
 // Taking the connections that wait.
-ghost use Rattle.std.specs.Prelude.{ℕ, OnOk};
-ghost use Rattle.nr_service.specs.Steps.{Serves};
+ghost use Rattle.std.specs.Prelude.{ℕ, ◌≡◌, [], IfOk, IfSome, OnOk, OnErr};
+ghost use Rattle.nr_service.specs.Steps.{IsTakenOn, Leaves, Serves};
 
 use crate::client::Client;
 use crate::signs::Signs;
@@ -10,7 +10,34 @@ use nr_service_ends::{Answers, Device, Stream};
 // How many connections are accepted at most in a turn.
 const MOST_ACCEPTED: u32 = 64;
 
-// Accepts one, where one waits. Where there is no room for it, its stream is abandoned.
+// Serves a stream from now on, on which nothing was received or sent. False where there is no room for it: then it is abandoned.
+pub(crate) fn take_on<A: Answers, S: Stream + Drop, D: Device<S>>(
+    answers: &mut A,
+    device: &mut D,
+    clients: &mut Vec<Client<S>>,
+    accepted: &mut u64,
+    signs: &mut Signs,
+    stream: S,
+) -> Result<bool, Memory>
+    requires received { IfSome (S.received stream) (λ bytes. bytes ≡ []) }
+    requires sent { IfSome (S.sent stream) (λ bytes. bytes ≡ []) }
+    ensures ok { OnOk result ((now : ℕ) → Serves S.received S.sent S.has_ended A.is_past A.kept now answers.old answers.new
+        clients.old.items clients.new.items) }
+    ensures err { OnErr result (Leaves S.received S.sent S.has_ended A.is_past A.kept answers.old clients.old.items clients.new.items) }
+    ensures taken { IfOk result (λ is_taken. IsTakenOn is_taken stream clients.old.items clients.new.items) }
+{
+    let number = *accepted;
+    *accepted = number.wrapping_add(1);
+    let Some(conn) = answers.open(number)? else {
+        device.abandon(stream);
+        return Ok(false);
+    };
+    signs.has_news = true;
+    clients.push(Client::new(conn, stream))?;
+    Ok(true)
+}
+
+// Accepts one, where one waits.
 fn accept_one<A: Answers, S: Stream + Drop, D: Device<S>>(
     answers: &mut A,
     device: &mut D,
@@ -18,19 +45,14 @@ fn accept_one<A: Answers, S: Stream + Drop, D: Device<S>>(
     accepted: &mut u64,
     signs: &mut Signs,
 ) -> Result<bool, Memory>
-    ensures { OnOk result ((now : ℕ) → Serves S.received S.sent A.is_past A.kept now answers.old answers.new clients.old.items clients.new.items) }
+    ensures ok { OnOk result ((now : ℕ) → Serves S.received S.sent S.has_ended A.is_past A.kept now answers.old answers.new
+        clients.old.items clients.new.items) }
+    ensures err { OnErr result (Leaves S.received S.sent S.has_ended A.is_past A.kept answers.old clients.old.items clients.new.items) }
 {
     let Some(stream) = device.accept()? else {
         return Ok(false);
     };
-    let number = *accepted;
-    *accepted = number.wrapping_add(1);
-    let Some(conn) = answers.open(number)? else {
-        device.abandon(stream);
-        return Ok(true);
-    };
-    signs.has_news = true;
-    clients.push(Client::new(conn, stream))?;
+    take_on(answers, device, clients, accepted, signs, stream)?;
     Ok(true)
 }
 
@@ -42,7 +64,9 @@ pub(crate) fn accept_each<A: Answers, S: Stream + Drop, D: Device<S>>(
     accepted: &mut u64,
     signs: &mut Signs,
 ) -> Result<(), Memory>
-    ensures { OnOk result ((now : ℕ) → Serves S.received S.sent A.is_past A.kept now answers.old answers.new clients.old.items clients.new.items) }
+    ensures ok { OnOk result ((now : ℕ) → Serves S.received S.sent S.has_ended A.is_past A.kept now answers.old answers.new
+        clients.old.items clients.new.items) }
+    ensures err { OnErr result (Leaves S.received S.sent S.has_ended A.is_past A.kept answers.old clients.old.items clients.new.items) }
 {
     for _ in 0..MOST_ACCEPTED {
         let more = accept_one(answers, device, clients, accepted, signs)?;

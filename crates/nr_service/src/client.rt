@@ -1,5 +1,5 @@
 // A connection that is served, and the stream of its bytes.
-ghost use Rattle.std.specs.Prelude.{◌≡◌};
+ghost use Rattle.std.specs.Prelude.{◌≡◌, false};
 
 use nr_entry::ConnId;
 
@@ -20,6 +20,8 @@ impl<S> Client<S> {
     pub(crate) fn new(conn: ConnId, stream: S) -> Self
         ensures conn { result.conn ≡ conn }
         ensures stream { result.stream ≡ stream }
+        ensures going { result.is_ending ≡ false }
+        ensures sound { result.is_broken ≡ false }
     {
         Client {
             conn,

@@ -1,9 +1,9 @@
 // Letting go of the clients that are over.
-ghost use Rattle.std.specs.Prelude.{ℕ, ◌≡◌, ◌+◌, ◌<◌, All, IfNone, OnOk, length, map};
+ghost use Rattle.std.specs.Prelude.{◌≡◌, ◌+◌, ◌<◌, All, IfNone, OnOk, OnErr, length, map};
 ghost use Rattle.std.specs.List.{IsDistinct};
 ghost use Rattle.nr_model.specs.Items.{same_connection};
 ghost use Rattle.nr_service.specs.Serving.{IsWithin, connection};
-ghost use Rattle.nr_service.specs.Steps.{Removes, Serves};
+ghost use Rattle.nr_service.specs.Steps.{Leaves, LeavesSome, LetsGo, Removes};
 
 use crate::client::Client;
 use crate::reading::is_open;
@@ -45,7 +45,8 @@ fn let_go<A: Answers, S: Stream, D: Device<S>>(
 ) -> Result<(), Memory>
     requires { index < length clients.old.items }
     ensures len { length clients.new.items + 1 ≡ length clients.old.items }
-    ensures served { OnOk result ((now : ℕ) → Serves S.received S.sent A.is_past A.kept now answers.old answers.new clients.old.items clients.new.items) }
+    ensures gone { OnOk result (LetsGo S.received S.sent S.has_ended A.is_past A.kept answers.old answers.new clients.old.items clients.new.items) }
+    ensures left { OnErr result (Leaves S.received S.sent S.has_ended A.is_past A.kept answers.old clients.old.items clients.new.items) }
     ensures removed { OnOk result (Removes A.kept index answers.old answers.new clients.old.items clients.new.items) }
 {
     let Client { conn, stream, .. } = clients.swap_remove(index);
@@ -66,7 +67,8 @@ pub(crate) fn let_go_each<A: Answers, S: Stream, D: Device<S>>(
     limit: usize,
     signs: &mut Signs,
 ) -> Result<(), Memory>
-    ensures served { OnOk result ((now : ℕ) → Serves S.received S.sent A.is_past A.kept now answers.old answers.new clients.old.items clients.new.items) }
+    ensures gone { OnOk result (LetsGo S.received S.sent S.has_ended A.is_past A.kept answers.old answers.new clients.old.items clients.new.items) }
+    ensures left { OnErr result (LeavesSome S.received S.sent S.has_ended A.is_past A.kept answers.old clients.old.items clients.new.items) }
     ensures within { OnOk result (IsDistinct same_connection (map connection clients.old.items) → All (IsWithin (A.kept answers.new) limit) clients.new.items) }
 {
     let mut left = clients.len();

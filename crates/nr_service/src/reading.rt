@@ -1,7 +1,8 @@
 // Reading what is there, and feeding it.
-ghost use Rattle.std.specs.Prelude.{OnOk, IsTrue};
+ghost use Rattle.std.specs.Prelude.{◌≡◌, false, OnOk, OnErr, IsTrue, map};
 ghost use Rattle.nr_entry.specs.Jobs.{connection_of};
-ghost use Rattle.nr_service.specs.Steps.{Serves, ServesOne};
+ghost use Rattle.nr_service.specs.Serving.{connection};
+ghost use Rattle.nr_service.specs.Steps.{Leaves, LeavesOne, Serves, ServesOne};
 ghost use Rattle.nr_service_ends.specs.declared.answers.Standing.TheVariants as standings;
 
 use crate::client::Client;
@@ -23,7 +24,7 @@ pub(crate) fn is_open<A: Answers>(answers: &A, conn: ConnId) -> bool
     }
 }
 
-// Reads once, and feeds what came.
+// Reads once, and feeds what came. Its input hasn't ended yet.
 fn take_in<A: Answers, S: Stream>(
     answers: &mut A,
     client: &mut Client<S>,
@@ -31,13 +32,15 @@ fn take_in<A: Answers, S: Stream>(
     buffer: &mut [u8],
     signs: &mut Signs,
 ) -> Result<(), Memory>
-    requires { A.stands answers.old (connection_of client.old.conn) standings.Open }
-    ensures { OnOk result (ServesOne S.received S.sent A.is_past A.kept moment answers.old answers.new client.old client.new) }
+    requires standing { A.stands answers.old (connection_of client.old.conn) standings.Open }
+    requires going { client.old.is_ending ≡ false }
+    ensures ok { OnOk result (ServesOne S.received S.sent S.has_ended A.is_past A.kept moment answers.old answers.new client.old client.new) }
+    ensures err { OnErr result (LeavesOne S.received S.sent S.has_ended A.is_past A.kept answers.old client.old client.new) }
+    ensures conn { client.new.conn ≡ client.old.conn }
 {
     match client.stream.receive(buffer) {
         Received::Bytes(count) => {
             answers.feed(client.conn, moment, &buffer[..count])?;
-            signs.has_news = true;
             signs.is_busy |= count == buffer.len();
         }
         Received::Nothing => {}
@@ -56,7 +59,9 @@ fn read_one<A: Answers, S: Stream>(
     buffer: &mut [u8],
     signs: &mut Signs,
 ) -> Result<(), Memory>
-    ensures { OnOk result (ServesOne S.received S.sent A.is_past A.kept moment answers.old answers.new client.old client.new) }
+    ensures ok { OnOk result (ServesOne S.received S.sent S.has_ended A.is_past A.kept moment answers.old answers.new client.old client.new) }
+    ensures err { OnErr result (LeavesOne S.received S.sent S.has_ended A.is_past A.kept answers.old client.old client.new) }
+    ensures conn { client.new.conn ≡ client.old.conn }
 {
     client.is_held = false;
     if client.is_ending || client.is_broken {
@@ -82,7 +87,9 @@ pub(crate) fn read_each<A: Answers, S: Stream>(
     buffer: &mut [u8],
     signs: &mut Signs,
 ) -> Result<(), Memory>
-    ensures { OnOk result (Serves S.received S.sent A.is_past A.kept moment answers.old answers.new clients.old clients.new) }
+    ensures ok { OnOk result (Serves S.received S.sent S.has_ended A.is_past A.kept moment answers.old answers.new clients.old clients.new) }
+    ensures err { OnErr result (Leaves S.received S.sent S.has_ended A.is_past A.kept answers.old clients.old clients.new) }
+    ensures same { map connection clients.new ≡ map connection clients.old }
 {
     for client in clients.iter_mut() {
         read_one(answers, client, moment, limit, buffer, signs)?;

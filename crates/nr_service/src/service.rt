@@ -1,11 +1,12 @@
 // One thread that serves connections, turn by turn.
-ghost use Rattle.std.specs.Prelude.{ℕ, ◌≡◌, [], All, OnOk, IfOk, IfErr};
-ghost use Rattle.nr_service.specs.Endings.{UnlessMemory};
-ghost use Rattle.nr_service.specs.Serving.{AreServed, IsMoment, IsServing, IsWithin, beginning};
-ghost use Rattle.nr_service.specs.Steps.{Serves};
-ghost use Rattle.nr_service_ends.specs.Stories.{Story};
+ghost use Rattle.std.specs.Prelude.{ℕ, ◌≡◌, [], All, OnOk, OnErr, IfOk, IfErr, IfSome, map};
+ghost use Rattle.nr_model.specs.Worlds.{Setup};
+ghost use Rattle.nr_service.specs.Endings.{ByEnding, RanOut};
+ghost use Rattle.nr_service.specs.Serving.{connection, IsMoment, IsServing, IsWithin};
+ghost use Rattle.nr_service.specs.Steps.{Exchanges, IsTakenOn, Leaves, Serves};
+ghost use Rattle.nr_service_ends.specs.Stories.{HasWorked, beginning};
 
-use crate::accepting::accept_each;
+use crate::accepting::{accept_each, take_on};
 use crate::client::Client;
 use crate::ended::Ended;
 use crate::leaving::let_go_each;
@@ -41,29 +42,36 @@ pub struct Service<A, S, D, M> {
 
 // The moment that the clock shows, or this one where it fails.
 fn moment_now<M: Moments>(clock: &M, moment: u64) -> u64
-    requires { IsMoment (M.shows clock.now) moment }
-    ensures { IsMoment (M.shows clock.now) result }
+    ensures { IsMoment (M.shows clock.now) moment → IsMoment (M.shows clock.now) result }
 {
     clock.now().unwrap_or(moment)
 }
 
-// Has the work done that is at hand, where there may be any.
-fn work<A: Answers, S: Stream>(
+// Has all work done.
+fn work<A: Answers>(answers: &mut A, signs: &mut Signs) -> Result<(), Memory>
+    ensures { OnOk result (HasWorked (A.is_past answers.old) (A.is_past answers.new) (A.is_settled answers.new) (A.kept answers.old) (A.kept answers.new)) }
+{
+    answers.work()?;
+    signs.has_news = false;
+    Ok(())
+}
+
+// Has the work done that is left, where there is any.
+fn work_left<A: Answers, S: Stream>(
     answers: &mut A,
     clients: &[Client<S>],
     signs: &mut Signs,
 ) -> Result<(), Memory>
-    ensures { OnOk result ((now : ℕ) → Serves S.received S.sent A.is_past A.kept now answers.old answers.new clients.now clients.now) }
+    ensures { OnOk result ((now : ℕ) → Serves S.received S.sent S.has_ended A.is_past A.kept now answers.old answers.new clients.now clients.now) }
 {
     if signs.has_news {
-        answers.work()?;
-        signs.has_news = false;
+        work(answers, signs)?;
     }
     Ok(())
 }
 
 // Has the work done that the last turn left, as that of a close, which comes before all that is read now. Then it reads for each client, has
-// that work done, and writes for each.
+// all work done, and writes for each.
 fn exchange_each<A: Answers, S: Stream>(
     answers: &mut A,
     clients: &mut [Client<S>],
@@ -72,31 +80,14 @@ fn exchange_each<A: Answers, S: Stream>(
     buffer: &mut [u8],
     signs: &mut Signs,
 ) -> Result<(), Memory>
-    ensures { OnOk result (Serves S.received S.sent A.is_past A.kept moment answers.old answers.new clients.old clients.new) }
+    ensures ok { OnOk result (Exchanges S.received S.sent S.has_ended A.is_past A.is_settled A.kept moment answers.old answers.new clients.old clients.new) }
+    ensures err { OnErr result (Leaves S.received S.sent S.has_ended A.is_past A.kept answers.old clients.old clients.new) }
+    ensures same { map connection clients.new ≡ map connection clients.old }
 {
-    work(answers, clients, signs)?;
+    work_left(answers, clients, signs)?;
     read_each(answers, clients, moment, limit, buffer, signs)?;
-    work(answers, clients, signs)?;
+    work(answers, signs)?;
     write_each(answers, clients, limit, signs);
-    Ok(())
-}
-
-// Serves each client, and lets go of those that are over.
-fn serve_each<A: Answers, S: Stream, D: Device<S>>(
-    answers: &mut A,
-    device: &mut D,
-    clients: &mut Vec<Client<S>>,
-    moment: u64,
-    limit: usize,
-    buffer: &mut [u8],
-    signs: &mut Signs,
-) -> Result<(), Memory>
-    ensures served { OnOk result (Serves S.received S.sent A.is_past A.kept moment answers.old answers.new clients.old.items clients.new.items) }
-    ensures within { OnOk result ((story : Story) → AreServed S.received S.sent (A.is_past answers.old) (A.kept answers.old) story clients.old.items
-        → All (IsWithin (A.kept answers.new) limit) clients.new.items) }
-{
-    exchange_each(answers, clients, moment, limit, buffer, signs)?;
-    let_go_each(answers, device, clients, moment, limit, signs)?;
     Ok(())
 }
 
@@ -113,9 +104,12 @@ where
     ///
     /// `Memory` where there is no room.
     pub fn new(alloc: Global, answers: A, device: D, clock: M, limit: usize) -> Result<Self, Memory>
-        requires { A.is_past answers beginning }
-        ensures serving { IfOk result (λ service. IsServing S.received S.sent M.shows A.is_past A.kept service) }
+        ensures answers { IfOk result (λ service. service.answers ≡ answers) }
+        ensures serving { (setup : Setup) → A.is_past answers (beginning setup)
+            → IfOk result (IsServing S.received S.sent S.has_ended M.shows A.is_past A.kept setup) }
         ensures none { IfOk result (λ service. service.clients.items ≡ []) }
+        ensures clock { IfOk result (λ service. service.clock ≡ clock) }
+        ensures moment { IfOk result (λ service. service.moment ≡ 0) }
         ensures limit { IfOk result (λ service. service.limit ≡ limit) }
     {
         let buffer = vec![in alloc; 0; PIECE]?;
@@ -132,20 +126,75 @@ where
         })
     }
 
-    /// Takes a turn: accepts at most 64 of the connections that wait, reads once for each client and feeds what came, has the work done, writes
-    /// once for each client for which bytes are kept, closes those that are over, and waits where nothing more can be done at once. A client is
-    /// over where its stream failed or more than `limit` bytes wait for it, and, once all was written, where its input has ended or it takes no
-    /// more bytes. Beside the work a turn takes a few steps and at most one read and one write for each client, each linear in its bytes, of
-    /// which at most 4,096 are read.
+    /// Serves a stream from now on, on which nothing was received or sent yet. False where there is no room for it: then it is abandoned.
+    ///
+    /// # Errors
+    ///
+    /// `Memory` where memory runs out: nothing is answered any more then.
+    pub fn admit(&mut self, stream: S) -> Result<bool, Memory>
+        requires received { IfSome (S.received stream) (λ bytes. bytes ≡ []) }
+        requires sent { IfSome (S.sent stream) (λ bytes. bytes ≡ []) }
+        ensures ok { OnOk result ((now : ℕ) → Serves S.received S.sent S.has_ended A.is_past A.kept now self.old.answers self.new.answers
+            self.old.clients.items self.new.clients.items) }
+        ensures err { OnErr result (Leaves S.received S.sent S.has_ended A.is_past A.kept self.old.answers self.old.clients.items self.new.clients.items) }
+        ensures taken { IfOk result (λ is_taken. IsTakenOn is_taken stream self.old.clients.items self.new.clients.items) }
+        ensures clock { self.new.clock ≡ self.old.clock }
+        ensures moment { self.new.moment ≡ self.old.moment }
+        ensures limit { self.new.limit ≡ self.old.limit }
+    {
+        take_on(
+            &mut self.answers,
+            &mut self.device,
+            &mut self.clients,
+            &mut self.accepted,
+            &mut self.signs,
+            stream,
+        )
+    }
+
+    /// Exchanges bytes with each client, at the moment that the clock shows: reads once for each and feeds what came, has all work done, and
+    /// writes once for each for which bytes are kept. Beside the work it takes a few steps and at most one read and one write for each client,
+    /// each linear in its bytes, of which at most 4,096 are read.
+    ///
+    /// # Errors
+    ///
+    /// `Memory` where memory runs out: nothing is answered any more then.
+    pub fn exchange(&mut self) -> Result<(), Memory>
+        ensures ok { OnOk result (Exchanges S.received S.sent S.has_ended A.is_past A.is_settled A.kept self.new.moment self.old.answers self.new.answers
+            self.old.clients.items self.new.clients.items) }
+        ensures err { OnErr result (Leaves S.received S.sent S.has_ended A.is_past A.kept self.old.answers self.old.clients.items self.new.clients.items) }
+        ensures same { map connection self.new.clients.items ≡ map connection self.old.clients.items }
+        ensures clock { self.new.clock ≡ self.old.clock }
+        ensures moment { IsMoment (M.shows self.old.clock) self.old.moment → IsMoment (M.shows self.new.clock) self.new.moment }
+        ensures limit { self.new.limit ≡ self.old.limit }
+    {
+        self.moment = moment_now(&self.clock, self.moment);
+        exchange_each(
+            &mut self.answers,
+            &mut self.clients,
+            self.moment,
+            self.limit,
+            &mut self.buffer,
+            &mut self.signs,
+        )?;
+        Ok(())
+    }
+
+    /// Takes a turn: accepts at most 64 of the connections that wait, exchanges bytes with each client, closes those that are over, and waits
+    /// where nothing more can be done at once. A client is over where its stream failed or more than `limit` bytes wait for it, and, once all
+    /// was written, where its input has ended or it takes no more bytes. Beside the exchange a turn takes a few steps for each client.
     ///
     /// # Errors
     ///
     /// `Memory` where memory runs out: nothing is answered any more then. `Device` where the device can't wait any more: what was done stands.
     pub fn turn(&mut self) -> Result<(), Ended>
-        requires { IsServing S.received S.sent M.shows A.is_past A.kept self.old }
-        ensures ok { OnOk result (IsServing S.received S.sent M.shows A.is_past A.kept self.new) }
-        ensures err { IfErr result (λ ended. UnlessMemory ended (IsServing S.received S.sent M.shows A.is_past A.kept self.new)) }
-        ensures within { OnOk result (All (IsWithin (A.kept self.new.answers) self.new.limit) self.new.clients.items) }
+        ensures ok { (setup : Setup) → IsServing S.received S.sent S.has_ended M.shows A.is_past A.kept setup self.old
+            → OnOk result (IsServing S.received S.sent S.has_ended M.shows A.is_past A.kept setup self.new) }
+        ensures err { (setup : Setup) → IsServing S.received S.sent S.has_ended M.shows A.is_past A.kept setup self.old
+            → IfErr result (λ ended. ByEnding ended (IsServing S.received S.sent S.has_ended M.shows A.is_past A.kept setup self.new)
+            (RanOut S.received S.sent A.is_past setup self.new)) }
+        ensures within { (setup : Setup) → IsServing S.received S.sent S.has_ended M.shows A.is_past A.kept setup self.old
+            → OnOk result (All (IsWithin (A.kept self.new.answers) self.new.limit) self.new.clients.items) }
         ensures limit { self.new.limit ≡ self.old.limit }
     {
         self.signs.is_busy = false;
@@ -156,14 +205,13 @@ where
             &mut self.accepted,
             &mut self.signs,
         )?;
-        self.moment = moment_now(&self.clock, self.moment);
-        serve_each(
+        self.exchange()?;
+        let_go_each(
             &mut self.answers,
             &mut self.device,
             &mut self.clients,
             self.moment,
             self.limit,
-            &mut self.buffer,
             &mut self.signs,
         )?;
         if !self.device.wait(self.signs.is_busy) {
@@ -174,9 +222,11 @@ where
 
     // Takes a turn, and ends once every node is down and no client is left, or as many turns were taken since as may be.
     fn go_on(&mut self, left: &mut u32) -> Result<(), Ended>
-        requires { IsServing S.received S.sent M.shows A.is_past A.kept self.old }
-        ensures ok { OnOk result (IsServing S.received S.sent M.shows A.is_past A.kept self.new) }
-        ensures err { IfErr result (λ ended. UnlessMemory ended (IsServing S.received S.sent M.shows A.is_past A.kept self.new)) }
+        ensures ok { (setup : Setup) → IsServing S.received S.sent S.has_ended M.shows A.is_past A.kept setup self.old
+            → OnOk result (IsServing S.received S.sent S.has_ended M.shows A.is_past A.kept setup self.new) }
+        ensures err { (setup : Setup) → IsServing S.received S.sent S.has_ended M.shows A.is_past A.kept setup self.old
+            → IfErr result (λ ended. ByEnding ended (IsServing S.received S.sent S.has_ended M.shows A.is_past A.kept setup self.new)
+            (RanOut S.received S.sent A.is_past setup self.new)) }
     {
         self.turn()?;
         if !self.answers.is_down() {
@@ -192,8 +242,9 @@ where
     /// Takes turns until the gate, which is asked before each, stops it, memory runs out, or the device can't wait any more. Once every node is
     /// down it goes on until no client is left, at most for 1,000 turns, and ends as where memory runs out.
     pub fn serve<G: Gate>(&mut self, gate: &G) -> Ended
-        requires { IsServing S.received S.sent M.shows A.is_past A.kept self.old }
-        ensures { UnlessMemory result (IsServing S.received S.sent M.shows A.is_past A.kept self.new) }
+        ensures { (setup : Setup) → IsServing S.received S.sent S.has_ended M.shows A.is_past A.kept setup self.old
+            → ByEnding result (IsServing S.received S.sent S.has_ended M.shows A.is_past A.kept setup self.new)
+            (RanOut S.received S.sent A.is_past setup self.new) }
     {
         let mut turn = 0;
         let mut left = LAST_TURNS;

@@ -3,7 +3,7 @@
 /// What the parts of a turn found.
 #[derive(Clone, Copy, Debug, Drop)]
 pub(crate) struct Signs {
-    /// Something was fed, opened or closed since the last work.
+    /// Something was opened or closed since the last work.
     pub has_news: bool,
     /// More can be done at once.
     pub is_busy: bool,

@@ -1,6 +1,7 @@
 // Writing what is kept for clients.
-ghost use Rattle.std.specs.Prelude.{ℕ};
-ghost use Rattle.nr_service.specs.Steps.{Serves, ServesOne};
+ghost use Rattle.std.specs.Prelude.{ℕ, ◌≡◌, map};
+ghost use Rattle.nr_service.specs.Serving.{connection};
+ghost use Rattle.nr_service.specs.Steps.{Serves, ServesOne, settled_past};
 
 use crate::client::Client;
 use crate::reading::HELD_PART;
@@ -14,7 +15,9 @@ fn write_one<A: Answers, S: Stream>(
     limit: usize,
     signs: &mut Signs,
 )
-    ensures { (now : ℕ) → ServesOne S.received S.sent A.is_past A.kept now answers.old answers.new client.old client.new }
+    ensures served { (now : ℕ) → ServesOne S.received S.sent S.has_ended (settled_past A.is_past A.is_settled) A.kept now answers.old answers.new
+        client.old client.new }
+    ensures conn { client.new.conn ≡ client.old.conn }
 {
     let pending = answers.pending(client.conn);
     let whole = pending.len();
@@ -40,7 +43,9 @@ pub(crate) fn write_each<A: Answers, S: Stream>(
     limit: usize,
     signs: &mut Signs,
 )
-    ensures { (now : ℕ) → Serves S.received S.sent A.is_past A.kept now answers.old answers.new clients.old clients.new }
+    ensures served { (now : ℕ) → Serves S.received S.sent S.has_ended (settled_past A.is_past A.is_settled) A.kept now answers.old answers.new
+        clients.old clients.new }
+    ensures same { map connection clients.new ≡ map connection clients.old }
 {
     for client in clients.iter_mut() {
         write_one(answers, client, limit, signs);

@@ -21,7 +21,7 @@ pub enum Standing {
 /// What answers connections: bytes are fed to it, it works, and then keeps the bytes that it handed out until they were written. Once memory
 /// ran out it answers nothing any more.
 pub trait Answers {
-    ghost use Rattle.std.specs.Prelude.{Option};
+    ghost use Rattle.std.specs.Prelude.{Bool, Option};
     ghost use Rattle.nr_model.specs.Bytes.{Bytes};
     ghost use Rattle.nr_model.specs.Items.{Connection};
     ghost use Rattle.nr_service_ends.specs.Stories.{Story};
@@ -30,15 +30,22 @@ pub trait Answers {
     // What may have led to it.
     ghost is_past: { Self → Story → Type 0 };
 
+    // What may have led to it where nothing is left to be done: all that was asked for was executed, and what that emits handed out.
+    ghost is_settled: { Self → Story → Type 0 };
+
     // The bytes that it keeps for a connection that is open here.
     ghost kept: { Self → Connection → Option Bytes };
 
     // A connection stands so.
     ghost stands: { Self → Connection → Standing → Type 0 };
 
+    // Whether no connection can be answered any more.
+    ghost falls: { Self → Bool → Type 0 };
+
     /// Opens the connection that was accepted as this number, from 0 on, or `None` where there is no room for it.
     fn open(&mut self, number: u64) -> Result<Option<ConnId>, Memory>
-        ensures opened { IfOk result (λ opened. IfSome opened (λ conn. IsOpened (connection_of conn) (is_past self.old) (is_past self.new) (kept self.old) (kept self.new))) }
+        ensures opened { IfOk result (λ opened. IfSome opened (λ conn. IsOpened (connection_of conn) (is_past self.old) (is_past self.new) (kept self.old)
+            (kept self.new))) }
         ensures none { IfOk result (λ opened. IfNone opened (Keeps (is_past self.old) (is_past self.new) (kept self.old) (kept self.new))) };
 
     /// How a connection stands.
@@ -46,16 +53,17 @@ pub trait Answers {
         ensures { stands self.now (connection_of conn) result };
 
     /// Whether no connection can be answered any more: every node is down.
-    fn is_down(&self) -> bool;
+    fn is_down(&self) -> bool
+        ensures { falls self.now result };
 
     /// Feeds bytes to a connection, at a moment in milliseconds. Linear in the bytes.
     fn feed(&mut self, conn: ConnId, moment: u64, bytes: &[u8]) -> Result<(), Memory>
         requires { stands self.old (connection_of conn) standings.Open }
         ensures { OnOk result (IsFed (connection_of conn) moment bytes.now (is_past self.old) (is_past self.new) (kept self.old) (kept self.new)) };
 
-    /// Does all work that is at hand, and keeps what it hands out.
+    /// Does all work that is at hand, until nothing is left to be done, and keeps what it hands out.
     fn work(&mut self) -> Result<(), Memory>
-        ensures { OnOk result (HasWorked (is_past self.old) (is_past self.new) (kept self.old) (kept self.new)) };
+        ensures { OnOk result (HasWorked (is_past self.old) (is_past self.new) (is_settled self.new) (kept self.old) (kept self.new)) };
 
     /// The bytes that it keeps for a connection.
     fn pending(&self, conn: ConnId) -> &[u8]
@@ -64,7 +72,8 @@ pub trait Answers {
     /// So many of the bytes that it keeps for a connection were written. It lets go of them.
     fn written(&mut self, conn: ConnId, count: usize)
         requires { count ≤ length (kept_bytes (kept self.old (connection_of conn))) }
-        ensures { IsWritten (connection_of conn) count (is_past self.old) (is_past self.new) (kept self.old) (kept self.new) };
+        ensures { IsWritten (connection_of conn) count (is_past self.old) (is_past self.new) (is_settled self.old) (is_settled self.new) (kept self.old)
+            (kept self.new) };
 
     /// Closes a connection, at a moment in milliseconds. What it keeps for it is lost.
     fn close(&mut self, conn: ConnId, moment: u64) -> Result<(), Memory>

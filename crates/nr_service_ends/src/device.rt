@@ -21,3 +21,21 @@ pub trait Device<S: Stream> {
     /// Lets go of a stream at once. What wasn't sent is lost.
     fn abandon(&mut self, stream: S);
 }
+
+/// No connection comes: those that are served were handed over.
+#[derive(Clone, Copy, Debug, Drop)]
+pub struct Nowhere;
+
+impl<S: Stream + Drop> Device<S> for Nowhere {
+    fn accept(&mut self) -> Result<Option<S>, Memory> {
+        Ok(None)
+    }
+
+    fn wait(&mut self, _: bool) -> bool {
+        true
+    }
+
+    fn finish(&mut self, _: S) {}
+
+    fn abandon(&mut self, _: S) {}
+}

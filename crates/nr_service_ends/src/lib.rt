@@ -2,7 +2,7 @@
 #![tactic(auto)]
 
 pub use answers::{Answers, Standing};
-pub use device::Device;
+pub use device::{Device, Nowhere};
 pub use gate::{Gate, Go, Open};
 pub use moments::{MachineClock, Moments};
 pub use stream::{Received, Sent, Stream};

@@ -1,6 +1,7 @@
 // A connection's two streams of bytes, which are never waited for.
 ghost use Rattle.std.specs.Prelude.{◌≡◌, ◌≤◌, length};
 ghost use Rattle.nr_service_ends.specs.Streams.{received_count, sent_count, GrowsBy};
+ghost use Rattle.nr_service_ends.specs.declared.stream.Received.TheVariants as received_as;
 
 /// What came of a try to read.
 #[derive(Clone, Copy, Debug, PartialEq, Eq)]
@@ -37,15 +38,20 @@ pub trait Stream {
     // All bytes that it has sent, where they are known.
     ghost sent: { Self → Option Bytes };
 
+    // No more bytes come.
+    ghost has_ended: { Self → Type 0 } = { λ _. Unit {0} };
+
     /// Reads what is there, at most as much as the buffer takes.
     fn receive(&mut self, buffer: &mut [u8]) -> Received
         ensures bound { received_count result ≤ length buffer.new }
         ensures received { GrowsBy (received_count result) buffer.new (received self.old) (received self.new) }
-        ensures sent { sent self.new ≡ sent self.old };
+        ensures sent { sent self.new ≡ sent self.old }
+        ensures ended { result ≡ received_as.End → has_ended self.new };
 
     /// Writes a beginning of the bytes.
     fn send(&mut self, bytes: &[u8]) -> Sent
         ensures bound { sent_count result ≤ length bytes.now }
         ensures sent { GrowsBy (sent_count result) bytes.now (sent self.old) (sent self.new) }
-        ensures received { received self.new ≡ received self.old };
+        ensures received { received self.new ≡ received self.old }
+        ensures ended { has_ended self.old → has_ended self.new };
 }

@@ -1,5 +1,5 @@
-pub mod Written
-pub mod Handed
 pub mod Pasts
-pub mod Worlds
-pub mod Running
+pub mod Going
+pub mod Begun
+pub mod Whole
+pub mod Ended

@@ -1,4 +1,2 @@
-pub mod Faults
-pub mod Written
 pub mod Runs
-pub mod Serving
+pub mod Going

@@ -1,100 +1,116 @@
-// One connection from its first byte to its end. It touches the reader, the writer and the clock that it is handed, and its own world.
-ghost use Rattle.std.specs.Prelude.{◌≡◌, ◌∷◌, [], OnOk, length};
-ghost use Rattle.std.specs.Io.KnownBytes.{Appends};
-ghost use Rattle.nr_serving.specs.Serving.{IsFresh};
-ghost use Rattle.nr_serving.specs.Written.{AppendsSome};
-ghost use Rattle.nr_serving.specs.Runs.{handed_bytes, IsServed};
+// One connection from its first byte to its end, by the service over a server of one node. It touches the stream and the clock that it is handed, and
+// its own server.
+ghost use Rattle.std.specs.Prelude.{◌≡◌, IfOk, IfSome};
+ghost use Rattle.nr_model.specs.Worlds.{Setup as SetupSeen};
+ghost use Rattle.nr_service_ends.specs.Stories.{Story};
+ghost use Rattle.nr_serving.specs.Runs.{alone as one_connection, IsFresh, IsServed};
+ghost use Rattle.nr_serving.specs.Going.{IsDone, Ends};
 
-use crate::bytes::{flush, read_piece, write_bytes};
-use crate::fault::Fault;
-use crate::serving::{FIRST, goes_on, open, serve};
-use nr_nodes::{Handed, World};
-use nr_service_ends::Moments;
+use nr_answering::Answering;
+use nr_blob::Memory;
+use nr_nodes::Setup;
+use nr_service::{Client, Service};
+use nr_service_ends::{Answers, Moments, Nowhere, Standing, Stream};
 use std::alloc::Global;
 use std::hash::RandomState;
-use std::io::{Read, Write};
 
-/// How many bytes are read at most at once.
-const PIECE: usize = 16_384;
+// How many bytes may wait for the connection.
+const LIMIT: usize = 67_108_864;
 
-fn write_one<W: Write>(writer: &mut W, handed: &Handed) -> Result<(), Fault>
-    ensures some { AppendsSome (W.contents writer.old) (W.contents writer.new) (handed_bytes (handed.now ∷ [])) }
-    ensures all { OnOk result (Appends (W.contents writer.old) (W.contents writer.new) (handed_bytes (handed.now ∷ []))) }
+/// How the service of a connection ended.
+#[derive(Clone, Copy, Debug, PartialEq, Eq)]
+pub enum Done {
+    /// Its input has ended, or it takes no more bytes, and all was sent that waited for it.
+    Whole,
+    /// Its stream failed.
+    Broken,
+    /// Memory ran out, or its node fell by that.
+    Memory,
+}
+
+/// A stream whose connection was served, and how that ended.
+#[derive(Drop)]
+pub struct Served<S> {
+    pub stream: S,
+    pub done: Done,
+}
+
+// One node, one worker and one connection.
+fn alone() -> Setup
+    ensures { result ≡ one_connection }
 {
-    if handed.conn == FIRST {
-        write_bytes(writer, &handed.bytes)?;
+    Setup::new(1, 1_024, 1, 1, LIMIT).unwrap()
+}
+
+// How the first of these clients has ended, `None` where it is served further.
+fn done_of<A: Answers, S: Stream>(answers: &A, clients: &[Client<S>]) -> Option<Done>
+    ensures { IfSome result (λ done. IsDone A.kept A.stands answers.now clients.now done) }
+{
+    let Some(client) = clients.first() else {
+        return Some(Done::Memory);
+    };
+    if client.is_broken {
+        return Some(Done::Broken);
     }
-    Ok(())
-}
-
-fn write_each<W: Write>(writer: &mut W, handed: &[Handed]) -> Result<(), Fault>
-    ensures some { AppendsSome (W.contents writer.old) (W.contents writer.new) (handed_bytes handed.now) }
-    ensures all { OnOk result (Appends (W.contents writer.old) (W.contents writer.new) (handed_bytes handed.now)) }
-{
-    for item in handed {
-        write_one(writer, item)?;
+    if !answers.pending(client.conn).is_empty() {
+        return None;
     }
-    Ok(())
+    match answers.standing(client.conn) {
+        Standing::Down => Some(Done::Memory),
+        Standing::Over => Some(Done::Whole),
+        Standing::Open => {
+            if client.is_ending {
+                Some(Done::Whole)
+            } else {
+                None
+            }
+        }
+    }
 }
 
-// Writes what was handed out, and has the writer pass it on.
-fn write_all<W: Write>(writer: &mut W, handed: &[Handed]) -> Result<(), Fault>
-    ensures some { AppendsSome (W.contents writer.old) (W.contents writer.new) (handed_bytes handed.now) }
-    ensures all { OnOk result (Appends (W.contents writer.old) (W.contents writer.new) (handed_bytes handed.now)) }
+// Exchanges until the first client has ended.
+fn exchange_all<A: Answers + Drop, S: Stream + Drop, M: Moments + Drop>(
+    service: &mut Service<A, S, Nowhere, M>,
+) -> Done
+    ensures { (story : Story) → Ends S.received S.sent S.has_ended A.is_past A.is_settled A.kept A.stands story service.old.answers service.old.clients.items
+        service.new.answers service.new.clients.items result }
 {
-    write_each(writer, handed)?;
-    flush(writer)?;
-    Ok(())
-}
-
-// Serves until the input ends or the connection takes no more bytes.
-fn serve_all<R: Read, W: Write, M: Moments>(
-    world: &mut World,
-    reader: &mut R,
-    writer: &mut W,
-    clock: &M,
-    buffer: &mut [u8],
-) -> Result<(), Fault>
-    requires fresh { IsFresh world.old }
-    requires room { length buffer.old ≡ 16384 }
-    ensures { IsServed result (R.remaining reader.old) (R.remaining reader.new) (W.contents writer.old) (W.contents writer.new) }
-{
-    let mut moment = 0;
     for _ in 0..u64::MAX {
-        let count = read_piece(reader, buffer)?;
-        if count == 0 {
-            return Ok(());
-        }
-        moment = clock.now().unwrap_or(moment);
-        let handed = serve(world, moment, &buffer[..count])?;
-        write_all(writer, &handed)?;
-        let more = goes_on(world)?;
-        if !more {
-            return Ok(());
+        let Ok(()) = service.exchange() else {
+            return Done::Memory;
+        };
+        if let Some(done) = done_of(&service.answers, &service.clients) {
+            return done;
         }
     }
-    // More pieces than can be counted.
-    Err(Fault::Memory)
+    Done::Memory
 }
 
-/// Serves one connection: reads its bytes until they end or it takes no more, feeds each piece at the clock's moment, and writes what is handed
-/// out before it reads on. It takes no more where its bytes ended it, or where more waited for it than its queue holds.
+/// Serves one connection on a stream on which nothing was received or sent yet: it reads what comes, at most 4,096 bytes at a time, feeds it at the
+/// clock's moment, has all work done that it asks for, and sends what is handed out, until the input has ended or the connection takes no more: its
+/// bytes ended it, or more waited for it than its queue holds. The stream comes back.
 ///
 /// # Errors
 ///
-/// `Read` or `Write` where the reader or the writer fails, `Memory` where memory runs out, also where the node falls by that. What was written
-/// by then is a beginning of the replies.
-pub fn run_on<R: Read, W: Write, M: Moments>(
+/// `Memory` where there is no room for the server.
+pub fn serve_stream<S: Stream + Drop, M: Moments + Drop>(
     alloc: Global,
     keys: RandomState,
-    reader: &mut R,
-    writer: &mut W,
-    clock: &M,
-) -> Result<(), Fault>
-    ensures { IsServed result (R.remaining reader.old) (R.remaining reader.new) (W.contents writer.old) (W.contents writer.new) }
+    stream: S,
+    clock: M,
+) -> Result<Served<S>, Memory>
+    requires { IsFresh S.received S.sent stream }
+    ensures { IfOk result (IsServed S.received S.sent S.has_ended) }
 {
-    let mut world = open(alloc, keys)?;
-    let mut buffer = vec![in alloc; 0; PIECE]?;
-    serve_all(&mut world, reader, writer, clock, &mut buffer)?;
-    Ok(())
+    let answering = Answering::new(alloc, keys, alone())?;
+    let mut service = Service::new(alloc, answering, Nowhere, clock, LIMIT)?;
+    if !service.admit(stream)? {
+        return Err(Memory);
+    }
+    let done = exchange_all(&mut service);
+    if service.clients.is_empty() {
+        return Err(Memory);
+    }
+    let Client { stream, .. } = service.clients.swap_remove(0);
+    Ok(Served { stream, done })
 }

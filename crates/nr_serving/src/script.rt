@@ -1,6 +1,5 @@
 // Scripts, from their text to what they print, on any writer.
-use crate::bytes::{flush, write_bytes};
-use crate::fault::Fault;
+use nr_fault::Fault;
 use nr_script::{Lines, PlayError, Player};
 use std::alloc::Global;
 use std::hash::RandomState;
@@ -28,8 +27,13 @@ pub fn script_on<W: Write>(
             Err(PlayError::BadStep) => return Err(Fault::BadStep(number)),
             Err(PlayError::Memory) => return Err(Fault::Memory),
         }
-        write_bytes(writer, &out)?;
+        if writer.write_all(&out).is_err() {
+            return Err(Fault::Write);
+        }
         out.clear();
     }
-    flush(writer)
+    match writer.flush() {
+        Ok(()) => Ok(()),
+        Err(_) => Err(Fault::Write),
+    }
 }

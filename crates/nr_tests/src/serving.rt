@@ -1,6 +1,7 @@
 // Readers and writers that fail: no clause says when one does.
+use nr_fault::Fault;
 use nr_service_ends::MachineClock;
-use nr_serving::{Fault, run_on};
+use nr_serving::run_on;
 use std::hash::RandomState;
 use std::io::{self, ErrorKind, Read, Write};
 use std::test::Fail;
@@ -30,17 +31,25 @@ impl Write for Device {
     }
 }
 
-// Each read fails once, and of a reply each of the 7 writes and the flush: past them none does.
+// Each read fails once, and of a reply each of the 7 writes, which takes a byte, and the flush behind it: past them none does.
 #[test]
 fn says_what_failed(rt: HostRuntime) -> Result<(), Fail> {
     let keys = RandomState::new(&rt)?;
-    let clock = MachineClock { runtime: &rt };
     for calls in 0..9 {
-        let read = run_on(rt.alloc(), keys, &mut Device(calls), &mut Device(9), &clock);
-        assert!(rt; read == Err(Fault::Read));
-        let mut ping = b"PING\n".as_slice();
-        let written = run_on(rt.alloc(), keys, &mut ping, &mut Device(calls), &clock);
-        assert!(rt; written == if calls < 8 { Err(Fault::Write) } else { Ok(()) });
+        let clock = MachineClock { runtime: &rt };
+        let read = run_on(rt.alloc(), keys, Device(calls), Device(9), clock);
+        assert!(&rt; read == Err(Fault::Read));
+    }
+    for calls in 0..15 {
+        let clock = MachineClock { runtime: &rt };
+        let ping = b"PING\n".as_slice();
+        let written = run_on(rt.alloc(), keys, ping, Device(calls), clock);
+        let expected = if calls < 14 {
+            Err(Fault::Write)
+        } else {
+            Ok(())
+        };
+        assert!(&rt; written == expected);
     }
     Ok(())
 }

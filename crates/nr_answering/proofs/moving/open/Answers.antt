@@ -1,4 +1,4 @@
-use Rattle.std.proofs.Common.{rules, [], None, Option, sym, subst}
+use Rattle.std.proofs.Common.{rules, false, [], None, Option, sym, subst}
 use Rattle.std.specs.Option.{option_map}
 use Rattle.nr_model.specs.Items.{Connection}
 use Rattle.nr_entry.specs.Jobs.{connection_of}
@@ -14,5 +14,5 @@ returns-then-is_some c =
 pub loop-passed-preserved : goal.loop-passed-preserved
 loop-passed-preserved c =
     moves_on c.args.world.now c.loop-passed.world c.open_at.new.world None c.loop-passed.invariant
-    (subst (λ (o : Option Connection). Moves c.loop-passed.world c.open_at.new.world [] [] o)
+    (subst (λ (o : Option Connection). Moves c.loop-passed.world c.open_at.new.world [] [] o false)
     (sym (none_is c.in_ok-opened.opened (search (rules, c.if-is_some.false)))) c.in_ok-opened.ensures)

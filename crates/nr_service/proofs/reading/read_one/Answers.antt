@@ -1,16 +1,22 @@
 -- Nothing was done, or what came was taken in.
 use Rattle.std.proofs.Common.{refl}
+use Rattle.nr_service.proofs.Left.{leaves_one_then, on_err}
 use Rattle.nr_service.proofs.Feeding.{still_one, one_then}
 use Rattle.nr_service.proofs.reading.read_one.Goals as goal
 
-pub returns-then-client : goal.returns-then-client
-returns-then-client g c = still_one _ _ _ _ _ _ _ _ refl refl refl
+pub returns-then-client-clause-ok : goal.returns-then-client-clause-ok
+returns-then-client-clause-ok g c = still_one _ _ _ _ _ _ _ _ _ refl refl refl (λ ended. ended)
 
-pub returns-then-not-is_open : goal.returns-then-not-is_open
-returns-then-not-is_open g c = still_one _ _ _ _ _ _ _ _ refl refl refl
+pub returns-then-not-is_open-clause-ok : goal.returns-then-not-is_open-clause-ok
+returns-then-not-is_open-clause-ok g c = still_one _ _ _ _ _ _ _ _ _ refl refl refl (λ ended. ended)
 
-pub returns-then-pending-limit : goal.returns-then-pending-limit
-returns-then-pending-limit g c = still_one _ _ _ _ _ _ _ _ refl refl refl
+pub returns-then-pending-limit-clause-ok : goal.returns-then-pending-limit-clause-ok
+returns-then-pending-limit-clause-ok g c = still_one _ _ _ _ _ _ _ _ _ refl refl refl (λ ended. ended)
 
-pub returns : goal.returns
-returns g c = one_then _ _ _ _ _ _ _ _ _ _ _ (still_one _ _ _ _ _ _ _ _ refl refl refl) c.in_ok-take_in.ensures
+pub returns-clause-ok : goal.returns-clause-ok
+returns-clause-ok g c = one_then _ _ _ _ _ _ _ _ _ _ _ _ (still_one _ _ _ _ _ _ _ _ _ refl refl refl (λ ended. ended)) c.in_ok-take_in.ensures.ok
+
+pub returns-in_err-take_in-clause-err : goal.returns-in_err-take_in-clause-err
+returns-in_err-take_in-clause-err g c =
+    on_err c.from_residual.result _
+    (leaves_one_then _ _ _ _ _ _ _ _ _ _ _ (still_one _ _ _ _ _ c.args.moment _ _ _ refl refl refl (λ ended. ended)) c.in_err-take_in.ensures.err)

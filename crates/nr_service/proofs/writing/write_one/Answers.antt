@@ -3,15 +3,15 @@ use Rattle.std.proofs.Common.{refl}
 use Rattle.nr_service.proofs.Feeding.{nothing_written, written_one}
 use Rattle.nr_service.proofs.writing.write_one.Goals as goal
 
-pub returns-after-left-gt0 : goal.returns-after-left-gt0
-returns-after-left-gt0 g c = λ now.
-    written_one _ _ _ _ _ _ _ _ _ c.pending-pending.result.now c.in-Bytes.count refl c.pending-pending.ensures c.in-Bytes.ensures.received
-    c.in-Bytes.ensures.sent c.written.ensures
+pub returns-after-left-gt0-clause-served : goal.returns-after-left-gt0-clause-served
+returns-after-left-gt0-clause-served g c = λ now.
+    written_one _ _ _ _ _ _ _ _ _ _ _ c.pending-pending.result.now c.in-Bytes.count refl c.pending-pending.ensures c.in-Bytes.ensures.received
+    c.in-Bytes.ensures.sent refl c.in-Bytes.ensures.ended c.written.ensures
 
-pub returns-in-Nothing : goal.returns-in-Nothing
-returns-in-Nothing g c = λ now.
-    nothing_written _ _ _ _ _ _ _ _ c.pending-pending.result.now refl c.in-Nothing.ensures.received c.in-Nothing.ensures.sent
+pub returns-in-Nothing-clause-served : goal.returns-in-Nothing-clause-served
+returns-in-Nothing-clause-served g c = λ now.
+    nothing_written _ _ _ _ _ _ _ _ _ c.pending-pending.result.now refl c.in-Nothing.ensures.received c.in-Nothing.ensures.sent refl c.in-Nothing.ensures.ended
 
-pub returns-in-Failed : goal.returns-in-Failed
-returns-in-Failed g c = λ now.
-    nothing_written _ _ _ _ _ _ _ _ c.pending-pending.result.now refl c.in-Failed.ensures.received c.in-Failed.ensures.sent
+pub returns-in-Failed-clause-served : goal.returns-in-Failed-clause-served
+returns-in-Failed-clause-served g c = λ now.
+    nothing_written _ _ _ _ _ _ _ _ _ c.pending-pending.result.now refl c.in-Failed.ensures.received c.in-Failed.ensures.sent refl c.in-Failed.ensures.ended

@@ -1,4 +1,4 @@
-use Rattle.std.proofs.Common.{[], false, subst}
+use Rattle.std.proofs.Common.{[], true, false, subst}
 use Rattle.nr_entry.specs.Jobs.{connection_of}
 use Rattle.nr_service_ends.specs.Stories.{IsClosed}
 use Rattle.nr_answering.specs.State.{AnsweringState}
@@ -10,7 +10,7 @@ pub invariant_of-self-2 : goal.invariant_of-self-2
 invariant_of-self-2 c = λ up.
     let before = c.self.inside.taps.by_conn.entries in
     let after = c.close-2.new.self.by_conn.entries in
-    sound_kept c.self.inside.world c.close.new.world before after [] [] (c.self.invariant c.if-self.false) c.in_ok-close.ensures
+    sound_kept c.self.inside.world c.close.new.world before after [] [] true (c.self.invariant c.if-self.false) c.in_ok-close.ensures
     (put_none before after c.args.conn c.close-2.ensures)
 
 pub returns : goal.returns

@@ -1,8 +1,8 @@
-use Rattle.std.proofs.Common.{[], false, map, subst}
+use Rattle.std.proofs.Common.{[], false, map, refl, subst}
 use Rattle.nr_nodes.specs.Seen.{handed_seen}
 use Rattle.nr_service_ends.specs.Stories.{HasWorked}
 use Rattle.nr_answering.specs.State.{AnsweringState}
-use Rattle.nr_answering.specs.Led.{HasLedTo}
+use Rattle.nr_answering.specs.Led.{HasLedTo, IsAtRest}
 use Rattle.nr_answering.proofs.Told.{Kept, sound_kept, added_absent, has_worked}
 use Rattle.nr_answering.proofs.answering.AnsweringAnswers.work.Goals as goal
 
@@ -11,7 +11,7 @@ invariant_of-self-2 c = λ up.
     let before = c.self.inside.taps.by_conn.entries in
     let after = c.put_each.new.self.by_conn.entries in
     let handed = map handed_seen c.in_ok-handed.handed.items in
-    sound_kept c.self.inside.world c.settle.new.world before after [] handed (c.self.invariant c.if-self.false) c.in_ok-handed.ensures
+    sound_kept c.self.inside.world c.settle.new.world before after [] handed false (c.self.invariant c.if-self.false) c.in_ok-handed.ensures.moves
     (added_absent before after handed c.in_ok-put_each.ensures)
 
 pub returns : goal.returns
@@ -19,5 +19,5 @@ returns c =
     let handed = map handed_seen c.in_ok-handed.handed.items in
     let old : AnsweringState = record { world = c.self.inside.world; taps = c.self.inside.taps.by_conn.entries; failed = c.self.inside.has_failed } in
     let new : AnsweringState = record { world = c.settle.new.world; taps = c.put_each.new.self.by_conn.entries; failed = false } in
-    subst (λ (a : AnsweringState). HasWorked (HasLedTo a) (HasLedTo new) (Kept a) (Kept new)) c.self.view_is
-    (has_worked old new handed c.in_ok-handed.ensures c.in_ok-put_each.ensures)
+    subst (λ (a : AnsweringState). HasWorked (HasLedTo a) (HasLedTo new) (IsAtRest new) (Kept a) (Kept new)) c.self.view_is
+    (has_worked old new handed (c.self.invariant c.if-self.false) refl c.in_ok-handed.ensures c.in_ok-put_each.ensures)

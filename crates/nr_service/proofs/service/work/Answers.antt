@@ -1,6 +1,0 @@
--- What was handed out is kept.
-use Rattle.nr_service.proofs.Working.{worked}
-use Rattle.nr_service.proofs.service.work.Goals as goal
-
-pub returns-in_ok-work : goal.returns-in_ok-work
-returns-in_ok-work g c = λ now. worked _ _ _ _ _ _ _ _ c.in_ok-work.ensures

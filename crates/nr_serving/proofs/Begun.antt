@@ -1,0 +1,52 @@
+-- What holds of a connection however its service ended.
+use Rattle.std.proofs.Common.{◌≡◌, [], ◌++◌, sym, ap, ◌∙◌, subst, append_assoc}
+use Rattle.std.specs.Prelude.{Option, Some, None, IfSome}
+use Rattle.nr_model.specs.Bytes.{Bytes}
+use Rattle.nr_model.specs.Explains.{IsBeginningOf}
+use Rattle.nr_model.specs.Sequential.{emitted_for}
+use Rattle.nr_model.specs.Worlds.{Setup, fed_to, handed_to}
+use Rattle.nr_model.specs.Nodes.{World, sequence_of}
+use Rattle.nr_model.specs.Nodes.Pasts.{Event, IsPast, handed_in}
+use Rattle.nr_model.specs.Nodes.Explained.{waiting_for}
+use Rattle.nr_service.specs.declared.client.Client.{Client}
+use Rattle.nr_service.specs.Serving.{connection}
+use Rattle.nr_service.specs.Steps.{IsLeft}
+use Rattle.nr_service_ends.specs.Stories.{Story}
+use Rattle.nr_answering.specs.Led.{IsOf}
+use Rattle.nr_serving.specs.Runs.{alone, IsBegun}
+use Rattle.nr_serving.proofs.Pasts.{past_explained}
+use Rattle.std.specs.Prelude.{List}
+
+-- a beginning of a beginning
+longer : (known : Option Bytes) (handed all : Bytes) → IsBeginningOf handed all → IfSome known (λ bytes. IsBeginningOf bytes handed)
+    → IfSome known (λ bytes. IsBeginningOf bytes all)
+longer None handed all more is = tt
+longer (Some bytes) handed all more is =
+    (is.0 ++ more.0, sym (append_assoc bytes is.0 more.0) ∙ ap (λ (b : Bytes). b ++ more.0) is.1 ∙ more.1)
+
+-- what was fed by another name
+fed_as : (known : Option Bytes) (fed other : Bytes) → fed ≡ other → IfSome known (λ bytes. IsBeginningOf fed bytes)
+    → IfSome known (λ bytes. IsBeginningOf other bytes)
+fed_as known fed other e is = subst (λ (b : Bytes). IfSome known (λ bytes. IsBeginningOf b bytes)) e is
+
+-- what was handed out in a past is a beginning of what is emitted along its sequence
+pub begins : {S : Type 0} (was_received was_sent : S → Option Bytes) (story : Story) (events : List Event) (world : World) (client : Client S)
+    → story.setup ≡ alone → story.closed ≡ [] → IsOf story events world → IsLeft was_received was_sent story client
+    → IsBegun was_received was_sent (connection client) events world (sequence_of world) client.stream
+begins was_received was_sent story events world client sized calm is left =
+    let c = connection client in
+    let past : IsPast alone events world = subst (λ (s : Setup). IsPast s events world) sized is.past in
+    let explained = past_explained alone events world past in
+    let beginning = explained.accounts.beginning c in
+    let handed = handed_to c (handed_in events) in
+    let waits = waiting_for world c in
+    let out : handed_to c story.handed ≡ handed = ap (handed_to c) is.handed in
+    record {
+      past = past;
+      explained = explained;
+      unclosed = is.closed calm;
+      fed = fed_as (was_received client.stream) (fed_to c story.fed) (fed_to c world.fed) (ap (fed_to c) is.fed) left.received;
+      sent =
+          longer (was_sent client.stream) (handed_to c story.handed) (emitted_for c (sequence_of world))
+          (waits ++ beginning.0, ap (λ (b : Bytes). b ++ (waits ++ beginning.0)) out ∙ sym (append_assoc handed waits beginning.0) ∙ beginning.1) left.sent;
+    }

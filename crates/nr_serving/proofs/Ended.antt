@@ -1,0 +1,82 @@
+-- How a connection was served, by how the service over a server of one node ended.
+use Rattle.std.proofs.Common.{◌≡◌, ◌<◌, List, [], ◌∷◌, ◌++◌, refl, sym, ap, ◌∙◌, subst, arith, length, get_or}
+use Rattle.std.specs.Prelude.{Option}
+use Rattle.std.proofs.lemmas.List.Elements.{All-nil, All-head}
+use Rattle.std.specs.List.{IsDistinct}
+use Rattle.nr_model.specs.Bytes.{Bytes}
+use Rattle.nr_model.specs.Items.{Connection}
+use Rattle.nr_model.specs.Nodes.{sequence_of}
+use Rattle.nr_service.specs.declared.client.Client.{Client}
+use Rattle.nr_service.specs.Serving.{connection, AreServed, IsServed as IsServedSo}
+use Rattle.nr_service.specs.Steps.{IsLeft}
+use Rattle.nr_service.proofs.Left.{still_left}
+use Rattle.nr_service_ends.specs.Stories.{Story, beginning}
+use Rattle.nr_answering.specs.Kept.{kept_at}
+use Rattle.nr_answering.specs.Led.{HasLedTo, IsAtRest}
+use Rattle.nr_answering.specs.Stands.{Stands}
+use Rattle.nr_answering.specs.State.{AnsweringState}
+use Rattle.nr_serving.specs.Going.{HasEnded}
+use Rattle.nr_serving.specs.Runs.{alone, IsServed}
+use Rattle.nr_serving.specs.declared.run.Done.{Done}
+use Rattle.nr_serving.specs.declared.run.Done.TheVariants as dones
+use Rattle.nr_serving.proofs.Begun.{begins}
+use Rattle.nr_serving.proofs.Whole.{whole}
+
+abbrev pub Kept : AnsweringState → Connection → Option Bytes
+Kept a c = kept_at c a.taps
+
+-- no client is served yet
+pub none_served : {S : Type 0} (was_received was_sent : S → Option Bytes) (has_ended : S → Type 0) (a : AnsweringState) (clients : List (Client S))
+    → clients ≡ [] → HasLedTo a (beginning alone) → AreServed was_received was_sent has_ended (HasLedTo a) (Kept a) (beginning alone) clients
+unfolding IsDistinct
+none_served was_received was_sent has_ended a clients none led =
+    subst (AreServed was_received was_sent has_ended (HasLedTo a) (Kept a) (beginning alone)) (sym none)
+    (record { past = led; each = All-nil _; apart = tt })
+
+-- the first one was served so
+first_served : {S : Type 0} (was_received was_sent : S → Option Bytes) (has_ended : S → Type 0) (a : AnsweringState) (story : Story) (client : Client S)
+    (more : List (Client S)) (done : Done) → story.setup ≡ alone → story.closed ≡ []
+    → HasEnded was_received was_sent has_ended HasLedTo IsAtRest Kept Stands story a (client ∷ more) done
+    → IsServed was_received was_sent has_ended (record { stream = client.stream; done = done })
+first_served was_received was_sent has_ended a story client more dones.Whole sized calm ended =
+    let o = ended.whole refl in
+    let served = All-head (IsServedSo was_received was_sent has_ended (Kept a) o.next) client more o.served.each in
+    let size = o.setup ∙ sized in
+    let shut = o.closed ∙ calm in (
+      connection client,
+      o.rest.events,
+      o.rest.world,
+      sequence_of o.rest.world,
+      begins was_received was_sent o.next o.rest.events o.rest.world client size shut o.rest.is
+          (still_left was_received was_sent has_ended (Kept a) o.next client served),
+      λ e. whole was_received was_sent has_ended a o.next client size shut o.rest served (o.first refl),
+    )
+first_served was_received was_sent has_ended a story client more dones.Broken sized calm ended =
+    let l = ended.left in (
+      connection client,
+      l.past.events,
+      l.past.world,
+      sequence_of l.past.world,
+      begins was_received was_sent l.next l.past.events l.past.world client (l.setup ∙ sized) (l.closed ∙ ap (λ (cs : List Connection). cs ++ []) calm)
+          l.past.is (All-head (IsLeft was_received was_sent l.next) client more l.each),
+      λ e. absurd (cc e),
+    )
+first_served was_received was_sent has_ended a story client more dones.Memory sized calm ended =
+    let l = ended.left in (
+      connection client,
+      l.past.events,
+      l.past.world,
+      sequence_of l.past.world,
+      begins was_received was_sent l.next l.past.events l.past.world client (l.setup ∙ sized) (l.closed ∙ ap (λ (cs : List Connection). cs ++ []) calm)
+          l.past.is (All-head (IsLeft was_received was_sent l.next) client more l.each),
+      λ e. absurd (cc e),
+    )
+
+pub served : {S : Type 0} (was_received was_sent : S → Option Bytes) (has_ended : S → Type 0) (a : AnsweringState) (story : Story)
+    (clients : List (Client S)) (client : Client S) (done : Done) → story.setup ≡ alone → story.closed ≡ [] → 0 < length clients
+    → client ≡ get_or clients 0 client → HasEnded was_received was_sent has_ended HasLedTo IsAtRest Kept Stands story a clients done
+    → IsServed was_received was_sent has_ended (record { stream = client.stream; done = done })
+served was_received was_sent has_ended a story [] client done sized calm some is ended = absurd (omega arith)
+served was_received was_sent has_ended a story (first ∷ more) client done sized calm some is ended =
+    subst (λ (one : Client _). IsServed was_received was_sent has_ended (record { stream = one.stream; done = done })) (sym is)
+    (first_served was_received was_sent has_ended a story first more done sized calm ended)

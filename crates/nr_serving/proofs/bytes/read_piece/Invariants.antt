@@ -1,6 +1,0 @@
--- What is left is what was left at first.
-use Rattle.std.specs.Io.KnownBytes.{Keeps}
-use Rattle.nr_serving.proofs.bytes.read_piece.Given as goal
-
-abbrev pub invariant-loop : goal.invariant-loop
-invariant-loop g l = Keeps (g.R.Read.remaining l.fn.reader) (g.R.Read.remaining l.reader)
