@@ -126,17 +126,6 @@ account_whole events world c k whole =
     let u = (k.each c.node at.there).up (not-true (node_at c.node world).down whole.1) in
     ap (λ (w : Bytes). handed_to c (handed_in events) ++ w) (waits world c whole.0) ∙ (u.accounts c.serial at.stands).whole whole.2
 
--- what it was handed is counted
-pub counted : (events : List Event) (world : World) → AreKept (handed_in events) world.taken world → (c : Connection) → is_client world c ≡ true
-    → (client_of c world).queue.handed ≡ length (handed_to c (handed_in events))
-counted events world k c here =
-    let at = a_client world c here in
-    let kept = k.each c.node at.there in
-    elim (cases_Bool (node_at c.node world).down) [
-      | inl down ↦ ((kept.fallen down).accounts c.serial at.stands).counted
-      | inr up ↦ ((kept.up up).accounts c.serial at.stands).begun.counted
-    ]
-
 -- so it is with each connection
 pub accounted : (events : List Event) (world : World) → IsKnown world → AreKept (handed_in events) world.taken world
     → IsAccounted (sequence_of world) events world

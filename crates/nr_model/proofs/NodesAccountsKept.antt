@@ -161,10 +161,10 @@ kept_client r i taken handed node client workers on goes k =
 
 -- a client more, for which nothing was emitted and nothing handed out
 pub kept_opened : (r : ℕ) (taken : List Taken) (handed : List Handed) (node : Node) (client : Client) → node.down ≡ false
-    → client.queue.waiting ≡ [] → client.queue.handed ≡ 0
+    → client.queue.waiting ≡ []
     → emitted_for (connection_at r (length node.clients)) (part_from r node.applied taken) ≡ []
     → IsKept r taken handed node → IsKept r taken handed (record node { clients = node.clients ++ client ∷ [] })
-kept_opened r taken handed node client on nothing none silent k =
+kept_opened r taken handed node client on nothing silent k =
     let u = k.up on in
     let clients = node.clients in
     let count = length clients in
@@ -176,7 +176,7 @@ kept_opened r taken handed node client on nothing none silent k =
     let unhanded = k.absent count (omega arith) in
     let newest : received count client =
     all_begun (handed_to (connection_at r count) handed) client.queue (emitted_for (connection_at r count) (part_from r node.applied taken))
-    (none ∙ sym (ap length unhanded)) ((λ i. unhanded i ++ nothing i) ∙ sym silent) in
+    ((λ i. unhanded i ++ nothing i) ∙ sym silent) in
     record {
       up = λ up. record {
         within = u.within;
@@ -207,7 +207,6 @@ kept_fallen r taken handed node node' on fell same run k =
           let c = connection_at r s in
           let b = (u.accounts s below).begun in
           record {
-            counted = b.counted;
             begins = begins_on (handed_to c handed ++ (queue_in node.clients s).waiting) _ _ b.begins (part_emits c node.applied taken u.within run);
           };
     } in

@@ -9,7 +9,7 @@ use Rattle.nr_model.specs.Entries.{Jobs}
 use Rattle.nr_model.specs.Worlds.{Setup, own_jobs, handed_to}
 use Rattle.nr_model.specs.Sequential.{emitted_for}
 use Rattle.nr_model.specs.Explains.{IsBeginningOf}
-use Rattle.nr_model.specs.Nodes.{Taken, Entry, Reads, Node, World, fresh, node_at, client_of, jobs_taken, sequence_of}
+use Rattle.nr_model.specs.Nodes.{Taken, Entry, Reads, Node, World, fresh, node_at, jobs_taken, sequence_of}
 use Rattle.nr_model.specs.Nodes.Steps.{is_client}
 use Rattle.nr_model.specs.Nodes.Pasts.{Event, world_after, AreEvents, handed_in}
 use Rattle.nr_model.specs.Nodes.Explained.{is_up, IsAccounted, IsReplica}
@@ -21,7 +21,7 @@ use Rattle.nr_model.proofs.NodesOwnShape.{IsOf}
 use Rattle.nr_model.proofs.NodesOwnShaped.{node_in, AreOf, IsTakenIn, IsShapedWorld, each_shaped}
 use Rattle.nr_model.proofs.NodesPartsEmitted.{AreRun}
 use Rattle.nr_model.proofs.NodesAccountsMoves.{IsKnown, own_both}
-use Rattle.nr_model.proofs.NodesAccounts.{AreKnown, each_kept, counted, handed_begins, each_accounted}
+use Rattle.nr_model.proofs.NodesAccounts.{AreKnown, handed_begins, each_accounted}
 use Rattle.nr_model.proofs.NodesReplicas.{each_replica}
 
 -- looks ran reads of their node's connections
@@ -89,12 +89,6 @@ nodes_accounted setup events are = each_accounted setup (each_known setup) event
 pub nodes_handed : (setup : Setup) (events : List Event) → AreEvents setup (fresh setup) events → (c : Connection)
     → IsBeginningOf (handed_to c (handed_in events)) (emitted_for c (sequence_of (world_after setup events)))
 nodes_handed setup events are c = handed_begins events (world_after setup events) (nodes_accounted setup events are) c
-
--- as many bytes as its queue has counted
-pub nodes_counted : (setup : Setup) (events : List Event) → AreEvents setup (fresh setup) events → (c : Connection)
-    → is_client (world_after setup events) c ≡ true
-    → (client_of c (world_after setup events)).queue.handed ≡ length (handed_to c (handed_in events))
-nodes_counted setup events are c here = counted events (world_after setup events) (each_kept setup (each_known setup) events are) c here
 
 -- and each node that is up has its replica
 pub nodes_replicas : (setup : Setup) (events : List Event) → AreEvents setup (fresh setup) events → (r : ℕ) → r < setup.nodes

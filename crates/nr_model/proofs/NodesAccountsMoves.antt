@@ -119,16 +119,16 @@ Gives world step refused outcome after = IsKnown world → (handed : List Handed
 
 -- a connection is opened
 opened_gives : (world : World) (n : ℕ) (client : Client) → n < length world.nodes → (node_at n world).down ≡ false → client.queue.waiting ≡ []
-    → client.queue.handed ≡ 0 → IsKnown world → (handed : List Handed) → AreKept handed world.taken world
+    → IsKnown world → (handed : List Handed) → AreKept handed world.taken world
     → AreKept (handed ++ []) world.taken (with_node n (record (node_at n world) { clients = (node_at n world).clients ++ client ∷ [] }) world)
-opened_gives world n client there up nothing unhanded known handed k =
+opened_gives world n client there up nothing known handed k =
     let node = node_at n world in
     let c = connection_at n (length node.clients) in
     let absent : is_client world c ≡ false = and_right (ltb n (length world.nodes)) (ltb (length node.clients) (length node.clients))
     (le-ltb (length node.clients) (length node.clients) (omega arith)) in
     let none = part_unasked c n node.applied world.taken (known.unasked c absent) in
     put_still handed world n (record node { clients = node.clients ++ client ∷ [] }) there k
-    (kept_opened n world.taken handed node client up nothing unhanded (silent c (part_from n node.applied world.taken) none))
+    (kept_opened n world.taken handed node client up nothing (silent c (part_from n node.applied world.taken) none))
 
 -- an entry is reserved
 reserved_gives : (world : World) (n : ℕ) (jobs : Jobs) (node : Node) → n < length world.nodes → node.clients ≡ (node_at n world).clients
@@ -192,7 +192,7 @@ moves_kept setup = record {
   idles = λ world step refused reason known handed k. subst (λ (hs : List Handed). AreKept hs world.taken world) (sym (append-nil handed)) k;
   opens = λ world n w refused may known handed k.
       opened_gives world n (fresh_client setup.queue_limit w (connection_at n (length (node_at n world).clients))) may.worker.there may.up
-      refl refl known handed k;
+      refl known handed k;
   feeds = λ world c time bytes refused may known handed k.
       let node = node_at c.node world in
       let client = client_at c.serial node in

@@ -2,7 +2,7 @@
 use Rattle.std.proofs.Common.{◌≡◌, ℕ, ◌+◌, true, false, not, cond, List, [], ◌∷◌, ◌++◌, length, take, drop, refl, ap, sym, ◌∙◌, subst, append_assoc}
 use Rattle.std.specs.Prelude.{◌==◌, nat_lt, Option, Some, None}
 use Rattle.std.proofs.lemmas.Bool.{and_parts, not-true, cond_both}
-use Rattle.std.proofs.lemmas.List.{append-nil, length-append, take-append-drop}
+use Rattle.std.proofs.lemmas.List.{append-nil, take-append-drop}
 use Rattle.nr_model.specs.Bytes.{Bytes}
 use Rattle.nr_model.specs.Replies.{reply_text}
 use Rattle.nr_model.specs.Items.{Connection, same_connection}
@@ -13,9 +13,8 @@ use Rattle.nr_model.specs.Explains.{IsBeginningOf}
 use Rattle.nr_model.specs.Nodes.{Client}
 use Rattle.nr_model.specs.Nodes.Steps.{Cut, cut_of, texts_for, delivered_to, emptied, closed_client}
 
--- what was given is counted, and begins with what waits what was emitted
+-- what was given begins with what waits what was emitted
 pub record IsBegun (given : Bytes) (q : Queue) (emitted : Bytes) : Type 0 where
-  pub counted : q.handed ≡ length given
   pub begins : IsBeginningOf (given ++ q.waiting) emitted
 
 -- it is all where the queue isn't cut
@@ -26,21 +25,20 @@ pub record IsReceived (given : Bytes) (q : Queue) (emitted : Bytes) : Type 0 whe
 -- a beginning of more
 pub begun_more : (given : Bytes) (q : Queue) (emitted more : Bytes) → IsBegun given q emitted → IsBegun given q (emitted ++ more)
 begun_more given q emitted more b = record {
-  counted = b.counted;
   begins = (b.begins.0 ++ more, sym (append_assoc (given ++ q.waiting) b.begins.0 more) ∙ ap (λ (bs : Bytes). bs ++ more) b.begins.1);
 }
 
 -- one that is cut
 pub cut_received : (given : Bytes) (q : Queue) (emitted : Bytes) → IsBegun given q emitted → IsReceived given (cut_off q) emitted
 cut_received given q emitted b = record {
-  begun = record { counted = b.counted; begins = b.begins };
+  begun = record { begins = b.begins };
   whole = λ e. absurd (cc e);
 }
 
 -- all of it
-pub all_begun : (given : Bytes) (q : Queue) (emitted : Bytes) → q.handed ≡ length given → given ++ q.waiting ≡ emitted → IsReceived given q emitted
-all_begun given q emitted counted e = record {
-  begun = record { counted = counted; begins = ([], append-nil (given ++ q.waiting) ∙ e) };
+pub all_begun : (given : Bytes) (q : Queue) (emitted : Bytes) → given ++ q.waiting ≡ emitted → IsReceived given q emitted
+all_begun given q emitted e = record {
+  begun = record { begins = ([], append-nil (given ++ q.waiting) ∙ e) };
   whole = λ uncut. e;
 }
 
@@ -50,7 +48,7 @@ put_received given q emitted text r =
     cond_both (takes q text) (with_bytes q text) (cut_off q) (λ (now : Queue). IsReceived given now (emitted ++ text))
     (λ fits.
     let uncut = not-true q.cut (and_parts (not q.cut) _ fits).0 in
-    all_begun given (with_bytes q text) (emitted ++ text) r.begun.counted
+    all_begun given (with_bytes q text) (emitted ++ text)
     (sym (append_assoc given q.waiting text) ∙ ap (λ (bs : Bytes). bs ++ text) (r.whole uncut)))
     (λ full. cut_received given q (emitted ++ text) (begun_more given q emitted text r.begun))
 
@@ -137,7 +135,6 @@ taken_from w client = cond (client.worker == w) client.queue.waiting []
 emptied_begun : (given emitted : Bytes) (q : Queue) → IsBegun given q emitted
     → IsBegun (given ++ q.waiting) (record q { waiting = []; handed = q.handed + length q.waiting }) emitted
 emptied_begun given emitted q b = record {
-  counted = ap (λ (n : ℕ). n + length q.waiting) b.counted ∙ sym (length-append given q.waiting);
   begins = (b.begins.0, ap (λ (bs : Bytes). bs ++ b.begins.0) (append-nil (given ++ q.waiting)) ∙ b.begins.1);
 }
 
@@ -172,7 +169,6 @@ closed_received given emitted client r =
     let b = r.begun.begins in
     record {
       begun = record {
-        counted = r.begun.counted;
         begins = (
           q.waiting ++ b.0,
           ap (λ (bs : Bytes). bs ++ (q.waiting ++ b.0)) (append-nil given) ∙ sym (append_assoc given q.waiting b.0) ∙ b.1,

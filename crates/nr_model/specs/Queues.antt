@@ -32,6 +32,10 @@ with_bytes q text = record q { waiting = q.waiting ++ text }
 abbrev pub cut_off : Queue → Queue
 cut_off q = record q { cut = true }
 
+-- that of a connection that was closed: nothing waits in it, and nothing comes
+abbrev pub closed_queue : Connection → Queue
+closed_queue c = record { connection = c; waiting = []; handed = 0; limit = 0; cut = true }
+
 -- a reply or a message comes: it waits whole behind the others, or else the queue is cut
 abbrev pub put : Queue → Bytes → Queue
 put q text = cond (takes q text) (with_bytes q text) (cut_off q)

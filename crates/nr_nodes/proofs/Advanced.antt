@@ -29,27 +29,27 @@ or_true true = refl
 or_true false = refl
 
 -- by whether the entry is the node's own
-by_owner : (own : Bool) (node : Node) (jobs : Jobs) (clients : List nodes.Client) (server : Server) → length node.sessions.items ≡ length node.replica.members
+by_owner : (own : Bool) (node : Node) (jobs : Jobs) (clients : List nodes.Client) (server : Server) → length node.sessions ≡ length node.replica.members
     → record (node_seen node) { clients = clients; workers = workers_seen node.workers.items (cond own (replicas.owed_from 0 node.replica.members jobs node.replica.owed) node.replica.owed); applied = suc node.replica.applied; server = server }
     ≡ record (cond own (steps.with_executed jobs (node_seen node)) (node_seen node)) { applied = suc node.replica.applied; server = server; clients = clients }
 by_owner true node jobs clients server h =
     ap (λ (workers : List nodes.Worker). record (node_seen node) { clients = clients; workers = workers; applied = suc node.replica.applied; server = server })
-    (executed_is 0 node.sessions.items node.replica.members jobs node.workers.items node.replica.owed h)
+    (executed_is 0 node.sessions node.replica.members jobs node.workers.items node.replica.owed h)
 by_owner false node jobs clients server h = refl
 
-pub advanced_is : (node : Node) (entry : Entry) (replica : ReplicaState) → length node.sessions.items ≡ length node.replica.members → AreNumbered node.replica.node 0 node.replica.members
+pub advanced_is : (node : Node) (entry : Entry) (replica : ReplicaState) → length node.sessions ≡ length node.replica.members → AreNumbered node.replica.node 0 node.replica.members
     → node.replica.refused ≡ false → replicas.IsApplied entry node.replica replica → IsAdvanced node.replica.node (entry_seen entry) (node_seen node) (seen_by node replica node.workers.items)
 advanced_is node entry replica h numbered still applied =
     let jobs = items_of entry.jobs.items in
     let es = emitted_all node.replica.server (entry_items jobs) in
-    let cuts = has_cuts es node.passed node.replica.node 0 node.sessions.items node.replica.members replica.members numbered applied.delivered in
+    let cuts = has_cuts es node.passed node.replica.node 0 node.sessions node.replica.members replica.members numbered applied.delivered in
     let server = after_all node.replica.server (entry_items jobs) in
     record {
       refused = record { falls = None; cuts = cuts.cuts };
       of_entry = record { falls = inl refl; cuts = are_of node.passed 0 cuts.cuts cuts.from };
       state = ap (λ (r : ReplicaState). seen_by node r node.workers.items) applied.state
           ∙ ap (λ (clients : List nodes.Client). record (node_seen node) { clients = clients; workers = workers_seen node.workers.items (cond (entry.node == node.replica.node) (replicas.owed_from 0 node.replica.members jobs node.replica.owed) node.replica.owed); applied = suc node.replica.applied; server = server }) cuts.clients
-          ∙ by_owner (entry.node == node.replica.node) node jobs (map (steps.delivered_to cuts.cuts node.passed es) (clients_seen node.sessions.items node.replica.members)) server h
+          ∙ by_owner (entry.node == node.replica.node) node jobs (map (steps.delivered_to cuts.cuts node.passed es) (clients_seen node.sessions node.replica.members)) server h
           ∙ ap (λ (b : Bool). cond (b || false) (steps.fallen (node_seen node)) (steps.with_entry cuts.cuts node.replica.node (entry_seen entry) (node_seen node))) (sym still);
     }
 
@@ -84,15 +84,15 @@ applied_down n entry old passed down p =
           (ap (λ (b : Bool). cond b old (cond (old.refused || steps.falls_at None old.passed) (steps.fallen old) (steps.with_entry [] n entry old))) (sym down));
     }
 
-pub run_is : (node : Node) (tail : ℕ) (replica : ReplicaState) → length node.sessions.items ≡ length node.replica.members → AreNumbered node.replica.node 0 node.replica.members
+pub run_is : (node : Node) (tail : ℕ) (replica : ReplicaState) → length node.sessions ≡ length node.replica.members → AreNumbered node.replica.node 0 node.replica.members
     → replicas.HasRead node.replica replica → HasRun tail (node_seen node) (seen_by node replica node.workers.items)
 run_is node tail replica h numbered read =
     let jobs = read_jobs (items_of node.replica.waiting) in
     let es = emitted_all node.replica.server jobs in
-    let cuts = has_cuts es tail node.replica.node 0 node.sessions.items node.replica.members replica.members numbered read.delivered in
+    let cuts = has_cuts es tail node.replica.node 0 node.sessions node.replica.members replica.members numbered read.delivered in
     let left = read.left in
     let clients = cuts.clients in
-    let workers = executed_is 0 node.sessions.items node.replica.members jobs node.workers.items node.replica.owed h in
+    let workers = executed_is 0 node.sessions node.replica.members jobs node.workers.items node.replica.owed h in
     record {
       cuts = cuts.cuts;
       of_reads = are_of tail 0 cuts.cuts cuts.from;

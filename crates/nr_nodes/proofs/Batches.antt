@@ -14,7 +14,7 @@ use Rattle.nr_model.specs.Nodes.Pasts.{Answering, is_done, answer_in}
 use Rattle.nr_model.proofs.NodesRoundsParts.{empty_list}
 use Rattle.nr_entry.specs.declared.job.Job.{Job}
 use Rattle.nr_session.specs.SessionState.{SessionState}
-use Rattle.nr_replica.specs.declared.members.Member.{Member}
+use Rattle.nr_replica.specs.Members.{Member}
 use Rattle.nr_replica.specs.Replicas.{ReplicaState}
 use Rattle.nr_nodes.specs.declared.step.Reason.TheVariants as reasons
 use Rattle.nr_nodes.specs.declared.worker.Worker.{Worker}
@@ -42,14 +42,14 @@ worker_is node w worker h k at =
     ∙ sym (get_or-both worker_seen node.workers.items node.replica.owed w worker None nodes.fresh_worker h (omega arith))
 
 -- a node with the same connections, and as many workers, stays whole
-pub whole_kept : (n : ℕ) (old new : Node) → new.replica.node ≡ old.replica.node → new.sessions.items ≡ old.sessions.items
+pub whole_kept : (n : ℕ) (old new : Node) → new.replica.node ≡ old.replica.node → new.sessions ≡ old.sessions
     → new.replica.members ≡ old.replica.members
     → length new.replica.owed ≡ length old.replica.owed → lists_of new.workers.items ≡ lists_of old.workers.items → new.in_use ≡ old.in_use → IsWhole n old
     → IsWhole n new
 whole_kept n old new node sessions members owed workers used whole = record {
   number = node ∙ whole.number;
   pairs = subst (λ (ss : List SessionState). ArePaired n 0 ss new.replica.members) (sym sessions)
-      (subst (λ (ms : List Member). ArePaired n 0 old.sessions.items ms) (sym members) whole.pairs);
+      (subst (λ (ms : List Member). ArePaired n 0 old.sessions ms) (sym members) whole.pairs);
   owed = owed ∙ whole.owed ∙ sym (lists_long old.workers.items new.workers.items workers);
   counted = used ∙ whole.counted
       ∙ ap (λ (clients : List nodes.Client). length (filter (λ (client : nodes.Client). not client.closed) clients))
@@ -68,7 +68,7 @@ paired_emptied n s w [] [] h = tt
 paired_emptied n s w [] (m ∷ members) h = absurd h
 paired_emptied n s w (x ∷ sessions) [] h = absurd h
 paired_emptied n s w (x ∷ sessions) (m ∷ members) h = (
-  record { named = h.0.named; ended = h.0.ended ∙ ap (λ (b : Bool). x.gave_end || b) (sym (same_closed w m)) },
+  record { named = λ open_one. h.0.named (sym (same_closed w m) ∙ open_one); ended = h.0.ended ∙ ap (λ (b : Bool). x.gave_end || b) (sym (same_closed w m)) },
   paired_emptied n (suc s) w sessions members h.1,
 )
 
@@ -89,17 +89,17 @@ in_use_emptied w (x ∷ sessions) (m ∷ members) =
     (filter (λ (client : nodes.Client). not client.closed) (clients_seen sessions members)) more
 
 pub whole_collected : (n w : ℕ) (old new : Node) → new.replica ≡ record old.replica { members = map (emptied_member w) old.replica.members }
-    → new.sessions.items ≡ old.sessions.items
+    → new.sessions ≡ old.sessions
     → lists_of new.workers.items ≡ lists_of old.workers.items → new.in_use ≡ old.in_use → IsWhole n old → IsWhole n new
 whole_collected n w old new replica sessions workers used whole =
     let members = ap (λ (r : ReplicaState). r.members) replica in
     record {
       number = ap (λ (r : ReplicaState). r.node) replica ∙ whole.number;
       pairs = subst (λ (ss : List SessionState). ArePaired n 0 ss new.replica.members) (sym sessions)
-          (subst (λ (ms : List Member). ArePaired n 0 old.sessions.items ms) (sym members)
-          (paired_emptied n 0 w old.sessions.items old.replica.members whole.pairs));
+          (subst (λ (ms : List Member). ArePaired n 0 old.sessions ms) (sym members)
+          (paired_emptied n 0 w old.sessions old.replica.members whole.pairs));
       owed = ap (λ (r : ReplicaState). length r.owed) replica ∙ whole.owed ∙ sym (lists_long old.workers.items new.workers.items workers);
-      counted = used ∙ whole.counted ∙ sym (in_use_emptied w old.sessions.items old.replica.members)
+      counted = used ∙ whole.counted ∙ sym (in_use_emptied w old.sessions old.replica.members)
           ∙ ap (λ (clients : List nodes.Client). length (filter (λ (client : nodes.Client). not client.closed) clients))
           (sym (λ i. clients_seen (sessions i) (members i)));
       listed = listed_same (lists_of old.workers.items) (lists_of new.workers.items) (map (emptied_member w) old.replica.members) new.replica.members workers
@@ -253,7 +253,7 @@ by_worker node w worker f outcome h k at up is =
 -- a node of whose batches more or fewer jobs are owed
 pub whole_owing : (n w : ℕ) (owed : Option ℕ) (waiting : List Job) (old new : Node)
     → new.replica ≡ record old.replica { waiting = waiting; owed = set old.replica.owed w owed }
-    → new.sessions.items ≡ old.sessions.items → lists_of new.workers.items ≡ lists_of old.workers.items → new.in_use ≡ old.in_use → IsWhole n old
+    → new.sessions ≡ old.sessions → lists_of new.workers.items ≡ lists_of old.workers.items → new.in_use ≡ old.in_use → IsWhole n old
     → IsWhole n new
 whole_owing n w owed waiting old new replica sessions workers used whole =
     whole_kept n old new (ap (λ (r : ReplicaState). r.node) replica) sessions (ap (λ (r : ReplicaState). r.members) replica)

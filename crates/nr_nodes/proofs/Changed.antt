@@ -14,8 +14,7 @@ use Rattle.nr_entry.specs.Jobs.{connection_of, item_of, items_of}
 use Rattle.nr_entry.specs.declared.job.Job.{Job}
 use Rattle.nr_entry.specs.declared.conn.ConnId.{ConnId}
 use Rattle.nr_session.specs.SessionState.{SessionState}
-use Rattle.nr_replica.specs.declared.members.Member.{Member}
-use Rattle.nr_replica.specs.Members.{fresh_member, closed_member}
+use Rattle.nr_replica.specs.Members.{Member, fresh_member, closed_member}
 use Rattle.nr_replica.specs.Replicas.{ReplicaState}
 use Rattle.nr_nodes.specs.declared.worker.Worker.{Worker}
 use Rattle.nr_nodes.specs.declared.worker.Slot.TheVariants as slots
@@ -42,7 +41,7 @@ seen_from node replica sessions workers =
     }
 
 abbrev pub seen_by : Node → ReplicaState → List Worker → nodes.Node
-seen_by node replica workers = seen_from node replica node.sessions.items workers
+seen_by node replica workers = seen_from node replica node.sessions workers
 
 abbrev pub seen_of : Node → ReplicaState → List SessionState → nodes.Node
 seen_of node replica sessions = seen_from node replica sessions node.workers.items
@@ -104,19 +103,19 @@ posted_at node w old h k at =
     ∙ ap (λ (v : nodes.Worker). posted_jobs v.slot) (sym (get_or-both worker_seen node.workers.items node.replica.owed w old None nodes.fresh_worker h (omega arith)))
 
 pub opened_is : (node : Node) (replica : ReplicaState) (session : SessionState) (sessions : List SessionState) (limit w : ℕ) (conn : ConnId)
-    → length node.sessions.items ≡ length node.replica.members
+    → length node.sessions ≡ length node.replica.members
     → replica ≡ record node.replica { members = node.replica.members ++ fresh_member (record { node = node.replica.node; serial = length node.replica.members }) w limit ∷ [] }
     → session ≡ record { connection = connection_of conn; rest = []; mode = plain; next = 0; ended = false; gave_end = false }
-    → sessions ≡ node.sessions.items ++ session ∷ []
+    → sessions ≡ node.sessions ++ session ∷ []
     → seen_of node replica sessions ≡ opened_node limit node.replica.node w (node_seen node)
 opened_is node replica session sessions limit w conn h r s p =
     let new : Member = fresh_member (record { node = node.replica.node; serial = length node.replica.members }) w limit in
-    let count : length node.replica.members ≡ length (clients_seen node.sessions.items node.replica.members) = sym (length-both client_seen node.sessions.items node.replica.members h ∙ h) in
+    let count : length node.replica.members ≡ length (clients_seen node.sessions node.replica.members) = sym (length-both client_seen node.sessions node.replica.members h ∙ h) in
     ap (λ (v : ReplicaState). seen_of node v sessions) r
     ∙ ap (λ (v : List nodes.Client). record (node_seen node) { clients = v })
     (ap (λ v. clients_seen v (node.replica.members ++ new ∷ [])) p
-    ∙ both-push client_seen node.sessions.items node.replica.members session new h
-    ∙ ap (λ (v : nodes.Client). clients_seen node.sessions.items node.replica.members ++ v ∷ [])
+    ∙ both-push client_seen node.sessions node.replica.members session new h
+    ∙ ap (λ (v : nodes.Client). clients_seen node.sessions node.replica.members ++ v ∷ [])
     (ap (λ (v : SessionState). client_seen v new) s ∙ ap (λ n. nodes.fresh_client limit w (record { node = node.replica.node; serial = n })) count))
 
 pub lifted_is : (node : Node) (w : ℕ) (x old : Worker) (jobs : List Job) (replica : ReplicaState) → w < length node.workers.items → length node.replica.owed ≡ length node.workers.items
@@ -136,27 +135,27 @@ lifted_is node w x old jobs replica h k at j s p b r =
     ∙ (λ i. record (node_seen node) { workers = workers i; waiting = waits i })
 
 -- a client at a place, by its session and member
-pub client_is : (node : Node) (serial : ℕ) (old : SessionState) (member : Member) → serial < length node.sessions.items → length node.sessions.items ≡ length node.replica.members
-    → old ≡ get_or node.sessions.items serial old → member ≡ get_or node.replica.members serial member → client_seen old member ≡ nodes.client_at serial (node_seen node)
+pub client_is : (node : Node) (serial : ℕ) (old : SessionState) (member : Member) → serial < length node.sessions → length node.sessions ≡ length node.replica.members
+    → old ≡ get_or node.sessions serial old → member ≡ get_or node.replica.members serial member → client_seen old member ≡ nodes.client_at serial (node_seen node)
 client_is node serial old member h k atold atmember =
     (λ i. client_seen (atold i) (atmember i))
-    ∙ sym (get_or-both client_seen node.sessions.items node.replica.members serial old member (nodes.fresh_client 0 0 (record { node = 0; serial = 0 })) h (omega arith))
+    ∙ sym (get_or-both client_seen node.sessions node.replica.members serial old member (nodes.fresh_client 0 0 (record { node = 0; serial = 0 })) h (omega arith))
 
 -- bytes were fed to a connection
 pub fed_is : (node : Node) (conn : ConnId) (time : ℕ) (bytes : Bytes) (s old : SessionState) (member : Member) (w : ℕ) (x worker : Worker)
-    → conn.serial < length node.sessions.items → length node.sessions.items ≡ length node.replica.members → length node.replica.owed ≡ length node.workers.items → w < length node.workers.items
-    → old ≡ get_or node.sessions.items conn.serial old → member ≡ get_or node.replica.members conn.serial member → w ≡ member.worker → worker ≡ get_or node.workers.items w worker
+    → conn.serial < length node.sessions → length node.sessions ≡ length node.replica.members → length node.replica.owed ≡ length node.workers.items → w < length node.workers.items
+    → old ≡ get_or node.sessions conn.serial old → member ≡ get_or node.replica.members conn.serial member → w ≡ member.worker → worker ≡ get_or node.workers.items w worker
     → old.connection ≡ connection_of conn
     → client_seen s member ≡ fed_client (client_seen old member) bytes
     → items_of x.pending.items ≡ items_of worker.pending.items ++ jobs_from old.connection old.next (moment time) (asked_next (client_seen old member) bytes).deeds
     → x.batches ≡ worker.batches → x.slot ≡ worker.slot
-    → seen_from node node.replica (set node.sessions.items conn.serial s) (set node.workers.items w x) ≡ fed_node (connection_of conn) time bytes (node_seen node)
+    → seen_from node node.replica (set node.sessions conn.serial s) (set node.workers.items w x) ≡ fed_node (connection_of conn) time bytes (node_seen node)
 fed_is node conn time bytes s old member w x worker h k o within atold atmember which atworker name c j b slot =
     let serial = conn.serial in
     let client = client_is node serial old member h k atold atmember in
-    let clients : clients_seen (set node.sessions.items serial s) node.replica.members ≡ set (clients_seen node.sessions.items node.replica.members) serial (fed_client (nodes.client_at serial (node_seen node)) bytes) =
-    both-set_left client_seen node.sessions.items node.replica.members serial s member
-    ∙ ap (set (clients_seen node.sessions.items node.replica.members) serial) (ap (λ (m : Member). client_seen s m) (sym atmember) ∙ c ∙ ap (λ (v : nodes.Client). fed_client v bytes) client) in
+    let clients : clients_seen (set node.sessions serial s) node.replica.members ≡ set (clients_seen node.sessions node.replica.members) serial (fed_client (nodes.client_at serial (node_seen node)) bytes) =
+    both-set_left client_seen node.sessions node.replica.members serial s member
+    ∙ ap (set (clients_seen node.sessions node.replica.members) serial) (ap (λ (m : Member). client_seen s m) (sym atmember) ∙ c ∙ ap (λ (v : nodes.Client). fed_client v bytes) client) in
     let more : nodes.Client → Jobs = λ (v : nodes.Client). jobs_from (connection_of conn) v.next (moment time) (asked_next v bytes).deeds in
     let pending : items_of x.pending.items ≡ items_of worker.pending.items ++ more (client_seen old member) =
     j ∙ ap (λ (d : Connection). items_of worker.pending.items ++ jobs_from d old.next (moment time) (asked_next (client_seen old member) bytes).deeds) name in
@@ -164,7 +163,7 @@ fed_is node conn time bytes s old member w x worker h k o within atold atmember 
     let workers : workers_seen (set node.workers.items w x) node.replica.owed ≡ set (workers_seen node.workers.items node.replica.owed) w (change (get_or (workers_seen node.workers.items node.replica.owed) w nodes.fresh_worker)) =
     worker_changed change node.workers.items node.replica.owed w x worker within o atworker (λ q i. record { pending = pending i; batches = b i; slot = slot_seen (slot i) q }) in
     let put : ℕ → nodes.Client → nodes.Node = λ (n : ℕ) (v : nodes.Client). record (node_seen node) {
-      clients = set (clients_seen node.sessions.items node.replica.members) serial (fed_client (nodes.client_at serial (node_seen node)) bytes);
+      clients = set (clients_seen node.sessions node.replica.members) serial (fed_client (nodes.client_at serial (node_seen node)) bytes);
       workers = set (workers_seen node.workers.items node.replica.owed) n (record (get_or (workers_seen node.workers.items node.replica.owed) n nodes.fresh_worker) { pending = (get_or (workers_seen node.workers.items node.replica.owed) n nodes.fresh_worker).pending ++ more v });
     } in
     let who : w ≡ (nodes.client_at serial (node_seen node)).worker = which ∙ ap (λ (v : nodes.Client). v.worker) client in
@@ -172,29 +171,29 @@ fed_is node conn time bytes s old member w x worker h k o within atold atmember 
 
 -- a connection was closed
 pub closed_is : (node : Node) (conn : ConnId) (time : ℕ) (s old : SessionState) (member : Member) (w : ℕ) (x worker : Worker) (replica : ReplicaState)
-    → conn.serial < length node.sessions.items → length node.sessions.items ≡ length node.replica.members → length node.replica.owed ≡ length node.workers.items → w < length node.workers.items
-    → old ≡ get_or node.sessions.items conn.serial old → member ≡ get_or node.replica.members conn.serial member → w ≡ member.worker → worker ≡ get_or node.workers.items w worker
+    → conn.serial < length node.sessions → length node.sessions ≡ length node.replica.members → length node.replica.owed ≡ length node.workers.items → w < length node.workers.items
+    → old ≡ get_or node.sessions conn.serial old → member ≡ get_or node.replica.members conn.serial member → w ≡ member.worker → worker ≡ get_or node.workers.items w worker
     → client_seen s (closed_member member) ≡ closed_client (client_seen old member)
     → items_of x.pending.items ≡ filter (λ (job : Item). not (same_connection job.connection (connection_of conn))) (items_of worker.pending.items)
     ++ option_to_list (close_job (client_seen old member) (connection_of conn) time (own_jobs (connection_of conn) (items_of worker.pending.items)))
     → x.batches ≡ worker.batches → x.slot ≡ worker.slot
     → replica ≡ record node.replica { members = set node.replica.members conn.serial (closed_member member) }
-    → seen_from node replica (set node.sessions.items conn.serial s) (set node.workers.items w x) ≡ closed_node (connection_of conn) time (node_seen node)
+    → seen_from node replica (set node.sessions conn.serial s) (set node.workers.items w x) ≡ closed_node (connection_of conn) time (node_seen node)
 closed_is node conn time s old member w x worker replica h k o within atold atmember which atworker c j b slot r =
     let serial = conn.serial in
     let client = client_is node serial old member h k atold atmember in
-    let clients : clients_seen (set node.sessions.items serial s) (set node.replica.members serial (closed_member member)) ≡ set (clients_seen node.sessions.items node.replica.members) serial (closed_client (nodes.client_at serial (node_seen node))) =
-    both-set client_seen node.sessions.items node.replica.members serial s (closed_member member)
-    ∙ ap (set (clients_seen node.sessions.items node.replica.members) serial) (c ∙ ap closed_client client) in
+    let clients : clients_seen (set node.sessions serial s) (set node.replica.members serial (closed_member member)) ≡ set (clients_seen node.sessions node.replica.members) serial (closed_client (nodes.client_at serial (node_seen node))) =
+    both-set client_seen node.sessions node.replica.members serial s (closed_member member)
+    ∙ ap (set (clients_seen node.sessions node.replica.members) serial) (c ∙ ap closed_client client) in
     let left : nodes.Client → Jobs → Jobs = λ (v : nodes.Client) (jobs : Jobs).
     filter (λ (job : Item). not (same_connection job.connection (connection_of conn))) jobs ++ option_to_list (close_job v (connection_of conn) time (own_jobs (connection_of conn) jobs)) in
     let change : nodes.Worker → nodes.Worker = λ (v : nodes.Worker). record v { pending = left (client_seen old member) v.pending } in
     let workers : workers_seen (set node.workers.items w x) node.replica.owed ≡ set (workers_seen node.workers.items node.replica.owed) w (change (get_or (workers_seen node.workers.items node.replica.owed) w nodes.fresh_worker)) =
     worker_changed change node.workers.items node.replica.owed w x worker within o atworker (λ q i. record { pending = j i; batches = b i; slot = slot_seen (slot i) q }) in
     let put : ℕ → nodes.Client → nodes.Node = λ (n : ℕ) (v : nodes.Client). record (node_seen node) {
-      clients = set (clients_seen node.sessions.items node.replica.members) serial (closed_client (nodes.client_at serial (node_seen node)));
+      clients = set (clients_seen node.sessions node.replica.members) serial (closed_client (nodes.client_at serial (node_seen node)));
       workers = set (workers_seen node.workers.items node.replica.owed) n (record (get_or (workers_seen node.workers.items node.replica.owed) n nodes.fresh_worker) { pending = left v (get_or (workers_seen node.workers.items node.replica.owed) n nodes.fresh_worker).pending });
     } in
     let who : w ≡ (nodes.client_at serial (node_seen node)).worker = which ∙ ap (λ (v : nodes.Client). v.worker) client in
-    ap (λ (v : ReplicaState). seen_from node v (set node.sessions.items conn.serial s) (set node.workers.items w x)) r
+    ap (λ (v : ReplicaState). seen_from node v (set node.sessions conn.serial s) (set node.workers.items w x)) r
     ∙ (λ i. record (node_seen node) { clients = clients i; workers = workers i }) ∙ (λ i. put (who i) (client i))

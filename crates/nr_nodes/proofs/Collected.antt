@@ -6,8 +6,7 @@ use Rattle.std.proofs.Math.Seq.{get_or-append_seam, set-append_seam}
 use Rattle.nr_model.specs.Items.{Connection}
 use Rattle.nr_model.specs.Bytes.{Bytes}
 use Rattle.nr_model.specs.Worlds.{Handed, is_some_bytes}
-use Rattle.nr_replica.specs.declared.members.Member.{Member}
-use Rattle.nr_replica.specs.Members.{AreNumbered}
+use Rattle.nr_replica.specs.Members.{Member, AreNumbered}
 use Rattle.nr_model.specs.Nodes.Steps as steps
 use Rattle.nr_session.specs.SessionState.{SessionState}
 use Rattle.nr_replica.specs.Replicas.{ReplicaState}
@@ -240,6 +239,6 @@ pub collected_is : (node : Node) (w : ℕ) (x old : Worker) (replica : ReplicaSt
     → seen_by node replica (set node.workers.items w x) ≡ steps.collected_node w (node_seen node)
 collected_is node w x old replica h k at e r =
     let workers = worker_changed (λ v. record v { slot = steps.cleared v.slot }) node.workers.items node.replica.owed w x old h k at e in
-    let clients = clients_emptied w node.sessions.items node.replica.members in
+    let clients = clients_emptied w node.sessions node.replica.members in
     ap (λ (v : ReplicaState). seen_by node v (set node.workers.items w x)) r
     ∙ (λ i. record (node_seen node) { clients = clients i; workers = workers i })

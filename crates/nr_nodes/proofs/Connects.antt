@@ -16,19 +16,18 @@ use Rattle.nr_model.proofs.NodesOwnShaped.{IsShapedWorld, each_shaped}
 use Rattle.nr_entry.specs.Jobs.{connection_of}
 use Rattle.nr_entry.specs.declared.conn.ConnId.{ConnId}
 use Rattle.nr_session.specs.SessionState.{SessionState}
-use Rattle.nr_replica.specs.declared.members.Member.{Member}
 use Rattle.nr_nodes.specs.declared.node.Node.{Node}
 use Rattle.nr_nodes.specs.declared.step.Reason.{Reason}
 use Rattle.nr_nodes.specs.Seen.{reason_seen}
 use Rattle.nr_nodes.specs.Served.{client_seen, node_seen, opened_node}
 use Rattle.nr_nodes.specs.Workers.{worker_seen}
-use Rattle.nr_replica.specs.Members.{fresh_member}
+use Rattle.nr_replica.specs.Members.{Member, fresh_member}
 use Rattle.nr_nodes.specs.WorldState.{WorldState, Shows}
 use Rattle.nr_nodes.specs.Whole.{ArePaired, IsWhole, AreWhole, IsHeld}
 use Rattle.nr_nodes.specs.Taken.{idle_or, Steps}
 use Rattle.nr_nodes.specs.Connected.{seen_world, takes_none}
 use Rattle.nr_nodes.proofs.Sides.{length-both}
-use Rattle.nr_nodes.proofs.Paired.{paired_many, pair_at, some_in_use, client_of_pair}
+use Rattle.nr_nodes.proofs.Paired.{paired_many, pair_at, some_in_use, client_of_pair, or_false, not_either}
 use Rattle.nr_nodes.proofs.Shown.{seen_at, node_is, nodes_many, shows_changed, whole_at, whole_set, held_on, takes_nothing}
 
 -- of every past
@@ -55,15 +54,15 @@ pub seen_in : (xs : List Node) (n : ℕ) (d : Node) → n < length xs → d ≡ 
 seen_in xs n d h at = seen_at xs n d nodes.no_node h ∙ ap node_seen (sym at)
 
 -- how many connections are seen of a whole node
-pub clients_many : (n : ℕ) (node : Node) → IsWhole n node → length (node_seen node).clients ≡ length node.sessions.items
-clients_many n node w = length-both client_seen node.sessions.items node.replica.members (paired_many n 0 node.sessions.items node.replica.members w.pairs)
+pub clients_many : (n : ℕ) (node : Node) → IsWhole n node → length (node_seen node).clients ≡ length node.sessions
+clients_many n node w = length-both client_seen node.sessions node.replica.members (paired_many n 0 node.sessions node.replica.members w.pairs)
 
 abbrev pub no_session : SessionState
 no_session = record { connection = record { node = 0; serial = 0 }; rest = []; mode = plain; next = 0; ended = false; gave_end = false }
 
 -- the worker of a connection is one of its node's
 pub worker_within : (v : WorldState) (n serial : ℕ) (node : Node) (d : Member) → IsHeld v → n < length v.nodes → node ≡ get_or v.nodes n node
-    → serial < length node.sessions.items → (get_or node.replica.members serial d).worker < length node.workers.items
+    → serial < length node.sessions → (get_or node.replica.members serial d).worker < length node.workers.items
 worker_within v n serial node d held h at there =
     let w = held_whole v n node held h at in
     let sized = sized_of v.setup held.events held.world held.past in
@@ -71,7 +70,7 @@ worker_within v n serial node d held h at there =
     let many = nodes_many v held.world held.shows in
     let is : nodes.node_at n held.world ≡ node_seen node = node_is v held.world n node held.shows h ∙ ap node_seen (sym at) in
     let clients = clients_many n node w in
-    let pairs = paired_many n 0 node.sessions.items node.replica.members w.pairs in
+    let pairs = paired_many n 0 node.sessions node.replica.members w.pairs in
     let stands : n < length held.world.nodes = omega arith in
     let workers : length (node_seen node).workers ≡ v.setup.workers = ap (λ (x : nodes.Node). length x.workers) (sym is) ∙ (sized.each n stands).workers in
     let owed = w.owed in
@@ -83,11 +82,11 @@ worker_within v n serial node d held h at there =
     ∙ ap (λ (x : nodes.Client). x.worker) (client_of_pair node serial no_session d (nodes.fresh_client 0 0 (record { node = 0; serial = 0 })) there pairs) in
     omega arith
 
--- a session that is there has its connection's name
-pub named_there : (n serial : ℕ) (node : Node) (d : SessionState) → IsWhole n node → serial < length node.sessions.items
-    → (get_or node.sessions.items serial d).connection ≡ record { node = n; serial = serial }
-named_there n serial node d w there =
-    (pair_at n 0 serial node.sessions.items node.replica.members d (fresh_member (record { node = 0; serial = 0 }) 0 0) there w.pairs).named
+-- the session of a connection that isn't closed has its name
+pub named_there : (n serial : ℕ) (node : Node) (d : SessionState) (m : Member) → IsWhole n node → serial < length node.sessions
+    → (get_or node.replica.members serial m).is_closed ≡ false → (get_or node.sessions serial d).connection ≡ record { node = n; serial = serial }
+named_there n serial node d m w there unclosed =
+    (pair_at n 0 serial node.sessions node.replica.members d m there w.pairs).named unclosed
     ∙ (let e : 0 + serial ≡ serial = omega arith in λ i. record { node = n; serial = e i })
 
 -- which connection is there
@@ -95,11 +94,11 @@ pub no_such_node : (xs : List Node) (c : Connection) → length xs ≤ c.node �
 no_such_node xs c h = let many = length-map xs node_seen in and_left _ _ (le-ltb c.node (length (map node_seen xs)) (omega arith))
 
 pub such_node : (xs : List Node) (c : Connection) (d : Node) → AreWhole 0 xs → c.node < length xs → d ≡ get_or xs c.node d
-    → ltb c.serial (length d.sessions.items) ≡ steps.is_client (seen_world xs) c
+    → ltb c.serial (length d.sessions) ≡ steps.is_client (seen_world xs) c
 such_node xs c d whole h at =
     let many = length-map xs node_seen in
     let w = whole_of xs c.node d h whole at in
-    let long : length (nodes.node_at c.node (seen_world xs)).clients ≡ length d.sessions.items =
+    let long : length (nodes.node_at c.node (seen_world xs)).clients ≡ length d.sessions =
     ap (λ (x : nodes.Node). length x.clients) (seen_in xs c.node d h at) ∙ clients_many c.node d w in
     sym (ap (λ (b : Bool). b && ltb c.serial (length (nodes.node_at c.node (seen_world xs)).clients))
     (lt-ltb c.node (length (map node_seen xs)) (omega arith))
@@ -112,57 +111,57 @@ there_node xs c e =
     omega arith
 
 pub there_serial : (xs : List Node) (c : Connection) (d : Node) → AreWhole 0 xs → steps.is_client (seen_world xs) c ≡ true → d ≡ get_or xs c.node d
-    → c.serial < length d.sessions.items
+    → c.serial < length d.sessions
 there_serial xs c d whole e at =
     let h = there_node xs c e in
     let same = such_node xs c d whole h at in
-    ltb-true c.serial (length d.sessions.items) (same ∙ e)
+    ltb-true c.serial (length d.sessions) (same ∙ e)
 
 -- a connection takes no more bytes
 or_other : (a b c : Bool) → ((a || b) || c) ≡ (a || (b || c))
 or_other true b c = refl
 or_other false b c = refl
 
-pub ended_is : (node : Node) (serial n : ℕ) (s : SessionState) (m : Member) → ArePaired n 0 node.sessions.items node.replica.members → serial < length
-    node.sessions.items
-    → ((get_or node.sessions.items serial s).ended || (get_or node.replica.members serial m).outbox.cut) ≡ takes_none
+pub ended_is : (node : Node) (serial n : ℕ) (s : SessionState) (m : Member) → ArePaired n 0 node.sessions node.replica.members → serial < length
+    node.sessions
+    → ((get_or node.sessions serial s).ended || (get_or node.replica.members serial m).outbox.cut) ≡ takes_none
     (nodes.client_at serial (node_seen node))
 ended_is node serial n s m pairs h =
-    let pair = pair_at n 0 serial node.sessions.items node.replica.members s m h pairs in
-    let session = get_or node.sessions.items serial s in
+    let pair = pair_at n 0 serial node.sessions node.replica.members s m h pairs in
+    let session = get_or node.sessions serial s in
     let member = get_or node.replica.members serial m in
     ap (λ (b : Bool). b || member.outbox.cut) pair.ended
     ∙ or_other session.gave_end member.is_closed member.outbox.cut
     ∙ ap takes_none (sym (client_of_pair node serial s m (nodes.fresh_client 0 0 (record { node = 0; serial = 0 })) h
-    (paired_many n 0 node.sessions.items node.replica.members pairs)))
+    (paired_many n 0 node.sessions node.replica.members pairs)))
 
-pub ended_first : (node : Node) (serial n : ℕ) (s : SessionState) (m : Member) (b : Bool) → ArePaired n 0 node.sessions.items node.replica.members → serial
-    < length node.sessions.items
-    → s ≡ get_or node.sessions.items serial s → b ≡ s.ended → b ≡ true → b ≡ takes_none (nodes.client_at serial (node_seen node))
+pub ended_first : (node : Node) (serial n : ℕ) (s : SessionState) (m : Member) (b : Bool) → ArePaired n 0 node.sessions node.replica.members → serial
+    < length node.sessions
+    → s ≡ get_or node.sessions serial s → b ≡ s.ended → b ≡ true → b ≡ takes_none (nodes.client_at serial (node_seen node))
 ended_first node serial n s m b pairs h at is holds =
-    let ended : (get_or node.sessions.items serial s).ended ≡ true = sym (ap (λ (x : SessionState). x.ended) at) ∙ sym is ∙ holds in
+    let ended : (get_or node.sessions serial s).ended ≡ true = sym (ap (λ (x : SessionState). x.ended) at) ∙ sym is ∙ holds in
     holds ∙ sym (or_left _ (get_or node.replica.members serial m).outbox.cut ended) ∙ ended_is node serial n s m pairs h
 
-pub ended_second : (node : Node) (serial n : ℕ) (s : SessionState) (m : Member) (b cut : Bool) → ArePaired n 0 node.sessions.items node.replica.members →
-    serial < length node.sessions.items
-    → s ≡ get_or node.sessions.items serial s → b ≡ s.ended → b ≡ false → m ≡ get_or node.replica.members serial m → cut ≡ m.outbox.cut
+pub ended_second : (node : Node) (serial n : ℕ) (s : SessionState) (m : Member) (b cut : Bool) → ArePaired n 0 node.sessions node.replica.members →
+    serial < length node.sessions
+    → s ≡ get_or node.sessions serial s → b ≡ s.ended → b ≡ false → m ≡ get_or node.replica.members serial m → cut ≡ m.outbox.cut
     → cut ≡ takes_none (nodes.client_at serial (node_seen node))
 ended_second node serial n s m b cut pairs h at is fails atm cut_is =
-    let ended : (get_or node.sessions.items serial s).ended ≡ false = sym (ap (λ (x : SessionState). x.ended) at) ∙ sym is ∙ fails in
+    let ended : (get_or node.sessions serial s).ended ≡ false = sym (ap (λ (x : SessionState). x.ended) at) ∙ sym is ∙ fails in
     cut_is ∙ ap (λ (x : Member). x.outbox.cut) atm
     ∙ sym (ap (λ (x : Bool). x || (get_or node.replica.members serial m).outbox.cut) ended)
     ∙ ended_is node serial n s m pairs h
 
-pub closed_is_so : (node : Node) (serial : ℕ) (s : SessionState) (m : Member) → length node.sessions.items ≡ length node.replica.members → serial < length
-    node.sessions.items
+pub closed_is_so : (node : Node) (serial : ℕ) (s : SessionState) (m : Member) → length node.sessions ≡ length node.replica.members → serial < length
+    node.sessions
     → (get_or node.replica.members serial m).is_closed ≡ (nodes.client_at serial (node_seen node)).closed
 closed_is_so node serial s m many h =
     ap (λ (client : nodes.Client). client.closed) (sym (client_of_pair node serial s m (nodes.fresh_client 0 0 (record { node = 0; serial = 0 })) h many))
 
 -- one that does hasn't ended
-pub going_there : (node : Node) (serial n : ℕ) (s : SessionState) (m : Member) → ArePaired n 0 node.sessions.items node.replica.members → serial < length
-    node.sessions.items
-    → takes_none (nodes.client_at serial (node_seen node)) ≡ false → (get_or node.sessions.items serial s).ended ≡ false
+pub going_there : (node : Node) (serial n : ℕ) (s : SessionState) (m : Member) → ArePaired n 0 node.sessions node.replica.members → serial < length
+    node.sessions
+    → takes_none (nodes.client_at serial (node_seen node)) ≡ false → (get_or node.sessions serial s).ended ≡ false
 going_there node serial n s m pairs h e = (or_parts _ _ (ended_is node serial n s m pairs h ∙ e)).0
 
 -- the outcomes by what was found
@@ -347,7 +346,7 @@ pub opens : (v : WorldState) (n w limit : ℕ) (old x : Node) (conn : ConnId) �
 opens v n w limit old x conn held l h at e seen name =
     let whole = held_whole v n old held h at in
     let many : length old.replica.members ≡ length (nodes.node_at n (seen_world v.nodes)).clients =
-    sym (ap (λ (y : nodes.Node). length y.clients) (seen_in v.nodes n old h at) ∙ clients_many n old whole ∙ paired_many n 0 old.sessions.items
+    sym (ap (λ (y : nodes.Node). length y.clients) (seen_in v.nodes n old h at) ∙ clients_many n old whole ∙ paired_many n 0 old.sessions
     old.replica.members whole.pairs) in
     subst (λ (c : Connection). Steps v (changed v n x) (steps.Open n w) (steps.Opened c))
     (sym (name ∙ (λ i. record { node = whole.number i; serial = many i })))
@@ -378,6 +377,13 @@ pub open_within : (v : WorldState) (n w : ℕ) → IsHeld v → steps.outcome v.
 open_within v n w held e =
     let below = ltb-true n v.setup.nodes (and_parts _ _ (may_open v.setup v.nodes n w _ e).worker).0 in
     let many = held_many v held in
+    omega arith
+
+-- and the number of its worker is small
+pub open_few : (v : WorldState) (n w : ℕ) → v.setup.workers ≤ 16
+    → steps.outcome v.setup (seen_world v.nodes) (steps.Open n w) ≡ opened_in n v.nodes → w < 256
+open_few v n w most e =
+    let below : w < v.setup.workers = ltb-true w v.setup.workers (and_parts _ _ (may_open v.setup v.nodes n w _ e).worker).1 in
     omega arith
 
 pub open_room : (v : WorldState) (n w : ℕ) (old : Node) → IsHeld v → old ≡ get_or v.nodes n old → v.setup.connections ≤ 1024
@@ -423,7 +429,7 @@ closes_on v conn time old x held at e seen whole =
     let none = fresh_member (connection_of conn) 0 0 in
     let stands = there_serial v.nodes (connection_of conn) old held.whole may.there at in
     let unclosed : (get_or old.replica.members conn.serial none).is_closed ≡ false =
-    closed_is_so old conn.serial no_session none (paired_many conn.node 0 old.sessions.items old.replica.members w.pairs) stands
+    closed_is_so old conn.serial no_session none (paired_many conn.node 0 old.sessions old.replica.members w.pairs) stands
     ∙ ap (λ (y : nodes.Node). (nodes.client_at conn.serial y).closed) (sym (seen_in v.nodes conn.node old h at)) ∙ may.unclosed in
     let taken = closes v conn time old x h at e seen in
     (taken, changed_held v (steps.Close (connection_of conn) time) steps.Done conn.node x held taken (whole none conn.node unclosed w))
@@ -431,10 +437,11 @@ closes_on v conn time old x held at e seen whole =
 -- what a node's feed and close ask for
 pub record IsReady (conn : ConnId) (old : Node) : Type 0 where
   pub whole : IsWhole conn.node old
-  pub clients : length old.sessions.items ≡ length old.replica.members
-  pub stands : conn.serial < length old.sessions.items
+  pub clients : length old.sessions ≡ length old.replica.members
+  pub stands : conn.serial < length old.sessions
   pub worker : (d : Member) → (get_or old.replica.members conn.serial d).worker < length old.workers.items
-  pub named : (d : SessionState) → (get_or old.sessions.items conn.serial d).connection ≡ connection_of conn
+  pub named : (d : SessionState) (m : Member) → (get_or old.replica.members conn.serial m).is_closed ≡ false
+      → (get_or old.sessions conn.serial d).connection ≡ connection_of conn
 
 pub ready : (v : WorldState) (conn : ConnId) (old : Node) → IsHeld v → old ≡ get_or v.nodes conn.node old → steps.is_client (seen_world v.nodes)
     (connection_of conn) ≡ true → IsReady conn old
@@ -444,15 +451,15 @@ ready v conn old held at there =
     let stands = there_serial v.nodes (connection_of conn) old held.whole there at in
     record {
       whole = w;
-      clients = paired_many conn.node 0 old.sessions.items old.replica.members w.pairs;
+      clients = paired_many conn.node 0 old.sessions old.replica.members w.pairs;
       stands = stands;
       worker = λ d. worker_within v conn.node conn.serial old d held h at stands;
-      named = λ d. named_there conn.node conn.serial old d w stands;
+      named = λ d m unclosed. named_there conn.node conn.serial old d m w stands unclosed;
     }
 
 pub going : (v : WorldState) (conn : ConnId) (time : ℕ) (bytes : Bytes) (old : Node) (d : SessionState) → IsHeld v → old ≡ get_or v.nodes conn.node old
     → steps.outcome v.setup (seen_world v.nodes) (steps.Feed (connection_of conn) time bytes) ≡ steps.Done →
-    (get_or old.sessions.items conn.serial d).ended ≡ false
+    (get_or old.sessions conn.serial d).ended ≡ false
 going v conn time bytes old d held at e =
     let may = may_feed v.setup v.nodes (connection_of conn) time bytes e in
     let h = there_node v.nodes (connection_of conn) may.there in
@@ -460,13 +467,38 @@ going v conn time bytes old d held at e =
     going_there old conn.serial conn.node d (fresh_member (connection_of conn) 0 0) r.whole.pairs r.stands
     (ap (λ (y : nodes.Node). takes_none (nodes.client_at conn.serial y)) (sym (seen_in v.nodes conn.node old h at)) ∙ may.going)
 
+-- it isn't closed, nor is one that can be closed
+pub unclosed_fed : (v : WorldState) (conn : ConnId) (time : ℕ) (bytes : Bytes) (old : Node) (m : Member) → IsHeld v → old ≡ get_or v.nodes conn.node old
+    → steps.outcome v.setup (seen_world v.nodes) (steps.Feed (connection_of conn) time bytes) ≡ steps.Done
+    → (get_or old.replica.members conn.serial m).is_closed ≡ false
+unclosed_fed v conn time bytes old m held at e =
+    let r = ready v conn old held at (may_feed v.setup v.nodes (connection_of conn) time bytes e).there in
+    let pair = pair_at conn.node 0 conn.serial old.sessions old.replica.members no_session m r.stands r.whole.pairs in
+    not_either (get_or old.sessions conn.serial no_session).gave_end (get_or old.replica.members conn.serial m).is_closed
+    (sym (going v conn time bytes old no_session held at e) ∙ pair.ended)
+
+pub unclosed_yet : (v : WorldState) (conn : ConnId) (time : ℕ) (old : Node) (m : Member) → IsHeld v → old ≡ get_or v.nodes conn.node old
+    → steps.outcome v.setup (seen_world v.nodes) (steps.Close (connection_of conn) time) ≡ steps.Done
+    → (get_or old.replica.members conn.serial m).is_closed ≡ false
+unclosed_yet v conn time old m held at e =
+    let may = may_close v.setup v.nodes (connection_of conn) time e in
+    let r = ready v conn old held at may.there in
+    closed_is_so old conn.serial no_session m r.clients r.stands ∙ ap (λ (y : nodes.Node). (nodes.client_at conn.serial y).closed)
+    (sym (seen_in v.nodes conn.node old (there_node v.nodes (connection_of conn) may.there) at)) ∙ may.unclosed
+
+pub ends_by_bytes : (v : WorldState) (conn : ConnId) (time : ℕ) (old : Node) (d : SessionState) → IsHeld v → old ≡ get_or v.nodes conn.node old
+    → steps.outcome v.setup (seen_world v.nodes) (steps.Close (connection_of conn) time) ≡ steps.Done
+    → (get_or old.sessions conn.serial d).ended ≡ (get_or old.sessions conn.serial d).gave_end
+ends_by_bytes v conn time old d held at e =
+    let none = fresh_member (connection_of conn) 0 0 in
+    let r = ready v conn old held at (may_close v.setup v.nodes (connection_of conn) time e).there in
+    let pair = pair_at conn.node 0 conn.serial old.sessions old.replica.members d none r.stands r.whole.pairs in
+    pair.ended ∙ or_false (get_or old.sessions conn.serial d).gave_end _ (unclosed_yet v conn time old none held at e)
+
 pub used : (v : WorldState) (conn : ConnId) (time : ℕ) (old : Node) → IsHeld v → old ≡ get_or v.nodes conn.node old
     → steps.outcome v.setup (seen_world v.nodes) (steps.Close (connection_of conn) time) ≡ steps.Done → 0 < old.in_use
 used v conn time old held at e =
     let may = may_close v.setup v.nodes (connection_of conn) time e in
-    let h = there_node v.nodes (connection_of conn) may.there in
     let r = ready v conn old held at may.there in
     let none = fresh_member (connection_of conn) 0 0 in
-    some_in_use conn.node old conn.serial no_session none r.whole r.stands
-    (closed_is_so old conn.serial no_session none r.clients r.stands ∙ ap (λ (y : nodes.Node). (nodes.client_at conn.serial y).closed)
-    (sym (seen_in v.nodes conn.node old h at)) ∙ may.unclosed)
+    some_in_use conn.node old conn.serial no_session none r.whole r.stands (unclosed_yet v conn time old none held at e)

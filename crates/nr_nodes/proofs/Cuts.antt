@@ -6,8 +6,7 @@ use Rattle.nr_model.specs.Sequential.Events.{Emission}
 use Rattle.nr_model.specs.Queues.{received}
 use Rattle.nr_model.specs.Nodes.Steps.{Cut, cut_of, texts_for, delivered_to}
 use Rattle.nr_session.specs.SessionState.{SessionState}
-use Rattle.nr_replica.specs.declared.members.Member.{Member}
-use Rattle.nr_replica.specs.Members.{AreNumbered, AreDelivered}
+use Rattle.nr_replica.specs.Members.{Member, AreNumbered, AreDelivered}
 use Rattle.nr_nodes.specs.Served.{client_seen, clients_seen}
 use Rattle.nr_nodes.specs.Advanced.{AreOf}
 

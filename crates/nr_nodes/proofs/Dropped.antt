@@ -6,7 +6,7 @@ use Rattle.nr_model.specs.Keyspace.{moment}
 use Rattle.nr_model.specs.Entries.{Jobs}
 use Rattle.nr_model.specs.Nodes.Steps.{close_job}
 use Rattle.nr_session.specs.SessionState.{SessionState}
-use Rattle.nr_replica.specs.declared.members.Member.{Member}
+use Rattle.nr_replica.specs.Members.{Member}
 use Rattle.nr_nodes.specs.Dropped.{first_number, end_of}
 use Rattle.nr_nodes.specs.Served.{client_seen}
 

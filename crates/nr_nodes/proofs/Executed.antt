@@ -6,8 +6,7 @@ use Rattle.nr_model.specs.Entries.{Jobs}
 use Rattle.nr_model.specs.Nodes as nodes
 use Rattle.nr_model.specs.Nodes.Steps as steps
 use Rattle.nr_session.specs.SessionState.{SessionState}
-use Rattle.nr_replica.specs.declared.members.Member.{Member}
-use Rattle.nr_replica.specs.Members.{fresh_member, jobs_of_worker}
+use Rattle.nr_replica.specs.Members.{Member, fresh_member, jobs_of_worker}
 use Rattle.nr_replica.specs.Replicas.{owing_less, owed_from}
 use Rattle.nr_nodes.specs.declared.worker.Slot.{Slot}
 use Rattle.nr_nodes.specs.declared.worker.Slot.TheVariants.{Empty, Posted, Lifted, Answered}

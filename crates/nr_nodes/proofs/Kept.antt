@@ -10,8 +10,7 @@ use Rattle.nr_model.specs.Nodes.Steps.{in_use, texts_for}
 use Rattle.nr_entry.specs.declared.entry.Entry.{Entry}
 use Rattle.nr_entry.specs.Jobs.{items_of}
 use Rattle.nr_session.specs.SessionState.{SessionState}
-use Rattle.nr_replica.specs.declared.members.Member.{Member}
-use Rattle.nr_replica.specs.Members.{AreReceived, AreNumbered}
+use Rattle.nr_replica.specs.Members.{Member, AreReceived, AreNumbered}
 use Rattle.nr_replica.specs.Replicas.{ReplicaState, owed_from, IsApplied, fallen, HasRead}
 use Rattle.nr_replica.proofs.Received.{received_connection}
 use Rattle.nr_nodes.specs.declared.worker.Worker.{Worker}
@@ -31,7 +30,7 @@ pairs_kept texts n serial (s ∷ sessions) [] news r p = absurd p
 pairs_kept texts n serial (s ∷ sessions) (old ∷ olds) [] r p = absurd r
 pairs_kept texts n serial (s ∷ sessions) (old ∷ olds) (new ∷ news) r p =
     let closed : old.is_closed ≡ new.is_closed = ap (λ (m : Member). m.is_closed) (sym r.0.1) in (
-      record { named = p.0.named; ended = p.0.ended ∙ ap (λ (b : Bool). s.gave_end || b) closed },
+      record { named = λ open_one. p.0.named (closed ∙ open_one); ended = p.0.ended ∙ ap (λ (b : Bool). s.gave_end || b) closed },
       pairs_kept texts n (suc serial) sessions olds news r.1 p.1,
     )
 
@@ -83,7 +82,7 @@ listed_received texts lists olds news r h = listed_later lists olds news (receiv
 -- a node with another replica and other workers is whole
 pub record IsKept (n : ℕ) (node : Node) (replica : ReplicaState) (workers : List Worker) : Type 0 where
   pub number : replica.node ≡ n
-  pub pairs : ArePaired n 0 node.sessions.items replica.members
+  pub pairs : ArePaired n 0 node.sessions replica.members
   pub owed : length replica.owed ≡ length workers
   pub counted : node.in_use ≡ in_use (seen_by node replica workers)
   pub listed : AreListed (lists_of workers) replica.members
@@ -94,10 +93,10 @@ kept_applied n node entry replica a w =
     let es = emitted_all node.replica.server (entry_items (items_of entry.jobs.items)) in
     record {
       number = ap (λ (r : ReplicaState). r.node) a.state ∙ w.number;
-      pairs = pairs_kept (λ c. texts_for c es) n 0 node.sessions.items node.replica.members replica.members a.delivered w.pairs;
+      pairs = pairs_kept (λ c. texts_for c es) n 0 node.sessions node.replica.members replica.members a.delivered w.pairs;
       owed = ap (λ (r : ReplicaState). length r.owed) a.state
           ∙ owed_by (entry.node == node.replica.node) node.replica.members (items_of entry.jobs.items) node.replica.owed ∙ w.owed;
-      counted = w.counted ∙ sym (open_kept (λ c. texts_for c es) node.sessions.items node.replica.members replica.members a.delivered);
+      counted = w.counted ∙ sym (open_kept (λ c. texts_for c es) node.sessions node.replica.members replica.members a.delivered);
       listed = listed_received (λ c. texts_for c es) (lists_of node.workers.items) node.replica.members replica.members a.delivered w.listed;
     }
 
@@ -105,9 +104,9 @@ pub kept_fallen : (n : ℕ) (node : Node) (replica : ReplicaState) (workers : Li
     → lists_of workers ≡ lists_of node.workers.items → IsWhole n node → IsKept n node replica workers
 kept_fallen n node replica workers e lists w = record {
   number = ap (λ (r : ReplicaState). r.node) e ∙ w.number;
-  pairs = subst (λ (r : ReplicaState). ArePaired n 0 node.sessions.items r.members) (sym e) w.pairs;
+  pairs = subst (λ (r : ReplicaState). ArePaired n 0 node.sessions r.members) (sym e) w.pairs;
   owed = ap (λ (r : ReplicaState). length r.owed) e ∙ w.owed ∙ sym (lists_long node.workers.items workers lists);
-  counted = w.counted ∙ ap (λ (r : ReplicaState). count_open (clients_seen node.sessions.items r.members)) (sym e);
+  counted = w.counted ∙ ap (λ (r : ReplicaState). count_open (clients_seen node.sessions r.members)) (sym e);
   listed = listed_same (lists_of node.workers.items) (lists_of workers) node.replica.members replica.members lists
       (ap (λ (r : ReplicaState). r.members) e) w.listed;
 }
@@ -124,9 +123,9 @@ kept_read n node replica a w =
     let es = emitted_all node.replica.server jobs in
     record {
       number = ap (λ (r : ReplicaState). r.node) a.state ∙ w.number;
-      pairs = pairs_kept (λ c. texts_for c es) n 0 node.sessions.items node.replica.members replica.members a.delivered w.pairs;
+      pairs = pairs_kept (λ c. texts_for c es) n 0 node.sessions node.replica.members replica.members a.delivered w.pairs;
       owed = ap (λ (r : ReplicaState). length r.owed) a.state ∙ owed_long 0 node.replica.members jobs node.replica.owed ∙ w.owed;
-      counted = w.counted ∙ sym (open_kept (λ c. texts_for c es) node.sessions.items node.replica.members replica.members a.delivered);
+      counted = w.counted ∙ sym (open_kept (λ c. texts_for c es) node.sessions node.replica.members replica.members a.delivered);
       listed = listed_received (λ c. texts_for c es) (lists_of node.workers.items) node.replica.members replica.members a.delivered w.listed;
     }
 

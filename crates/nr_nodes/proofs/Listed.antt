@@ -10,8 +10,7 @@ use Rattle.nr_model.specs.Bytes.{Bytes}
 use Rattle.nr_model.specs.Items.{Connection}
 use Rattle.nr_model.specs.Nodes as nodes
 use Rattle.nr_model.specs.Queues.{Queue, puts, cut_off, received}
-use Rattle.nr_replica.specs.declared.members.Member.{Member}
-use Rattle.nr_replica.specs.Members.{AreReceived, closed_member}
+use Rattle.nr_replica.specs.Members.{Member, AreReceived, closed_member}
 use Rattle.nr_nodes.specs.declared.worker.Worker.{Worker}
 use Rattle.nr_nodes.specs.Workers.{worker_seen}
 use Rattle.nr_nodes.specs.Served.{workers_seen}

@@ -4,14 +4,13 @@ use Rattle.std.specs.Prelude.{filter, not, ◌||◌}
 use Rattle.std.proofs.lemmas.List.{length-append, length-set}
 use Rattle.std.proofs.lemmas.List.Elements.{filter-append}
 use Rattle.std.proofs.lemmas.List.Sums.{sum_by-set, get_or-le-sum_by, length-filter}
-use Rattle.nr_model.specs.Modes.{plain}
 use Rattle.nr_model.specs.Nodes as nodes
 use Rattle.nr_session.specs.SessionState.{SessionState}
-use Rattle.nr_replica.specs.declared.members.Member.{Member}
-use Rattle.nr_replica.specs.Members.{closed_member}
+use Rattle.nr_replica.specs.Members.{Member, closed_member}
 use Rattle.nr_replica.specs.Replicas.{ReplicaState}
 use Rattle.nr_nodes.specs.declared.node.Node.{Node}
 use Rattle.nr_nodes.specs.Served.{client_seen, clients_seen}
+use Rattle.nr_nodes.specs.BySerial.{closed_session}
 use Rattle.nr_nodes.specs.Whole.{IsPair, ArePaired, IsWhole}
 use Rattle.nr_nodes.specs.Listed.{lists_of, without}
 use Rattle.nr_nodes.proofs.Listed.{listed_opened, listed_closed, listed_same, lists_many, lists_long}
@@ -87,12 +86,12 @@ abbrev pub is_open : nodes.Client → Bool
 is_open client = not client.closed
 
 -- a connection at a place
-pub client_of_pair : (node : Node) (i : ℕ) (s : SessionState) (m : Member) (d : nodes.Client) → i < length node.sessions.items
-    → length node.sessions.items ≡ length node.replica.members
-    → get_or (clients_seen node.sessions.items node.replica.members) i d ≡ client_seen (get_or node.sessions.items i s) (get_or node.replica.members i m)
-client_of_pair node i s m d h k = get_or-both client_seen node.sessions.items node.replica.members i s m d h (omega arith)
+pub client_of_pair : (node : Node) (i : ℕ) (s : SessionState) (m : Member) (d : nodes.Client) → i < length node.sessions
+    → length node.sessions ≡ length node.replica.members
+    → get_or (clients_seen node.sessions node.replica.members) i d ≡ client_seen (get_or node.sessions i s) (get_or node.replica.members i m)
+client_of_pair node i s m d h k = get_or-both client_seen node.sessions node.replica.members i s m d h (omega arith)
 
-or_false : (b c : Bool) → c ≡ false → (b || c) ≡ b
+pub or_false : (b c : Bool) → c ≡ false → (b || c) ≡ b
 or_false true c e = refl
 or_false false c e = e
 
@@ -100,13 +99,13 @@ or_true : (b c : Bool) → c ≡ true → true ≡ (b || c)
 or_true true c e = refl
 or_true false c e = sym e
 
-not_either : (b c : Bool) → false ≡ (b || c) → c ≡ false
+pub not_either : (b c : Bool) → false ≡ (b || c) → c ≡ false
 not_either true c e = absurd (cc e)
 not_either false c e = sym e
 
 -- one was opened
 pub whole_opened : (n w : ℕ) (old new : Node) (session : SessionState) (member : Member) → IsWhole n old
-    → new.replica ≡ record old.replica { members = old.replica.members ++ member ∷ [] } → new.sessions.items ≡ old.sessions.items ++ session ∷ []
+    → new.replica ≡ record old.replica { members = old.replica.members ++ member ∷ [] } → new.sessions ≡ old.sessions ++ session ∷ []
     → lists_of new.workers.items ≡ set (lists_of old.workers.items) w (get_or (lists_of old.workers.items) w [] ++ length old.replica.members ∷ [])
     → w < length old.workers.items → member.worker ≡ w → new.in_use ≡ old.in_use + 1
     → session.connection ≡ record { node = old.replica.node; serial = length old.replica.members } → session.ended ≡ false → session.gave_end ≡ false
@@ -119,23 +118,23 @@ whole_opened n at old new session member w replica sessions workers there own co
     let same = ap length workers in
     let as_many : length new.workers.items ≡ length old.workers.items = omega arith in
     let listed = listed_opened lists old.replica.members member at (omega arith) own closed w.listed in
-    let many = paired_many n 0 old.sessions.items old.replica.members w.pairs in
-    let last : length old.replica.members ≡ 0 + length old.sessions.items = omega arith in
-    let seen = clients_seen old.sessions.items old.replica.members in
-    let all : clients_seen new.sessions.items new.replica.members ≡ seen ++ client_seen session member ∷ [] =
-    (λ i. clients_seen (sessions i) (replica i).members) ∙ both-push client_seen old.sessions.items old.replica.members session member many in
-    let count : length (filter is_open (clients_seen new.sessions.items new.replica.members)) ≡ length (filter is_open seen) + 1 =
+    let many = paired_many n 0 old.sessions old.replica.members w.pairs in
+    let last : length old.replica.members ≡ 0 + length old.sessions = omega arith in
+    let seen = clients_seen old.sessions old.replica.members in
+    let all : clients_seen new.sessions new.replica.members ≡ seen ++ client_seen session member ∷ [] =
+    (λ i. clients_seen (sessions i) (replica i).members) ∙ both-push client_seen old.sessions old.replica.members session member many in
+    let count : length (filter is_open (clients_seen new.sessions new.replica.members)) ≡ length (filter is_open seen) + 1 =
     ap (λ (cs : List nodes.Client). length (filter is_open cs)) all
     ∙ ap length (filter-append is_open seen (client_seen session member ∷ []))
     ∙ length-append (filter is_open seen) (filter is_open (client_seen session member ∷ []))
     ∙ ap (λ (b : Bool). length (filter is_open seen) + length (cond (not b) (client_seen session member ∷ []) [])) closed in
     record {
       number = ap (λ (r : ReplicaState). r.node) replica ∙ w.number;
-      pairs = subst (ArePaired n 0 new.sessions.items) (sym (ap (λ (r : ReplicaState). r.members) replica))
+      pairs = subst (ArePaired n 0 new.sessions) (sym (ap (λ (r : ReplicaState). r.members) replica))
           (subst (λ (ss : List SessionState). ArePaired n 0 ss (old.replica.members ++ member ∷ [])) (sym sessions)
-          (pair_push n 0 old.sessions.items old.replica.members session member
+          (pair_push n 0 old.sessions old.replica.members session member
           (record {
-            named = named ∙ (λ i. record { node = w.number i; serial = last i });
+            named = λ open_one. named ∙ (λ i. record { node = w.number i; serial = last i });
             ended = ended ∙ sym (or_false session.gave_end member.is_closed closed ∙ gave);
           }) w.pairs));
       owed = ap (λ (r : ReplicaState). length r.owed) replica ∙ w.owed ∙ sym as_many;
@@ -146,37 +145,37 @@ whole_opened n at old new session member w replica sessions workers there own co
 
 -- one was fed
 pub whole_fed : (n : ℕ) (old new : Node) (i : ℕ) (session before : SessionState) (d : Member) → IsWhole n old
-    → new.replica ≡ old.replica → new.sessions.items ≡ set old.sessions.items i session
+    → new.replica ≡ old.replica → new.sessions ≡ set old.sessions i session
     → lists_of new.workers.items ≡ lists_of old.workers.items → new.in_use ≡ old.in_use
-    → i < length old.sessions.items → before ≡ get_or old.sessions.items i before → before.ended ≡ false
+    → i < length old.sessions → before ≡ get_or old.sessions i before → before.ended ≡ false
     → session.connection ≡ before.connection → session.ended ≡ session.gave_end → IsWhole n new
 whole_fed n old new i session before d w replica sessions workers counted h at going named ended =
-    let many = paired_many n 0 old.sessions.items old.replica.members w.pairs in
-    let seen = clients_seen old.sessions.items old.replica.members in
+    let many = paired_many n 0 old.sessions old.replica.members w.pairs in
+    let seen = clients_seen old.sessions old.replica.members in
     let member = get_or old.replica.members i d in
-    let pair = pair_at n 0 i old.sessions.items old.replica.members before d h w.pairs in
+    let pair = pair_at n 0 i old.sessions old.replica.members before d h w.pairs in
     let unclosed : member.is_closed ≡ false =
-    not_either (get_or old.sessions.items i before).gave_end member.is_closed (sym going ∙ ap (λ (s : SessionState). s.ended) at ∙ pair.ended) in
-    let all : clients_seen new.sessions.items new.replica.members ≡ set seen i (client_seen session member) =
-    (λ j. clients_seen (sessions j) (replica j).members) ∙ both-set_left client_seen old.sessions.items old.replica.members i session d in
-    let long = length-both client_seen old.sessions.items old.replica.members many in
+    not_either (get_or old.sessions i before).gave_end member.is_closed (sym going ∙ ap (λ (s : SessionState). s.ended) at ∙ pair.ended) in
+    let all : clients_seen new.sessions new.replica.members ≡ set seen i (client_seen session member) =
+    (λ j. clients_seen (sessions j) (replica j).members) ∙ both-set_left client_seen old.sessions old.replica.members i session d in
+    let long = length-both client_seen old.sessions old.replica.members many in
     let one = client_seen session member in
     let counts = count-set is_open seen i one one (omega arith) in
     let same : cond {A = ℕ} (is_open (get_or seen i one)) 1 0 ≡ cond {A = ℕ} (is_open one) 1 0 =
     ap {B = ℕ} (λ (client : nodes.Client). cond (is_open client) 1 0) (client_of_pair old i before d one h many) in
-    let count : length (filter is_open (clients_seen new.sessions.items new.replica.members)) ≡ length (filter is_open (set seen i one)) =
+    let count : length (filter is_open (clients_seen new.sessions new.replica.members)) ≡ length (filter is_open (set seen i one)) =
     ap (λ (cs : List nodes.Client). length (filter is_open cs)) all in
     record {
       number = ap (λ (r : ReplicaState). r.node) replica ∙ w.number;
-      pairs = subst (ArePaired n 0 new.sessions.items) (sym (ap (λ (r : ReplicaState). r.members) replica))
+      pairs = subst (ArePaired n 0 new.sessions) (sym (ap (λ (r : ReplicaState). r.members) replica))
           (subst (λ (ss : List SessionState). ArePaired n 0 ss old.replica.members) (sym sessions)
-          (pair_left n 0 i old.sessions.items old.replica.members session d
+          (pair_left n 0 i old.sessions old.replica.members session d
           (record {
-            named = named ∙ ap (λ (s : SessionState). s.connection) at ∙ pair.named;
+            named = λ open_one. named ∙ ap (λ (s : SessionState). s.connection) at ∙ pair.named open_one;
             ended = ended ∙ sym (or_false session.gave_end member.is_closed unclosed);
           }) w.pairs));
       owed = ap (λ (r : ReplicaState). length r.owed) replica ∙ w.owed ∙ sym (lists_long old.workers.items new.workers.items workers);
-      counted = counted ∙ w.counted ∙ (let e : length (filter is_open seen) ≡ length (filter is_open (clients_seen new.sessions.items new.replica.members))
+      counted = counted ∙ w.counted ∙ (let e : length (filter is_open seen) ≡ length (filter is_open (clients_seen new.sessions new.replica.members))
           = omega arith in e);
       listed = listed_same (lists_of old.workers.items) (lists_of new.workers.items) old.replica.members new.replica.members workers
           (ap (λ (r : ReplicaState). r.members) replica) w.listed;
@@ -185,10 +184,10 @@ whole_fed n old new i session before d w replica sessions workers counted h at g
 -- one was closed
 pub whole_closed : (n at_worker : ℕ) (old new : Node) (i : ℕ) (session before : SessionState) (d : Member) → IsWhole n old
     → new.replica ≡ record old.replica { members = set old.replica.members i (closed_member (get_or old.replica.members i d)) }
-    → new.sessions.items ≡ set old.sessions.items i session
+    → new.sessions ≡ set old.sessions i session
     → lists_of new.workers.items ≡ set (lists_of old.workers.items) at_worker (without i (get_or (lists_of old.workers.items) at_worker []))
     → at_worker < length old.workers.items → at_worker ≡ (get_or old.replica.members i d).worker → new.in_use + 1 ≡ old.in_use
-    → i < length old.sessions.items → before ≡ get_or old.sessions.items i before → session ≡ record before { rest = []; mode = plain; ended = true }
+    → i < length old.sessions → before ≡ get_or old.sessions i before → session ≡ closed_session
     → (get_or old.replica.members i d).is_closed ≡ false → IsWhole n new
 whole_closed n at_worker old new i session before d w replica sessions workers there own counted h at ended unclosed =
     let lists = lists_of old.workers.items in
@@ -197,45 +196,44 @@ whole_closed n at_worker old new i session before d w replica sessions workers t
     let lists_after = lists_many new.workers.items in
     let same = ap length workers in
     let as_many : length new.workers.items ≡ length old.workers.items = omega arith in
-    let many = paired_many n 0 old.sessions.items old.replica.members w.pairs in
+    let many = paired_many n 0 old.sessions old.replica.members w.pairs in
     let listed = listed_closed lists old.replica.members i at_worker d (omega arith) own (omega arith) w.listed in
-    let seen = clients_seen old.sessions.items old.replica.members in
+    let seen = clients_seen old.sessions old.replica.members in
     let member = get_or old.replica.members i d in
-    let pair = pair_at n 0 i old.sessions.items old.replica.members before d h w.pairs in
-    let all : clients_seen new.sessions.items new.replica.members ≡ set seen i (client_seen session (closed_member member)) =
-    (λ j. clients_seen (sessions j) (replica j).members) ∙ both-set client_seen old.sessions.items old.replica.members i session (closed_member member) in
-    let long = length-both client_seen old.sessions.items old.replica.members many in
+    let all : clients_seen new.sessions new.replica.members ≡ set seen i (client_seen session (closed_member member)) =
+    (λ j. clients_seen (sessions j) (replica j).members) ∙ both-set client_seen old.sessions old.replica.members i session (closed_member member) in
+    let long = length-both client_seen old.sessions old.replica.members many in
     let one = client_seen session (closed_member member) in
     let counts = count-set is_open seen i one one (omega arith) in
     let was : cond {A = ℕ} (is_open (get_or seen i one)) 1 0 ≡ 1 =
     ap {B = ℕ} (λ (client : nodes.Client). cond (is_open client) 1 0) (client_of_pair old i before d one h many) ∙ ap {B = ℕ}
     (λ (b : Bool). cond (not b) 1 0) unclosed in
-    let count : length (filter is_open (clients_seen new.sessions.items new.replica.members)) ≡ length (filter is_open (set seen i one)) =
+    let count : length (filter is_open (clients_seen new.sessions new.replica.members)) ≡ length (filter is_open (set seen i one)) =
     ap (λ (cs : List nodes.Client). length (filter is_open cs)) all in
     let before_count = w.counted in
     record {
       number = ap (λ (r : ReplicaState). r.node) replica ∙ w.number;
-      pairs = subst (ArePaired n 0 new.sessions.items) (sym (ap (λ (r : ReplicaState). r.members) replica))
+      pairs = subst (ArePaired n 0 new.sessions) (sym (ap (λ (r : ReplicaState). r.members) replica))
           (subst (λ (ss : List SessionState). ArePaired n 0 ss (set old.replica.members i (closed_member member))) (sym sessions)
-          (pair_set n 0 i old.sessions.items old.replica.members session (closed_member member)
+          (pair_set n 0 i old.sessions old.replica.members session (closed_member member)
           (record {
-            named = ap (λ (s : SessionState). s.connection) ended ∙ ap (λ (s : SessionState). s.connection) at ∙ pair.named;
+            named = λ open_one. absurd (cc open_one);
             ended = ap (λ (s : SessionState). s.ended) ended ∙ or_true session.gave_end true refl;
           }) w.pairs));
       owed = ap (λ (r : ReplicaState). length r.owed) replica ∙ w.owed ∙ sym as_many;
       listed = listed_same (set lists at_worker (without i (get_or lists at_worker []))) (lists_of new.workers.items)
           (set old.replica.members i (closed_member member)) new.replica.members workers (ap (λ (r : ReplicaState). r.members) replica) listed;
-      counted = let e : new.in_use ≡ length (filter is_open (clients_seen new.sessions.items new.replica.members)) = omega arith in e;
+      counted = let e : new.in_use ≡ length (filter is_open (clients_seen new.sessions new.replica.members)) = omega arith in e;
     }
 
 -- while one isn't closed, some are in use
-pub some_in_use : (n : ℕ) (node : Node) (i : ℕ) (s : SessionState) (m : Member) → IsWhole n node → i < length node.sessions.items
+pub some_in_use : (n : ℕ) (node : Node) (i : ℕ) (s : SessionState) (m : Member) → IsWhole n node → i < length node.sessions
     → (get_or node.replica.members i m).is_closed ≡ false → 0 < node.in_use
 some_in_use n node i s m w h unclosed =
-    let many = paired_many n 0 node.sessions.items node.replica.members w.pairs in
-    let seen = clients_seen node.sessions.items node.replica.members in
-    let long = length-both client_seen node.sessions.items node.replica.members many in
-    let one = client_seen (get_or node.sessions.items i s) (get_or node.replica.members i m) in
+    let many = paired_many n 0 node.sessions node.replica.members w.pairs in
+    let seen = clients_seen node.sessions node.replica.members in
+    let long = length-both client_seen node.sessions node.replica.members many in
+    let one = client_seen (get_or node.sessions i s) (get_or node.replica.members i m) in
     let some = count-some is_open seen i one (omega arith) (ap is_open (client_of_pair node i s m one h many) ∙ ap not unclosed) in
     let counted = w.counted in
     omega arith

@@ -16,8 +16,7 @@ use Rattle.nr_model.proofs.NodesOwnShaped.{each_shaped}
 use Rattle.nr_model.proofs.NodesOwnPlaces.{IsPlaced, ArePlaced, each_placed, log_of-append}
 use Rattle.nr_model.proofs.NodesOwnAdvance.{advanced_passed, advanced_by_passed}
 use Rattle.nr_session.specs.SessionState.{SessionState}
-use Rattle.nr_replica.specs.declared.members.Member.{Member}
-use Rattle.nr_replica.specs.Members.{AreNumbered}
+use Rattle.nr_replica.specs.Members.{Member, AreNumbered}
 use Rattle.nr_nodes.specs.declared.node.Node.{Node}
 use Rattle.nr_nodes.specs.declared.log.Log.{Log}
 use Rattle.nr_nodes.specs.Served.{clients_seen, node_seen, refused_node, applied_node}
@@ -127,9 +126,9 @@ within_at v n d held there =
     let here : n < length held.world.nodes = omega arith in
     let is = node_is v held.world n d held.shows there in
     let named = (subst (IsShaped v.setup n) is (shaped_of v.setup held.events held.world held.past n here)).named in
-    let long = paired_long n 0 node.sessions.items node.replica.members whole.pairs in
+    let long = paired_long n 0 node.sessions node.replica.members whole.pairs in
     let numbered : AreNumbered n 0 node.replica.members =
-    numbered_all n 0 node.sessions.items node.replica.members (record { node = 0; serial = 0 }) long
+    numbered_all n 0 node.sessions node.replica.members (record { node = 0; serial = 0 }) long
     (λ i below. (named i below).connection ∙ ap (λ (k : ℕ). record { node = n; serial = k }) (let e : i ≡ 0 + i = omega arith in e)) in
     let placed = subst (IsPlaced (nodes.tail_of held.world)) is (placed_of v.setup held.events held.world held.past n here) in
     let tail = tail_is v held.world held.shows in

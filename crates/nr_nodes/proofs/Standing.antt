@@ -13,8 +13,7 @@ use Rattle.nr_model.proofs.NodesOwnShape.{IsAt, IsShaped}
 use Rattle.nr_model.proofs.NodesOwnShaped.{IsShapedWorld, each_shaped}
 use Rattle.nr_entry.specs.Entry.{are_of}
 use Rattle.nr_session.specs.SessionState.{SessionState}
-use Rattle.nr_replica.specs.declared.members.Member.{Member}
-use Rattle.nr_replica.specs.Members.{AreNumbered}
+use Rattle.nr_replica.specs.Members.{Member, AreNumbered}
 use Rattle.nr_nodes.specs.declared.node.Node.{Node}
 use Rattle.nr_nodes.specs.declared.log.Log.{Log}
 use Rattle.nr_nodes.specs.Workers.{worker_seen}
@@ -62,9 +61,9 @@ own_jobs n w clients (job ∷ jobs) h =
 pub place_of : (setup : worlds.Setup) (n w : ℕ) (node : Node) → IsWhole n node → IsSized setup (node_seen node) → IsShaped setup n (node_seen node)
     → w < setup.workers → IsPlace n w node
 place_of setup n w node whole sized shaped within =
-    let pairs : length node.sessions.items ≡ length node.replica.members = paired_length n 0 node.sessions.items node.replica.members whole.pairs in
-    let clients : length (clients_seen node.sessions.items node.replica.members) ≡ length node.sessions.items =
-    length-both client_seen node.sessions.items node.replica.members pairs in
+    let pairs : length node.sessions ≡ length node.replica.members = paired_length n 0 node.sessions node.replica.members whole.pairs in
+    let clients : length (clients_seen node.sessions node.replica.members) ≡ length node.sessions =
+    length-both client_seen node.sessions node.replica.members pairs in
     let workers : length (workers_seen node.workers.items node.replica.owed) ≡ length node.workers.items =
     length-both worker_seen node.workers.items node.replica.owed (sym whole.owed) in
     let sizes : length (workers_seen node.workers.items node.replica.owed) ≡ setup.workers = sized.workers in
@@ -72,7 +71,7 @@ place_of setup n w node whole sized shaped within =
       whole = whole;
       stands = omega arith;
       numbered = subst (λ (k : ℕ). AreNumbered k 0 node.replica.members) (sym whole.number)
-          (numbered_from n 0 node.sessions.items node.replica.members pairs (λ i there.
+          (numbered_from n 0 node.sessions node.replica.members pairs (λ i there.
           let on : i ≡ 0 + i = omega arith in
           (shaped.named i (omega arith)).connection ∙ ap (λ (k : ℕ). record { node = n; serial = k }) on));
       own = subst (λ (k : ℕ). IsTrue (are_of k (steps.posted_jobs (nodes.worker_at w (node_seen node)).slot))) (sym whole.number)

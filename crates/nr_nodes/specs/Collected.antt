@@ -1,8 +1,7 @@
 -- What a collect hands out, by the members of a replica.
 use Rattle.std.specs.Prelude.{ℕ, ◌+◌, ◌<◌, ◌&&◌, ◌==◌, cond, List, [], ◌∷◌, ◌++◌, length, slice_index_or, slice_set}
 use Rattle.nr_model.specs.Worlds.{Handed, is_some_bytes}
-use Rattle.nr_replica.specs.declared.members.Member.{Member}
-use Rattle.nr_replica.specs.Members.{fresh_member}
+use Rattle.nr_replica.specs.Members.{Member, fresh_member}
 
 -- what waits for one was handed out
 abbrev pub emptied : Member → Member

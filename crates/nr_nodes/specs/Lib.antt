@@ -2,6 +2,8 @@ pub mod Setups
 pub mod Seen
 pub mod Workers
 pub mod Served
+pub mod BySerial
+pub mod Fed
 pub mod Dropped
 pub mod Forgotten
 pub mod Advanced

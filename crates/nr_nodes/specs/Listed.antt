@@ -1,6 +1,6 @@
 -- Which connections a worker looks at: its own that aren't closed. Nothing waits for the others.
 use Rattle.std.specs.Prelude.{◌≡◌, ◌<◌, ℕ, suc, true, not, ◌&&◌, ◌==◌, cond, List, [], ◌∷◌, length, map, filter, slice_index_or}
-use Rattle.nr_replica.specs.declared.members.Member.{Member}
+use Rattle.nr_replica.specs.Members.{Member}
 use Rattle.nr_nodes.specs.declared.worker.Worker.{Worker}
 
 -- the serials of worker w's connections that aren't closed, where the first of these has this serial

@@ -6,7 +6,7 @@ use Rattle.nr_model.specs.Nodes.Steps.{posted_worker, Refused, passing, falls_at
 use Rattle.nr_entry.specs.declared.entry.Entry.{Entry}
 use Rattle.nr_session.specs.SessionState.{SessionState}
 use Rattle.nr_entry.specs.Jobs.{items_of}
-use Rattle.nr_replica.specs.declared.members.Member.{Member}
+use Rattle.nr_replica.specs.Members.{Member}
 use Rattle.nr_nodes.specs.declared.worker.Worker.{Worker}
 use Rattle.nr_nodes.specs.declared.node.Node.{Node}
 use Rattle.nr_nodes.specs.Workers.{worker_seen}
@@ -39,7 +39,7 @@ workers_seen workers owed = both worker_seen workers owed
 abbrev pub node_seen : Node → nodes.Node
 node_seen node =
     record {
-      clients = clients_seen node.sessions.items node.replica.members;
+      clients = clients_seen node.sessions node.replica.members;
       workers = workers_seen node.workers.items node.replica.owed;
       waiting = items_of node.replica.waiting;
       at = node.at;

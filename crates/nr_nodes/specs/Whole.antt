@@ -1,19 +1,19 @@
 -- What holds of each node of a world, whatever it shows.
-use Rattle.std.specs.Prelude.{◌≡◌, ◌+◌, ◌<◌, ◌^◌, ℕ, suc, ◌||◌, List, [], ◌∷◌, length}
+use Rattle.std.specs.Prelude.{◌≡◌, ◌+◌, ◌<◌, ◌^◌, ℕ, suc, false, ◌||◌, List, [], ◌∷◌, length}
 use Rattle.nr_model.specs.Nodes as nodes
 use Rattle.nr_model.specs.Nodes.Steps.{in_use}
 use Rattle.nr_model.specs.Nodes.Pasts.{Event, IsPast}
 use Rattle.nr_session.specs.SessionState.{SessionState}
-use Rattle.nr_replica.specs.declared.members.Member.{Member}
+use Rattle.nr_replica.specs.Members.{Member}
 use Rattle.nr_nodes.specs.declared.node.Node.{Node}
 use Rattle.nr_nodes.specs.Served.{node_seen}
 use Rattle.nr_nodes.specs.Logs.{log_seen}
 use Rattle.nr_nodes.specs.Listed.{lists_of, AreListed}
 use Rattle.nr_nodes.specs.WorldState.{WorldState, Shows}
 
--- a connection's session has its name, and takes no bytes exactly where they asked for its end or it was closed
+-- the session of a connection that isn't closed has its name, and takes no bytes exactly where they asked for its end or it was closed
 pub record IsPair (n serial : ℕ) (session : SessionState) (member : Member) : Type 0 where
-  pub named : session.connection ≡ record { node = n; serial = serial }
+  pub named : member.is_closed ≡ false → session.connection ≡ record { node = n; serial = serial }
   pub ended : session.ended ≡ (session.gave_end || member.is_closed)
 
 -- each connection has its session and its member, from this serial on
@@ -26,7 +26,7 @@ ArePaired n serial (session ∷ sessions) (member ∷ members) = IsPair n serial
 -- node n is whole
 pub record IsWhole (n : ℕ) (node : Node) : Type 0 where
   pub number : node.replica.node ≡ n
-  pub pairs : ArePaired n 0 node.sessions.items node.replica.members
+  pub pairs : ArePaired n 0 node.sessions node.replica.members
   pub owed : length node.replica.owed ≡ length node.workers.items
   pub counted : node.in_use ≡ in_use (node_seen node)
   pub listed : AreListed (lists_of node.workers.items) node.replica.members

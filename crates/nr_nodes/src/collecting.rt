@@ -1,12 +1,12 @@
 // Handing out: the bytes that wait for a worker's connections, one connection after the other.
 ghost use Rattle.std.specs.Prelude.{◌≡◌, ◌<◌, ◌++◌, OnOk, length, map, slice_index_or, slice_set};
-ghost use Rattle.nr_replica.specs.Members.{AreNumbered};
+ghost use Rattle.nr_replica.specs.Members.{Member, AreNumbered};
 ghost use Rattle.nr_nodes.specs.Seen.{handed_seen};
 ghost use Rattle.nr_nodes.specs.Collected.{emptied, waiting_of, emptied_each, collected_each, AreWithin};
 
 use crate::step::Handed;
 use nr_blob::Memory;
-use nr_replica::{Member, Replica};
+use nr_replica::Replica;
 
 /// Hands out all bytes that wait for the connections of these serials. Linear in them and the bytes.
 pub(crate) fn collect(
@@ -34,7 +34,7 @@ fn hand_out(replica: &mut Replica, serial: usize, handed: &mut Vec<Handed>) -> R
     ensures handed { (d : Member) → OnOk result (map handed_seen handed.new.items
         ≡ map handed_seen handed.old.items ++ waiting_of (slice_index_or replica.old.members serial d)) }
 {
-    let waiting = waiting_for(replica, serial);
+    let waiting = replica.waiting(serial);
     if waiting == 0 {
         return Ok(());
     }
@@ -46,12 +46,4 @@ fn hand_out(replica: &mut Replica, serial: usize, handed: &mut Vec<Handed>) -> R
         bytes: piece.bytes,
     })?;
     Ok(())
-}
-
-// How many bytes wait for a connection.
-fn waiting_for(replica: &Replica, serial: usize) -> usize
-    requires { serial < length replica.now.members }
-    ensures { (d : Member) → result ≡ length (slice_index_or replica.now.members serial d).outbox.waiting }
-{
-    replica.members()[serial].outbox.len()
 }

@@ -5,16 +5,15 @@ ghost use Rattle.nr_model.specs.Items.{Item, same_connection};
 ghost use Rattle.nr_model.specs.Keyspace.{moment, last_moment};
 ghost use Rattle.nr_model.specs.Modes.{plain};
 ghost use Rattle.nr_model.specs.Worlds.{jobs_from, own_jobs};
-ghost use Rattle.nr_model.specs.Nodes.Steps.{fed_client, asked_next, closed_client, close_job};
+ghost use Rattle.nr_model.specs.Nodes.Steps.{fed_client, asked_next, close_job};
 ghost use Rattle.nr_entry.specs.Jobs.{connection_of, item_of, items_of};
-ghost use Rattle.nr_replica.specs.Members.{closed_member};
+ghost use Rattle.nr_replica.specs.Members.{Member};
 ghost use Rattle.nr_nodes.specs.Dropped.{end_of};
 ghost use Rattle.nr_nodes.specs.Served.{client_seen};
 
 use crate::dropping::drop_own;
 use nr_blob::Memory;
 use nr_entry::{ConnId, Job};
-use nr_replica::Member;
 use nr_session::Session;
 
 /// The last moment that is delivered apart, 2^53 milliseconds.
@@ -60,7 +59,6 @@ pub(crate) fn close_session(
 ) -> Result<(), Memory>
     requires { session.old.connection ≡ connection_of conn }
     ensures ended { session.new ≡ record session.old { rest = []; mode = plain; ended = true } }
-    ensures client { (member : Member) → client_seen session.new (closed_member member) ≡ closed_client (client_seen session.old member) }
     ensures jobs { (member : Member) → OnOk result (items_of pending.new.items
         ≡ filter (λ (job : Item). not (same_connection job.connection (connection_of conn))) (items_of pending.old.items)
         ++ option_to_list (close_job (client_seen session.old member) (connection_of conn) milliseconds (own_jobs (connection_of conn) (items_of pending.old.items)))) }

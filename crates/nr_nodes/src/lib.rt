@@ -18,6 +18,7 @@ mod node;
 mod observing;
 mod replaying;
 mod running;
+mod sessions;
 mod settling;
 mod setup;
 mod step;

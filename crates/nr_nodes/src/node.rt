@@ -9,7 +9,7 @@ ghost use Rattle.nr_entry.specs.Jobs.{connection_of, items_of};
 ghost use Rattle.nr_model.specs.Entries.{entry_jobs};
 ghost use Rattle.nr_entry.specs.Waiting.{has_some};
 ghost use Rattle.nr_session.specs.SessionState.{SessionState};
-ghost use Rattle.nr_replica.specs.Members.{AreNumbered};
+ghost use Rattle.nr_replica.specs.Members.{Member, AreNumbered};
 ghost use Rattle.nr_nodes.specs.Whole.{IsWhole};
 ghost use Rattle.nr_nodes.specs.Advanced.{IsAdvanced, IsApplied, HasRun};
 ghost use Rattle.nr_model.specs.Nodes.Steps as steps;
@@ -22,25 +22,24 @@ ghost use Rattle.nr_nodes.specs.Listed.{lists_of, AreListed};
 ghost use Rattle.nr_nodes.specs.Served.{node_seen, entry_seen, opened_node, posted_node, reserved_node, filled_node, fetched_node, answered_node, refused_node, workers_seen};
 
 use crate::collecting::collect;
-use crate::conversing::{close_session, feed_session};
 use crate::falling::drop_pending;
+use crate::sessions::Sessions;
 use crate::setup::Setup;
 use crate::step::{Handed, Reason};
 use crate::worker::Worker;
 use nr_blob::Memory;
 use nr_entry::{ConnId, Entry};
-use nr_replica::{Member, Replica};
-use nr_session::Session;
+use nr_replica::Replica;
 use std::alloc::Global;
 use std::hash::RandomState;
 
-/// A node: its replica, its connections' sessions by serial, its workers, how many of its connections aren't closed, the number of the
+/// A node: its replica, its connections' sessions, its workers, how many of its connections aren't closed, the number of the
 /// entry that it reserved last and, for each node, whether the cell of that entry isn't filled yet, how many entries it has passed, and
 /// whether it holds one that it has fetched.
 #[derive(Drop)]
 pub struct Node {
     pub(crate) replica: Replica,
-    pub(crate) sessions: Vec<Session>,
+    pub(crate) sessions: Sessions,
     pub(crate) workers: Vec<Worker>,
     pub(crate) in_use: usize,
     pub(crate) at: u64,
@@ -78,7 +77,7 @@ impl Node {
         unfilled.resize(setup.nodes(), false)?;
         Ok(Node {
             replica: Replica::new(alloc, keys, node, setup.workers())?,
-            sessions: Vec::new(alloc),
+            sessions: Sessions::new(alloc),
             workers: fresh_workers(alloc, setup.workers())?,
             in_use: 0,
             at: 0,
@@ -88,7 +87,7 @@ impl Node {
         })
     }
 
-    /// Opens a connection at a worker, for which at most `limit` bytes wait.
+    /// Opens a connection at a worker, for which at most `limit` bytes wait. Logarithmic.
     pub(crate) fn open(
         &mut self,
         alloc: Global,
@@ -96,14 +95,15 @@ impl Node {
         limit: usize,
     ) -> Result<ConnId, Memory>
         requires is_there { worker < length self.old.workers.items }
-        requires clients { length self.old.sessions.items ≡ length self.old.replica.members }
+        requires few { worker < 256 }
+        requires clients { length self.old.sessions ≡ length self.old.replica.members }
         requires counts { self.old.in_use + 1 < 2 ^ 64 }
         ensures opened { OnOk result (node_seen self.new ≡ opened_node limit self.old.replica.node worker (node_seen self.old)) }
         ensures conn { IfOk result (λ conn. connection_of conn ≡ record { node = self.old.replica.node; serial = length self.old.replica.members }) }
         ensures whole { (n : ℕ) → IsWhole n self.old → OnOk result (IsWhole n self.new) }
     {
         let conn = self.replica.open(worker, limit)?;
-        self.sessions.push(Session::new(alloc, conn))?;
+        self.sessions.open(alloc, conn)?;
         self.workers[worker].serials.push(conn.serial as usize)?;
         self.in_use += 1;
         Ok(conn)
@@ -222,71 +222,59 @@ impl Node {
         Ok(entry)
     }
 
-    // The worker that serves a connection.
-    fn worker_of(&self, serial: usize) -> usize
-        requires { serial < length self.now.replica.members }
-        ensures { (d : Member) → result ≡ (slice_index_or self.now.replica.members serial d).worker }
-    {
-        self.replica.members()[serial].worker
-    }
-
     /// Whether a connection takes no more bytes.
     pub(crate) fn has_ended(&self, serial: usize) -> bool
-        requires is_there { serial < length self.now.sessions.items }
-        requires clients { length self.now.sessions.items ≡ length self.now.replica.members }
-        ensures { (n : ℕ) → ArePaired n 0 self.now.sessions.items self.now.replica.members → result ≡ takes_none (nodes.client_at serial (node_seen self.now)) }
+        requires is_there { serial < length self.now.sessions }
+        requires clients { length self.now.sessions ≡ length self.now.replica.members }
+        ensures { (n : ℕ) → ArePaired n 0 self.now.sessions self.now.replica.members → result ≡ takes_none (nodes.client_at serial (node_seen self.now)) }
     {
-        self.sessions[serial].has_ended() || self.replica.members()[serial].outbox.is_cut()
+        self.sessions.has_ended(serial) || self.replica.is_cut(serial)
     }
 
     /// Whether a connection was closed.
     pub(crate) fn is_closed(&self, serial: usize) -> bool
-        requires is_there { serial < length self.now.sessions.items }
-        requires clients { length self.now.sessions.items ≡ length self.now.replica.members }
+        requires is_there { serial < length self.now.sessions }
+        requires clients { length self.now.sessions ≡ length self.now.replica.members }
         ensures { result ≡ (nodes.client_at serial (node_seen self.now)).closed }
     {
-        self.replica.members()[serial].is_closed
+        self.replica.is_closed(serial)
     }
 
     /// Feeds bytes to a connection. Linear in the bytes and the jobs that they ask for.
     pub(crate) fn feed(&mut self, conn: ConnId, moment: u64, bytes: &[u8]) -> Result<(), Memory>
-        requires clients { length self.old.sessions.items ≡ length self.old.replica.members }
+        requires clients { length self.old.sessions ≡ length self.old.replica.members }
         requires owed { length self.old.replica.owed ≡ length self.old.workers.items }
-        requires is_there { conn.serial < length self.old.sessions.items }
+        requires is_there { conn.serial < length self.old.sessions }
         requires worker { (d : Member) → (slice_index_or self.old.replica.members conn.serial d).worker < length self.old.workers.items }
-        requires named { (d : SessionState) → (slice_index_or self.old.sessions.items conn.serial d).connection ≡ connection_of conn }
-        requires going { (d : SessionState) → (slice_index_or self.old.sessions.items conn.serial d).ended ≡ false }
+        requires named { (d : SessionState) → (slice_index_or self.old.sessions conn.serial d).connection ≡ connection_of conn }
+        requires going { (d : SessionState) → (slice_index_or self.old.sessions conn.serial d).ended ≡ false }
         ensures fed { OnOk result (node_seen self.new ≡ fed_node (connection_of conn) moment bytes.now (node_seen self.old)) }
         ensures whole { (n : ℕ) → IsWhole n self.old → OnOk result (IsWhole n self.new) }
     {
         let serial = conn.serial as usize;
-        let worker = self.worker_of(serial);
+        let worker = self.replica.worker(serial);
         let pending = &mut self.workers[worker].pending;
-        feed_session(&mut self.sessions[serial], moment, bytes, pending)?;
+        self.sessions.feed(serial, moment, bytes, pending)?;
         Ok(())
     }
 
     /// Closes a connection. Linear in the jobs that its worker hasn't posted, and in the worker's connections that aren't closed.
     pub(crate) fn close(&mut self, conn: ConnId, moment: u64) -> Result<(), Memory>
-        requires clients { length self.old.sessions.items ≡ length self.old.replica.members }
+        requires clients { length self.old.sessions ≡ length self.old.replica.members }
         requires owed { length self.old.replica.owed ≡ length self.old.workers.items }
-        requires is_there { conn.serial < length self.old.sessions.items }
+        requires is_there { conn.serial < length self.old.sessions }
         requires worker { (d : Member) → (slice_index_or self.old.replica.members conn.serial d).worker < length self.old.workers.items }
-        requires named { (d : SessionState) → (slice_index_or self.old.sessions.items conn.serial d).connection ≡ connection_of conn }
+        requires named { (d : SessionState) → (slice_index_or self.old.sessions conn.serial d).connection ≡ connection_of conn }
         requires counts { 0 < self.old.in_use }
+        requires unclosed { (d : SessionState) → (slice_index_or self.old.sessions conn.serial d).ended ≡ (slice_index_or self.old.sessions conn.serial d).gave_end }
         ensures closed { OnOk result (node_seen self.new ≡ closed_node (connection_of conn) moment (node_seen self.old)) }
         ensures whole { (d : Member) → (n : ℕ) → (slice_index_or self.old.replica.members conn.serial d).is_closed ≡ false → IsWhole n self.old
             → OnOk result (IsWhole n self.new) }
     {
         let serial = conn.serial as usize;
-        let at = self.worker_of(serial);
+        let at = self.replica.worker(serial);
         let worker = &mut self.workers[at];
-        close_session(
-            &mut self.sessions[serial],
-            conn,
-            moment,
-            &mut worker.pending,
-        )?;
+        self.sessions.close(conn, moment, &mut worker.pending)?;
         worker.forget(serial);
         self.replica.close(serial);
         self.in_use -= 1;
@@ -295,7 +283,7 @@ impl Node {
 
     /// Applies an entry, its next one, and passes it. A node that is down drops it, and one that memory is refused falls.
     pub(crate) fn apply(&mut self, entry: &Entry)
-        requires clients { length self.old.sessions.items ≡ length self.old.replica.members }
+        requires clients { length self.old.sessions ≡ length self.old.replica.members }
         requires numbered { AreNumbered self.old.replica.node 0 self.old.replica.members }
         requires passed { self.old.passed + 1 < 2 ^ 64 }
         ensures applied { IsApplied self.old.replica.node (entry_seen entry.now) (node_seen self.old) (node_seen self.new) }
@@ -314,7 +302,7 @@ impl Node {
     // Applies an entry, or falls.
     fn advance(&mut self, entry: &Entry)
         requires up { self.old.replica.down ≡ false }
-        requires clients { length self.old.sessions.items ≡ length self.old.replica.members }
+        requires clients { length self.old.sessions ≡ length self.old.replica.members }
         requires numbered { AreNumbered self.old.replica.node 0 self.old.replica.members }
         ensures advanced { IsAdvanced self.old.replica.node (entry_seen entry.now) (node_seen self.old) (node_seen self.new) }
         ensures whole { (n : ℕ) → IsWhole n self.old → IsWhole n self.new }
@@ -342,7 +330,7 @@ impl Node {
     /// Runs the reads that lead, behind so many entries.
     pub(crate) fn run_reads(&mut self) -> Result<(), Memory>
         requires up { self.old.replica.down ≡ false }
-        requires clients { length self.old.sessions.items ≡ length self.old.replica.members }
+        requires clients { length self.old.sessions ≡ length self.old.replica.members }
         requires numbered { AreNumbered self.old.replica.node 0 self.old.replica.members }
         ensures run { (tail : ℕ) → OnOk result (HasRun tail (node_seen self.old) (node_seen self.new)) }
         ensures whole { (n : ℕ) → IsWhole n self.old → OnOk result (IsWhole n self.new) }
@@ -373,7 +361,7 @@ impl Node {
     ) -> Result<Option<bool>, Memory>
         requires is_there { worker < length self.old.workers.items }
         requires owed { length self.old.replica.owed ≡ length self.old.workers.items }
-        requires clients { length self.old.sessions.items ≡ length self.old.replica.members }
+        requires clients { length self.old.sessions ≡ length self.old.replica.members }
         requires numbered { AreNumbered self.old.replica.node 0 self.old.replica.members }
         requires listed { AreListed (lists_of self.old.workers.items) self.old.replica.members }
         ensures node { OnOk result (node_seen self.new ≡ collected_node worker (node_seen self.old)) }

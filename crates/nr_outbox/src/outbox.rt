@@ -168,16 +168,6 @@ impl Outbox {
         self.is_cut = true;
     }
 
-    /// Takes no more from now on, and lets go of what waits and of its memory.
-    pub fn close(&mut self)
-        ensures { self.new ≡ cut_off (record self.old { waiting = [] }) }
-    {
-        self.buffer.clear();
-        self.buffer.shrink_to_fit();
-        self.start = 0;
-        self.cut();
-    }
-
     /// Hands out at most so many of the first bytes that wait, and at least one, or `None` where nothing waits. Linear in them: they are
     /// copied into a piece of their own size, and the buffer keeps its room for those that come next. More than 1,024 bytes that are all
     /// that waits are moved out with the buffer, and not copied. Where memory runs out nothing is changed.

@@ -1,5 +1,5 @@
 -- What an emission gives to the members of its node.
-use Rattle.std.proofs.Common.{◌≡◌, ◌⊎◌, ℕ, ◌+◌, ◌<◌, ◌≤◌, Bool, true, false, cond, inl, inr, List, [], ◌∷◌, ◌++◌, length, take, get_or, set, refl, ap, sym, ◌∙◌, subst, arith, append_assoc, add-one}
+use Rattle.std.proofs.Common.{◌≡◌, ℕ, ◌+◌, ◌<◌, Bool, true, false, cond, inl, inr, List, [], ◌∷◌, ◌++◌, length, take, get_or, refl, ap, sym, ◌∙◌, subst, arith, append_assoc, add-one}
 use Rattle.std.specs.Prelude.{Option, Some, None, ◌==◌}
 use Rattle.std.proofs.lemmas.Bool.{cases_Bool}
 use Rattle.std.proofs.lemmas.Bool.Decides.{nat_tests}
@@ -15,9 +15,10 @@ use Rattle.nr_model.specs.Sequential.Events.{Emission}
 use Rattle.nr_emission.specs.Emitted.{Written, written_after, all_after}
 use Rattle.nr_outbox.specs.declared.outbox.Put.{Put}
 use Rattle.nr_outbox.specs.declared.outbox.Put.TheVariants as outcomes
-use Rattle.nr_replica.specs.declared.members.Member.{Member}
-use Rattle.nr_replica.specs.Members.{AreNumbered, AreDelivered, AreGiven, texts_of}
-use Rattle.nr_replica.proofs.Received.{both_received, same_received, alike, one_given, none_given, of_another}
+use Rattle.nr_replica.specs.Members.{Member, Queues, queue_at, members_of, AreNumbered, AreReceived, AreDelivered, AreGiven, texts_of}
+use Rattle.nr_replica.proofs.Listed.{IsPut}
+use Rattle.nr_replica.proofs.Reached.{reached_open, reached_closed, reached_elsewhere}
+use Rattle.nr_replica.proofs.Received.{both_received, same_received, alike, one_text, of_another}
 
 -- what became of a text is that it was received
 abbrev pub WasPut : Put → Queue → Bytes → Queue → Type 0
@@ -32,22 +33,25 @@ put_received outcomes.Full old new text was =
     let full = was.1 refl in (None, full.1 ∙ sym (ap (λ b. cond b (with_bytes old text) (cut_off old)) full.0))
 put_received outcomes.Memory old new text was = let memory = was.2 refl in (Some 0, memory.1)
 
--- a reply or a message to one of them
-pub given_one : (node i : ℕ) (to : Connection) (text : Bytes) (members : List Member) (d : Member) (result : Put) (new : Queue) → AreNumbered node 0 members → to.node ≡ node
-    → i ≡ to.serial → i < length members → WasPut result (get_or members i d).outbox text new
-    → AreGiven (record { connection = to; bytes = text } ∷ []) members (set members i (record (get_or members i d) { outbox = new }))
-given_one node i to text members d result new numbered own is within was =
-    let q = put_received result (get_or members i d).outbox new text was in
-    one_given node i to text members d (record (get_or members i d) { outbox = new }) q.0 numbered within (λ i. record { node = own i; serial = sym is i })
-    (ap (λ (queue : Queue). record (get_or members i d) { outbox = queue }) q.1)
+-- a reply or a message to one of them that is open
+pub given_open : (node : ℕ) (to : Connection) (text : Bytes) (workers : List ℕ) (old new : Queues) (at queue : Queue) (result : Put)
+    → AreNumbered node 0 (members_of node workers old) → to.node ≡ node → Some at ≡ queue_at to.serial old → IsPut to.serial (Some queue) old new
+    → WasPut result at text queue → AreGiven (record { connection = to; bytes = text } ∷ []) (members_of node workers old) (members_of node workers new)
+given_open node to text workers old new at queue result numbered own found put was =
+    let got = put_received result at queue text was in
+    reached_open node to text workers old new at queue got.0 numbered own found put got.1
 
--- or to none of them
-pub given_none : (node : ℕ) (to : Connection) (text : Bytes) (members : List Member) → AreNumbered node 0 members
-    → ((to.node ≡ node → ⊥) ⊎ (length members ≤ to.serial)) → AreGiven (record { connection = to; bytes = text } ∷ []) members members
-given_none node to text members numbered (inl other) =
-    none_given node to text members numbered (λ serial below e. other (ap (λ (c : Connection). c.node) e))
-given_none node to text members numbered (inr past) =
-    none_given node to text members numbered (λ serial below e. let same : to.serial ≡ serial = ap (λ (c : Connection). c.serial) e in omega arith)
+-- to one of them that was closed, and to none of them
+pub given_closed : (node : ℕ) (to : Connection) (text : Bytes) (workers : List ℕ) (old new : Queues) → AreNumbered node 0 (members_of node workers old)
+    → to.node ≡ node → None ≡ queue_at to.serial old → new ≡ old
+    → AreGiven (record { connection = to; bytes = text } ∷ []) (members_of node workers old) (members_of node workers new)
+given_closed node to text workers old new numbered own none same =
+    subst (λ (queues : Queues). AreReceived (one_text to text) (members_of node workers old) (members_of node workers queues)) (sym same)
+    (reached_closed node to text workers old numbered own none)
+
+pub given_elsewhere : (node : ℕ) (to : Connection) (text : Bytes) (workers : List ℕ) (queues : Queues) → AreNumbered node 0 (members_of node workers queues)
+    → (to.node ≡ node → ⊥) → AreGiven (record { connection = to; bytes = text } ∷ []) (members_of node workers queues) (members_of node workers queues)
+given_elsewhere node to text workers queues numbered other = reached_elsewhere node to text workers queues numbered other
 
 -- one after the other
 join_if : {A : Type 0} (b : Bool) (x : A) (xs ys : List A) → cond b (x ∷ (xs ++ ys)) (xs ++ ys) ≡ cond b (x ∷ xs) xs ++ ys

@@ -6,10 +6,8 @@ use Rattle.std.proofs.lemmas.Bool.{cases_Bool, and_parts, and_from, not-true}
 use Rattle.std.proofs.lemmas.List.{drop_all, take_all, append-nil}
 use Rattle.nr_model.specs.Items.{Item, is_update}
 use Rattle.nr_model.specs.Entries.{Jobs, leading, not_leading, left_after, left_by_entry, left_by_reads, leads_as_update, leads_as_read, most_entry_jobs, read_jobs, has_update_of}
-use Rattle.nr_model.specs.Queues.{Queue, handing}
 use Rattle.nr_entry.specs.Entry.{are_of}
-use Rattle.nr_replica.specs.declared.members.Member.{Member}
-use Rattle.nr_replica.specs.Members.{AreNumbered, AreReads}
+use Rattle.nr_replica.specs.Members.{Member, closed_member, handed_member, AreNumbered, AreReads}
 
 pub numbered_push : (node n : ℕ) (members : List Member) (member : Member) → AreNumbered node n members
     → member.outbox.connection ≡ record { node = node; serial = n + length members } → AreNumbered node n (members ++ member ∷ [])
@@ -39,11 +37,17 @@ numbered_at node n (suc i) (first ∷ members) d numbered within =
     let same : suc n + i ≡ n + suc i = omega arith in
     numbered_at node (suc n) i members d numbered.1 (omega arith) ∙ ap (λ (s : ℕ). record { node = node; serial = s }) same
 
--- a queue keeps its connection where a piece is taken, and where none could be
-pub piece_kept : {T E : Type 0} (result : Result T E) (most : ℕ) (old new : Queue) → OnOk result (new ≡ handing most old) → OnErr result (new ≡ old)
-    → new.connection ≡ old.connection
-piece_kept (Ok x) most old new taken kept = ap (λ (q : Queue). q.connection) taken
-piece_kept (Err e) most old new taken kept = ap (λ (q : Queue). q.connection) kept
+-- they stay numbered where one is closed, where a piece of one is taken, and where none could be
+pub closed_numbered : (node i : ℕ) (olds news : List Member) (d : Member) → AreNumbered node 0 olds → i < length olds
+    → news ≡ set olds i (closed_member (get_or olds i d)) → AreNumbered node 0 news
+closed_numbered node i olds news d numbered within is =
+    subst (AreNumbered node 0) (sym is) (numbered_set node 0 i olds d (closed_member (get_or olds i d)) numbered within refl)
+
+pub handed_numbered : {T E : Type 0} (result : Result T E) (node i most : ℕ) (olds news : List Member) (d : Member) → AreNumbered node 0 olds → i < length olds
+    → OnOk result (news ≡ set olds i (handed_member most (get_or olds i d))) → OnErr result (news ≡ olds) → AreNumbered node 0 news
+handed_numbered (Ok x) node i most olds news d numbered within left kept =
+    subst (AreNumbered node 0) (sym left) (numbered_set node 0 i olds d (handed_member most (get_or olds i d)) numbered within refl)
+handed_numbered (Err e) node i most olds news d numbered within left kept = subst (AreNumbered node 0) (sym kept) numbered
 
 -- all elements written back
 pub all_back : {A : Type 0} (len : ℕ) (new old : List A) → length new ≡ length old → len ≡ length old → take len (new ++ drop (length new) old) ≡ new

@@ -1,6 +1,10 @@
+pub mod Serials
+pub mod Listed
 pub mod Received
+pub mod Reached
 pub mod Giving
 pub mod Owed
 pub mod Looked
 pub mod Kept
 pub mod Told
+pub mod Stepped

@@ -1,5 +1,5 @@
 -- What reads emit: each one reply, to its own connection.
-use Rattle.std.proofs.Common.{◌≡◌, ℕ, zero, suc, ◌+◌, ◌<◌, true, false, cond, List, [], ◌∷◌, ◌++◌, length, take, get_or, set, refl, ap, sym, ◌∙◌, subst, arith, append_assoc, add-one}
+use Rattle.std.proofs.Common.{◌≡◌, ℕ, zero, suc, ◌+◌, ◌<◌, true, false, cond, List, [], ◌∷◌, ◌++◌, length, take, get_or, refl, ap, sym, ◌∙◌, subst, arith, append_assoc, add-one}
 use Rattle.std.specs.Prelude.{Option, Some, None}
 use Rattle.std.proofs.lemmas.Bool.Decides.{nat_tests}
 use Rattle.std.proofs.lemmas.List.{append-nil}
@@ -21,9 +21,10 @@ use Rattle.nr_entry.specs.Jobs.{connection_of, item_of, items_of}
 use Rattle.nr_entry.specs.Kinds.{deed_of}
 use Rattle.nr_entry.specs.declared.job.JobKind.{JobKind}
 use Rattle.nr_entry.specs.declared.job.Job.{Job}
-use Rattle.nr_replica.specs.declared.members.Member.{Member}
-use Rattle.nr_replica.specs.Members.{AreNumbered, AreDelivered, AreReads}
-use Rattle.nr_replica.proofs.Received.{alike, one_given, none_given, one_text}
+use Rattle.nr_replica.specs.Members.{Member, Queues, queue_at, members_of, AreNumbered, AreReceived, AreDelivered, AreReads}
+use Rattle.nr_replica.proofs.Listed.{IsPut}
+use Rattle.nr_replica.proofs.Reached.{reached_open, reached_closed, reached_elsewhere}
+use Rattle.nr_replica.proofs.Received.{alike, one_text}
 use Rattle.nr_replica.proofs.Giving.{delivered_more}
 
 -- a reply to its connection is all that a read emits
@@ -97,27 +98,38 @@ pub reply_refused : (s : Server) (job : Job) (old new : Queue) → is_update (de
     → (n : Option ℕ) × (new ≡ received n old (texts_for (connection_of job.conn) (emitted_in s (item_of job))))
 reply_refused s job old new read is = look_refused s (item_of job) old new read is
 
--- a read of one of the node's connections
-pub read_delivered : (node i : ℕ) (s : Server) (item : Item) (members : List Member) (d : Member) (new : Queue) → AreNumbered node 0 members
-    → is_update item.deed ≡ false → item.connection.node ≡ node → i ≡ item.connection.serial → i < length members
-    → ((n : Option ℕ) × (new ≡ received n (get_or members i d).outbox (texts_for item.connection (emitted_in s item))))
-    → AreDelivered (emitted_in s item) members (set members i (record (get_or members i d) { outbox = new }))
-read_delivered node i s item members d new numbered read own is within got =
-    let text = read_text s item read in
-    alike (one_text item.connection text) (λ c. texts_for c (emitted_in s item)) members (set members i (record (get_or members i d) { outbox = new }))
-    (λ c. sym (texts_of_read s item read c))
-    (one_given node i item.connection text members d (record (get_or members i d) { outbox = new }) got.0 numbered within
-    (λ i. record { node = own i; serial = sym is i })
-    (ap (λ (q : Queue). record (get_or members i d) { outbox = q })
-    (got.1 ∙ ap (λ (ts : List Bytes). received got.0 (get_or members i d).outbox ts) (own_texts s item read))))
+-- its text to its connection is what a read delivers
+as_read : (s : Server) (item : Item) (read : is_update item.deed ≡ false) (olds news : List Member)
+    → AreReceived (one_text item.connection (read_text s item read)) olds news → AreDelivered (emitted_in s item) olds news
+as_read s item read olds news got =
+    alike (one_text item.connection (read_text s item read)) (λ c. texts_for c (emitted_in s item)) olds news (λ c. sym (texts_of_read s item read c)) got
 
--- and of none of them
-pub read_of_none : (node : ℕ) (s : Server) (item : Item) (members : List Member) → AreNumbered node 0 members → is_update item.deed ≡ false
-    → ((serial : ℕ) → serial < length members → item.connection ≡ record { node = node; serial = serial } → ⊥)
-    → AreDelivered (emitted_in s item) members members
-read_of_none node s item members numbered read others =
-    alike (one_text item.connection (read_text s item read)) (λ c. texts_for c (emitted_in s item)) members members (λ c. sym (texts_of_read s item read c))
-    (none_given node item.connection (read_text s item read) members numbered others)
+-- a read of one of the node's connections that is open
+pub read_open : (node : ℕ) (s : Server) (item : Item) (workers : List ℕ) (old new : Queues) (at queue : Queue) → AreNumbered node 0 (members_of node workers old)
+    → is_update item.deed ≡ false → item.connection.node ≡ node → Some at ≡ queue_at item.connection.serial old
+    → IsPut item.connection.serial (Some queue) old new
+    → ((n : Option ℕ) × (queue ≡ received n at (texts_for item.connection (emitted_in s item))))
+    → AreDelivered (emitted_in s item) (members_of node workers old) (members_of node workers new)
+read_open node s item workers old new at queue numbered read own found put got =
+    as_read s item read (members_of node workers old) (members_of node workers new)
+    (reached_open node item.connection (read_text s item read) workers old new at queue got.0 numbered own found put
+    (got.1 ∙ ap (λ (ts : List Bytes). received got.0 at ts) (own_texts s item read)))
+
+-- of one that was closed, and of none of them
+pub read_closed : (node : ℕ) (s : Server) (item : Item) (workers : List ℕ) (old new : Queues) → AreNumbered node 0 (members_of node workers old)
+    → is_update item.deed ≡ false → item.connection.node ≡ node → None ≡ queue_at item.connection.serial old → new ≡ old
+    → AreDelivered (emitted_in s item) (members_of node workers old) (members_of node workers new)
+read_closed node s item workers old new numbered read own none same =
+    subst (λ (queues : Queues). AreDelivered (emitted_in s item) (members_of node workers old) (members_of node workers queues)) (sym same)
+    (as_read s item read (members_of node workers old) (members_of node workers old)
+    (reached_closed node item.connection (read_text s item read) workers old numbered own none))
+
+pub read_elsewhere : (node : ℕ) (s : Server) (item : Item) (workers : List ℕ) (queues : Queues) → AreNumbered node 0 (members_of node workers queues)
+    → is_update item.deed ≡ false → (item.connection.node ≡ node → ⊥)
+    → AreDelivered (emitted_in s item) (members_of node workers queues) (members_of node workers queues)
+read_elsewhere node s item workers queues numbered read other =
+    as_read s item read (members_of node workers queues) (members_of node workers queues)
+    (reached_elsewhere node item.connection (read_text s item read) workers queues numbered other)
 
 -- reads one after the other leave the server as it is
 pub read_at : (jobs : List Job) (i : ℕ) (d : Job) → AreReads (items_of jobs) → i < length jobs → is_update (item_of (get_or jobs i d)).deed ≡ false

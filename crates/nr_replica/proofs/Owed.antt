@@ -9,8 +9,7 @@ use Rattle.nr_model.specs.Items.{Item}
 use Rattle.nr_model.specs.Entries.{Jobs}
 use Rattle.nr_entry.specs.Jobs.{item_of, items_of}
 use Rattle.nr_entry.specs.declared.job.Job.{Job}
-use Rattle.nr_replica.specs.declared.members.Member.{Member}
-use Rattle.nr_replica.specs.Members.{worker_of, jobs_of_worker}
+use Rattle.nr_replica.specs.Members.{Member, worker_of, jobs_of_worker}
 use Rattle.nr_replica.specs.Replicas.{owing_less, owed_from}
 
 -- less by so many, and less by more

@@ -8,8 +8,7 @@ use Rattle.std.proofs.Math.Seq.{take-append-add}
 use Rattle.nr_model.specs.Bytes.{Bytes}
 use Rattle.nr_model.specs.Items.{Connection, same_connection}
 use Rattle.nr_model.specs.Queues.{Queue, takes, put, puts, with_bytes, cut_off, received}
-use Rattle.nr_replica.specs.declared.members.Member.{Member}
-use Rattle.nr_replica.specs.Members.{AreNumbered, AreReceived}
+use Rattle.nr_replica.specs.Members.{Member, AreNumbered, AreReceived}
 
 -- a queue that is cut stays as it is
 puts_cut : (q : Queue) (ts : List Bytes) → puts (cut_off q) ts ≡ cut_off q

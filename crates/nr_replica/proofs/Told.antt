@@ -1,6 +1,6 @@
 -- What a replica's calls say of its state, from what its parts say.
 use Rattle.std.proofs.Common.{◌≡◌, ℕ, ◌+◌, ◌<◌, Bool, false, cond, List, [], length, take, get_or, ap, sym, ◌∙◌, subst, arith, add-one}
-use Rattle.std.specs.Prelude.{◌==◌, Result, Ok, Err, IfOk, IfSome, Option, Some, None}
+use Rattle.std.specs.Prelude.{◌==◌, Result, Ok, Err, IfOk, IfSome, OnOk, OnErr, Option, Some, None}
 use Rattle.nr_model.specs.Items.{Connection}
 use Rattle.nr_model.specs.Servers.{Server, after_all, emitted_all, fresh}
 use Rattle.nr_model.specs.Entries.{entry_items}
@@ -11,8 +11,7 @@ use Rattle.nr_entry.specs.declared.entry.Entry.{Entry}
 use Rattle.nr_entry.specs.declared.job.Job.{Job}
 use Rattle.nr_entry.specs.Jobs.{connection_of, items_of}
 use Rattle.nr_outbox.specs.declared.outbox.Piece.{Piece}
-use Rattle.nr_replica.specs.declared.members.Member.{Member}
-use Rattle.nr_replica.specs.Members.{AreNumbered, AreGiven, AreDelivered}
+use Rattle.nr_replica.specs.Members.{Member, AreNumbered, AreGiven, AreDelivered}
 use Rattle.nr_replica.specs.Replicas.{ReplicaState, IsApplied, owed_from}
 use Rattle.nr_replica.proofs.Giving.{given_delivered}
 use Rattle.nr_replica.proofs.Kept.{numbered_at, get_or_same}
@@ -74,3 +73,18 @@ piece_taken node serial most members at d result numbered within is taken =
     (ap (λ (m : Member). m.outbox.connection) is ∙ numbered_at node 0 serial members at numbered within
     ∙ ap (λ (s : ℕ). record { node = node; serial = s }) number)
     taken
+
+-- what becomes of its members alone
+pub moved_to : (old now : ReplicaState) (f : ReplicaState → List Member) (news : List Member) → old ≡ now → news ≡ f old
+    → record old { members = news } ≡ record now { members = f now }
+moved_to old now f news same is = ap (λ (ms : List Member). record old { members = ms }) is ∙ ap (λ (r : ReplicaState). record r { members = f r }) same
+
+pub moved_on_ok : {T E : Type 0} (result : Result T E) (old now : ReplicaState) (f : ReplicaState → List Member) (news : List Member) → old ≡ now
+    → OnOk result (news ≡ f old) → OnOk result (record old { members = news } ≡ record now { members = f now })
+moved_on_ok (Ok x) old now f news same is = moved_to old now f news same is
+moved_on_ok (Err e) old now f news same is = tt
+
+pub kept_on_err : {T E : Type 0} (result : Result T E) (old now : ReplicaState) (news : List Member) → old ≡ now → OnErr result (news ≡ old.members)
+    → OnErr result (record old { members = news } ≡ now)
+kept_on_err (Ok x) old now news same is = tt
+kept_on_err (Err e) old now news same is = ap (λ (ms : List Member). record old { members = ms }) is ∙ same

@@ -1,13 +1,28 @@
 -- The connections of a node, as its replica keeps them, and what is delivered to them.
-use Rattle.std.specs.Prelude.{◌≡◌, ℕ, suc, true, false, cond, ◌==◌, List, [], ◌∷◌, filter, Option, slice_index_or}
+use Rattle.std.specs.Prelude.{◌≡◌, ℕ, suc, Bool, true, false, cond, ◌==◌, List, [], ◌∷◌, map, length, filter, Option, Some, None, slice_index_or, refl}
+use Rattle.std.specs.Coded.{Coded, code_by, coded×, coded_ℕ, coded_bool}
+use Rattle.std.specs.List.{range_with_len}
+use Rattle.std.specs.Map.{lookup}
+use Rattle.std.specs.Ordering.{eq_by_cmp, nat_cmp}
 use Rattle.nr_model.specs.Bytes.{Bytes}
 use Rattle.nr_model.specs.Items.{Connection, same_connection, is_update}
 use Rattle.nr_model.specs.Entries.{Jobs}
-use Rattle.nr_model.specs.Queues.{Queue, received, cut_off, handing}
+use Rattle.nr_model.specs.Queues.{Queue, coded_queue, received, handing, closed_queue}
 use Rattle.nr_model.specs.Sequential.Events.{Emission}
 use Rattle.nr_model.specs.Nodes.Steps.{texts_for}
 use Rattle.nr_emission.specs.Emitted.{Written}
-use Rattle.nr_replica.specs.declared.members.Member.{Member}
+use Rattle.nr_replica.specs.declared.members.Members.{Members}
+
+-- A connection of the node: the worker that serves it, what waits for it, and whether it was closed
+pub record Member : Type 0 where
+  pub worker : ℕ
+  pub outbox : Queue
+  pub is_closed : Bool
+
+abbrev pub coded_member : Coded Member
+coded_member =
+    code_by (ℕ × (Queue × Bool)) (coded× coded_ℕ (coded× coded_queue coded_bool)) (λ m. (m.worker, (m.outbox, m.is_closed)))
+    (λ p. record { worker = p.0; outbox = p.1.0; is_closed = p.1.1 }) (λ _. refl)
 
 abbrev pub fresh_queue : Connection → ℕ → Queue
 fresh_queue c limit = record { connection = c; waiting = []; handed = 0; limit = limit; cut = false }
@@ -17,7 +32,7 @@ fresh_member c worker limit = record { worker = worker; outbox = fresh_queue c l
 
 -- what waits is dropped, and nothing more comes
 abbrev pub closed_member : Member → Member
-closed_member member = record member { outbox = cut_off (record member.outbox { waiting = [] }); is_closed = true }
+closed_member member = record { worker = member.worker; outbox = closed_queue member.outbox.connection; is_closed = true }
 
 -- so many of the bytes that wait were handed out
 abbrev pub handed_member : ℕ → Member → Member
@@ -58,3 +73,24 @@ jobs_of_worker w members jobs = filter (λ job. worker_of members job.connection
 abbrev pub AreReads : Jobs → Type 0
 AreReads [] = Unit {0}
 AreReads (job ∷ jobs) = (is_update job.deed ≡ false) × AreReads jobs
+
+-- What a node keeps of its connections: the worker of each that was ever opened, and by serial the queues of those that aren't closed. A queue past the workers
+-- is of nobody.
+abbrev pub Queues : Type 0
+Queues = List (ℕ × Queue)
+
+abbrev pub queue_at : ℕ → Queues → Option Queue
+queue_at serial queues = lookup (eq_by_cmp nat_cmp serial) queues
+
+abbrev pub member_with : ℕ → ℕ → ℕ → Option Queue → Member
+member_with node serial worker None = record { worker = worker; outbox = closed_queue (record { node = node; serial = serial }); is_closed = true }
+member_with node serial worker (Some queue) = record { worker = worker; outbox = queue; is_closed = false }
+
+abbrev pub member_at : ℕ → List ℕ → Queues → ℕ → Member
+member_at node workers queues serial = member_with node serial (slice_index_or workers serial 0) (queue_at serial queues)
+
+abbrev pub members_of : ℕ → List ℕ → Queues → List Member
+members_of node workers queues = map (member_at node workers queues) (range_with_len 0 (length workers))
+
+abbrev pub members_seen : ℕ → Members → List Member
+members_seen node members = members_of node members.workers.items members.outboxes.entries

@@ -8,9 +8,7 @@ use Rattle.nr_entry.specs.declared.job.Job.{Job}
 use Rattle.nr_entry.specs.contracts.job.Job as of_job
 use Rattle.nr_entry.specs.Jobs.{items_of}
 use Rattle.nr_machine.specs.Codes.{coded_server}
-use Rattle.nr_replica.specs.declared.members.Member.{Member}
-use Rattle.nr_replica.specs.contracts.members.Member as of_member
-use Rattle.nr_replica.specs.Members.{AreDelivered, jobs_of_worker}
+use Rattle.nr_replica.specs.Members.{Member, coded_member, AreDelivered, jobs_of_worker}
 
 -- The node; its connections by serial; for each worker, where a batch of it was lifted, how many of its jobs are neither applied nor run; the jobs that were
 -- lifted and neither taken for an entry nor run; how many entries were applied; the server, which is given up when the node falls; whether it is down, and whether the
@@ -28,7 +26,7 @@ pub record ReplicaState : Type 0 where
 abbrev pub coded_replica : Coded ReplicaState
 coded_replica =
     code_by (ℕ × (List Member × (List (Option ℕ) × (List Job × (ℕ × (Server × (Bool × Bool)))))))
-    (coded× coded_ℕ (coded× (coded_list of_member.the_row.coded) (coded× (coded_list (coded_option coded_ℕ)) (coded× (coded_list of_job.the_row.coded) (coded× coded_ℕ (coded× coded_server (coded× coded_bool coded_bool)))))))
+    (coded× coded_ℕ (coded× (coded_list coded_member) (coded× (coded_list (coded_option coded_ℕ)) (coded× (coded_list of_job.the_row.coded) (coded× coded_ℕ (coded× coded_server (coded× coded_bool coded_bool)))))))
     (λ r. (r.node, (r.members, (r.owed, (r.waiting, (r.applied, (r.server, (r.down, r.refused))))))))
     (λ p. record { node = p.0; members = p.1.0; owed = p.1.1.0; waiting = p.1.1.1.0; applied = p.1.1.1.1.0; server = p.1.1.1.1.1.0; down = p.1.1.1.1.1.1.0; refused = p.1.1.1.1.1.1.1 }) (λ _. refl)
 

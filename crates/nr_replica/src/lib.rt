@@ -1,7 +1,6 @@
 //! A node's replica of the server: it takes in jobs, applies entries, runs reads, and keeps what waits for its node's connections.
 #![tactic(auto)]
 
-pub use members::Member;
 pub use replica::Replica;
 
 mod delivering;

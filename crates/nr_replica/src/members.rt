@@ -1,38 +1,140 @@
 // The connections of a node, as its replica keeps them.
-ghost use Rattle.std.specs.Prelude.{◌≡◌};
+ghost use Rattle.std.specs.Prelude.{◌≡◌, ◌<◌, ◌++◌, ◌∷◌, ℕ, [], length, take, slice_index_or, slice_set, IfOk, OnOk, OnErr, IfSome, IfNone, Some, None};
+ghost use Rattle.std.specs.Option.{option_copied};
 ghost use Rattle.nr_entry.specs.Jobs.{connection_of};
-ghost use Rattle.nr_replica.specs.Members.{fresh_member, closed_member};
+ghost use Rattle.nr_replica.specs.Members.{Member, AreNumbered, fresh_member, closed_member, handed_member, queue_at, members_seen};
 
+use nr_blob::Memory;
 use nr_entry::ConnId;
-use nr_outbox::Outbox;
+use nr_outbox::{Outbox, Piece};
 use std::alloc::Global;
-use std::marker::Model;
+use std::collections::BTreeMap;
 
-/// A connection of the node: the worker that serves it, what waits for it, and whether it was closed.
+/// The connections of a node, by serial: of each that was ever opened the worker that serves it, a byte, and of those that aren't closed
+/// what waits for them.
 #[derive(Drop)]
-pub struct Member {
-    pub worker: usize,
-    pub outbox: Outbox,
-    pub is_closed: bool,
+pub(crate) struct Members {
+    pub(crate) workers: Vec<u8>,
+    // One past the workers is of nobody, and gives way to the next that is opened.
+    pub(crate) outboxes: BTreeMap<u64, Outbox>,
 }
 
-impl Member {
-    /// Nothing waits for it. It takes no memory.
-    pub(crate) fn new(alloc: Global, conn: ConnId, worker: usize, limit: usize) -> Member
-        ensures { result ≡ fresh_member (connection_of conn) worker limit }
+impl Members {
+    /// None yet. They take no memory.
+    pub(crate) fn new(alloc: Global) -> Members
+        ensures { result.workers.items ≡ [] }
     {
-        Member {
-            worker,
-            outbox: Outbox::new(alloc, conn, limit),
-            is_closed: false,
+        Members {
+            workers: Vec::new(alloc),
+            outboxes: BTreeMap::new(alloc),
         }
     }
 
-    /// Closes it: what waits for it is dropped, and it gets nothing more.
-    pub(crate) fn close(&mut self)
-        ensures { self.new ≡ closed_member self.old }
+    /// How many were ever opened.
+    pub(crate) fn len(&self) -> usize
+        ensures { result ≡ length self.now.workers.items }
     {
-        self.outbox.close();
-        self.is_closed = true;
+        self.workers.len()
+    }
+
+    /// The worker that serves one.
+    pub(crate) fn worker(&self, serial: usize) -> usize
+        requires { serial < length self.now.workers.items }
+        ensures { (node : ℕ) (d : Member) → result ≡ (slice_index_or (members_seen node self.now) serial d).worker }
+    {
+        self.workers[serial] as usize
+    }
+
+    /// Whether one was closed. Logarithmic.
+    pub(crate) fn is_closed(&self, serial: usize) -> bool
+        requires { serial < length self.now.workers.items }
+        ensures { (node : ℕ) (d : Member) → result ≡ (slice_index_or (members_seen node self.now) serial d).is_closed }
+    {
+        match self.get(serial) {
+            Some(_) => false,
+            None => true,
+        }
+    }
+
+    /// Whether nothing more comes to wait for one. Logarithmic.
+    pub(crate) fn is_cut(&self, serial: usize) -> bool
+        requires { serial < length self.now.workers.items }
+        ensures { (node : ℕ) (d : Member) → result ≡ (slice_index_or (members_seen node self.now) serial d).outbox.cut }
+    {
+        match self.get(serial) {
+            Some(outbox) => outbox.is_cut(),
+            None => true,
+        }
+    }
+
+    /// How many bytes wait for one. Logarithmic.
+    pub(crate) fn waiting(&self, serial: usize) -> usize
+        requires { serial < length self.now.workers.items }
+        ensures { (node : ℕ) (d : Member) → result ≡ length (slice_index_or (members_seen node self.now) serial d).outbox.waiting }
+    {
+        match self.get(serial) {
+            Some(outbox) => outbox.len(),
+            None => 0,
+        }
+    }
+
+    // What waits for one, or `None` where it was closed.
+    fn get(&self, serial: usize) -> Option<&Outbox>
+        ensures { option_copied result ≡ queue_at serial self.now.outboxes.entries }
+    {
+        self.outboxes.get(&(serial as u64))
+    }
+
+    /// One more, which a worker serves, and for which at most `limit` bytes wait. Logarithmic. Where memory runs out nothing changes.
+    pub(crate) fn open(
+        &mut self,
+        alloc: Global,
+        conn: ConnId,
+        worker: usize,
+        limit: usize,
+    ) -> Result<(), Memory>
+        requires few { worker < 256 }
+        requires next { conn.serial ≡ length self.old.workers.items }
+        ensures opened { OnOk result (members_seen conn.node self.new ≡ members_seen conn.node self.old ++ fresh_member (connection_of conn) worker limit ∷ []) }
+        ensures unchanged { OnErr result (members_seen conn.node self.new ≡ members_seen conn.node self.old) }
+    {
+        self.outboxes
+            .insert(conn.serial, Outbox::new(alloc, conn, limit))?;
+        self.workers.push(worker as u8)?;
+        Ok(())
+    }
+
+    /// Closes one: what waits for it is dropped. Logarithmic.
+    pub(crate) fn close(&mut self, serial: usize)
+        requires { serial < length self.old.workers.items }
+        ensures { (node : ℕ) (d : Member) → AreNumbered node 0 (members_seen node self.old)
+            → members_seen node self.new ≡ slice_set (members_seen node self.old) serial (closed_member (slice_index_or (members_seen node self.old) serial d)) }
+    {
+        self.outboxes.remove(&(serial as u64));
+    }
+
+    /// Hands out at most so many of the first bytes that wait for one, and at least one, or `None` where nothing waits. Where memory runs out
+    /// nothing changes.
+    pub(crate) fn take_piece(
+        &mut self,
+        alloc: Global,
+        serial: usize,
+        most: usize,
+    ) -> Result<Option<Piece>, Memory>
+        requires some { 0 < most }
+        requires is_there { serial < length self.old.workers.items }
+        ensures piece { (node : ℕ) (d : Member) → AreNumbered node 0 (members_seen node self.old) → IfOk result (λ piece. IfSome piece (λ piece.
+            (connection_of piece.conn ≡ record { node = node; serial = serial }) × (piece.from ≡ (slice_index_or (members_seen node self.old) serial d).outbox.handed)
+            × (piece.bytes.items ≡ take most (slice_index_or (members_seen node self.old) serial d).outbox.waiting))) }
+        ensures some { IfOk result (λ piece. IfSome piece (λ piece. 0 < length piece.bytes.items)) }
+        ensures none { (node : ℕ) (d : Member) → IfOk result (λ piece. IfNone piece ((slice_index_or (members_seen node self.old) serial d).outbox.waiting ≡ [])) }
+        ensures left { (node : ℕ) (d : Member) → OnOk result (members_seen node self.new
+            ≡ slice_set (members_seen node self.old) serial (handed_member most (slice_index_or (members_seen node self.old) serial d))) }
+        ensures unchanged { (node : ℕ) → OnErr result (members_seen node self.new ≡ members_seen node self.old) }
+    {
+        match self.outboxes.get_mut(&(serial as u64)) {
+            Some(outbox) => outbox.take_piece(alloc, most),
+            None => Ok(None),
+        }
     }
 }

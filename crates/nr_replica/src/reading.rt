@@ -6,9 +6,9 @@ ghost use Rattle.nr_model.specs.Queues.{received};
 ghost use Rattle.nr_model.specs.Servers.{emitted_all, emitted_in};
 ghost use Rattle.nr_entry.specs.Jobs.{connection_of, item_of, items_of};
 ghost use Rattle.nr_entry.specs.Kinds.{deed_of};
-ghost use Rattle.nr_replica.specs.Members.{AreNumbered, AreDelivered, AreReads};
+ghost use Rattle.nr_replica.specs.Members.{AreNumbered, AreDelivered, AreReads, members_seen};
 
-use crate::members::Member;
+use crate::members::Members;
 use nr_blob::Memory;
 use nr_entry::{Job, JobKind};
 use nr_machine::Machine;
@@ -19,26 +19,27 @@ pub(crate) fn run_reads<'k>(
     machine: &'k Machine,
     reads: &'k [Job],
     node: usize,
-    members: &mut [Member],
+    members: &mut Members,
 )
     requires reads { AreReads (items_of reads.now) }
-    requires numbered { AreNumbered node 0 members.old }
-    ensures { AreDelivered (emitted_all machine.now.state (items_of reads.now)) members.old members.new }
+    requires numbered { AreNumbered node 0 (members_seen node members.old) }
+    ensures { AreDelivered (emitted_all machine.now.state (items_of reads.now)) (members_seen node members.old) (members_seen node members.new) }
 {
     for job in reads {
         run_read(machine, job, node, members);
     }
 }
 
-// A read, if it is one of the node's connections.
-fn run_read<'k>(machine: &'k Machine, job: &'k Job, node: usize, members: &mut [Member])
+// A read, if it is one of the node's connections that are open.
+fn run_read<'k>(machine: &'k Machine, job: &'k Job, node: usize, members: &mut Members)
     requires read { is_update (deed_of job.now.kind) ≡ false }
-    requires numbered { AreNumbered node 0 members.old }
-    ensures { AreDelivered (emitted_in machine.now.state (item_of job.now)) members.old members.new }
+    requires numbered { AreNumbered node 0 (members_seen node members.old) }
+    ensures { AreDelivered (emitted_in machine.now.state (item_of job.now)) (members_seen node members.old) (members_seen node members.new) }
 {
-    let serial = job.conn.serial as usize;
-    if job.conn.node == node && serial < members.len() {
-        reply(machine, job, &mut members[serial].outbox);
+    if job.conn.node == node {
+        if let Some(outbox) = members.outboxes.get_mut(&job.conn.serial) {
+            reply(machine, job, outbox);
+        }
     }
 }
 

@@ -5,11 +5,11 @@ ghost use Rattle.nr_model.specs.Entries.{entry_jobs, left_by_entry, read_jobs};
 ghost use Rattle.nr_entry.specs.Entry.{are_of};
 ghost use Rattle.nr_entry.specs.Jobs.{connection_of, items_of};
 ghost use Rattle.nr_entry.specs.Waiting.{has_some};
-ghost use Rattle.nr_replica.specs.Members.{fresh_member, closed_member, handed_member};
+ghost use Rattle.nr_replica.specs.Members.{Member, fresh_member, closed_member, handed_member};
 ghost use Rattle.nr_replica.specs.Replicas.{IsApplied, HasRead, fallen};
 
 use crate::delivering::deliver;
-use crate::members::Member;
+use crate::members::Members;
 use crate::reading::run_reads;
 use crate::settling::{settle, settle_own};
 use crate::steps::{forget, stage, take_updates};
@@ -28,7 +28,7 @@ pub struct Replica {
     alloc: Global,
     node: usize,
     machine: Machine,
-    members: Vec<Member>,
+    members: Members,
     owed: Vec<Option<usize>>,
     waiting: Waiting,
     // What the entry at hand has emitted.
@@ -43,16 +43,16 @@ impl Model for Replica {
     ghost use Rattle.nr_model.specs.Servers.{fresh};
     ghost use Rattle.nr_entry.specs.Entry.{are_of};
     ghost use Rattle.nr_entry.specs.Jobs.{items_of};
-    ghost use Rattle.nr_replica.specs.Members.{AreNumbered};
+    ghost use Rattle.nr_replica.specs.Members.{AreNumbered, members_seen};
     ghost use Rattle.nr_replica.specs.Replicas.{ReplicaState, coded_replica};
 
     ghost Value = { ReplicaState };
 
     ghost coded = { coded_replica };
 
-    ghost view = { λ r. record { node = r.node; members = r.members.items; owed = r.owed.items; waiting = r.waiting.jobs; applied = r.applied; server = cond r.is_down fresh r.machine.state; down = r.is_down; refused = r.is_refused } };
+    ghost view = { λ r. record { node = r.node; members = members_seen r.node r.members; owed = r.owed.items; waiting = r.waiting.jobs; applied = r.applied; server = cond r.is_down fresh r.machine.state; down = r.is_down; refused = r.is_refused } };
 
-    ghost invariant = { λ r. (r.staging ≡ []) × (r.waiting.gaps ≡ []) × AreNumbered r.node 0 r.members.items × (r.is_down ≡ false → r.machine.failed ≡ false) × IsTrue (are_of r.node (items_of r.waiting.jobs)) };
+    ghost invariant = { λ r. (r.staging ≡ []) × (r.waiting.gaps ≡ []) × AreNumbered r.node 0 (members_seen r.node r.members) × (r.is_down ≡ false → r.machine.failed ≡ false) × IsTrue (are_of r.node (items_of r.waiting.jobs)) };
 }
 
 impl Replica {
@@ -80,7 +80,7 @@ impl Replica {
             alloc,
             node,
             machine: Machine::new(alloc, keys)?,
-            members: Vec::new(alloc),
+            members: Members::new(alloc),
             owed,
             waiting: Waiting::new(alloc),
             staging: Staging::new(alloc),
@@ -104,15 +104,42 @@ impl Replica {
         self.applied
     }
 
-    /// The node's connections, by serial.
-    pub fn members(&self) -> &[Member]
-        ensures { result.now ≡ self.now.members }
+    /// The worker that serves a connection.
+    pub fn worker(&self, serial: usize) -> usize
+        requires { serial < length self.now.members }
+        ensures { (d : Member) → result ≡ (slice_index_or self.now.members serial d).worker }
     {
-        &self.members
+        self.members.worker(serial)
     }
 
-    /// Opens a connection that a worker serves, for which at most `limit` bytes wait.
+    /// Whether a connection was closed. Logarithmic.
+    pub fn is_closed(&self, serial: usize) -> bool
+        requires { serial < length self.now.members }
+        ensures { (d : Member) → result ≡ (slice_index_or self.now.members serial d).is_closed }
+    {
+        self.members.is_closed(serial)
+    }
+
+    /// Whether nothing more comes to wait for a connection: it was closed, or the queue was cut. Logarithmic.
+    pub fn is_cut(&self, serial: usize) -> bool
+        requires { serial < length self.now.members }
+        ensures { (d : Member) → result ≡ (slice_index_or self.now.members serial d).outbox.cut }
+    {
+        self.members.is_cut(serial)
+    }
+
+    /// How many bytes wait for a connection. Logarithmic.
+    pub fn waiting(&self, serial: usize) -> usize
+        requires { serial < length self.now.members }
+        ensures { (d : Member) → result ≡ length (slice_index_or self.now.members serial d).outbox.waiting }
+    {
+        self.members.waiting(serial)
+    }
+
+    /// Opens a connection that a worker serves, for which at most `limit` bytes wait. Logarithmic. A byte of it stays once it is closed: the
+    /// worker's number, which is below 256.
     pub fn open(&mut self, worker: usize, limit: usize) -> Result<ConnId, Memory>
+        requires few { worker < 256 }
         ensures conn { IfOk result (λ conn. connection_of conn ≡ record { node = self.old.node; serial = length self.old.members }) }
         ensures opened { OnOk result (self.new ≡ record self.old { members = self.old.members ++ fresh_member (record { node = self.old.node; serial = length self.old.members }) worker limit ∷ [] }) }
         ensures unchanged { OnErr result (self.new ≡ self.old) }
@@ -121,17 +148,16 @@ impl Replica {
             node: self.node,
             serial: self.members.len() as u64,
         };
-        self.members
-            .push(Member::new(self.alloc, conn, worker, limit))?;
+        self.members.open(self.alloc, conn, worker, limit)?;
         Ok(conn)
     }
 
-    /// Closes a connection: what waits for it is dropped, and it gets nothing more.
+    /// Closes a connection: what waits for it is dropped, and it gets nothing more. Logarithmic.
     pub fn close(&mut self, serial: usize)
         requires { serial < length self.old.members }
         ensures { (d : Member) → self.new ≡ record self.old { members = slice_set self.old.members serial (closed_member (slice_index_or self.old.members serial d)) } }
     {
-        self.members[serial].close();
+        self.members.close(serial);
     }
 
     /// Hands out at most so many of the first bytes that wait for a connection, and at least one, or `None` where nothing waits. Linear in
@@ -147,7 +173,7 @@ impl Replica {
         ensures left { (d : Member) → OnOk result (self.new ≡ record self.old { members = slice_set self.old.members serial (handed_member most (slice_index_or self.old.members serial d)) }) }
         ensures unchanged { OnErr result (self.new ≡ self.old) }
     {
-        self.members[serial].outbox.take_piece(self.alloc, most)
+        self.members.take_piece(self.alloc, serial, most)
     }
 
     /// Takes in the jobs of a worker's batch, behind those that wait. Linear in them. Where memory runs out nothing changes, and the jobs come back.

@@ -1,15 +1,15 @@
 // Jobs that were executed are owed no more to their workers' batches.
-ghost use Rattle.std.specs.Prelude.{◌≡◌, ◌==◌, ◌∷◌, [], cond};
+ghost use Rattle.std.specs.Prelude.{ℕ, ◌≡◌, ◌==◌, ◌∷◌, [], cond};
 ghost use Rattle.nr_entry.specs.Jobs.{connection_of, items_of};
 ghost use Rattle.nr_replica.specs.Members as specs;
 ghost use Rattle.nr_replica.specs.Replicas.{owed_from, owing_less};
 
-use crate::members::Member;
+use crate::members::Members;
 use nr_entry::{ConnId, Entry, Job};
 
 /// Takes these jobs off what is owed. Linear in them.
-pub(crate) fn settle(jobs: &[Job], members: &[Member], owed: &mut [Option<usize>])
-    ensures { owed.new ≡ owed_from 0 members.now (items_of jobs.now) owed.old }
+pub(crate) fn settle(jobs: &[Job], members: &Members, owed: &mut [Option<usize>])
+    ensures { (n : ℕ) → owed.new ≡ owed_from 0 (specs.members_seen n members.now) (items_of jobs.now) owed.old }
 {
     for job in jobs {
         settle_one(job, members, owed);
@@ -17,8 +17,8 @@ pub(crate) fn settle(jobs: &[Job], members: &[Member], owed: &mut [Option<usize>
 }
 
 /// The same for an entry's jobs, if it is one of the node.
-pub(crate) fn settle_own(entry: &Entry, node: usize, members: &[Member], owed: &mut [Option<usize>])
-    ensures { owed.new ≡ cond (entry.now.node == node) (owed_from 0 members.now (items_of entry.now.jobs.items) owed.old) owed.old }
+pub(crate) fn settle_own(entry: &Entry, node: usize, members: &Members, owed: &mut [Option<usize>])
+    ensures { (n : ℕ) → owed.new ≡ cond (entry.now.node == node) (owed_from 0 (specs.members_seen n members.now) (items_of entry.now.jobs.items) owed.old) owed.old }
 {
     if entry.node == node {
         settle(&entry.jobs, members, owed);
@@ -26,8 +26,8 @@ pub(crate) fn settle_own(entry: &Entry, node: usize, members: &[Member], owed: &
 }
 
 // A job fewer for the worker of its connection.
-fn settle_one(job: &Job, members: &[Member], owed: &mut [Option<usize>])
-    ensures { owed.new ≡ owed_from 0 members.now (items_of (job.now ∷ [])) owed.old }
+fn settle_one(job: &Job, members: &Members, owed: &mut [Option<usize>])
+    ensures { (n : ℕ) → owed.new ≡ owed_from 0 (specs.members_seen n members.now) (items_of (job.now ∷ [])) owed.old }
 {
     let worker = worker_of(job.conn, members);
     if worker < owed.len() {
@@ -36,12 +36,12 @@ fn settle_one(job: &Job, members: &[Member], owed: &mut [Option<usize>])
 }
 
 // The worker that serves a connection.
-fn worker_of(conn: ConnId, members: &[Member]) -> usize
-    ensures { result ≡ specs.worker_of members.now (connection_of conn) }
+fn worker_of(conn: ConnId, members: &Members) -> usize
+    ensures { (n : ℕ) → result ≡ specs.worker_of (specs.members_seen n members.now) (connection_of conn) }
 {
     let serial = conn.serial as usize;
     if serial < members.len() {
-        members[serial].worker
+        members.worker(serial)
     } else {
         0
     }

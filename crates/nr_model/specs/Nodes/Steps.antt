@@ -11,7 +11,7 @@ use Rattle.nr_model.specs.Modes.{Conversation, framed_conversation, plain}
 use Rattle.nr_model.specs.Sequential.Events.{Emission}
 use Rattle.nr_model.specs.Servers.{fresh, after_all, emitted_all}
 use Rattle.nr_model.specs.Entries.{Jobs, entry_jobs, left_by_entry, read_jobs, left_by_reads, entry_items}
-use Rattle.nr_model.specs.Queues.{received, cut_off}
+use Rattle.nr_model.specs.Queues.{received, closed_queue}
 use Rattle.nr_model.specs.Worlds.{Setup, Handed, is_some_bytes, jobs_from, own_jobs, close_number}
 use Rattle.nr_model.specs.Nodes.{Client, fresh_client, Slot, Empty, Posted, Lifted, Answered, Worker, Node, Entry, Reads, Logged, World, node_at, worker_at, client_at, client_of, with_node, with_worker, with_client, log_of, logged_at, tail_of}
 
@@ -350,7 +350,8 @@ collected_node w node =
     record (with_worker w (record worker { slot = cleared worker.slot }) node) { clients = map (emptied w) node.clients }
 
 -- A close: its bytes ended, what waits for it is dropped, and so are its jobs that weren't posted. An end without a reply is put in their place, numbered
--- as the first of them or else as the next, unless its bytes had asked for its end and nothing was dropped.
+-- as the first of them or else as the next, unless its bytes had asked for its end and nothing was dropped. Of the connection nothing stays but its
+-- worker, whose batches may still owe jobs of it.
 abbrev pub close_job : Client → Connection → ℕ → Jobs → Option Item
 close_job client c time dropped =
     cond (client.ended && length dropped == 0) None
@@ -360,7 +361,8 @@ abbrev pub dropped_at : Client → Connection → Node → Jobs
 dropped_at client c node = own_jobs c (worker_at client.worker node).pending
 
 abbrev pub closed_client : Client → Client
-closed_client client = record client { rest = []; mode = plain; closed = true; queue = cut_off (record client.queue { waiting = [] }) }
+closed_client client =
+    record { worker = client.worker; rest = []; mode = plain; next = 0; ended = false; closed = true; queue = closed_queue client.queue.connection }
 
 abbrev pub closed_node : Connection → ℕ → Node → Node
 closed_node c time node =

@@ -13,7 +13,7 @@ use Rattle.nr_nodes.proofs.batching.collect_at.Goals as goal
 use Rattle.nr_nodes.proofs.batching.collect_at.Goals.{else-is_none-via-then-is_none+else-len-before, else-is_none-via-else-is_none}
 
 pub collect-requires-clause-clients : goal.collect-requires-clause-clients
-collect-requires-clause-clients c = paired_length c.args.number 0 c.args.node.now.sessions.items c.args.node.now.replica.members c.requires.whole.pairs
+collect-requires-clause-clients c = paired_length c.args.number 0 c.args.node.now.sessions c.args.node.now.replica.members c.requires.whole.pairs
 
 pub returns-clause-collected : goal.returns-clause-collected
 returns-clause-collected c =

@@ -21,7 +21,7 @@ has_ended-requires-clause-clients c =
     let at : node ≡ get_or c.args.nodes.now c.args.conn.node node = search rules in
     let there : steps.is_client (seen_world c.args.nodes.now) (connection_of c.args.conn) ≡ true = sym c.is_there.ensures ∙ c.if-not-is_there.false in
     let pairs = (whole_of c.args.nodes.now c.args.conn.node node (there_node c.args.nodes.now (connection_of c.args.conn) there) c.requires.whole at).pairs in
-    paired_many c.args.conn.node 0 node.sessions.items node.replica.members pairs
+    paired_many c.args.conn.node 0 node.sessions node.replica.members pairs
 
 pub returns-then-has_ended : goal.returns-then-has_ended
 returns-then-has_ended c = λ setup time bytes.

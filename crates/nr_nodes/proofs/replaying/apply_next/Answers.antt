@@ -6,7 +6,7 @@ use Rattle.nr_nodes.proofs.replaying.apply_next.Goals as goal
 
 pub apply-requires-clause-clients : goal.apply-requires-clause-clients
 apply-requires-clause-clients c =
-    paired_long c.args.node.now.replica.node 0 c.args.node.now.sessions.items c.args.node.now.replica.members c.requires.within.whole.pairs
+    paired_long c.args.node.now.replica.node 0 c.args.node.now.sessions c.args.node.now.replica.members c.requires.within.whole.pairs
 
 pub returns-clause-next : goal.returns-clause-next
 returns-clause-next c = λ all is.

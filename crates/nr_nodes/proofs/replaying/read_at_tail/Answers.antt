@@ -13,7 +13,7 @@ returns-then-is_down-clause-looked c = λ all is.
 
 pub run_reads-requires-clause-clients : goal.run_reads-requires-clause-clients
 run_reads-requires-clause-clients c =
-    paired_long c.catch_up.new.node.replica.node 0 c.catch_up.new.node.sessions.items c.catch_up.new.node.replica.members c.catch_up.ensures.within.whole.pairs
+    paired_long c.catch_up.new.node.replica.node 0 c.catch_up.new.node.sessions c.catch_up.new.node.replica.members c.catch_up.ensures.within.whole.pairs
 
 pub returns-clause-looked : goal.returns-clause-looked
 returns-clause-looked c = λ all is.

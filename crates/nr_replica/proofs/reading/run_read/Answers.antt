@@ -1,22 +1,22 @@
-use Rattle.std.proofs.Common.{◌≡◌, ap, refl, arith}
-use Rattle.nr_model.specs.Items.{Connection}
+use Rattle.std.proofs.Common.{◌≡◌, arith, rules}
 use Rattle.nr_entry.specs.Jobs.{item_of}
-use Rattle.nr_replica.proofs.Looked.{read_delivered, read_of_none}
-use Rattle.nr_replica.proofs.reading.run_read.Goals.{else-job-node-via-then-job-node+else-serial-members, else-job-node-via-else-job-node}
+use Rattle.nr_replica.proofs.Looked.{read_open, read_closed, read_elsewhere}
 use Rattle.nr_replica.proofs.reading.run_read.Goals as goal
 
-pub returns-then-serial-members : goal.returns-then-serial-members
-returns-then-serial-members c =
-    read_delivered c.args.node c.args.job.now.conn.serial c.args.machine.now.state (item_of c.args.job.now) c.args.members.now c.index-members-serial.result c.reply.new.outbox
-    c.requires.numbered c.requires.read (omega arith) refl (omega arith) c.reply.ensures
+pub returns-in-Some : goal.returns-in-Some
+returns-in-Some c =
+    let changes = (c.get_mut.follows.holds c.reply.new.outbox).3 (search rules) in
+    read_open c.args.node c.args.machine.now.state (item_of c.args.job.now) c.args.members.now.workers.items c.args.members.now.outboxes.entries
+    (c.get_mut.follows.lender c.reply.new.outbox).entries c.in-Some.outbox.now c.reply.new.outbox c.requires.numbered c.requires.read (omega arith) c.in-Some.ensures.value changes.0
+    c.reply.ensures
+
+pub returns-in_default : goal.returns-in_default
+returns-in_default c =
+    let same : c.get_mut.follows.lender-at-none.entries ≡ c.args.members.now.outboxes.entries = search rules in
+    read_closed c.args.node c.args.machine.now.state (item_of c.args.job.now) c.args.members.now.workers.items c.args.members.now.outboxes.entries
+    c.get_mut.follows.lender-at-none.entries c.requires.numbered c.requires.read (omega arith) (search (rules, c.in_default.ensures)) same
 
 pub returns-else-job-node : goal.returns-else-job-node
 returns-else-job-node c =
-    read_of_none c.args.node c.args.machine.now.state (item_of c.args.job.now) c.args.members.now c.requires.numbered c.requires.read
-    (λ serial below e.
-    let node : c.args.job.now.conn.node ≡ c.args.node = ap (λ (k : Connection). k.node) e in
-    let same : c.args.job.now.conn.serial ≡ serial = ap (λ (k : Connection). k.serial) e in
-    elim c.else-job-node.branch [
-      | else-job-node-via-then-job-node+else-serial-members w ↦ absurd (omega arith)
-      | else-job-node-via-else-job-node w ↦ absurd (omega arith)
-    ])
+    read_elsewhere c.args.node c.args.machine.now.state (item_of c.args.job.now) c.args.members.now.workers.items c.args.members.now.outboxes.entries c.requires.numbered c.requires.read
+    (λ e. absurd (omega arith))

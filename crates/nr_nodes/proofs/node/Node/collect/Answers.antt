@@ -2,7 +2,7 @@ use Rattle.std.proofs.Common.{rules, ◌≡◌, ◌++◌, None, List, get_or, re
 use Rattle.std.specs.Prelude.{map}
 use Rattle.nr_model.specs.Worlds as worlds
 use Rattle.nr_model.specs.Nodes as nodes
-use Rattle.nr_replica.specs.declared.members.Member.{Member}
+use Rattle.nr_replica.specs.Members.{Member}
 use Rattle.nr_nodes.specs.declared.worker.Worker.{Worker}
 use Rattle.nr_nodes.specs.Batches.{executed_in}
 use Rattle.nr_nodes.specs.Seen.{handed_seen}
@@ -39,7 +39,7 @@ returns-clause-handed c =
     c.in_ok-collect.ensures.handed
     ∙ ap (λ (more : List worlds.Handed). map handed_seen c.args.handed.now.items ++ more)
     (collected_all c.args.worker c.deref.result.now c.args.self.now.replica.members own c.requires.listed.silent
-    ∙ clients_collected c.args.worker c.args.self.now.sessions.items c.args.self.now.replica.members c.requires.clients)
+    ∙ clients_collected c.args.worker c.args.self.now.sessions c.args.self.now.replica.members c.requires.clients)
 
 pub returns-clause-answer : goal.returns-clause-answer
 returns-clause-answer c =

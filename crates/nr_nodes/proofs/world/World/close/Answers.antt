@@ -1,11 +1,12 @@
 use Rattle.std.proofs.Common.{arith, refl, ◌≡◌, get_or, subst, set, false}
 use Rattle.nr_model.specs.Nodes.Steps as steps
 use Rattle.nr_entry.specs.Jobs.{connection_of}
+use Rattle.nr_replica.specs.Members.{fresh_member}
 use Rattle.nr_nodes.specs.WorldState.{WorldState}
 use Rattle.nr_nodes.specs.Whole.{IsHeld}
 use Rattle.nr_nodes.specs.Taken.{Steps}
 use Rattle.nr_nodes.specs.Seen.{reason_seen}
-use Rattle.nr_nodes.proofs.Connects.{idle_found, done_found, there_node, may_close, ready, used, closes_on}
+use Rattle.nr_nodes.proofs.Connects.{idle_found, done_found, there_node, may_close, ready, used, unclosed_yet, ends_by_bytes, closes_on}
 use Rattle.nr_nodes.proofs.world.World.close.Goals as goal
 
 pub returns-in-Some-clause-taken : goal.returns-in-Some-clause-taken
@@ -112,9 +113,27 @@ close-requires-clause-named c =
     let held : IsHeld v = c.self.invariant c.if-self.false in
     let e = done_found v (steps.Close (connection_of c.args.conn) c.args.moment) c.deref.result.now c.why_not_close.result (λ _. steps.Done)
     c.deref.ensures.value (c.why_not_close.ensures c.self.inside.setup c.args.moment) c.in_default.is in
+    let none = fresh_member (connection_of c.args.conn) 0 0 in
     let old = c.index_mut.result.now in
     let at : old ≡ get_or v.nodes c.args.conn.node old = c.index_mut.ensures.value in
-    (ready v c.args.conn old held at (may_close v.setup v.nodes (connection_of c.args.conn) c.args.moment e).there).named
+    λ d. (ready v c.args.conn old held at (may_close v.setup v.nodes (connection_of c.args.conn) c.args.moment e).there).named d none
+    (unclosed_yet v c.args.conn c.args.moment old none held at e)
+
+pub close-requires-clause-unclosed : goal.close-requires-clause-unclosed
+close-requires-clause-unclosed c =
+    let v : WorldState = record {
+      setup = c.self.inside.setup;
+      nodes = c.self.inside.nodes.items;
+      log = c.self.inside.log;
+      failed
+          = c.self.inside.has_failed;
+    } in
+    let held : IsHeld v = c.self.invariant c.if-self.false in
+    let e = done_found v (steps.Close (connection_of c.args.conn) c.args.moment) c.deref.result.now c.why_not_close.result (λ _. steps.Done)
+    c.deref.ensures.value (c.why_not_close.ensures c.self.inside.setup c.args.moment) c.in_default.is in
+    let old = c.index_mut.result.now in
+    let at : old ≡ get_or v.nodes c.args.conn.node old = c.index_mut.ensures.value in
+    λ d. ends_by_bytes v c.args.conn c.args.moment old d held at e
 
 pub close-requires-clause-counts : goal.close-requires-clause-counts
 close-requires-clause-counts c =

@@ -1,11 +1,12 @@
 use Rattle.std.proofs.Common.{arith, refl, ◌≡◌, get_or, subst, set, false}
 use Rattle.nr_model.specs.Nodes.Steps as steps
 use Rattle.nr_entry.specs.Jobs.{connection_of}
+use Rattle.nr_replica.specs.Members.{fresh_member}
 use Rattle.nr_nodes.specs.WorldState.{WorldState}
 use Rattle.nr_nodes.specs.Whole.{IsHeld}
 use Rattle.nr_nodes.specs.Taken.{Steps}
 use Rattle.nr_nodes.specs.Seen.{reason_seen}
-use Rattle.nr_nodes.proofs.Connects.{idle_found, done_found, there_node, may_feed, ready, going, feeds_on}
+use Rattle.nr_nodes.proofs.Connects.{idle_found, done_found, there_node, may_feed, ready, going, unclosed_fed, feeds_on}
 use Rattle.nr_nodes.proofs.world.World.feed.Goals as goal
 
 pub returns-in-Some-clause-taken : goal.returns-in-Some-clause-taken
@@ -114,9 +115,11 @@ feed-requires-clause-named c =
     let held : IsHeld v = c.self.invariant c.if-self.false in
     let e = done_found v (steps.Feed (connection_of c.args.conn) c.args.moment c.args.bytes.now) c.deref.result.now c.why_not_feed.result (λ _. steps.Done)
     c.deref.ensures.value (c.why_not_feed.ensures c.self.inside.setup c.args.moment c.args.bytes.now) c.in_default.is in
+    let none = fresh_member (connection_of c.args.conn) 0 0 in
     let old = c.index_mut.result.now in
     let at : old ≡ get_or v.nodes c.args.conn.node old = c.index_mut.ensures.value in
-    (ready v c.args.conn old held at (may_feed v.setup v.nodes (connection_of c.args.conn) c.args.moment c.args.bytes.now e).there).named
+    λ d. (ready v c.args.conn old held at (may_feed v.setup v.nodes (connection_of c.args.conn) c.args.moment c.args.bytes.now e).there).named d none
+    (unclosed_fed v c.args.conn c.args.moment c.args.bytes.now old none held at e)
 
 pub feed-requires-clause-going : goal.feed-requires-clause-going
 feed-requires-clause-going c = λ d.

@@ -7,7 +7,7 @@ use Rattle.nr_nodes.specs.Whole.{IsHeld}
 use Rattle.nr_nodes.specs.Taken.{Steps}
 use Rattle.nr_nodes.specs.Seen.{reason_seen}
 use Rattle.nr_nodes.proofs.Standing.{has_worker}
-use Rattle.nr_nodes.proofs.Connects.{idle_found, done_found, may_open, opened_in, held_many, held_whole, open_within, open_room, opens_on}
+use Rattle.nr_nodes.proofs.Connects.{idle_found, done_found, may_open, opened_in, held_many, held_whole, open_within, open_few, open_room, opens_on}
 use Rattle.nr_nodes.proofs.Paired.{paired_many}
 use Rattle.nr_nodes.proofs.world.World.open.Goals as goal
 
@@ -73,8 +73,21 @@ open-requires-clause-clients c =
     let held : IsHeld v = c.self.invariant c.if-self.false in
     let old = c.index_mut.result.now in
     let at : old ≡ get_or v.nodes c.args.node old = c.index_mut.ensures.value in
-    paired_many c.args.node 0 old.sessions.items old.replica.members (held_whole v c.args.node old held (open_within v c.args.node c.args.worker held e)
+    paired_many c.args.node 0 old.sessions old.replica.members (held_whole v c.args.node old held (open_within v c.args.node c.args.worker held e)
     at).pairs
+
+pub open-requires-clause-few : goal.open-requires-clause-few
+open-requires-clause-few c =
+    let v : WorldState = record {
+      setup = c.self.inside.setup;
+      nodes = c.self.inside.nodes.items;
+      log = c.self.inside.log;
+      failed
+          = c.self.inside.has_failed;
+    } in
+    let e = done_found v (steps.Open c.args.node c.args.worker) c.deref.result.now c.why_not_open.result (opened_in c.args.node) c.deref.ensures.value
+    c.why_not_open.ensures c.in_default.is in
+    open_few v c.args.node c.args.worker c.queue_limit.ensures.allowed.most_workers e
 
 pub open-requires-clause-counts : goal.open-requires-clause-counts
 open-requires-clause-counts c =

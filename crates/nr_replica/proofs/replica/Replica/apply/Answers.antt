@@ -1,12 +1,11 @@
-use Rattle.std.proofs.Common.{◌≡◌, ℕ, List, ap, ◌∙◌, sym, subst, length, rules, false, cond}
-use Rattle.std.specs.Prelude.{◌==◌, Option}
+use Rattle.std.proofs.Common.{◌≡◌, List, refl, ap, ◌∙◌, length, rules, false, cond}
+use Rattle.std.specs.Prelude.{◌==◌, ℕ, Option}
 use Rattle.nr_model.specs.Sequential.{for_node}
 use Rattle.nr_model.specs.Servers.{after_all, emitted_all}
 use Rattle.nr_model.specs.Entries.{entry_items}
 use Rattle.nr_entry.specs.Jobs.{items_of}
 use Rattle.nr_emission.specs.Emitted.{Written, all_after, written_after}
-use Rattle.nr_replica.specs.declared.members.Member.{Member}
-use Rattle.nr_replica.specs.Members.{AreNumbered, AreGiven, texts_of}
+use Rattle.nr_replica.specs.Members.{texts_of, members_seen}
 use Rattle.nr_replica.specs.Replicas.{ReplicaState, owed_from}
 use Rattle.nr_replica.proofs.Kept.{all_back}
 use Rattle.nr_replica.proofs.Received.{received_numbered}
@@ -17,17 +16,12 @@ pub invariant_of-self-2 : goal.invariant_of-self-2
 invariant_of-self-2 c =
     let inside = c.self.inside in
     let keeps = c.self.invariant in
-    let news = c.deliver.new.members in
-    let same : length news ≡ length inside.members.items = search rules in
-    let len : inside.members.len ≡ length inside.members.items = search rules in
-    let whole = all_back inside.members.len news inside.members.items same len in
-    let up : c.stage.new.machine.failed ≡ false = search rules in
-    let given : AreGiven c.stage.new.staging inside.members.items news =
-    subst (λ (olds : List Member). AreGiven c.stage.new.staging olds news) c.deref_mut-2.ensures.value c.deliver.ensures in (
+    let olds = members_seen inside.node inside.members in
+    let news = members_seen inside.node c.deliver.new.members in
+    let up : c.stage.new.machine.failed ≡ false = search rules in (
       c.clear.ensures,
       keeps.1,
-      subst (AreNumbered inside.node 0) (sym whole)
-          (received_numbered inside.node 0 (λ k. texts_of k c.stage.new.staging) inside.members.items news keeps.2 given),
+      received_numbered inside.node 0 (λ k. texts_of k c.stage.new.staging) olds news keeps.2 c.deliver.ensures,
       (λ _. up),
       keeps.4,
     )
@@ -38,10 +32,8 @@ returns-clause-applied c =
     let keeps = c.self.invariant in
     let entry = c.args.entry.now in
     let items = entry_items (items_of entry.jobs.items) in
-    let news = c.deliver.new.members in
-    let same : length news ≡ length inside.members.items = search rules in
-    let len : inside.members.len ≡ length inside.members.items = search rules in
-    let whole = all_back inside.members.len news inside.members.items same len in
+    let olds = members_seen inside.node inside.members in
+    let news = members_seen inside.node c.deliver.new.members in
     let same-owed : length c.settle_own.new.owed ≡ length inside.owed.items = search rules in
     let len-owed : inside.owed.len ≡ length inside.owed.items = search rules in
     let less = all_back inside.owed.len c.settle_own.new.owed inside.owed.items same-owed len-owed in
@@ -49,12 +41,9 @@ returns-clause-applied c =
     let moved : c.stage.new.machine.state ≡ after_all inside.machine.state items = search rules in
     let staged : c.stage.new.staging ≡ all_after written_after inside.staging (for_node inside.node (emitted_all inside.machine.state items)) = search rules in
     let from-none = staged ∙ ap (λ (s : List Written). all_after written_after s (for_node inside.node (emitted_all inside.machine.state items))) keeps.0 in
-    let given : AreGiven c.stage.new.staging inside.members.items news =
-    subst (λ (olds : List Member). AreGiven c.stage.new.staging olds news) c.deref_mut-2.ensures.value c.deliver.ensures in
-    let owes : c.settle_own.new.owed ≡ cond (entry.node == inside.node) (owed_from 0 inside.members.items (items_of entry.jobs.items) inside.owed.items) inside.owed.items =
-    c.settle_own.ensures
-    ∙ ap (λ (members : List Member). cond (entry.node == inside.node) (owed_from 0 members (items_of entry.jobs.items) c.deref_mut.result.now) c.deref_mut.result.now) c.deref.ensures.value
-    ∙ ap (λ (owed : List (Option ℕ)). cond (entry.node == inside.node) (owed_from 0 inside.members.items (items_of entry.jobs.items) owed) owed) c.deref_mut.ensures.value in
+    let owes : c.settle_own.new.owed ≡ cond (entry.node == inside.node) (owed_from 0 olds (items_of entry.jobs.items) inside.owed.items) inside.owed.items =
+    c.settle_own.ensures inside.node
+    ∙ ap (λ (owed : List (Option ℕ)). cond (entry.node == inside.node) (owed_from 0 olds (items_of entry.jobs.items) owed) owed) c.deref_mut.ensures.value in
     λ _. applied_from entry _ _ _ c.self.view_is
-    (applied_is inside.node inside.applied inside.members.items news _ inside.owed.items _ inside.waiting.jobs inside.machine.state c.stage.new.machine.state inside.is_down inside.is_refused
-    entry c.stage.new.staging up keeps.2 from-none given whole (less ∙ owes) moved)
+    (applied_is inside.node inside.applied olds news _ inside.owed.items _ inside.waiting.jobs inside.machine.state c.stage.new.machine.state inside.is_down inside.is_refused
+    entry c.stage.new.staging up keeps.2 from-none c.deliver.ensures refl (less ∙ owes) moved)

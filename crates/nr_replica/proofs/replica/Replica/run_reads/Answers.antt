@@ -1,34 +1,28 @@
-use Rattle.std.proofs.Common.{◌≡◌, List, length, rules, sym, subst}
+use Rattle.std.proofs.Common.{◌≡◌, rules}
 use Rattle.nr_model.specs.Entries.{read_jobs}
 use Rattle.nr_model.specs.Servers.{emitted_all}
 use Rattle.nr_model.specs.Nodes.Steps.{texts_for}
 use Rattle.nr_entry.specs.Jobs.{items_of}
-use Rattle.nr_replica.specs.declared.members.Member.{Member}
-use Rattle.nr_replica.specs.Members.{AreNumbered, AreDelivered}
-use Rattle.nr_replica.proofs.Kept.{are_reads, all_back, own_left_by_reads}
+use Rattle.nr_replica.specs.Members.{members_seen}
+use Rattle.nr_replica.proofs.Kept.{are_reads, own_left_by_reads}
 use Rattle.nr_replica.proofs.Received.{received_numbered}
 use Rattle.nr_replica.proofs.replica.Replica.run_reads.Goals as goal
 
 pub run_reads-requires-clause-reads : goal.run_reads-requires-clause-reads
 run_reads-requires-clause-reads c =
-    let is : items_of c.deref-3.result.now ≡ read_jobs (items_of c.self.inside.waiting.jobs) = search rules in
-    are_reads (items_of c.self.inside.waiting.jobs) (items_of c.deref-3.result.now) is
+    let is : items_of c.deref-2.result.now ≡ read_jobs (items_of c.self.inside.waiting.jobs) = search rules in
+    are_reads (items_of c.self.inside.waiting.jobs) (items_of c.deref-2.result.now) is
 
 pub invariant_of-self-2 : goal.invariant_of-self-2
 invariant_of-self-2 c =
     let inside = c.self.inside in
     let keeps = c.self.invariant in
-    let news = c.run_reads.new.members in
-    let same : length news ≡ length inside.members.items = search rules in
-    let len : inside.members.len ≡ length inside.members.items = search rules in
-    let whole = all_back inside.members.len news inside.members.items same len in
-    let es = emitted_all inside.machine.state (items_of c.deref-3.result.now) in
-    let delivered : AreDelivered es inside.members.items news =
-    subst (λ (olds : List Member). AreDelivered es olds news) c.deref_mut-2.ensures.value c.run_reads.ensures in (
+    let olds = members_seen inside.node inside.members in
+    let news = members_seen inside.node c.run_reads.new.members in
+    let es = emitted_all inside.machine.state (items_of c.deref-2.result.now) in (
       keeps.0,
       c.in_ok-reads.ensures.whole.0,
-      subst (AreNumbered inside.node 0) (sym whole)
-          (received_numbered inside.node 0 (λ k. texts_for k es) inside.members.items news keeps.2 delivered),
+      received_numbered inside.node 0 (λ k. texts_for k es) olds news keeps.2 c.run_reads.ensures,
       keeps.3,
       own_left_by_reads inside.node (items_of inside.waiting.jobs) (items_of c.take_reads.new.self.jobs) c.in_ok-reads.ensures.left keeps.4,
     )
