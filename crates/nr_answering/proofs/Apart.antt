@@ -237,11 +237,16 @@ step_closed setup world step refused is =
     by_outcome (λ (w : World). w.closed ≡ world.closed) (outcome setup world step) setup world step refused refl (effect_closed setup world step refused is)
 
 -- a feed that is enabled is of a connection that is there
+pub idle_told : (P : World → Type 0) (setup : Setup) (world : World) (step : Step) (refused : Refused) (holds : Bool) (reason : Reason) (otherwise : Outcome)
+    → (holds ≡ true → P world) → (holds ≡ false → P (effect_by otherwise setup world step refused))
+    → P (effect_by (idle_where holds reason otherwise) setup world step refused)
+idle_told P setup world step refused true reason otherwise p q = p refl
+idle_told P setup world step refused false reason otherwise p q = q refl
+
 idle_by : (P : World → Type 0) (setup : Setup) (world : World) (step : Step) (refused : Refused) (holds : Bool) (reason : Reason) (otherwise : Outcome)
     → P world → (holds ≡ false → P (effect_by otherwise setup world step refused))
     → P (effect_by (idle_where holds reason otherwise) setup world step refused)
-idle_by P setup world step refused true reason otherwise p q = p
-idle_by P setup world step refused false reason otherwise p q = q refl
+idle_by P setup world step refused holds reason otherwise p q = idle_told P setup world step refused holds reason otherwise (λ t. p) q
 
 pub feed_by : (P : World → Type 0) (setup : Setup) (world : World) (c : Connection) (time : ℕ) (bytes : Bytes) (refused : Refused) → P world
     → (is_client world c ≡ true → P (effect setup world (Feed c time bytes) refused)) → P (after_step setup world (Feed c time bytes) refused)

@@ -6,3 +6,4 @@ pub mod Found
 pub mod Steps
 pub mod Told
 pub mod Downs
+pub mod Fullness

@@ -1,14 +1,15 @@
 -- Each step that a service asks for, as one by which the nodes go on.
 use Rattle.std.proofs.Common.{◌≡◌, ℕ, ◌<◌, Bool, true, false, not, cond, inl, inr, List, [], ◌∷◌, ◌++◌, length, refl, ap, sym, ◌∙◌, subst, arith, append-nil, ltb}
-use Rattle.std.specs.Prelude.{◌||◌, nat_le, Option, Some, None, IfSome, is_some, option_map}
+use Rattle.std.specs.Prelude.{◌||◌, nat_le, Option, Some, None, IfSome, IfNone, is_some, option_map}
 use Rattle.std.proofs.lemmas.Bool.{cases_Bool, and_parts, or_parts, ltb-true, not-false}
+use Rattle.std.proofs.lemmas.List.{get_or-set_same}
 use Rattle.std.proofs.lemmas.Grind.{flat_map-append}
 use Rattle.nr_model.specs.Bytes.{Bytes}
 use Rattle.nr_model.specs.Keyspace.{moment}
 use Rattle.nr_model.specs.Items.{Connection}
 use Rattle.nr_model.specs.Worlds.{Setup, Feeding, Handed}
-use Rattle.nr_model.specs.Nodes.{World, node_at, client_of}
-use Rattle.nr_model.specs.Nodes.Steps.{Step, Open, Feed, NoSuch, Ended, TooMany, Down, Outcome, Opened, Done, Idle, Refused, idle_where, is_worker, is_client, in_use, outcome, opened, effect_by, after_step}
+use Rattle.nr_model.specs.Nodes.{Client, fresh_client, Node, no_node, World, node_at, client_at, client_of}
+use Rattle.nr_model.specs.Nodes.Steps.{Step, Open, Feed, Close, NoSuch, Ended, TooMany, Down, Outcome, Opened, Done, Idle, Refused, idle_where, is_worker, is_client, in_use, outcome, opened, closed_client, closed_node, closed, effect_by, after_step}
 use Rattle.nr_model.specs.Nodes.Pasts.{Event, IsPast, handed_in}
 use Rattle.nr_model.specs.Nodes.Settling.{after_events}
 use Rattle.nr_service_ends.specs.declared.answers.Standing.TheVariants as standings
@@ -18,9 +19,9 @@ use Rattle.nr_nodes.specs.Taken.{Steps}
 use Rattle.nr_nodes.specs.Settles.{Settles, events_of}
 use Rattle.nr_entry.specs.declared.conn.ConnId.{ConnId}
 use Rattle.nr_entry.specs.Jobs.{connection_of}
-use Rattle.nr_answering.specs.Moves.{IsFurther, Moves, Rests}
-use Rattle.nr_answering.specs.Stands.{StandsIn}
-use Rattle.nr_answering.proofs.Apart.{connection_at, is_there, is_feed, step_fed, is_close, step_closed, opened_count, grows_absent}
+use Rattle.nr_answering.specs.Moves.{IsFurther, Moves, Refuses, Rests}
+use Rattle.nr_answering.specs.Stands.{StandsIn, is_gone}
+use Rattle.nr_answering.proofs.Apart.{connection_at, is_there, is_feed, step_fed, is_close, step_closed, idle_told, opened_count, grows_absent}
 use Rattle.nr_answering.proofs.Pasts.{past_led, each_led, past_then, both_are, after_both, rounds_are, rounds_same}
 
 abbrev IsNew : World → World → Option Connection → Type 0
@@ -28,10 +29,11 @@ IsNew world after opened = IfSome opened (λ (c : Connection). (is_client world 
 
 -- a step
 step_moves : (old new : WorldState) (step : Step) (o : Outcome) (feedings : List Feeding) (opened : Option Connection) → Steps old new step o
+    → is_close step ≡ false
     → ((events : List Event) (world : World) (refused : Refused) → IsPast old.setup events world → Shows old world → o ≡ outcome old.setup world step
     → ((after_step old.setup world step refused).fed ≡ world.fed ++ feedings) × IsNew world (after_step old.setup world step refused) opened)
-    → Moves old new feedings [] opened (is_close step)
-step_moves old new step o feedings opened steps is = record {
+    → Moves old new feedings [] opened None
+step_moves old new step o feedings opened steps stays is = record {
   setup = steps.setup;
   further = λ events world past shows.
       let t = steps.taken events world past shows in
@@ -41,17 +43,18 @@ step_moves old new step o feedings opened steps is = record {
         are = (t.event, tt);
         shows = t.shows;
         fed = told.0;
-        closed = step_closed old.setup world step t.refused;
+        closed = λ none. step_closed old.setup world step t.refused stays;
+        gone = tt;
         handed_is = refl;
         is_new = told.1;
       };
 }
 
--- that neither feeds nor opens
-pub plain_moves : (old new : WorldState) (step : Step) (o : Outcome) → is_feed step ≡ false → Steps old new step o
-    → Moves old new [] [] None (is_close step)
-plain_moves old new step o is steps =
-    step_moves old new step o [] None steps
+-- that neither feeds nor opens nor closes
+pub plain_moves : (old new : WorldState) (step : Step) (o : Outcome) → is_feed step ≡ false → is_close step ≡ false → Steps old new step o
+    → Moves old new [] [] None None
+plain_moves old new step o is stays steps =
+    step_moves old new step o [] None steps stays
     (λ events world refused past shows e. (step_fed old.setup world step refused is ∙ sym (append-nil world.fed), tt))
 
 -- a feed of a connection that takes bytes
@@ -64,9 +67,9 @@ feed_path : (a b d : Bool) → a ≡ false → b ≡ false → d ≡ false → i
 feed_path a b d e f g = rw (e, f, g)
 
 pub feed_moves : (old new : WorldState) (c : Connection) (time : ℕ) (bytes : Bytes) (o : Outcome) → StandsIn old c standings.Open
-    → Steps old new (Feed c time bytes) o → Moves old new (record { connection = c; moment = moment time; bytes = bytes } ∷ []) [] None false
+    → Steps old new (Feed c time bytes) o → Moves old new (record { connection = c; moment = moment time; bytes = bytes } ∷ []) [] None None
 feed_moves old new c time bytes o stands steps =
-    step_moves old new (Feed c time bytes) o (record { connection = c; moment = moment time; bytes = bytes } ∷ []) None steps
+    step_moves old new (Feed c time bytes) o (record { connection = c; moment = moment time; bytes = bytes } ∷ []) None steps refl
     (λ events world refused past shows e.
     let client = client_of c world in
     let over = client.ended || (client.closed || client.queue.cut) in
@@ -95,9 +98,9 @@ not_yet world n =
       | inr e ↦ e
     ]
 
-pub open_moves : (old new : WorldState) (n w : ℕ) (c : Connection) → Steps old new (Open n w) (Opened c) → Moves old new [] [] (Some c) false
+pub open_moves : (old new : WorldState) (n w : ℕ) (c : Connection) → Steps old new (Open n w) (Opened c) → Moves old new [] [] (Some c) None
 open_moves old new n w c steps =
-    step_moves old new (Open n w) (Opened c) [] (Some c) steps
+    step_moves old new (Open n w) (Opened c) [] (Some c) steps refl
     (λ events world refused past shows e.
     let setup = old.setup in
     let node = node_at n world in
@@ -118,8 +121,96 @@ open_moves old new n w c steps =
       ),
     ))
 
+-- a close: its connection takes no room any more
+gone_third : (a b : Bool) → (a || (b || true)) ≡ true
+gone_third true b = refl
+gone_third false true = refl
+gone_third false false = refl
+
+gone_second : (a d : Bool) → (a || (true || d)) ≡ true
+gone_second true d = refl
+gone_second false d = refl
+
+closed_gone : (world : World) (c : Connection) (time : ℕ) → is_client world c ≡ true → (client_of c (closed c time world)).closed ≡ true
+closed_gone world c time here =
+    let node = node_at c.node world in
+    let both = and_parts (ltb c.node (length world.nodes)) (ltb c.serial (length node.clients)) here in
+    let client = closed_client (client_of c world) in
+    let blank = fresh_client 0 0 (record { node = 0; serial = 0 }) in
+    let at = get_or-set_same world.nodes c.node (closed_node c time node) no_node (ltb-true c.node (length world.nodes) both.0) in
+    ap (λ (n : Node). (client_at c.serial n).closed) at
+    ∙ ap (λ (d : Client). d.closed) (get_or-set_same node.clients c.serial client blank (ltb-true c.serial (length node.clients) both.1))
+
+close_gone : (setup : Setup) (world : World) (c : Connection) (time : ℕ) (refused : Refused)
+    → is_gone (after_step setup world (Close c time) refused) c ≡ true
+close_gone setup world c time refused =
+    let step = Close c time in
+    let absent = not (is_client world c) in
+    let down = (node_at c.node world).down in
+    let P : World → Type 0 = λ w. is_gone w c ≡ true in
+    idle_told P setup world step refused absent NoSuch _ (λ is. λ i. is i || (down || (client_of c world).closed)) (λ here.
+    idle_told P setup world step refused (client_of c world).closed Ended _ (λ is. (λ i. absent || (down || is i)) ∙ gone_third absent down) (λ still.
+    idle_told P setup world step refused down Down _
+    (λ is. (λ i. absent || (is i || (client_of c world).closed)) ∙ gone_second absent (client_of c world).closed) (λ up.
+    let after = closed c time world in
+    (λ i. not (is_client after c) || ((node_at c.node after).down || closed_gone world c time (not-false (is_client world c) here) i))
+    ∙ gone_third (not (is_client after c)) (node_at c.node after).down)))
+
+pub close_moves : (old new : WorldState) (c : Connection) (time : ℕ) (o : Outcome) → Steps old new (Close c time) o → Moves old new [] [] None (Some c)
+close_moves old new c time o steps = record {
+  setup = steps.setup;
+  further = λ events world past shows.
+      let t = steps.taken events world past shows in
+      record {
+        events = record { step = Close c time; outcome = o; handed = []; answer = None; refused = t.refused } ∷ [];
+        are = (t.event, tt);
+        shows = t.shows;
+        fed = step_fed old.setup world (Close c time) t.refused refl ∙ sym (append-nil world.fed);
+        closed = λ some. absurd (cc some);
+        gone = close_gone old.setup world c time t.refused;
+        handed_is = refl;
+        is_new = tt;
+      };
+}
+
+-- an open that opened none: nothing moves, and the node takes none
+abbrev pub opens : Outcome → Bool
+opens (Opened c) = true
+opens Done = false
+opens (Idle reason) = false
+
+full_by : (a b d : Bool) (x : Connection) → opens (idle_where (not a) NoSuch (idle_where b TooMany (idle_where d Down (Opened x)))) ≡ false → a ≡ true
+    → (d || b) ≡ true
+full_by false b d x none is = absurd (cc is)
+full_by true true true x none is = refl
+full_by true true false x none is = refl
+full_by true false true x none is = refl
+full_by true false false x none is = absurd (cc none)
+
+unmoved_by : (a b d : Bool) (x : Connection) (setup : Setup) (world : World) (step : Step) (refused : Refused)
+    → opens (idle_where a NoSuch (idle_where b TooMany (idle_where d Down (Opened x)))) ≡ false
+    → effect_by (idle_where a NoSuch (idle_where b TooMany (idle_where d Down (Opened x)))) setup world step refused ≡ world
+unmoved_by true b d x setup world step refused none = refl
+unmoved_by false true d x setup world step refused none = refl
+unmoved_by false false true x setup world step refused none = refl
+unmoved_by false false false x setup world step refused none = absurd (cc none)
+
+pub open_refuses : (old new : WorldState) (n w : ℕ) (o : Outcome) → opens o ≡ false → Steps old new (Open n w) o → Refuses old new n w
+open_refuses old new n w o none steps = record {
+  shows = λ events world past shows.
+      let t = steps.taken events world past shows in
+      let node = node_at n world in
+      subst (Shows new) (unmoved_by (not (is_worker old.setup n w)) (nat_le old.setup.connections (in_use node)) node.down (connection_at n (length node.clients))
+      old.setup world (Open n w) t.refused (ap opens (sym t.event.outcome_is) ∙ none)) t.shows;
+  full = λ events world past shows is.
+      let t = steps.taken events world past shows in
+      let node = node_at n world in
+      full_by (is_worker old.setup n w) (nat_le old.setup.connections (in_use node)) node.down (connection_at n (length node.clients))
+      (ap opens (sym t.event.outcome_is) ∙ none) is;
+}
+
 -- rounds of steps
-settle_moves : (old new : WorldState) (handed : List Handed) → Settles old new handed → Moves old new [] handed None false
+settle_moves : (old new : WorldState) (handed : List Handed) → Settles old new handed → Moves old new [] handed None None
 settle_moves old new handed settles = record {
   setup = settles.setup;
   further = λ events world past shows.
@@ -131,6 +222,7 @@ settle_moves old new handed settles = record {
         shows = h.shows;
         fed = same.0 ∙ sym (append-nil world.fed);
         closed = λ none. same.1;
+        gone = tt;
         handed_is = sym h.handed_is;
         is_new = tt;
       };
@@ -140,11 +232,11 @@ pub settle_rests : (old new : WorldState) (handed : List Handed) → Settles old
 settle_rests old new handed settles = record { moves = settle_moves old new handed settles; settles = settles }
 
 -- nothing, and more behind it
-pub none_moves : (v : WorldState) → Moves v v [] [] None false
+pub none_moves : (v : WorldState) → Moves v v [] [] None None
 none_moves v = record {
   setup = refl;
   further = λ events world past shows.
-      record { events = []; are = tt; shows = shows; fed = sym (append-nil world.fed); closed = λ none. refl; handed_is = refl; is_new = tt };
+      record { events = []; are = tt; shows = shows; fed = sym (append-nil world.fed); closed = λ none. refl; gone = tt; handed_is = refl; is_new = tt };
 }
 
 new_since : (world middle after : World) (opened : Option Connection) → ((c : Connection) → is_client middle c ≡ false → is_client world c ≡ false)
@@ -152,8 +244,8 @@ new_since : (world middle after : World) (opened : Option Connection) → ((c : 
 new_since world middle after None earlier is = tt
 new_since world middle after (Some c) earlier is = (earlier c is.0, is.1)
 
-pub moves_on : (a b c : WorldState) (opened : Option Connection) → Moves a b [] [] None false → Moves b c [] [] opened false
-    → Moves a c [] [] opened false
+pub moves_on : (a b c : WorldState) (opened : Option Connection) → Moves a b [] [] None None → Moves b c [] [] opened None
+    → Moves a c [] [] opened None
 moves_on a b c opened first second = record {
   setup = second.setup ∙ first.setup;
   further = λ events world past shows.
@@ -161,7 +253,7 @@ moves_on a b c opened first second = record {
       let setup = a.setup in
       let middle = after_events setup world f.events in
       let later = past_then setup events f.events world past f.are in
-      let t = subst (λ (s : Setup). IsFurther s c [] [] opened false middle) first.setup
+      let t = subst (λ (s : Setup). IsFurther s c [] [] opened None middle) first.setup
       (second.further (events ++ f.events) middle (subst (λ (s : Setup). IsPast s (events ++ f.events) middle) (sym first.setup) later) f.shows) in
       let led = past_led setup events world past in
       let grown = each_led setup world (handed_in events) f.events led.many led.apart f.are in
@@ -172,6 +264,7 @@ moves_on a b c opened first second = record {
         shows = subst (Shows c) (sym last) t.shows;
         fed = ap (λ (w : World). w.fed) last ∙ t.fed ∙ append-nil middle.fed ∙ f.fed;
         closed = λ none. ap (λ (w : World). w.closed) last ∙ t.closed none ∙ f.closed none;
+        gone = tt;
         handed_is = flat_map-append (λ (e : Event). e.handed) f.events t.events ∙ (λ i. f.handed_is i ++ t.handed_is i);
         is_new = subst (λ (w : World). IsNew world w opened) (sym last)
             (new_since world middle (after_events setup middle t.events) opened (λ d absent. grows_absent world middle d grown.grows absent) t.is_new);
@@ -182,3 +275,7 @@ moves_on a b c opened first second = record {
 pub none_is : (o : Option ConnId) → is_some o ≡ false → None ≡ option_map connection_of o
 none_is None is = refl
 none_is (Some conn) is = absurd (cc is)
+
+pub where_none : (o : Option ConnId) (P : Type 0) → is_some o ≡ false → IfNone o P → P
+where_none None P is told = told
+where_none (Some conn) P is told = absurd (cc is)

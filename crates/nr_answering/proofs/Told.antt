@@ -1,5 +1,5 @@
 -- What each call adds to every story.
-use Rattle.std.proofs.Common.{◌≡◌, ℕ, Bool, true, false, cond, Option, Some, None, List, [], ◌∷◌, ◌++◌, length, refl, ap, sym, ◌∙◌, subst, append-nil}
+use Rattle.std.proofs.Common.{◌≡◌, ℕ, true, false, cond, Option, Some, None, List, [], ◌∷◌, ◌++◌, length, refl, ap, sym, ◌∙◌, subst, append-nil}
 use Rattle.std.specs.Prelude.{IfSome, IfNone}
 use Rattle.std.specs.Option.{option_map}
 use Rattle.std.proofs.lemmas.Grind.{flat_map-append}
@@ -8,7 +8,7 @@ use Rattle.nr_model.specs.Bytes.{Bytes}
 use Rattle.nr_model.specs.Keyspace.{moment}
 use Rattle.nr_model.specs.Items.{Connection, same_connection}
 use Rattle.nr_model.specs.Worlds.{Setup, Feeding, Handed, handed_to, fed_to}
-use Rattle.nr_model.specs.Nodes.{World}
+use Rattle.nr_model.specs.Nodes.{Node, World}
 use Rattle.nr_model.specs.Nodes.Steps.{is_client}
 use Rattle.nr_model.specs.Nodes.Pasts.{Event, AreEvents, IsPast, handed_in}
 use Rattle.nr_model.specs.Nodes.Settling.{IsSettled, after_events}
@@ -21,7 +21,8 @@ use Rattle.nr_service_ends.specs.Stories.{Story, IsOpened, IsFed, HasWorked, IsC
 use Rattle.nr_answering.specs.Kept.{Taps, is_conn, kept_at, IsPut, AreKept, IsTapped}
 use Rattle.nr_answering.specs.State.{AnsweringState, IsSound}
 use Rattle.nr_answering.specs.Led.{IsOf, HasLedTo, IsAtRest}
-use Rattle.nr_answering.specs.Moves.{IsFurther, Moves, Rests}
+use Rattle.nr_answering.specs.Moves.{IsFurther, Moves, FindsFull, Rests}
+use Rattle.nr_answering.specs.Stands.{is_gone, IsGone, IsFull}
 use Rattle.nr_answering.proofs.Apart.{same_client, other_client, grows_absent}
 use Rattle.nr_answering.proofs.Pasts.{past_led, each_led, past_then, rounds_are, rounds_same}
 use Rattle.nr_answering.proofs.Found.{same_conn, conn_same, is_conn_itself}
@@ -48,10 +49,10 @@ past_of_led : (a : AnsweringState) (story : Story) → (led : HasLedTo a story) 
 past_of_led a story led = subst (λ (s : Setup). IsPast s led.events led.world) (sym led.sized) led.is.past
 
 -- a story goes on
-led_on : (old new : AnsweringState) (story next : Story) (feedings : List Feeding) (handed : List Handed) (opened : Option Connection) (closes : Bool)
-    → Moves old.world new.world feedings handed opened closes → HasLedTo old story → next.setup ≡ story.setup → next.fed ≡ story.fed ++ feedings
-    → next.handed ≡ story.handed ++ handed → (next.closed ≡ [] → (closes ≡ false) × (story.closed ≡ [])) → HasLedTo new next
-led_on old new story next feedings handed opened closes moves led same fed out shut =
+led_on : (old new : AnsweringState) (story next : Story) (feedings : List Feeding) (handed : List Handed) (opened closing : Option Connection)
+    → Moves old.world new.world feedings handed opened closing → HasLedTo old story → next.setup ≡ story.setup → next.fed ≡ story.fed ++ feedings
+    → next.handed ≡ story.handed ++ handed → (next.closed ≡ [] → (closing ≡ None) × (story.closed ≡ [])) → HasLedTo new next
+led_on old new story next feedings handed opened closing moves led same fed out shut =
     let setup = old.world.setup in
     let f = moves.further led.events led.world (past_of_led old story led) led.shows in
     record {
@@ -63,18 +64,18 @@ led_on old new story next feedings handed opened closes moves led same fed out s
       shows = f.shows;
     }
 
-same_story : (old new : AnsweringState) (story : Story) (opened : Option Connection) → Moves old.world new.world [] [] opened false → HasLedTo old story
+same_story : (old new : AnsweringState) (story : Story) (opened : Option Connection) → Moves old.world new.world [] [] opened None → HasLedTo old story
     → HasLedTo new story
 same_story old new story opened moves led =
-    led_on old new story story [] [] opened false moves led refl (sym (append-nil story.fed)) (sym (append-nil story.handed)) (λ none. (refl, none))
+    led_on old new story story [] [] opened None moves led refl (sym (append-nil story.fed)) (sym (append-nil story.handed)) (λ none. (refl, none))
 
 -- what is kept stays kept for connections that are there
-sound_on : (old new : WorldState) (before after : Taps) (feedings : List Feeding) (handed : List Handed) (opened : Option Connection)
-    (closes : Bool) → IsSound old before → Moves old new feedings handed opened closes
-    → ((events : List Event) (world : World) → (f : IsFurther old.setup new feedings handed opened closes world) → (c : Connection)
+sound_on : (old new : WorldState) (before after : Taps) (feedings : List Feeding) (handed : List Handed) (opened closing : Option Connection)
+    → IsSound old before → Moves old new feedings handed opened closing
+    → ((events : List Event) (world : World) → (f : IsFurther old.setup new feedings handed opened closing world) → (c : Connection)
     → is_client (after_events old.setup world f.events) c ≡ false → kept_at c before ≡ None → kept_at c after ≡ None)
     → IsSound new after
-sound_on old new before after feedings handed opened closes sound moves none =
+sound_on old new before after feedings handed opened closing sound moves none =
     let setup = old.setup in
     let f = moves.further sound.events sound.shown sound.past sound.shows in
     let led = past_led setup sound.events sound.shown sound.past in
@@ -89,10 +90,10 @@ sound_on old new before after feedings handed opened closes sound moves none =
       absent = λ c absent. none sound.events sound.shown f c absent (sound.absent c (grows_absent sound.shown world c grown.grows absent));
     }
 
-pub sound_kept : (old new : WorldState) (before after : Taps) (feedings : List Feeding) (handed : List Handed) (closes : Bool) → IsSound old before
-    → Moves old new feedings handed None closes → ((c : Connection) → kept_at c before ≡ None → kept_at c after ≡ None) → IsSound new after
-sound_kept old new before after feedings handed closes sound moves none =
-    sound_on old new before after feedings handed None closes sound moves (λ events world f c absent was. none c was)
+pub sound_kept : (old new : WorldState) (before after : Taps) (feedings : List Feeding) (handed : List Handed) (closing : Option Connection) → IsSound old before
+    → Moves old new feedings handed None closing → ((c : Connection) → kept_at c before ≡ None → kept_at c after ≡ None) → IsSound new after
+sound_kept old new before after feedings handed closing sound moves none =
+    sound_on old new before after feedings handed None closing sound moves (λ events world f c absent was. none c was)
 
 -- in each world that is shown, bytes are kept for its connections alone
 absent_in : (world : WorldState) (taps : Taps) (shown : World) → IsSound world taps → Shows world shown → (c : Connection)
@@ -118,10 +119,10 @@ apart_from : (world : World) (conn : ConnId) (c : Connection) → is_client worl
     → is_conn c conn ≡ false
 apart_from world conn c here absent = sym (conn_same c conn) ∙ other_client world (connection_of conn) c here absent
 
-pub sound_opened : (old new : WorldState) (before after : Taps) (conn : ConnId) → IsSound old before → Moves old new [] [] (Some (connection_of conn)) false
+pub sound_opened : (old new : WorldState) (before after : Taps) (conn : ConnId) → IsSound old before → Moves old new [] [] (Some (connection_of conn)) None
     → IsPut conn (Some []) before after → IsSound new after
 sound_opened old new before after conn sound moves put =
-    sound_on old new before after [] [] (Some (connection_of conn)) false sound moves
+    sound_on old new before after [] [] (Some (connection_of conn)) None sound moves
     (λ events world f c absent was. opened_none before after conn c put
     (apart_from (after_events old.setup world f.events) conn c f.is_new.1 absent) was)
 
@@ -138,7 +139,7 @@ own_kept old new conn w put =
 
 -- a connection was opened
 pub is_opened : (old new : AnsweringState) (conn : ConnId) → IsSound old.world old.taps
-    → Moves old.world new.world [] [] (Some (connection_of conn)) false → IsPut conn (Some []) old.taps new.taps
+    → Moves old.world new.world [] [] (Some (connection_of conn)) None → IsPut conn (Some []) old.taps new.taps
     → IsOpened (connection_of conn) (HasLedTo old) (HasLedTo new) (Kept old) (Kept new)
 is_opened old new conn sound moves put =
     let c = connection_of conn in
@@ -159,7 +160,7 @@ is_opened old new conn sound moves put =
     }
 
 -- none was
-pub is_same : (old new : AnsweringState) → Moves old.world new.world [] [] None false → new.taps ≡ old.taps
+pub is_same : (old new : AnsweringState) → Moves old.world new.world [] [] None None → new.taps ≡ old.taps
     → Keeps (HasLedTo old) (HasLedTo new) (Kept old) (Kept new)
 is_same old new moves same = record {
   past = λ story led. same_story old new story None moves led;
@@ -168,12 +169,12 @@ is_same old new moves same = record {
 
 -- bytes were fed
 pub is_fed : (old new : AnsweringState) (c : Connection) (time : ℕ) (bytes : Bytes)
-    → Moves old.world new.world (record { connection = c; moment = moment time; bytes = bytes } ∷ []) [] None false → new.taps ≡ old.taps
+    → Moves old.world new.world (record { connection = c; moment = moment time; bytes = bytes } ∷ []) [] None None → new.taps ≡ old.taps
     → IsFed c time bytes (HasLedTo old) (HasLedTo new) (Kept old) (Kept new)
 is_fed old new c time bytes moves same = record {
   past = λ story led.
       let feedings : List Feeding = record { connection = c; moment = moment time; bytes = bytes } ∷ [] in
-      led_on old new story (record story { fed = story.fed ++ feedings }) feedings [] None false moves led refl refl (sym (append-nil story.handed))
+      led_on old new story (record story { fed = story.fed ++ feedings }) feedings [] None None moves led refl refl (sym (append-nil story.handed))
       (λ none. (refl, none));
   kept = λ other. ap (kept_at other) same;
 }
@@ -204,11 +205,11 @@ rests_on old new story handed sound settles works led =
 pub has_worked : (old new : AnsweringState) (handed : List Handed) → IsSound old.world old.taps → new.failed ≡ false → Rests old.world new.world handed
     → AreKept handed old.taps new.taps → HasWorked (HasLedTo old) (HasLedTo new) (IsAtRest new) (Kept old) (Kept new)
 has_worked old new handed sound works rests put =
-    let after = sound_kept old.world new.world old.taps new.taps [] handed false sound rests.moves (added_absent old.taps new.taps handed put) in
+    let after = sound_kept old.world new.world old.taps new.taps [] handed None sound rests.moves (added_absent old.taps new.taps handed put) in
     record {
       handed = handed;
       past = λ story led.
-          led_on old new story (record story { handed = story.handed ++ handed }) [] handed None false rests.moves led refl (sym (append-nil story.fed)) refl
+          led_on old new story (record story { handed = story.handed ++ handed }) [] handed None None rests.moves led refl (sym (append-nil story.fed)) refl
           (λ none. (refl, none));
       rest = λ story led. rests_on old new story handed after rests.settles works led;
       kept = put.at;
@@ -219,12 +220,12 @@ not_none : (closed : List Connection) (c : Connection) → closed ++ c ∷ [] �
 not_none [] c e = absurd (cc e)
 not_none (d ∷ closed) c e = absurd (cc e)
 
-pub is_closed : (old new : AnsweringState) (conn : ConnId) → Moves old.world new.world [] [] None true → IsPut conn None old.taps new.taps
+pub is_closed : (old new : AnsweringState) (conn : ConnId) → Moves old.world new.world [] [] None (Some (connection_of conn)) → IsPut conn None old.taps new.taps
     → IsClosed (connection_of conn) (HasLedTo old) (HasLedTo new) (Kept old) (Kept new)
 is_closed old new conn moves put = record {
   past = λ story led.
       let c = connection_of conn in
-      led_on old new story (record story { closed = story.closed ++ c ∷ [] }) [] [] None true moves led refl (sym (append-nil story.fed))
+      led_on old new story (record story { closed = story.closed ++ c ∷ [] }) [] [] None (Some c) moves led refl (sym (append-nil story.fed))
       (sym (append-nil story.handed)) (λ none. absurd (not_none story.closed c none));
   kept = own_kept old.taps new.taps conn None put;
   others = others_kept old.taps new.taps conn None put;
@@ -237,19 +238,34 @@ nodes_many world taps sound =
 
 -- a connection was opened, or none was
 pub sound_tapped : (old new : WorldState) (before after : Taps) (opened : Option ConnId) → IsSound old before
-    → Moves old new [] [] (option_map connection_of opened) false → IsTapped opened before after → IsSound new after
+    → Moves old new [] [] (option_map connection_of opened) None → IsTapped opened before after → IsSound new after
 sound_tapped old new before after None sound moves same =
-    sound_kept old new before after [] [] false sound moves (λ c none. ap (kept_at c) same ∙ none)
+    sound_kept old new before after [] [] None sound moves (λ c none. ap (kept_at c) same ∙ none)
 sound_tapped old new before after (Some conn) sound moves put = sound_opened old new before after conn sound moves put
 
 -- in terms of what was opened
 pub opened_told : (old new : AnsweringState) (opened : Option ConnId) → IsSound old.world old.taps
-    → Moves old.world new.world [] [] (option_map connection_of opened) false → IsTapped opened old.taps new.taps
+    → Moves old.world new.world [] [] (option_map connection_of opened) None → IsTapped opened old.taps new.taps
     → IfSome opened (λ (conn : ConnId). IsOpened (connection_of conn) (HasLedTo old) (HasLedTo new) (Kept old) (Kept new))
 opened_told old new None sound moves tapped = tt
 opened_told old new (Some conn) sound moves put = is_opened old new conn sound moves put
 
-pub none_told : (old new : AnsweringState) (opened : Option ConnId) → Moves old.world new.world [] [] (option_map connection_of opened) false
+pub none_told : (old new : AnsweringState) (opened : Option ConnId) → Moves old.world new.world [] [] (option_map connection_of opened) None
     → IsTapped opened old.taps new.taps → IfNone opened (Keeps (HasLedTo old) (HasLedTo new) (Kept old) (Kept new))
 none_told old new None moves same = is_same old new moves same
 none_told old new (Some conn) moves put = tt
+
+-- its connection takes no room any more, in each world that is shown
+gone_in : (a b : World) (c : Connection) → a.nodes ≡ b.nodes → is_gone a c ≡ true → is_gone b c ≡ true
+gone_in a b c same is = sym (ap (λ (nodes : List Node). is_gone (record a { nodes = nodes }) c) same) ∙ is
+
+pub gone_told : (old new : WorldState) (taps : Taps) (c : Connection) → IsSound old taps → Moves old new [] [] None (Some c) → IsGone new c
+gone_told old new taps c sound moves = λ world shows.
+    let f = moves.further sound.events sound.shown sound.past sound.shows in
+    gone_in (after_events old.setup sound.shown f.events) world c (sym f.shows.nodes ∙ shows.nodes) f.gone
+
+-- none was opened since no node had room
+pub full_told : (old new : WorldState) (taps : Taps) (opened : Option ConnId) → IsSound old taps → IfNone opened (FindsFull old new)
+    → IfNone opened (IsFull new)
+full_told old new taps None sound full = full sound.events sound.shown sound.past sound.shows
+full_told old new taps (Some conn) sound full = tt

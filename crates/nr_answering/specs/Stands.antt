@@ -1,8 +1,10 @@
 -- How a connection stands.
-use Rattle.std.specs.Prelude.{◌≡◌, Bool, false, cond}
+use Rattle.std.specs.Prelude.{◌≡◌, Bool, true, false, not, ◌||◌, nat_le, cond}
 use Rattle.std.specs.List.{list_all}
 use Rattle.nr_model.specs.Items.{Connection}
-use Rattle.nr_model.specs.Nodes.{World, node_at}
+use Rattle.nr_model.specs.Worlds.{Setup}
+use Rattle.nr_model.specs.Nodes.{Node, World, node_at, client_of}
+use Rattle.nr_model.specs.Nodes.Steps.{is_client, in_use}
 use Rattle.nr_nodes.specs.Standing.{has_ended}
 use Rattle.nr_nodes.specs.WorldState.{WorldState, Shows}
 use Rattle.nr_service_ends.specs.declared.answers.Standing.{Standing}
@@ -19,6 +21,21 @@ StandsIn v c standing = (world : World) → Shows v world → standing ≡ stand
 
 abbrev pub Stands : AnsweringState → Connection → Standing → Type 0
 Stands a c standing = a.failed ≡ false → StandsIn a.world c standing
+
+-- In a world a connection takes no room: it was never opened there, its node is down, or it was closed.
+abbrev pub is_gone : World → Connection → Bool
+is_gone world c = not (is_client world c) || ((node_at c.node world).down || (client_of c world).closed)
+
+-- so it is in each world that is shown
+abbrev pub IsGone : WorldState → Connection → Type 0
+IsGone v c = (world : World) → Shows v world → is_gone world c ≡ true
+
+-- no node takes one more connection: each is down, or has as many as it takes
+abbrev pub takes_none : Setup → Node → Bool
+takes_none setup node = node.down || nat_le setup.connections (in_use node)
+
+abbrev pub IsFull : WorldState → Type 0
+IsFull v = (world : World) → Shows v world → list_all (takes_none v.setup) world.nodes ≡ true
 
 -- whether every node is down, in each world that is shown
 abbrev pub AreDown : AnsweringState → Bool → Type 0

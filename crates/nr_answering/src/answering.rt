@@ -1,10 +1,10 @@
 // The server of several nodes with the bytes that it handed out and that weren't written yet.
-ghost use Rattle.std.specs.Prelude.{◌≡◌, false, [], None, IfOk};
+ghost use Rattle.std.specs.Prelude.{◌≡◌, false, [], None, IfOk, IfNone};
 ghost use Rattle.std.specs.Option.{option_map};
 ghost use Rattle.nr_model.specs.Items.{Connection};
 ghost use Rattle.nr_entry.specs.Jobs.{connection_of};
 ghost use Rattle.nr_answering.specs.Kept.{kept_at, IsTapped};
-ghost use Rattle.nr_answering.specs.Moves.{Moves};
+ghost use Rattle.nr_answering.specs.Moves.{Moves, FindsFull};
 ghost use Rattle.nr_answering.specs.Led.{HasLedTo};
 ghost use Rattle.nr_service_ends.specs.Stories.{beginning};
 
@@ -65,8 +65,9 @@ impl Answering {
 
 // Opens a connection, and an empty tap for it.
 fn open_tapped(world: &mut World, taps: &mut Taps, number: u64) -> Result<Option<ConnId>, Memory>
-    ensures moves { IfOk result (λ opened. Moves world.old world.new [] [] (option_map connection_of opened) false) }
+    ensures moves { IfOk result (λ opened. Moves world.old world.new [] [] (option_map connection_of opened) None) }
     ensures taps { IfOk result (λ opened. IsTapped opened taps.old.by_conn.entries taps.new.by_conn.entries) }
+    ensures full { IfOk result (λ opened. IfNone opened (FindsFull world.old world.new)) }
 {
     match moving::open(world, number)? {
         Some(conn) => {
@@ -80,7 +81,7 @@ fn open_tapped(world: &mut World, taps: &mut Taps, number: u64) -> Result<Option
 impl Answers for Answering {
     ghost use Rattle.nr_answering.specs.Kept.{kept_at};
     ghost use Rattle.nr_answering.specs.Led.{HasLedTo, IsAtRest};
-    ghost use Rattle.nr_answering.specs.Stands.{Stands, AreDown};
+    ghost use Rattle.nr_answering.specs.Stands.{Stands, AreDown, IsFull, IsGone};
 
     ghost is_past = { HasLedTo };
 
@@ -91,6 +92,10 @@ impl Answers for Answering {
     ghost stands = { Stands };
 
     ghost falls = { AreDown };
+
+    ghost is_full = { λ a. IsFull a.world };
+
+    ghost is_gone = { λ a. IsGone a.world };
 
     /// A connection goes to the node and the worker of its number, in turn, or to the next node that takes it.
     fn open(&mut self, number: u64) -> Result<Option<ConnId>, Memory> {

@@ -1,14 +1,15 @@
 // What a service asks of the nodes, as steps of their world.
-ghost use Rattle.std.specs.Prelude.{◌≡◌, ◌<◌, ◌%◌, ◌/◌, true, false, [], ◌∷◌, None, IfOk, OnOk, length, map};
+ghost use Rattle.std.specs.Prelude.{◌≡◌, ◌<◌, ◌%◌, ◌/◌, true, false, [], ◌∷◌, Some, None, IfOk, IfNone, OnOk, length, map};
 ghost use Rattle.std.specs.List.{list_all};
 ghost use Rattle.std.specs.Option.{option_map};
 ghost use Rattle.nr_model.specs.Keyspace.{moment as moment_of};
 ghost use Rattle.nr_model.specs.Nodes as nodes;
+ghost use Rattle.nr_model.specs.Nodes.Steps.{is_worker};
 ghost use Rattle.nr_entry.specs.Jobs.{connection_of};
 ghost use Rattle.nr_nodes.specs.Seen.{handed_seen};
 ghost use Rattle.nr_nodes.specs.WorldState.{Shows};
 ghost use Rattle.nr_service_ends.specs.declared.answers.Standing.TheVariants as standings;
-ghost use Rattle.nr_answering.specs.Moves.{Moves, Rests};
+ghost use Rattle.nr_answering.specs.Moves.{Moves, Refuses, FindsFull, Rests};
 ghost use Rattle.nr_answering.specs.Stands.{StandsIn};
 
 use nr_blob::Memory;
@@ -27,6 +28,7 @@ struct Place {
 fn place_of(setup: Setup, number: u64) -> Place
     ensures node { result.node ≡ number % setup.nodes }
     ensures worker { result.worker ≡ (number / setup.nodes) % setup.workers }
+    ensures there { is_worker setup result.node result.worker ≡ true }
 {
     let nodes = setup.nodes() as u64;
     let workers = setup.workers() as u64;
@@ -37,7 +39,8 @@ fn place_of(setup: Setup, number: u64) -> Place
 }
 
 fn open_at(world: &mut World, node: usize, worker: usize) -> Result<Option<ConnId>, Memory>
-    ensures { IfOk result (λ opened. Moves world.old world.new [] [] (option_map connection_of opened) false) }
+    ensures moves { IfOk result (λ opened. Moves world.old world.new [] [] (option_map connection_of opened) None) }
+    ensures refuses { IfOk result (λ opened. IfNone opened (Refuses world.old world.new node worker)) }
 {
     match world.open(node, worker)? {
         Outcome::Opened(conn) => Ok(Some(conn)),
@@ -47,7 +50,8 @@ fn open_at(world: &mut World, node: usize, worker: usize) -> Result<Option<ConnI
 
 /// Opens a connection at the place of its number, or at that worker of the next node that takes it.
 pub(crate) fn open(world: &mut World, number: u64) -> Result<Option<ConnId>, Memory>
-    ensures { IfOk result (λ opened. Moves world.old world.new [] [] (option_map connection_of opened) false) }
+    ensures moves { IfOk result (λ opened. Moves world.old world.new [] [] (option_map connection_of opened) None) }
+    ensures full { IfOk result (λ opened. IfNone opened (FindsFull world.old world.new)) }
 {
     let setup = world.setup();
     let place = place_of(setup, number);
@@ -65,7 +69,7 @@ pub(crate) fn open(world: &mut World, number: u64) -> Result<Option<ConnId>, Mem
 pub(crate) fn feed(world: &mut World, conn: ConnId, moment: u64, bytes: &[u8]) -> Result<(), Memory>
     requires { StandsIn world.old (connection_of conn) standings.Open }
     ensures { OnOk result (Moves world.old world.new
-        (record { connection = connection_of conn; moment = moment_of moment; bytes = bytes.now } ∷ []) [] None false) }
+        (record { connection = connection_of conn; moment = moment_of moment; bytes = bytes.now } ∷ []) [] None None) }
 {
     world.feed(conn, moment, bytes)?;
     Ok(())
@@ -81,7 +85,7 @@ pub(crate) fn settle(world: &mut World) -> Result<Vec<Handed>, Memory>
 
 /// Closes a connection, where it isn't closed yet, at a moment in milliseconds.
 pub(crate) fn close(world: &mut World, conn: ConnId, moment: u64) -> Result<(), Memory>
-    ensures { OnOk result (Moves world.old world.new [] [] None true) }
+    ensures { OnOk result (Moves world.old world.new [] [] None (Some (connection_of conn))) }
 {
     world.close(conn, moment)?;
     Ok(())

@@ -19,7 +19,8 @@ use nr_blob::Memory;
 use nr_entry::ConnId;
 
 impl World {
-    /// Opens a connection at a worker of a node. Where memory runs out the world has failed, here and in every step.
+    /// Opens a connection at a worker of a node. Logarithmic in the node's open connections. Where memory runs out the world has failed, here and in
+    /// every step.
     pub fn open(&mut self, node: usize, worker: usize) -> Result<Outcome, Memory>
         ensures taken { IfOk result (λ outcome. Steps self.old self.new (steps.Open node worker) (outcome_seen outcome)) }
         ensures failed { OnErr result (self.new.failed ≡ true) }
@@ -38,7 +39,8 @@ impl World {
         Ok(Outcome::Opened(conn))
     }
 
-    /// Feeds bytes to a connection, at a moment in milliseconds. Linear in the bytes and the jobs that they ask for.
+    /// Feeds bytes to a connection, at a moment in milliseconds. Linear in the bytes and the jobs that they ask for, logarithmic in the node's open
+    /// connections.
     pub fn feed(&mut self, conn: ConnId, moment: u64, bytes: &[u8]) -> Result<Outcome, Memory>
         ensures taken { IfOk result (λ outcome. Steps self.old self.new (steps.Feed (connection_of conn) moment bytes.now) (outcome_seen outcome)) }
         ensures failed { OnErr result (self.new.failed ≡ true) }

@@ -3,3 +3,4 @@ pub mod Printed
 pub mod Said
 pub mod Spellings
 pub mod Texts
+pub mod Endings

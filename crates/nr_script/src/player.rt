@@ -20,12 +20,22 @@ pub enum PlayError {
 }
 
 impl From<Memory> for PlayError {
+    ghost use Rattle.std.specs.Prelude.{◌≡◌};
+    ghost use Rattle.nr_script.specs.declared.player.PlayError.TheVariants as errors;
+
+    ghost from_gives = { λ _ error. error ≡ errors.Memory };
+
     fn from(_: Memory) -> PlayError {
         PlayError::Memory
     }
 }
 
 impl From<LineError> for PlayError {
+    ghost use Rattle.std.specs.Prelude.{◌≡◌};
+    ghost use Rattle.nr_script.specs.Endings.{ended_by};
+
+    ghost from_gives = { λ line error. error ≡ ended_by line };
+
     fn from(error: LineError) -> PlayError {
         match error {
             LineError::BadStep => PlayError::BadStep,

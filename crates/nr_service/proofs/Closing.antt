@@ -4,7 +4,7 @@ use Rattle.std.specs.Prelude.{Option, map}
 use Rattle.std.specs.List.{swap_remove}
 use Rattle.std.specs.List.Sorted.{IsPermutation}
 use Rattle.std.proofs.lemmas.List.Elements.{All-tail}
-use Rattle.std.proofs.lemmas.List.Sorted.{IsPermutation-swap_remove}
+use Rattle.std.proofs.lemmas.List.Sorted.{IsPermutation-refl, IsPermutation-trans, IsPermutation-map, IsPermutation-append_right, IsPermutation-swap_remove}
 use Rattle.std.proofs.lemmas.Map.Keys.{IsDistinct-tail}
 use Rattle.nr_model.specs.Bytes.{Bytes}
 use Rattle.nr_model.specs.Items.{Connection, same_connection}
@@ -20,6 +20,7 @@ pub lets_none : {A S : Type 0} (was_received was_sent : S → Option Bytes) (has
 lets_none was_received was_sent has_ended is_past keeps state clients = record {
   further = λ story a. record {
     shut = [];
+    all = IsPermutation-refl (map connection clients);
     served = subst (λ (closed : List Connection).
         AreServed was_received was_sent has_ended (is_past state) (keeps state) (record story { closed = closed }) clients) (sym (append-nil story.closed)) a;
   };
@@ -35,6 +36,9 @@ lets_then was_received was_sent has_ended is_past keeps a b c xs ys zs p q = rec
       let second = q.further (with_closed story first.shut) first.served in
       record {
         shut = first.shut ++ second.shut;
+        all = IsPermutation-trans (map connection xs) (first.shut ++ map connection ys) ((first.shut ++ second.shut) ++ map connection zs) first.all
+            (subst (IsPermutation (first.shut ++ map connection ys)) (sym (append_assoc first.shut second.shut (map connection zs)))
+            (IsPermutation-append_right first.shut (map connection ys) (second.shut ++ map connection zs) second.all));
         served = subst (λ (closed : List Connection).
             AreServed was_received was_sent has_ended (is_past c) (keeps c) (record story { closed = closed }) zs)
             (append_assoc story.closed first.shut second.shut) second.served;
@@ -50,10 +54,12 @@ closed_one {A} {S} was_received was_sent has_ended is_past keeps before after cl
   further = λ story s.
       let c = connection client in
       let next = with_closed story (c ∷ []) in
-      let a = served_moved was_received was_sent has_ended (is_past before) (keeps before) story clients (client ∷ others)
-      (subst (λ (ys : List (Client S)). IsPermutation clients (client ∷ ys)) (sym rest) (IsPermutation-swap_remove clients index client within is)) s in
+      let moved : IsPermutation clients (client ∷ others) =
+      subst (λ (ys : List (Client S)). IsPermutation clients (client ∷ ys)) (sym rest) (IsPermutation-swap_remove clients index client within is) in
+      let a = served_moved was_received was_sent has_ended (is_past before) (keeps before) story clients (client ∷ others) moved s in
       record {
         shut = c ∷ [];
+        all = IsPermutation-map connection clients (client ∷ others) moved;
         served = record {
           past = k.past story a.past;
           each = others_served was_received was_sent has_ended (keeps before) (keeps after) story next client others

@@ -55,24 +55,26 @@ differs_at c (client ∷ clients) zero d within apart = apart.0
 differs_at c (client ∷ clients) (suc k) d within apart = differs_at c clients k d (omega arith) apart.1
 
 -- what a list is from which one was taken, whose length is this
-pub removes_one : {A S : Type 0} (keeps : A → Kept) (index : ℕ) (before after : A) (old new : List (Client S)) (client : Client S) (len : ℕ)
+pub removes_one : {A S : Type 0} (keeps : A → Kept) (is_gone : A → Connection → Type 0) (index : ℕ) (before after : A) (old new : List (Client S)) (client : Client S) (len : ℕ)
     → len ≡ length old → index < length old → client ≡ get_or old index client → new ≡ swap_remove old index client
     → ((d : Client S) → index + 1 < len → get_or new index d ≡ get_or old (len - 1) d)
     → ((k : ℕ) (d : Client S) → k ≢ index → k + 1 < len → get_or new k d ≡ get_or old k d)
-    → KeepsOthers (connection client) (keeps before) (keeps after) → Removes keeps index before after old new
-removes_one {A} {S} keeps index before after old new client len long within is rest last same others = record {
+    → is_gone after (connection client) → KeepsOthers (connection client) (keeps before) (keeps after) → Removes keeps is_gone index before after old new
+removes_one {A} {S} keeps is_gone index before after old new client len long within is rest last same gone others = record {
   client = client;
   moved = subst (λ (ys : List (Client S)). IsPermutation old (client ∷ ys)) (sym rest) (IsPermutation-swap_remove old index client within is);
   last = λ d below. last d (omega arith) ∙ ap (λ (n : ℕ). get_or old (n - 1) d) long;
   same = λ k d other below. same k d other (omega arith);
+  gone = gone;
   others = others;
 }
 
 -- one was taken from the list
-pub one_removed : {A S : Type 0} (keeps : A → Kept) (limit from : ℕ) (before after : A) (old new : List (Client S)) → 0 < from → from ≤ length old
-    → length new + 1 ≡ length old → Removes keeps (from - 1) before after old new → IsChecked (keeps before) limit from old
+pub one_removed : {A S : Type 0} (keeps : A → Kept) (is_gone : A → Connection → Type 0) (limit from : ℕ) (before after : A)
+    (old new : List (Client S)) → 0 < from → from ≤ length old
+    → length new + 1 ≡ length old → Removes keeps is_gone (from - 1) before after old new → IsChecked (keeps before) limit from old
     → IsChecked (keeps after) limit (from - 1) new
-one_removed keeps limit from before after old new more low_enough shorter gone checked =
+one_removed keeps is_gone limit from before after old new more low_enough shorter gone checked =
     let c = connection gone.client in
     let distinct = IsDistinct-IsPermutation same_connection flips (map connection old) (map connection (gone.client ∷ new))
     (IsPermutation-map connection old (gone.client ∷ new) gone.moved) checked.distinct in

@@ -1,5 +1,5 @@
 -- What the parts of a turn do, whatever led to it.
-use Rattle.std.specs.Prelude.{◌≡◌, ◌≢◌, ℕ, ◌+◌, ◌-◌, ◌<◌, Bool, true, false, List, [], ◌∷◌, ◌++◌, length, slice_index_or, Option, IfSome, All, IsPermutation}
+use Rattle.std.specs.Prelude.{◌≡◌, ◌≢◌, ℕ, ◌+◌, ◌-◌, ◌<◌, Bool, true, false, List, [], ◌∷◌, ◌++◌, length, map, slice_index_or, Option, IfSome, All, IsPermutation}
 use Rattle.nr_model.specs.Bytes.{Bytes}
 use Rattle.nr_model.specs.Explains.{IsBeginningOf}
 use Rattle.nr_model.specs.Items.{Connection}
@@ -68,24 +68,26 @@ pub record Exchanges {A S : Type 0} (was_received was_sent : S → Option Bytes)
 abbrev pub with_closed : Story → List Connection → Story
 with_closed story shut = record story { closed = story.closed ++ shut }
 
--- Those that are over were let go: the clients are served by the same story, in which some connections more were closed.
+-- Those that are over were let go: the clients are served by the same story, in which the connections of those that are gone were closed besides.
 pub record HasLetGo {S : Type 0} (was_received was_sent : S → Option Bytes) (has_ended : S → Type 0) (is_past : Past) (keeps : Kept) (story : Story)
-    (clients : List (Client S)) : Type 0 where
+    (old new : List (Client S)) : Type 0 where
   pub shut : List Connection
-  pub served : AreServed was_received was_sent has_ended is_past keeps (with_closed story shut) clients
+  pub all : IsPermutation (map connection old) (shut ++ map connection new)
+  pub served : AreServed was_received was_sent has_ended is_past keeps (with_closed story shut) new
 
 -- so it is by each story by which the clients were served before
 pub record LetsGo {A S : Type 0} (was_received was_sent : S → Option Bytes) (has_ended : S → Type 0) (is_past : A → Past) (keeps : A → Kept)
     (before after : A) (old new : List (Client S)) : Type 0 where
   pub further : (story : Story) → AreServed was_received was_sent has_ended (is_past before) (keeps before) story old
-      → HasLetGo was_received was_sent has_ended (is_past after) (keeps after) story new
+      → HasLetGo was_received was_sent has_ended (is_past after) (keeps after) story old new
 
--- The client at this place was taken from the list, the last one stands there, and the same is kept for the others.
-pub record Removes {A S : Type 0} (keeps : A → Kept) (index : ℕ) (before after : A) (old new : List (Client S)) : Type 0 where
+-- The client at this place was taken from the list, the last one stands there, its connection takes no room any more, and the same is kept for the others.
+pub record Removes {A S : Type 0} (keeps : A → Kept) (is_gone : A → Connection → Type 0) (index : ℕ) (before after : A) (old new : List (Client S)) : Type 0 where
   pub client : Client S
   pub moved : IsPermutation old (client ∷ new)
   pub last : (d : Client S) → index + 1 < length old → slice_index_or new index d ≡ slice_index_or old (length old - 1) d
   pub same : (k : ℕ) (d : Client S) → k ≢ index → k + 1 < length old → slice_index_or new k d ≡ slice_index_or old k d
+  pub gone : is_gone after (connection client)
   pub others : KeepsOthers (connection client) (keeps before) (keeps after)
 
 -- What holds of a client where memory ran out: it was fed a beginning of what its stream received, and its stream sent a beginning of what was handed out

@@ -1,5 +1,5 @@
 // Taking the connections that wait.
-ghost use Rattle.std.specs.Prelude.{ℕ, ◌≡◌, [], IfOk, IfSome, OnOk, OnErr};
+ghost use Rattle.std.specs.Prelude.{ℕ, ◌≡◌, false, [], IfOk, IfSome, OnOk, OnErr};
 ghost use Rattle.nr_service.specs.Steps.{IsTakenOn, Leaves, Serves};
 
 use crate::client::Client;
@@ -25,6 +25,7 @@ pub(crate) fn take_on<A: Answers, S: Stream + Drop, D: Device<S>>(
         clients.old.items clients.new.items) }
     ensures err { OnErr result (Leaves S.received S.sent S.has_ended A.is_past A.kept answers.old clients.old.items clients.new.items) }
     ensures taken { IfOk result (λ is_taken. IsTakenOn is_taken stream clients.old.items clients.new.items) }
+    ensures full { IfOk result (λ is_taken. is_taken ≡ false → A.is_full answers.new) }
 {
     let number = *accepted;
     *accepted = number.wrapping_add(1);

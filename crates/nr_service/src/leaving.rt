@@ -47,7 +47,7 @@ fn let_go<A: Answers, S: Stream, D: Device<S>>(
     ensures len { length clients.new.items + 1 ≡ length clients.old.items }
     ensures gone { OnOk result (LetsGo S.received S.sent S.has_ended A.is_past A.kept answers.old answers.new clients.old.items clients.new.items) }
     ensures left { OnErr result (Leaves S.received S.sent S.has_ended A.is_past A.kept answers.old clients.old.items clients.new.items) }
-    ensures removed { OnOk result (Removes A.kept index answers.old answers.new clients.old.items clients.new.items) }
+    ensures removed { OnOk result (Removes A.kept A.is_gone index answers.old answers.new clients.old.items clients.new.items) }
 {
     let Client { conn, stream, .. } = clients.swap_remove(index);
     match ending {

@@ -1,5 +1,5 @@
 // One thread that serves connections, turn by turn.
-ghost use Rattle.std.specs.Prelude.{ℕ, ◌≡◌, [], All, OnOk, OnErr, IfOk, IfErr, IfSome, map};
+ghost use Rattle.std.specs.Prelude.{ℕ, ◌≡◌, false, [], All, OnOk, OnErr, IfOk, IfErr, IfSome, map};
 ghost use Rattle.nr_model.specs.Worlds.{Setup};
 ghost use Rattle.nr_service.specs.Endings.{ByEnding, RanOut};
 ghost use Rattle.nr_service.specs.Serving.{connection, IsMoment, IsServing, IsWithin};
@@ -138,6 +138,7 @@ where
             self.old.clients.items self.new.clients.items) }
         ensures err { OnErr result (Leaves S.received S.sent S.has_ended A.is_past A.kept self.old.answers self.old.clients.items self.new.clients.items) }
         ensures taken { IfOk result (λ is_taken. IsTakenOn is_taken stream self.old.clients.items self.new.clients.items) }
+        ensures full { IfOk result (λ is_taken. is_taken ≡ false → A.is_full self.new.answers) }
         ensures clock { self.new.clock ≡ self.old.clock }
         ensures moment { self.new.moment ≡ self.old.moment }
         ensures limit { self.new.limit ≡ self.old.limit }

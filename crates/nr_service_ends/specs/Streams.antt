@@ -1,5 +1,5 @@
 -- What was read and written by a stream.
-use Rattle.std.specs.Prelude.{◌≡◌, ℕ, ◌++◌, take, Option}
+use Rattle.std.specs.Prelude.{◌≡◌, ◌<◌, ℕ, ◌++◌, take, Option}
 use Rattle.std.specs.Option.{option_map}
 use Rattle.nr_model.specs.Bytes.{Bytes}
 use Rattle.nr_service_ends.specs.declared.stream.Received.{Received}
@@ -18,6 +18,18 @@ abbrev pub sent_count : Sent → ℕ
 sent_count (sent.Bytes count) = count
 sent_count sent.Nothing = 0
 sent_count sent.Failed = 0
+
+-- at least one, where any came or were taken
+abbrev pub IsSomeReceived : Received → Type 0
+IsSomeReceived (received.Bytes count) = 0 < count
+IsSomeReceived received.Nothing = Unit {0}
+IsSomeReceived received.End = Unit {0}
+IsSomeReceived received.Failed = Unit {0}
+
+abbrev pub IsSomeSent : Sent → Type 0
+IsSomeSent (sent.Bytes count) = 0 < count
+IsSomeSent sent.Nothing = Unit {0}
+IsSomeSent sent.Failed = Unit {0}
 
 -- where they are known, bytes grow by the first so many of these
 abbrev pub GrowsBy : ℕ → Bytes → Option Bytes → Option Bytes → Type 0

@@ -42,11 +42,18 @@ pub trait Answers {
     // Whether no connection can be answered any more.
     ghost falls: { Self → Bool → Type 0 };
 
+    // There is no room for one more connection.
+    ghost is_full: { Self → Type 0 };
+
+    // A connection takes no room: it was closed, or what answered it is down.
+    ghost is_gone: { Self → Connection → Type 0 };
+
     /// Opens the connection that was accepted as this number, from 0 on, or `None` where there is no room for it.
     fn open(&mut self, number: u64) -> Result<Option<ConnId>, Memory>
         ensures opened { IfOk result (λ opened. IfSome opened (λ conn. IsOpened (connection_of conn) (is_past self.old) (is_past self.new) (kept self.old)
             (kept self.new))) }
-        ensures none { IfOk result (λ opened. IfNone opened (Keeps (is_past self.old) (is_past self.new) (kept self.old) (kept self.new))) };
+        ensures none { IfOk result (λ opened. IfNone opened (Keeps (is_past self.old) (is_past self.new) (kept self.old) (kept self.new))) }
+        ensures full { IfOk result (λ opened. IfNone opened (is_full self.new)) };
 
     /// How a connection stands.
     fn standing(&self, conn: ConnId) -> Standing
@@ -75,7 +82,8 @@ pub trait Answers {
         ensures { IsWritten (connection_of conn) count (is_past self.old) (is_past self.new) (is_settled self.old) (is_settled self.new) (kept self.old)
             (kept self.new) };
 
-    /// Closes a connection, at a moment in milliseconds. What it keeps for it is lost.
+    /// Closes a connection, at a moment in milliseconds: its room comes back. What it keeps for it is lost.
     fn close(&mut self, conn: ConnId, moment: u64) -> Result<(), Memory>
-        ensures { OnOk result (IsClosed (connection_of conn) (is_past self.old) (is_past self.new) (kept self.old) (kept self.new)) };
+        ensures closed { OnOk result (IsClosed (connection_of conn) (is_past self.old) (is_past self.new) (kept self.old) (kept self.new)) }
+        ensures gone { OnOk result (is_gone self.new (connection_of conn)) };
 }

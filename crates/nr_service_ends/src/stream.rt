@@ -1,6 +1,6 @@
 // A connection's two streams of bytes, which are never waited for.
 ghost use Rattle.std.specs.Prelude.{◌≡◌, ◌≤◌, length};
-ghost use Rattle.nr_service_ends.specs.Streams.{received_count, sent_count, GrowsBy};
+ghost use Rattle.nr_service_ends.specs.Streams.{received_count, sent_count, IsSomeReceived, IsSomeSent, GrowsBy};
 ghost use Rattle.nr_service_ends.specs.declared.stream.Received.TheVariants as received_as;
 
 /// What came of a try to read.
@@ -43,6 +43,7 @@ pub trait Stream {
 
     /// Reads what is there, at most as much as the buffer takes.
     fn receive(&mut self, buffer: &mut [u8]) -> Received
+        ensures some { IsSomeReceived result }
         ensures bound { received_count result ≤ length buffer.new }
         ensures received { GrowsBy (received_count result) buffer.new (received self.old) (received self.new) }
         ensures sent { sent self.new ≡ sent self.old }
@@ -50,6 +51,7 @@ pub trait Stream {
 
     /// Writes a beginning of the bytes.
     fn send(&mut self, bytes: &[u8]) -> Sent
+        ensures some { IsSomeSent result }
         ensures bound { sent_count result ≤ length bytes.now }
         ensures sent { GrowsBy (sent_count result) bytes.now (sent self.old) (sent self.new) }
         ensures received { received self.new ≡ received self.old }

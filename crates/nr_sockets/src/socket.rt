@@ -1,6 +1,6 @@
 // A connection's socket.
 ghost use Rattle.std.specs.Prelude.{◌≤◌, length};
-ghost use Rattle.nr_service_ends.specs.Streams.{received_count, sent_count};
+ghost use Rattle.nr_service_ends.specs.Streams.{received_count, sent_count, IsSomeReceived, IsSomeSent};
 
 use crate::readiness::Shared;
 use mio::net::TcpStream;
@@ -27,7 +27,8 @@ fn was_interrupted(error: &Error) -> bool {
 impl Socket {
     /// Reads what is there, at most as much as the buffer takes.
     fn read(&mut self, buffer: &mut [u8]) -> Received
-        ensures { received_count result ≤ length buffer.new }
+        ensures some { IsSomeReceived result }
+        ensures bound { received_count result ≤ length buffer.new }
     {
         match self.stream.read(buffer) {
             Ok(0) => Received::End,
@@ -48,7 +49,8 @@ impl Socket {
     }
 
     fn write(&mut self, bytes: &[u8]) -> Sent
-        ensures { sent_count result ≤ length bytes.now }
+        ensures some { IsSomeSent result }
+        ensures bound { sent_count result ≤ length bytes.now }
     {
         match self.stream.write(bytes) {
             Ok(0) => Sent::Nothing,

@@ -73,6 +73,9 @@ impl Stream for Line {
             return Sent::Failed;
         }
         let count = bytes.len().min(self.piece);
+        if count == 0 {
+            return Sent::Nothing;
+        }
         match self.output.extend_from_slice(&bytes[..count]) {
             Ok(()) => Sent::Bytes(count),
             Err(_) => Sent::Failed,

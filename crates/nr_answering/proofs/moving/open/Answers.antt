@@ -1,18 +1,44 @@
-use Rattle.std.proofs.Common.{rules, false, [], None, Option, sym, subst}
+use Rattle.std.proofs.Common.{rules, ℕ, ◌≡◌, ◌≤◌, ◌+◌, ◌%◌, true, false, [], None, Option, sym, subst}
+use Rattle.std.specs.Prelude.{is_some}
 use Rattle.std.specs.Option.{option_map}
 use Rattle.nr_model.specs.Items.{Connection}
+use Rattle.nr_model.specs.Nodes.Steps.{is_worker}
 use Rattle.nr_entry.specs.Jobs.{connection_of}
-use Rattle.nr_answering.specs.Moves.{Moves}
-use Rattle.nr_answering.proofs.Steps.{moves_on, none_is}
+use Rattle.nr_answering.specs.Moves.{Moves, Refuses}
+use Rattle.nr_answering.proofs.Steps.{moves_on, none_moves, none_is, where_none}
+use Rattle.nr_answering.proofs.Fullness.{none_refused, refused_more, turn_there, finds_full}
 use Rattle.nr_answering.proofs.moving.open.Goals as goal
 
-pub returns-then-is_some : goal.returns-then-is_some
-returns-then-is_some c =
-    moves_on c.args.world.now c.loop-passed.world c.open_at.new.world (option_map connection_of c.in_ok-opened.opened)
-    c.loop-passed.invariant c.in_ok-opened.ensures
+pub loop-passed-init : goal.loop-passed-init
+loop-passed-init c = (none_moves c.args.world.now, none_refused c.args.world.now c.place_of-place.result.node)
 
 pub loop-passed-preserved : goal.loop-passed-preserved
 loop-passed-preserved c =
-    moves_on c.args.world.now c.loop-passed.world c.open_at.new.world None c.loop-passed.invariant
-    (subst (λ (o : Option Connection). Moves c.loop-passed.world c.open_at.new.world [] [] o false)
-    (sym (none_is c.in_ok-opened.opened (search (rules, c.if-is_some.false)))) c.in_ok-opened.ensures)
+    let old = c.args.world.now in
+    let middle = c.loop-passed.world in
+    let new = c.open_at.new.world in
+    let opened = c.in_ok-opened.opened in
+    let place = c.place_of-place.result in
+    let passed = c.loop-passed.passed in
+    let so_far = c.loop-passed.invariant in
+    let none : is_some opened ≡ false = search (rules, c.if-is_some.false) in
+    let there : is_worker old.setup place.node place.worker ≡ true = search rules in
+    let at : c.nodes.result ≡ old.setup.nodes = search rules in
+    let refuses = where_none opened (Refuses middle new ((place.node + passed) % c.nodes.result) place.worker) none c.in_ok-opened.ensures.refuses in (
+      moves_on old middle new None so_far.0 (subst (λ (o : Option Connection). Moves middle new [] [] o None) (sym (none_is opened none)) c.in_ok-opened.ensures.moves),
+      refused_more old middle new place.node passed place.worker so_far.0.setup so_far.1
+          (subst (λ (k : ℕ). Refuses middle new ((place.node + passed) % k) place.worker) at refuses) (turn_there old.setup place.node passed place.worker there),
+    )
+
+pub returns-then-is_some-clause-moves : goal.returns-then-is_some-clause-moves
+returns-then-is_some-clause-moves c =
+    moves_on c.args.world.now c.loop-passed.world c.open_at.new.world (option_map connection_of c.in_ok-opened.opened)
+    c.loop-passed.invariant.0 c.in_ok-opened.ensures.moves
+
+pub returns-clause-full : goal.returns-clause-full
+returns-clause-full c =
+    let old = c.args.world.now in
+    let place = c.place_of-place.result in
+    let there : is_worker old.setup place.node place.worker ≡ true = search rules in
+    let all : old.setup.nodes ≤ c.loop-passed.passed = search rules in
+    finds_full old c.loop-passed.world place.node place.worker c.loop-passed.passed c.loop-passed.invariant.0.setup there all c.loop-passed.invariant.1

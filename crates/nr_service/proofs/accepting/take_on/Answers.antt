@@ -16,3 +16,6 @@ returns-in_err-conn-clause-err g c = on_err c.from_residual.result _ (leaves_all
 
 pub returns-in_err-push-clause-err : goal.returns-in_err-push-clause-err
 returns-in_err-push-clause-err g c = on_err c.from_residual-in_err-push.result _ (leaves_same _ _ _ _ _ _ _ _ c.in_err-push.ensures.items)
+
+pub returns-in_default-clause-full : goal.returns-in_default-clause-full
+returns-in_default-clause-full g c = λ none. rw c.in_default.is at c.in_ok-conn.ensures.full

@@ -16,7 +16,7 @@ loop-left-preserved-in-Some g c = record {
   within = omega (arith, c.in_ok-let_go.ensures.len);
   gone = lets_then _ _ _ _ _ _ _ _ _ _ _ c.loop-left.invariant.gone c.in_ok-let_go.ensures.gone;
   checked = λ distinct.
-      one_removed _ _ c.loop-left.left _ _ _ _ c.loop-left-test.true c.loop-left.invariant.within c.in_ok-let_go.ensures.len c.in_ok-let_go.ensures.removed
+      one_removed _ _ _ c.loop-left.left _ _ _ _ c.loop-left-test.true c.loop-left.invariant.within c.in_ok-let_go.ensures.len c.in_ok-let_go.ensures.removed
       (c.loop-left.invariant.checked distinct);
 }
 

@@ -3,7 +3,7 @@ use Rattle.nr_entry.specs.Jobs.{connection_of}
 use Rattle.nr_service_ends.specs.Stories.{IsOpened, Keeps}
 use Rattle.nr_answering.specs.State.{AnsweringState}
 use Rattle.nr_answering.specs.Led.{HasLedTo}
-use Rattle.nr_answering.proofs.Told.{Kept, sound_tapped, opened_told, none_told}
+use Rattle.nr_answering.proofs.Told.{Kept, sound_tapped, opened_told, none_told, full_told}
 use Rattle.std.specs.Prelude.{IfSome, IfNone}
 use Rattle.nr_entry.specs.declared.conn.ConnId.{ConnId}
 use Rattle.nr_answering.proofs.answering.AnsweringAnswers.open.Goals as goal
@@ -28,3 +28,8 @@ returns-clause-none c =
     let new : AnsweringState = record { world = c.open_tapped.new.world; taps = c.open_tapped.new.taps.by_conn.entries; failed = false } in
     subst (λ (a : AnsweringState). IfNone c.in_ok-opened.opened (Keeps (HasLedTo a) (HasLedTo new) (Kept a) (Kept new))) c.self.view_is
     (none_told old new c.in_ok-opened.opened c.in_ok-opened.ensures.moves c.in_ok-opened.ensures.taps)
+
+pub returns-clause-full : goal.returns-clause-full
+returns-clause-full c =
+    full_told c.self.inside.world c.open_tapped.new.world c.self.inside.taps.by_conn.entries c.in_ok-opened.opened (c.self.invariant c.if-self.false)
+    c.in_ok-opened.ensures.full

@@ -1,4 +1,4 @@
-use Rattle.std.proofs.Common.{arith, ap, sym, ◌∙◌, ◌≡◌, ◌+◌, ◌≤◌, ◌<◌, ◌^◌, length, false}
+use Rattle.std.proofs.Common.{arith, ap, sym, ◌∙◌, ◌+◌, length}
 use Rattle.nr_resp.specs.Stream.{Stream}
 use Rattle.nr_session.specs.Lives.{has_ended}
 use Rattle.nr_session.specs.SessionState.{SessionState}
