@@ -6,10 +6,11 @@ use Rattle.std.proofs.lemmas.Bool.Decides.{eqb_tells}
 use Rattle.std.proofs.lemmas.List.{length-map, length-set, length-append, get_or-set_same, get_or-set_other, map-append}
 use Rattle.nr_model.specs.Bytes.{Bytes}
 use Rattle.nr_model.specs.Items.{Connection, same_connection}
-use Rattle.nr_model.specs.Worlds.{Setup, Handed, Feeding, handed_to, fed_to, is_some_bytes}
+use Rattle.nr_model.specs.Connections.{Setup, Handed, Feeding, Closing, handed_to, fed_to, is_some_bytes}
 use Rattle.nr_model.specs.Nodes.{Client, fresh_client, Node, World, no_node, node_at, client_of, with_node, log_of, tail_of}
 use Rattle.nr_model.specs.Nodes.Steps.{Step, Open, Feed, Post, Lift, Reserve, Fill, Fetch, Apply, Look, Answer, Collect, Close, Refuse, Reason, NoSuch, Ended, TooMany, Down, Outcome, Refused, idle_where, is_worker, is_client, in_use, collected, opened, outcome, advanced_by, effect, effect_by, after_step}
 use Rattle.nr_model.specs.Nodes.Pasts.{handed_by}
+use Rattle.nr_service_ends.specs.Stories.{Occurrence, opened_in, fed_in, handed_in, closed_in, is_among}
 use Rattle.nr_answering.proofs.Names.{name_of, names, AreAlike, by_outcome, is_open, step_alike}
 
 abbrev pub connection_at : ℕ → ℕ → Connection
@@ -113,11 +114,14 @@ alike_grows before after a = record {
       omega arith;
 }
 
--- what a world holds of its connections, where this was handed out
-pub record IsApart (world : World) (out : List Handed) : Type 0 where
+-- What a world holds of its connections, where this happened: its feeds and closes are those that happened, and to a connection that isn't there nothing did.
+pub record IsApart (world : World) (told : List Occurrence) : Type 0 where
   pub own : (n : ℕ) → AreOwn n 0 (names (node_at n world))
+  pub feeds : world.fed ≡ fed_in told
+  pub closes : map (λ (closing : Closing). closing.connection) world.closed ≡ closed_in told
+  pub opened : (c : Connection) → is_client world c ≡ false → is_among c (opened_in told) ≡ false
   pub fed : (c : Connection) → is_client world c ≡ false → fed_to c world.fed ≡ []
-  pub handed : (c : Connection) → is_client world c ≡ false → handed_to c out ≡ []
+  pub handed : (c : Connection) → is_client world c ≡ false → handed_to c (handed_in told) ≡ []
 
 -- two parts of nothing
 parts_none : (xs ys : Bytes) → xs ++ ys ≡ [] → (xs ≡ []) × (ys ≡ [])
@@ -182,7 +186,7 @@ looked_fed : (down : Bool) (a b : World) → a.fed ≡ b.fed → (cond down a b)
 looked_fed true a b e = e
 looked_fed false a b e = refl
 
-effect_fed : (setup : Setup) (world : World) (step : Step) (refused : Refused) → is_feed step ≡ false → (effect setup world step refused).fed ≡ world.fed
+pub effect_fed : (setup : Setup) (world : World) (step : Step) (refused : Refused) → is_feed step ≡ false → (effect setup world step refused).fed ≡ world.fed
 effect_fed setup world (Open n w) refused is = refl
 effect_fed setup world (Feed c time bytes) refused is = absurd (cc is)
 effect_fed setup world (Post n w) refused is = refl
@@ -213,7 +217,7 @@ looked_closed : (down : Bool) (a b : World) → a.closed ≡ b.closed → (cond 
 looked_closed true a b e = e
 looked_closed false a b e = refl
 
-effect_closed : (setup : Setup) (world : World) (step : Step) (refused : Refused) → is_close step ≡ false
+pub effect_closed : (setup : Setup) (world : World) (step : Step) (refused : Refused) → is_close step ≡ false
     → (effect setup world step refused).closed ≡ world.closed
 effect_closed setup world (Open n w) refused is = refl
 effect_closed setup world (Feed c time bytes) refused is = refl

@@ -1,10 +1,12 @@
 -- A story is explained, since its events are.
 use Rattle.std.proofs.Common.{List, ◌++◌, sym, ap, ◌∙◌, append_assoc}
-use Rattle.nr_model.specs.Worlds.{Handed, handed_to}
+use Rattle.nr_model.specs.Connections.{handed_to}
 use Rattle.nr_model.specs.Nodes.Pasts.{handed_in}
 use Rattle.nr_model.specs.Nodes.Explained.{waiting_for}
 use Rattle.nr_model.proofs.NodesExplained.{nodes_are_explained}
+use Rattle.nr_service_ends.specs.Stories.{Occurrence, handed_in as pieces_in}
 use Rattle.nr_answering.specs.Led.{StoryLaw}
+use Rattle.nr_answering.proofs.Occurred.{told_handed}
 
 pub stories_are_explained : StoryLaw
 stories_are_explained a story led =
@@ -19,7 +21,8 @@ stories_are_explained a story led =
           let begins = law.1.accounts.beginning c in
           let waits = waiting_for led.world c in (
             waits ++ begins.0,
-            ap (λ (hs : List Handed). handed_to c hs ++ (waits ++ begins.0)) led.is.handed
+            ap (λ (os : List Occurrence). handed_to c (pieces_in os) ++ (waits ++ begins.0)) (sym led.is.told)
+                ∙ ap (λ hs. handed_to c hs ++ (waits ++ begins.0)) (told_handed led.events)
                 ∙ sym (append_assoc (handed_to c (handed_in led.events)) waits begins.0) ∙ begins.1,
           );
     }

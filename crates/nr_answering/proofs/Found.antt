@@ -11,7 +11,7 @@ use Rattle.std.proofs.lemmas.Cmp.{on_total, then_total}
 use Rattle.std.proofs.lemmas.Map.Lookups.{exact_unsigned, exact_pairs}
 use Rattle.nr_model.specs.Bytes.{Bytes}
 use Rattle.nr_model.specs.Items.{Connection, connection_cmp, same_connection}
-use Rattle.nr_model.specs.Worlds.{Handed, handed_to}
+use Rattle.nr_model.specs.Connections.{Handed, handed_to}
 use Rattle.nr_entry.specs.declared.conn.ConnId.{ConnId}
 use Rattle.nr_entry.specs.Jobs.{connection_of}
 use Rattle.nr_answering.specs.Kept.{Taps, is_conn, kept_at, IsPut, AreKept}

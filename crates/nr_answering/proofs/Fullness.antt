@@ -3,7 +3,7 @@ use Rattle.std.proofs.Common.{◌≡◌, ℕ, ◌+◌, ◌-◌, ◌%◌, ◌<◌
 use Rattle.std.specs.List.{list_all}
 use Rattle.std.proofs.lemmas.Bool.{cases_Bool, and_parts, and_from, lt-ltb, ltb-true, ltb-false}
 use Rattle.std.proofs.Math.Nat.{mod-eq_of_lt, mod-lt, add-mod_right}
-use Rattle.nr_model.specs.Worlds.{Setup}
+use Rattle.nr_model.specs.Connections.{Setup}
 use Rattle.nr_model.specs.Nodes.{World, no_node, node_at}
 use Rattle.nr_model.specs.Nodes.Steps.{is_worker}
 use Rattle.nr_model.specs.Nodes.Pasts.{Event, IsPast}
@@ -74,13 +74,12 @@ each_takes_none setup world first n below here each =
           ap (λ (k : ℕ). takes_none setup (node_at k world)) (sym is) ∙ each i (omega arith)
     ]
 
-pub finds_full : (old new : WorldState) (first w passed : ℕ) → new.setup ≡ old.setup → is_worker old.setup first w ≡ true → old.setup.nodes ≤ passed
-    → HaveRefused old new first passed → FindsFull old new
-finds_full old new first w passed same there all refused = λ events world past shows after shown.
+pub finds_full : (old new : WorldState) (first w passed : ℕ) → is_worker old.setup first w ≡ true → old.setup.nodes ≤ passed
+    → HaveRefused old new first passed → FindsFull old
+finds_full old new first w passed there all refused = λ events world past shows shown is.
     let setup = old.setup in
     let below : first < setup.nodes = ltb-true first setup.nodes (and_parts (ltb first setup.nodes) (ltb w setup.workers) there).0 in
     let many : length world.nodes ≡ setup.nodes = (past_led setup events world past).many in
-    let here = refused.shows events world past shows in
     let each : (n : ℕ) → n < length world.nodes → takes_none setup (get_or world.nodes n no_node) ≡ true =
     λ n inside. each_takes_none setup world first n below (omega arith) (λ i turn. refused.each events world past shows i (omega arith)) in
-    (λ j. list_all (takes_none (same j)) ((sym shown.nodes ∙ here.nodes) j)) ∙ all_by (takes_none setup) world.nodes each
+    (λ j. list_all (takes_none setup) ((sym is.nodes ∙ shows.nodes) j)) ∙ all_by (takes_none setup) world.nodes each

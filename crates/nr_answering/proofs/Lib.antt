@@ -1,5 +1,6 @@
 pub mod Names
 pub mod Apart
+pub mod Occurred
 pub mod Pasts
 pub mod Explained
 pub mod Found
@@ -7,3 +8,4 @@ pub mod Steps
 pub mod Told
 pub mod Downs
 pub mod Fullness
+pub mod Placed

@@ -8,7 +8,7 @@ use Rattle.nr_model.specs.Items.{Connection}
 use Rattle.nr_model.specs.Queues.{Queue, takes, put, puts, received, with_bytes, cut_off}
 use Rattle.nr_model.specs.Servers.{emitted_all}
 use Rattle.nr_model.specs.Entries.{entry_items, read_jobs}
-use Rattle.nr_model.specs.Worlds.{Setup}
+use Rattle.nr_model.specs.Connections.{Setup}
 use Rattle.nr_model.specs.Nodes.{Client, fresh_client, Node, World, Taken, Logged, no_node, node_at, client_at, with_node, log_of, tail_of}
 use Rattle.nr_model.specs.Nodes.Steps.{Step, Open, Feed, Post, Lift, Reserve, Fill, Fetch, Apply, Look, Answer, Collect, Close, Refuse, Outcome, Opened, Done, Idle, Refused, Cut, outcome, fed_client, closed_client, delivered_to, cut_of, texts_for, emptied, fallen, falls_at, with_entry, with_reads, advanced, advanced_by, effect, effect_by, after_step}
 

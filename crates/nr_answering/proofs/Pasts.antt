@@ -3,19 +3,24 @@ use Rattle.std.proofs.Common.{◌≡◌, ℕ, zero, suc, ◌<◌, Bool, true, fa
 use Rattle.std.specs.Prelude.{◌||◌, flat_map}
 use Rattle.std.specs.List.{list_any, range_with_len}
 use Rattle.std.proofs.lemmas.Bool.{or_parts, ltb-true}
-use Rattle.std.proofs.lemmas.List.{length-replicate}
+use Rattle.std.proofs.lemmas.Grind.{flat_map-append}
+use Rattle.std.proofs.lemmas.List.{length-replicate, map-append}
 use Rattle.std.proofs.lemmas.List.Folds.{list_any-append}
 use Rattle.nr_model.specs.Bytes.{Bytes}
 use Rattle.nr_model.specs.Keyspace.{moment}
-use Rattle.nr_model.specs.Items.{Connection}
-use Rattle.nr_model.specs.Worlds.{Setup, Handed, handed_to, fed_to}
+use Rattle.nr_model.specs.Items.{Connection, same_connection}
+use Rattle.nr_model.specs.Connections.{Setup, Handed, Feeding, handed_to, fed_to}
 use Rattle.nr_model.specs.Nodes.{Node, World, fresh, fresh_node, no_node, node_at}
 use Rattle.nr_model.specs.Nodes.Steps.{Step, Open, Feed, Post, Lift, Reserve, Fill, Fetch, Apply, Look, Answer, Collect, Close, Refuse, Refused, is_client, after_step}
 use Rattle.nr_model.specs.Nodes.Pasts.{Event, AreEvents, IsEvent, IsPast, is_done, handed_by, after_event, handed_in}
 use Rattle.nr_model.specs.Nodes.Settling.{IsRound, AreRounds, after_events, for_workers, lifting, reserving, in_turn, applying, answering, round_of}
 use Rattle.nr_nodes.specs.Settles.{events_of}
+use Rattle.nr_service_ends.specs.Stories.{Occurrence, HandedOut, opened_in, fed_in, handed_in as pieces_in, closed_in, is_among}
+use Rattle.nr_service_ends.proofs.Occurrences.{opened_both, fed_both, handed_both as pieces_both, closed_both}
+use Rattle.nr_answering.specs.Told.{told_of, told_in}
 use Rattle.nr_answering.proofs.Names.{names, is_open, step_alike}
-use Rattle.nr_answering.proofs.Apart.{AreOwn, IsApart, Grows, alike_grows, grows_absent, other_client, fed_more, handed_more, handed_apart, by_hand, step_own, is_feed, step_fed, is_close, step_closed, feed_by, open_by, opened_own, opened_grows}
+use Rattle.nr_answering.proofs.Apart.{AreOwn, IsApart, Grows, alike_grows, grows_absent, other_client, fed_more, handed_more, handed_apart, by_hand, step_own, is_feed, step_fed, feed_by, open_by, opened_own, opened_grows}
+use Rattle.nr_answering.proofs.Occurred.{one_handed, event_fed, event_closed, event_opened, is_outer, inner_told}
 
 -- opens, and the other steps
 by_open : (P : Step → Type 0) → ((n w : ℕ) → P (Open n w)) → ((step : Step) → is_open step ≡ false → P step) → (step : Step) → P step
@@ -95,39 +100,48 @@ none_fed setup world step refused c absent none =
     (λ here. fed_more c world.fed (record { connection = d; moment = moment time; bytes = bytes }) none (other_client world d c here absent)))
     (λ s is. ap (fed_to c) (step_fed setup world s refused is) ∙ none) step
 
-event_apart : (setup : Setup) (world : World) (out : List Handed) (e : Event) → length world.nodes ≡ setup.nodes → IsApart world out
-    → IsEvent setup world e → IsApart (after_event setup world e) (out ++ e.handed)
-event_apart setup world out e many apart is =
+event_apart : (setup : Setup) (world : World) (told : List Occurrence) (e : Event) → length world.nodes ≡ setup.nodes → IsApart world told
+    → IsEvent setup world e → IsApart (after_event setup world e) (told ++ told_of e)
+event_apart setup world told e many apart is =
     let grows = step_grows setup world e.step e.refused many in
     record {
       own = all_own setup world e.step e.refused many apart.own;
+      feeds = event_fed setup world e is.outcome_is ∙ ap (λ (l : List Feeding). l ++ fed_in (told_of e)) apart.feeds ∙ sym (fed_both told (told_of e));
+      closes = event_closed setup world e is.outcome_is ∙ ap (λ (l : List Connection). l ++ closed_in (told_of e)) apart.closes
+          ∙ sym (closed_both told (told_of e));
+      opened = λ c absent.
+          let before = grows_absent world (after_event setup world e) c grows absent in
+          ap (is_among c) (opened_both told (told_of e))
+          ∙ list_any-append (λ (other : Connection). same_connection other c) (opened_in told) (opened_in (told_of e))
+          ∙ (λ i. apart.opened c before i || event_opened setup world e c many is.outcome_is absent i);
       fed = λ c absent.
           let before = grows_absent world (after_event setup world e) c grows absent in
           none_fed setup world e.step e.refused c before (apart.fed c before);
       handed = λ c absent.
           let before = grows_absent world (after_event setup world e) c grows absent in
           let none = by_hand c (is_done e.outcome) (handed_by world e.step) (handed_apart world e.step c apart.own before) in
-          handed_more c out e.handed (apart.handed c before) (ap (handed_to c) is.handed_is ∙ none);
+          ap (handed_to c) (pieces_both told (told_of e) ∙ ap (λ (l : List Handed). pieces_in told ++ l) (one_handed e))
+          ∙ handed_more c (pieces_in told) e.handed (apart.handed c before) (ap (handed_to c) is.handed_is ∙ none);
     }
 
 -- and many of them
-pub record HaveLed (setup : Setup) (world after : World) (out : List Handed) : Type 0 where
+pub record HaveLed (setup : Setup) (world after : World) (told : List Occurrence) : Type 0 where
   pub many : length after.nodes ≡ setup.nodes
   pub grows : Grows world after
-  pub apart : IsApart after out
+  pub apart : IsApart after told
 
-pub each_led : (setup : Setup) (world : World) (out : List Handed) (events : List Event) → length world.nodes ≡ setup.nodes → IsApart world out
-    → AreEvents setup world events → HaveLed setup world (after_events setup world events) (out ++ handed_in events)
-each_led setup world out [] many apart are =
-    record { many = many; grows = grows_same world; apart = subst (IsApart world) (sym (append-nil out)) apart }
-each_led setup world out (e ∷ events) many apart are =
+pub each_led : (setup : Setup) (world : World) (told : List Occurrence) (events : List Event) → length world.nodes ≡ setup.nodes → IsApart world told
+    → AreEvents setup world events → HaveLed setup world (after_events setup world events) (told ++ told_in events)
+each_led setup world told [] many apart are =
+    record { many = many; grows = grows_same world; apart = subst (IsApart world) (sym (append-nil told)) apart }
+each_led setup world told (e ∷ events) many apart are =
     let grows = step_grows setup world e.step e.refused many in
     let next = after_event setup world e in
-    let later = each_led setup next (out ++ e.handed) events (grows.many ∙ many) (event_apart setup world out e many apart are.0) are.1 in
+    let later = each_led setup next (told ++ told_of e) events (grows.many ∙ many) (event_apart setup world told e many apart are.0) are.1 in
     record {
       many = later.many;
       grows = grows_on world next (after_events setup next events) grows later.grows;
-      apart = subst (IsApart (after_events setup next events)) (append_assoc out e.handed (handed_in events)) later.apart;
+      apart = subst (IsApart (after_events setup next events)) (append_assoc told (told_of e) (told_in events)) later.apart;
     }
 
 -- at first
@@ -139,14 +153,17 @@ no_names (suc k) (suc n) node none = no_names k n node none
 fresh_apart : (setup : Setup) → IsApart (fresh setup) []
 fresh_apart setup = record {
   own = λ n. subst (AreOwn n 0) (sym (no_names setup.nodes n (fresh_node setup) refl)) tt;
+  feeds = refl;
+  closes = refl;
+  opened = λ c absent. refl;
   fed = λ c absent. refl;
   handed = λ c absent. refl;
 }
 
 -- so in each past
-pub past_led : (setup : Setup) (events : List Event) (world : World) → IsPast setup events world → HaveLed setup (fresh setup) world (handed_in events)
+pub past_led : (setup : Setup) (events : List Event) (world : World) → IsPast setup events world → HaveLed setup (fresh setup) world (told_in events)
 past_led setup events world past =
-    subst (λ (w : World). HaveLed setup (fresh setup) w (handed_in events)) (sym past.1)
+    subst (λ (w : World). HaveLed setup (fresh setup) w (told_in events)) (sym past.1)
     (each_led setup (fresh setup) [] events (length-replicate setup.nodes (fresh_node setup)) (fresh_apart setup) past.0)
 
 -- events behind events
@@ -174,10 +191,7 @@ rounds_are setup world (events ∷ []) are = subst (AreEvents setup world) (sym 
 rounds_are setup world (events ∷ next ∷ more) are =
     both_are setup world events (events_of (next ∷ more)) are.0.are (rounds_are setup (after_events setup world events) (next ∷ more) are.2)
 
--- no step of a round is a feed or a close
-abbrev is_outer : Step → Bool
-is_outer step = is_feed step || is_close step
-
+-- no step of a round is an open, a feed or a close
 abbrev outer : List Step → Bool
 outer steps = list_any is_outer steps
 
@@ -212,33 +226,26 @@ none_round setup turns =
     (none_each (λ n. Reserve n ∷ map (Fill n) (range_with_len 0 setup.nodes)) (range_with_len 0 setup.nodes) (λ n. none_fill n (range_with_len 0 setup.nodes)))
     (none_both (applying 0 turns) (answering setup) (none_applying 0 turns) (none_for setup (λ n w. Answer n w ∷ Collect n w ∷ []) (λ n w. refl))))
 
--- so rounds feed and close nothing
-abbrev pub Same : World → World → Type 0
-Same world after = (after.fed ≡ world.fed) × (after.closed ≡ world.closed)
-
-same_on : (a b c : World) → Same a b → Same b c → Same a c
-same_on a b c first second = (second.0 ∙ first.0, second.1 ∙ first.1)
-
-same_told : (setup : Setup) (world : World) (events : List Event) → outer (map (λ (e : Event). e.step) events) ≡ false
-    → Same world (after_events setup world events)
-same_told setup world [] none = (refl, refl)
-same_told setup world (e ∷ events) none =
+-- so by rounds nothing happens but that bytes are handed out
+told_pieces : (events : List Event) → outer (map (λ (e : Event). e.step) events) ≡ false → told_in events ≡ map HandedOut (handed_in events)
+told_pieces [] none = refl
+told_pieces (e ∷ events) none =
     let both = or_parts (is_outer e.step) (outer (map (λ (d : Event). d.step) events)) none in
-    let plain = or_parts (is_feed e.step) (is_close e.step) both.0 in
-    let next = after_event setup world e in
-    same_on world next (after_events setup next events) (step_fed setup world e.step e.refused plain.0, step_closed setup world e.step e.refused plain.1)
-    (same_told setup next events both.1)
+    ap (λ (l : List Occurrence). l ++ map HandedOut e.handed ++ told_in events) (inner_told e.step e.outcome both.0)
+    ∙ ap (λ (l : List Occurrence). map HandedOut e.handed ++ l) (told_pieces events both.1)
+    ∙ sym (map-append HandedOut e.handed (handed_in events))
 
-round_same : (setup : Setup) (world : World) (events : List Event) → IsRound setup world events → Same world (after_events setup world events)
-round_same setup world events round = same_told setup world events (ap outer round.steps ∙ none_round setup round.turns)
+round_told : (setup : Setup) (world : World) (events : List Event) → IsRound setup world events → told_in events ≡ map HandedOut (handed_in events)
+round_told setup world events round = told_pieces events (ap outer round.steps ∙ none_round setup round.turns)
 
-pub rounds_same : (setup : Setup) (world : World) (rounds : List (List Event)) → AreRounds setup world rounds
-    → Same world (after_events setup world (events_of rounds))
-rounds_same setup world [] are = absurd are
-rounds_same setup world (events ∷ []) are =
-    subst (λ (es : List Event). Same world (after_events setup world es)) (sym (append-nil events)) (round_same setup world events are.0)
-rounds_same setup world (events ∷ next ∷ more) are =
-    let middle = after_events setup world events in
-    subst (Same world) (sym (after_both setup world events (events_of (next ∷ more))))
-    (same_on world middle (after_events setup middle (events_of (next ∷ more))) (round_same setup world events are.0)
-    (rounds_same setup middle (next ∷ more) are.2))
+pub rounds_told : (setup : Setup) (world : World) (rounds : List (List Event)) → AreRounds setup world rounds
+    → told_in (events_of rounds) ≡ map HandedOut (handed_in (events_of rounds))
+rounds_told setup world [] are = absurd are
+rounds_told setup world (events ∷ []) are =
+    subst (λ (es : List Event). told_in es ≡ map HandedOut (handed_in es)) (sym (append-nil events)) (round_told setup world events are.0)
+rounds_told setup world (events ∷ next ∷ more) are =
+    let rest = events_of (next ∷ more) in
+    flat_map-append told_of events rest
+    ∙ (λ i. round_told setup world events are.0 i ++ rounds_told setup (after_events setup world events) (next ∷ more) are.2 i)
+    ∙ sym (map-append HandedOut (handed_in events) (handed_in rest))
+    ∙ ap (map HandedOut) (sym (flat_map-append (λ (e : Event). e.handed) events rest))

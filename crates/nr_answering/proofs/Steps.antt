@@ -1,17 +1,20 @@
 -- Each step that a service asks for, as one by which the nodes go on.
-use Rattle.std.proofs.Common.{◌≡◌, ℕ, ◌<◌, Bool, true, false, not, cond, inl, inr, List, [], ◌∷◌, ◌++◌, length, refl, ap, sym, ◌∙◌, subst, arith, append-nil, ltb}
-use Rattle.std.specs.Prelude.{◌||◌, nat_le, Option, Some, None, IfSome, IfNone, is_some, option_map}
+use Rattle.std.proofs.Common.{◌≡◌, ℕ, ◌<◌, Bool, true, false, not, cond, inl, inr, List, [], ◌∷◌, ◌++◌, length, map, refl, ap, sym, ◌∙◌, subst, arith, append-nil, ltb}
+use Rattle.std.specs.Prelude.{◌||◌, nat_le, Option, Some, None, IfNone, is_some, option_map}
 use Rattle.std.proofs.lemmas.Bool.{cases_Bool, and_parts, or_parts, ltb-true, not-false}
 use Rattle.std.proofs.lemmas.List.{get_or-set_same}
 use Rattle.std.proofs.lemmas.Grind.{flat_map-append}
 use Rattle.nr_model.specs.Bytes.{Bytes}
 use Rattle.nr_model.specs.Keyspace.{moment}
 use Rattle.nr_model.specs.Items.{Connection}
-use Rattle.nr_model.specs.Worlds.{Setup, Feeding, Handed}
+use Rattle.nr_model.specs.Connections.{Setup, Handed}
 use Rattle.nr_model.specs.Nodes.{Client, fresh_client, Node, no_node, World, node_at, client_at, client_of}
-use Rattle.nr_model.specs.Nodes.Steps.{Step, Open, Feed, Close, NoSuch, Ended, TooMany, Down, Outcome, Opened, Done, Idle, Refused, idle_where, is_worker, is_client, in_use, outcome, opened, closed_client, closed_node, closed, effect_by, after_step}
-use Rattle.nr_model.specs.Nodes.Pasts.{Event, IsPast, handed_in}
+use Rattle.nr_model.specs.Nodes.Steps.{Step, Open, Feed, Close, NoSuch, Ended, TooMany, Down, Outcome, Opened, Done, Idle, Refused, idle_where, is_worker, is_client, in_use, outcome, closed_client, closed_node, closed, effect_by, after_step}
+use Rattle.nr_model.specs.Nodes.Pasts.{Event, IsPast}
 use Rattle.nr_model.specs.Nodes.Settling.{after_events}
+use Rattle.nr_service_ends.specs.Stories as stories
+use Rattle.nr_service_ends.specs.Stories.{Occurrence, opened_in}
+use Rattle.nr_service_ends.proofs.Occurrences.{pieces_opened}
 use Rattle.nr_service_ends.specs.declared.answers.Standing.TheVariants as standings
 use Rattle.nr_nodes.specs.Standing.{has_ended}
 use Rattle.nr_nodes.specs.WorldState.{WorldState, Shows}
@@ -19,21 +22,19 @@ use Rattle.nr_nodes.specs.Taken.{Steps}
 use Rattle.nr_nodes.specs.Settles.{Settles, events_of}
 use Rattle.nr_entry.specs.declared.conn.ConnId.{ConnId}
 use Rattle.nr_entry.specs.Jobs.{connection_of}
-use Rattle.nr_answering.specs.Moves.{IsFurther, Moves, Refuses, Rests}
+use Rattle.nr_answering.specs.Told.{told_by, told_of, told_in, opening}
+use Rattle.nr_answering.specs.Moves.{AreNew, IsFurther, Moves, Refuses, Rests, Closes}
 use Rattle.nr_answering.specs.Stands.{StandsIn, is_gone}
-use Rattle.nr_answering.proofs.Apart.{connection_at, is_there, is_feed, step_fed, is_close, step_closed, idle_told, opened_count, grows_absent}
-use Rattle.nr_answering.proofs.Pasts.{past_led, each_led, past_then, both_are, after_both, rounds_are, rounds_same}
+use Rattle.nr_answering.proofs.Apart.{connection_at, idle_told, grows_absent}
+use Rattle.nr_answering.proofs.Occurred.{open_there}
+use Rattle.nr_answering.proofs.Pasts.{past_led, each_led, past_then, both_are, after_both, rounds_are, rounds_told}
 
-abbrev IsNew : World → World → Option Connection → Type 0
-IsNew world after opened = IfSome opened (λ (c : Connection). (is_client world c ≡ false) × (is_client after c ≡ true))
-
--- a step
-step_moves : (old new : WorldState) (step : Step) (o : Outcome) (feedings : List Feeding) (opened : Option Connection) → Steps old new step o
-    → is_close step ≡ false
+-- a step that hands out nothing
+step_moves : (old new : WorldState) (step : Step) (o : Outcome) (more : List Occurrence) → Steps old new step o
     → ((events : List Event) (world : World) (refused : Refused) → IsPast old.setup events world → Shows old world → o ≡ outcome old.setup world step
-    → ((after_step old.setup world step refused).fed ≡ world.fed ++ feedings) × IsNew world (after_step old.setup world step refused) opened)
-    → Moves old new feedings [] opened None
-step_moves old new step o feedings opened steps stays is = record {
+    → (told_by step o ≡ more) × AreNew world (after_step old.setup world step refused) (opened_in more))
+    → Moves old new more
+step_moves old new step o more steps is = record {
   setup = steps.setup;
   further = λ events world past shows.
       let t = steps.taken events world past shows in
@@ -42,20 +43,10 @@ step_moves old new step o feedings opened steps stays is = record {
         events = record { step = step; outcome = o; handed = []; answer = None; refused = t.refused } ∷ [];
         are = (t.event, tt);
         shows = t.shows;
-        fed = told.0;
-        closed = λ none. step_closed old.setup world step t.refused stays;
-        gone = tt;
-        handed_is = refl;
+        told = append-nil (told_by step o ++ []) ∙ append-nil (told_by step o) ∙ told.0;
         is_new = told.1;
       };
 }
-
--- that neither feeds nor opens nor closes
-pub plain_moves : (old new : WorldState) (step : Step) (o : Outcome) → is_feed step ≡ false → is_close step ≡ false → Steps old new step o
-    → Moves old new [] [] None None
-plain_moves old new step o is stays steps =
-    step_moves old new step o [] None steps stays
-    (λ events world refused past shows e. (step_fed old.setup world step refused is ∙ sym (append-nil world.fed), tt))
 
 -- a feed of a connection that takes bytes
 stands_open : (down over : Bool) → standings.Open ≡ cond down standings.Down (cond over standings.Over standings.Open) → (down ≡ false) × (over ≡ false)
@@ -67,26 +58,18 @@ feed_path : (a b d : Bool) → a ≡ false → b ≡ false → d ≡ false → i
 feed_path a b d e f g = rw (e, f, g)
 
 pub feed_moves : (old new : WorldState) (c : Connection) (time : ℕ) (bytes : Bytes) (o : Outcome) → StandsIn old c standings.Open
-    → Steps old new (Feed c time bytes) o → Moves old new (record { connection = c; moment = moment time; bytes = bytes } ∷ []) [] None None
+    → Steps old new (Feed c time bytes) o → Moves old new (stories.Fed (record { connection = c; moment = moment time; bytes = bytes }) ∷ [])
 feed_moves old new c time bytes o stands steps =
-    step_moves old new (Feed c time bytes) o (record { connection = c; moment = moment time; bytes = bytes } ∷ []) None steps refl
+    step_moves old new (Feed c time bytes) o (stories.Fed (record { connection = c; moment = moment time; bytes = bytes }) ∷ []) steps
     (λ events world refused past shows e.
     let client = client_of c world in
     let over = client.ended || (client.closed || client.queue.cut) in
     let takes = stands_open (node_at c.node world).down (has_ended world c) (stands world shows) in
     let on = or_parts (not (is_client world c)) over takes.1 in
     let done = feed_path (not (is_client world c)) over (node_at c.node world).down on.0 on.1 takes.0 in
-    (ap (λ (d : Outcome). (effect_by d old.setup world (Feed c time bytes) refused).fed) done, tt))
+    (ap (told_by (Feed c time bytes)) (e ∙ done), tt))
 
 -- an open that opened a connection
-opened_by : (a b d : Bool) (x c : Connection) → Opened c ≡ idle_where a NoSuch (idle_where b TooMany (idle_where d Down (Opened x)))
-    → (a ≡ false) × (c ≡ x)
-opened_by true b d x c e = absurd (cc e)
-opened_by false true d x c e = absurd (cc e)
-opened_by false false true x c e = absurd (cc e)
-opened_by false false false x c e =
-    (refl, ap (λ (o : Outcome). elim o [ Opened y ↦ y | Done ↦ c | Idle reason ↦ c ]) e)
-
 not_yet : (world : World) (n : ℕ) → is_client world (connection_at n (length (node_at n world).clients)) ≡ false
 not_yet world n =
     let count = length (node_at n world).clients in
@@ -98,28 +81,12 @@ not_yet world n =
       | inr e ↦ e
     ]
 
-pub open_moves : (old new : WorldState) (n w : ℕ) (c : Connection) → Steps old new (Open n w) (Opened c) → Moves old new [] [] (Some c) None
+pub open_moves : (old new : WorldState) (n w : ℕ) (c : Connection) → Steps old new (Open n w) (Opened c) → Moves old new (stories.Opened c ∷ [])
 open_moves old new n w c steps =
-    step_moves old new (Open n w) (Opened c) [] (Some c) steps refl
+    step_moves old new (Open n w) (Opened c) (stories.Opened c ∷ []) steps
     (λ events world refused past shows e.
-    let setup = old.setup in
-    let node = node_at n world in
-    let is = opened_by (not (is_worker setup n w)) (nat_le setup.connections (in_use node)) node.down (connection_at n (length node.clients)) c e in
-    let moved : after_step setup world (Open n w) refused ≡ opened setup n w world =
-    ap (λ (d : Outcome). effect_by d setup world (Open n w) refused) (sym e) in
-    let led = past_led setup events world past in
-    let below : n < setup.nodes = ltb-true n setup.nodes (and_parts (ltb n setup.nodes) (ltb w setup.workers) (not-false (is_worker setup n w) is.0)).0 in
-    let many : length world.nodes ≡ setup.nodes = led.many in
-    let there : n < length world.nodes = omega arith in
-    let count = opened_count setup n w world there in
-    let after : is_client (opened setup n w world) (connection_at n (length node.clients)) ≡ true =
-    is_there (opened setup n w world) n (length node.clients) (omega arith) in (
-      step_fed setup world (Open n w) refused refl ∙ sym (append-nil world.fed),
-      (
-        ap (is_client world) is.1 ∙ not_yet world n,
-        ap (λ (x : World). is_client x c) moved ∙ ap (is_client (opened setup n w world)) is.1 ∙ after,
-      ),
-    ))
+    let there = open_there old.setup world n w c refused (past_led old.setup events world past).many e in
+    (refl, (ap (is_client world) there.0 ∙ not_yet world n, there.1, tt)))
 
 -- a close: its connection takes no room any more
 gone_third : (a b : Bool) → (a || (b || true)) ≡ true
@@ -156,21 +123,36 @@ close_gone setup world c time refused =
     (λ i. not (is_client after c) || ((node_at c.node after).down || closed_gone world c time (not-false (is_client world c) here) i))
     ∙ gone_third (not (is_client after c)) (node_at c.node after).down)))
 
-pub close_moves : (old new : WorldState) (c : Connection) (time : ℕ) (o : Outcome) → Steps old new (Close c time) o → Moves old new [] [] None (Some c)
-close_moves old new c time o steps = record {
-  setup = steps.setup;
-  further = λ events world past shows.
+close_told : (a b d : Bool) (c : Connection) (time : ℕ)
+    → told_by (Close c time) (idle_where a NoSuch (idle_where b Ended (idle_where d Down Done))) ≡ cond (a || (d || b)) [] (stories.Closed c ∷ [])
+close_told true b d c time = refl
+close_told false true true c time = refl
+close_told false true false c time = refl
+close_told false false true c time = refl
+close_told false false false c time = refl
+
+-- so it is in each world that is shown
+pub gone_in : (a b : World) (c : Connection) → a.nodes ≡ b.nodes → is_gone a c ≡ true → is_gone b c ≡ true
+gone_in a b c same is = sym (ap (λ (nodes : List Node). is_gone (record a { nodes = nodes }) c) same) ∙ is
+
+close_opens : (c : Connection) (o : Outcome) (time : ℕ) → opened_in (told_by (Close c time) o) ≡ []
+close_opens c (Opened d) time = refl
+close_opens c Done time = refl
+close_opens c (Idle reason) time = refl
+
+pub close_closes : (old new : WorldState) (c : Connection) (time : ℕ) (o : Outcome) → Steps old new (Close c time) o → Closes old new c
+close_closes old new c time o steps = record {
+  shut = told_by (Close c time) o;
+  moves = step_moves old new (Close c time) o (told_by (Close c time) o) steps
+      (λ events world refused past shows e.
+      (refl, subst (AreNew world (after_step old.setup world (Close c time) refused)) (sym (close_opens c o time)) tt));
+  is = λ events world past shows.
+      ap (told_by (Close c time)) (steps.taken events world past shows).event.outcome_is
+      ∙ close_told (not (is_client world c)) (client_of c world).closed (node_at c.node world).down c time;
+  gone = λ events world past shows shown new_shows.
       let t = steps.taken events world past shows in
-      record {
-        events = record { step = Close c time; outcome = o; handed = []; answer = None; refused = t.refused } ∷ [];
-        are = (t.event, tt);
-        shows = t.shows;
-        fed = step_fed old.setup world (Close c time) t.refused refl ∙ sym (append-nil world.fed);
-        closed = λ some. absurd (cc some);
-        gone = close_gone old.setup world c time t.refused;
-        handed_is = refl;
-        is_new = tt;
-      };
+      gone_in (after_step old.setup world (Close c time) t.refused) shown c (sym t.shows.nodes ∙ new_shows.nodes)
+      (close_gone old.setup world c time t.refused);
 }
 
 -- an open that opened none: nothing moves, and the node takes none
@@ -209,22 +191,27 @@ open_refuses old new n w o none steps = record {
       (ap opens (sym t.event.outcome_is) ∙ none) is;
 }
 
+unopened_told : (n w : ℕ) (o : Outcome) → opens o ≡ false → told_by (Open n w) o ≡ []
+unopened_told n w (Opened c) none = absurd (cc none)
+unopened_told n w Done none = refl
+unopened_told n w (Idle reason) none = refl
+
+pub unopened_moves : (old new : WorldState) (n w : ℕ) (o : Outcome) → opens o ≡ false → Steps old new (Open n w) o → Moves old new []
+unopened_moves old new n w o none steps =
+    step_moves old new (Open n w) o [] steps (λ events world refused past shows e. (unopened_told n w o none, tt))
+
 -- rounds of steps
-settle_moves : (old new : WorldState) (handed : List Handed) → Settles old new handed → Moves old new [] handed None None
+settle_moves : (old new : WorldState) (handed : List Handed) → Settles old new handed → Moves old new (map stories.HandedOut handed)
 settle_moves old new handed settles = record {
   setup = settles.setup;
   further = λ events world past shows.
       let h = settles.taken events world past shows in
-      let same = rounds_same old.setup world h.rounds h.are in
       record {
         events = events_of h.rounds;
         are = rounds_are old.setup world h.rounds h.are;
         shows = h.shows;
-        fed = same.0 ∙ sym (append-nil world.fed);
-        closed = λ none. same.1;
-        gone = tt;
-        handed_is = sym h.handed_is;
-        is_new = tt;
+        told = rounds_told old.setup world h.rounds h.are ∙ ap (map stories.HandedOut) (sym h.handed_is);
+        is_new = subst (AreNew world (after_events old.setup world (events_of h.rounds))) (sym (pieces_opened handed)) tt;
       };
 }
 
@@ -232,47 +219,43 @@ pub settle_rests : (old new : WorldState) (handed : List Handed) → Settles old
 settle_rests old new handed settles = record { moves = settle_moves old new handed settles; settles = settles }
 
 -- nothing, and more behind it
-pub none_moves : (v : WorldState) → Moves v v [] [] None None
+pub none_moves : (v : WorldState) → Moves v v []
 none_moves v = record {
   setup = refl;
-  further = λ events world past shows.
-      record { events = []; are = tt; shows = shows; fed = sym (append-nil world.fed); closed = λ none. refl; gone = tt; handed_is = refl; is_new = tt };
+  further = λ events world past shows. record { events = []; are = tt; shows = shows; told = refl; is_new = tt };
 }
 
-new_since : (world middle after : World) (opened : Option Connection) → ((c : Connection) → is_client middle c ≡ false → is_client world c ≡ false)
-    → IsNew middle after opened → IsNew world after opened
-new_since world middle after None earlier is = tt
-new_since world middle after (Some c) earlier is = (earlier c is.0, is.1)
+new_since : (world middle after : World) (connections : List Connection) → ((c : Connection) → is_client middle c ≡ false → is_client world c ≡ false)
+    → AreNew middle after connections → AreNew world after connections
+new_since world middle after [] earlier is = tt
+new_since world middle after (c ∷ connections) earlier is = (earlier c is.0, is.1, new_since world middle after connections earlier is.2)
 
-pub moves_on : (a b c : WorldState) (opened : Option Connection) → Moves a b [] [] None None → Moves b c [] [] opened None
-    → Moves a c [] [] opened None
-moves_on a b c opened first second = record {
+pub moves_on : (a b c : WorldState) (more : List Occurrence) → Moves a b [] → Moves b c more → Moves a c more
+moves_on a b c more first second = record {
   setup = second.setup ∙ first.setup;
   further = λ events world past shows.
       let f = first.further events world past shows in
       let setup = a.setup in
       let middle = after_events setup world f.events in
       let later = past_then setup events f.events world past f.are in
-      let t = subst (λ (s : Setup). IsFurther s c [] [] opened None middle) first.setup
+      let t = subst (λ (s : Setup). IsFurther s c more middle) first.setup
       (second.further (events ++ f.events) middle (subst (λ (s : Setup). IsPast s (events ++ f.events) middle) (sym first.setup) later) f.shows) in
       let led = past_led setup events world past in
-      let grown = each_led setup world (handed_in events) f.events led.many led.apart f.are in
+      let grown = each_led setup world (told_in events) f.events led.many led.apart f.are in
       let last = after_both setup world f.events t.events in
       record {
         events = f.events ++ t.events;
         are = both_are setup world f.events t.events f.are t.are;
         shows = subst (Shows c) (sym last) t.shows;
-        fed = ap (λ (w : World). w.fed) last ∙ t.fed ∙ append-nil middle.fed ∙ f.fed;
-        closed = λ none. ap (λ (w : World). w.closed) last ∙ t.closed none ∙ f.closed none;
-        gone = tt;
-        handed_is = flat_map-append (λ (e : Event). e.handed) f.events t.events ∙ (λ i. f.handed_is i ++ t.handed_is i);
-        is_new = subst (λ (w : World). IsNew world w opened) (sym last)
-            (new_since world middle (after_events setup middle t.events) opened (λ d absent. grows_absent world middle d grown.grows absent) t.is_new);
+        told = flat_map-append told_of f.events t.events ∙ (λ i. f.told i ++ t.told i);
+        is_new = subst (λ (w : World). AreNew world w (opened_in more)) (sym last)
+            (new_since world middle (after_events setup middle t.events) (opened_in more)
+            (λ d absent. grows_absent world middle d grown.grows absent) t.is_new);
       };
 }
 
 -- none took it, and the next one did, or didn't
-pub none_is : (o : Option ConnId) → is_some o ≡ false → None ≡ option_map connection_of o
+pub none_is : (o : Option ConnId) → is_some o ≡ false → [] ≡ opening (option_map connection_of o)
 none_is None is = refl
 none_is (Some conn) is = absurd (cc is)
 

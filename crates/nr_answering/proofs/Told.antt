@@ -1,47 +1,46 @@
 -- What each call adds to every story.
-use Rattle.std.proofs.Common.{◌≡◌, ℕ, true, false, cond, Option, Some, None, List, [], ◌∷◌, ◌++◌, length, refl, ap, sym, ◌∙◌, subst, append-nil}
+use Rattle.std.proofs.Common.{◌≡◌, ℕ, Bool, true, false, cond, inl, inr, Option, Some, None, List, [], ◌∷◌, ◌++◌, length, map, refl, ap, sym, ◌∙◌, subst}
 use Rattle.std.specs.Prelude.{IfSome, IfNone}
 use Rattle.std.specs.Option.{option_map}
+use Rattle.std.proofs.lemmas.Bool.{cases_Bool}
 use Rattle.std.proofs.lemmas.Grind.{flat_map-append}
 use Rattle.std.proofs.lemmas.List.{length-map}
 use Rattle.nr_model.specs.Bytes.{Bytes}
 use Rattle.nr_model.specs.Keyspace.{moment}
 use Rattle.nr_model.specs.Items.{Connection, same_connection}
-use Rattle.nr_model.specs.Worlds.{Setup, Feeding, Handed, handed_to, fed_to}
-use Rattle.nr_model.specs.Nodes.{Node, World}
+use Rattle.nr_model.specs.Connections.{Setup, Handed, handed_to, fed_to}
+use Rattle.nr_model.specs.Nodes.{World}
 use Rattle.nr_model.specs.Nodes.Steps.{is_client}
-use Rattle.nr_model.specs.Nodes.Pasts.{Event, AreEvents, IsPast, handed_in}
+use Rattle.nr_model.specs.Nodes.Pasts.{Event, AreEvents, IsPast}
 use Rattle.nr_model.specs.Nodes.Settling.{IsSettled, after_events}
 use Rattle.nr_entry.specs.declared.conn.ConnId.{ConnId}
 use Rattle.nr_entry.specs.Jobs.{connection_of}
 use Rattle.nr_nodes.specs.Served.{node_seen}
 use Rattle.nr_nodes.specs.WorldState.{WorldState, Shows}
 use Rattle.nr_nodes.specs.Settles.{Settles, events_of}
-use Rattle.nr_service_ends.specs.Stories.{Story, IsOpened, IsFed, HasWorked, IsClosed, Keeps}
+use Rattle.nr_service_ends.specs.Stories.{Occurrence, Opened, Fed, HandedOut, Closed, Story, IsOpened, IsFed, HasWorked, IsShut, IsClosed, Keeps, opened_in, fed_in, handed_in, is_among, going_on}
+use Rattle.nr_service_ends.proofs.Occurrences.{going_none}
 use Rattle.nr_answering.specs.Kept.{Taps, is_conn, kept_at, IsPut, AreKept, IsTapped}
 use Rattle.nr_answering.specs.State.{AnsweringState, IsSound}
+use Rattle.nr_answering.specs.Told.{told_of, told_in, opening}
 use Rattle.nr_answering.specs.Led.{IsOf, HasLedTo, IsAtRest}
-use Rattle.nr_answering.specs.Moves.{IsFurther, Moves, FindsFull, Rests}
+use Rattle.nr_answering.specs.Moves.{IsFurther, Moves, FindsFull, Rests, Closes}
 use Rattle.nr_answering.specs.Stands.{is_gone, IsGone, IsFull}
 use Rattle.nr_answering.proofs.Apart.{same_client, other_client, grows_absent}
-use Rattle.nr_answering.proofs.Pasts.{past_led, each_led, past_then, rounds_are, rounds_same}
+use Rattle.nr_answering.proofs.Pasts.{past_led, each_led, past_then, rounds_are, rounds_told}
+use Rattle.nr_answering.proofs.Steps.{gone_in}
 use Rattle.nr_answering.proofs.Found.{same_conn, conn_same, is_conn_itself}
 
--- The events of a story, and more behind them: a story that goes on by what these feed, hand out and close.
-story_on : (setup : Setup) (story next : Story) (events more : List Event) (world : World) (feedings : List Feeding) (handed : List Handed)
-    → IsOf story events world → setup ≡ story.setup → next.setup ≡ story.setup → AreEvents setup world more
-    → (after_events setup world more).fed ≡ world.fed ++ feedings → handed_in more ≡ handed
-    → (next.closed ≡ [] → (story.closed ≡ []) × ((after_events setup world more).closed ≡ world.closed))
-    → next.fed ≡ story.fed ++ feedings → next.handed ≡ story.handed ++ handed
-    → IsOf next (events ++ more) (after_events setup world more)
-story_on setup story next events more world feedings handed is sized same are feeds hands closes fed out =
+-- The events of a story, and more behind them: the story goes on by what happened by these.
+story_on : (setup : Setup) (story : Story) (events more : List Event) (world : World) (told : List Occurrence)
+    → IsOf story events world → setup ≡ story.setup → AreEvents setup world more → told_in more ≡ told
+    → IsOf (going_on story told) (events ++ more) (after_events setup world more)
+story_on setup story events more world told is sized are adds =
     let after = after_events setup world more in
     let past = past_then setup events more world (subst (λ (s : Setup). IsPast s events world) (sym sized) is.past) are in
     record {
-      past = subst (λ (s : Setup). IsPast s (events ++ more) after) (sized ∙ sym same) past;
-      fed = fed ∙ ap (λ (l : List Feeding). l ++ feedings) is.fed ∙ sym feeds;
-      handed = out ∙ (λ i. is.handed i ++ sym hands i) ∙ sym (flat_map-append (λ (e : Event). e.handed) events more);
-      closed = λ none. let both = closes none in both.1 ∙ is.closed both.0;
+      past = subst (λ (s : Setup). IsPast s (events ++ more) after) sized past;
+      told = flat_map-append told_of events more ∙ (λ i. is.told i ++ adds i);
     }
 
 -- its past, at the setup that what answers has
@@ -49,37 +48,32 @@ past_of_led : (a : AnsweringState) (story : Story) → (led : HasLedTo a story) 
 past_of_led a story led = subst (λ (s : Setup). IsPast s led.events led.world) (sym led.sized) led.is.past
 
 -- a story goes on
-led_on : (old new : AnsweringState) (story next : Story) (feedings : List Feeding) (handed : List Handed) (opened closing : Option Connection)
-    → Moves old.world new.world feedings handed opened closing → HasLedTo old story → next.setup ≡ story.setup → next.fed ≡ story.fed ++ feedings
-    → next.handed ≡ story.handed ++ handed → (next.closed ≡ [] → (closing ≡ None) × (story.closed ≡ [])) → HasLedTo new next
-led_on old new story next feedings handed opened closing moves led same fed out shut =
+led_on : (old new : AnsweringState) (story : Story) (more : List Occurrence) → Moves old.world new.world more → HasLedTo old story
+    → HasLedTo new (going_on story more)
+led_on old new story more moves led =
     let setup = old.world.setup in
     let f = moves.further led.events led.world (past_of_led old story led) led.shows in
     record {
       events = led.events ++ f.events;
       world = after_events setup led.world f.events;
-      is = story_on setup story next led.events f.events led.world feedings handed led.is led.sized same f.are f.fed f.handed_is
-          (λ none. let both = shut none in (both.1, f.closed both.0)) fed out;
-      sized = moves.setup ∙ led.sized ∙ sym same;
+      is = story_on setup story led.events f.events led.world more led.is led.sized f.are f.told;
+      sized = moves.setup ∙ led.sized;
       shows = f.shows;
     }
 
-same_story : (old new : AnsweringState) (story : Story) (opened : Option Connection) → Moves old.world new.world [] [] opened None → HasLedTo old story
-    → HasLedTo new story
-same_story old new story opened moves led =
-    led_on old new story story [] [] opened None moves led refl (sym (append-nil story.fed)) (sym (append-nil story.handed)) (λ none. (refl, none))
+same_story : (old new : AnsweringState) (story : Story) → Moves old.world new.world [] → HasLedTo old story → HasLedTo new story
+same_story old new story moves led = subst (HasLedTo new) (going_none story) (led_on old new story [] moves led)
 
 -- what is kept stays kept for connections that are there
-sound_on : (old new : WorldState) (before after : Taps) (feedings : List Feeding) (handed : List Handed) (opened closing : Option Connection)
-    → IsSound old before → Moves old new feedings handed opened closing
-    → ((events : List Event) (world : World) → (f : IsFurther old.setup new feedings handed opened closing world) → (c : Connection)
+sound_on : (old new : WorldState) (before after : Taps) (more : List Occurrence) → IsSound old before → Moves old new more
+    → ((events : List Event) (world : World) → (f : IsFurther old.setup new more world) → (c : Connection)
     → is_client (after_events old.setup world f.events) c ≡ false → kept_at c before ≡ None → kept_at c after ≡ None)
     → IsSound new after
-sound_on old new before after feedings handed opened closing sound moves none =
+sound_on old new before after more sound moves none =
     let setup = old.setup in
     let f = moves.further sound.events sound.shown sound.past sound.shows in
     let led = past_led setup sound.events sound.shown sound.past in
-    let grown = each_led setup sound.shown (handed_in sound.events) f.events led.many led.apart f.are in
+    let grown = each_led setup sound.shown (told_in sound.events) f.events led.many led.apart f.are in
     let world = after_events setup sound.shown f.events in
     let past = past_then setup sound.events f.events sound.shown sound.past f.are in
     record {
@@ -90,10 +84,10 @@ sound_on old new before after feedings handed opened closing sound moves none =
       absent = λ c absent. none sound.events sound.shown f c absent (sound.absent c (grows_absent sound.shown world c grown.grows absent));
     }
 
-pub sound_kept : (old new : WorldState) (before after : Taps) (feedings : List Feeding) (handed : List Handed) (closing : Option Connection) → IsSound old before
-    → Moves old new feedings handed None closing → ((c : Connection) → kept_at c before ≡ None → kept_at c after ≡ None) → IsSound new after
-sound_kept old new before after feedings handed closing sound moves none =
-    sound_on old new before after feedings handed None closing sound moves (λ events world f c absent was. none c was)
+pub sound_kept : (old new : WorldState) (before after : Taps) (more : List Occurrence) → IsSound old before
+    → Moves old new more → ((c : Connection) → kept_at c before ≡ None → kept_at c after ≡ None) → IsSound new after
+sound_kept old new before after more sound moves none =
+    sound_on old new before after more sound moves (λ events world f c absent was. none c was)
 
 -- in each world that is shown, bytes are kept for its connections alone
 absent_in : (world : WorldState) (taps : Taps) (shown : World) → IsSound world taps → Shows world shown → (c : Connection)
@@ -119,10 +113,10 @@ apart_from : (world : World) (conn : ConnId) (c : Connection) → is_client worl
     → is_conn c conn ≡ false
 apart_from world conn c here absent = sym (conn_same c conn) ∙ other_client world (connection_of conn) c here absent
 
-pub sound_opened : (old new : WorldState) (before after : Taps) (conn : ConnId) → IsSound old before → Moves old new [] [] (Some (connection_of conn)) None
+sound_opened : (old new : WorldState) (before after : Taps) (conn : ConnId) → IsSound old before → Moves old new (Opened (connection_of conn) ∷ [])
     → IsPut conn (Some []) before after → IsSound new after
 sound_opened old new before after conn sound moves put =
-    sound_on old new before after [] [] (Some (connection_of conn)) None sound moves
+    sound_on old new before after (Opened (connection_of conn) ∷ []) sound moves
     (λ events world f c absent was. opened_none before after conn c put
     (apart_from (after_events old.setup world f.events) conn c f.is_new.1 absent) was)
 
@@ -139,62 +133,60 @@ own_kept old new conn w put =
 
 -- a connection was opened
 pub is_opened : (old new : AnsweringState) (conn : ConnId) → IsSound old.world old.taps
-    → Moves old.world new.world [] [] (Some (connection_of conn)) None → IsPut conn (Some []) old.taps new.taps
+    → Moves old.world new.world (Opened (connection_of conn) ∷ []) → IsPut conn (Some []) old.taps new.taps
     → IsOpened (connection_of conn) (HasLedTo old) (HasLedTo new) (Kept old) (Kept new)
 is_opened old new conn sound moves put =
     let c = connection_of conn in
     let setup = old.world.setup in
+    let before : (story : Story) (led : HasLedTo old story) → is_client led.world c ≡ false = λ story led.
+    (moves.further led.events led.world (past_of_led old story led) led.shows).is_new.0 in
     record {
-      past = λ story led. same_story old new story (Some c) moves led;
+      past = λ story led. led_on old new story (Opened c ∷ []) moves led;
+      first = λ story led.
+          ap (λ (os : List Occurrence). is_among c (opened_in os)) (sym led.is.told)
+          ∙ (past_led setup led.events led.world (past_of_led old story led)).apart.opened c (before story led);
       fed = λ story led.
-          let past = past_of_led old story led in
-          let is_new = (moves.further led.events led.world past led.shows).is_new in
-          ap (fed_to c) led.is.fed ∙ (past_led setup led.events led.world past).apart.fed c is_new.0;
+          let apart = (past_led setup led.events led.world (past_of_led old story led)).apart in
+          ap (λ (os : List Occurrence). fed_to c (fed_in os)) (sym led.is.told) ∙ ap (fed_to c) (sym apart.feeds) ∙ apart.fed c (before story led);
       handed = λ story led.
-          let past = past_of_led old story led in
-          let is_new = (moves.further led.events led.world past led.shows).is_new in
-          ap (handed_to c) led.is.handed ∙ (past_led setup led.events led.world past).apart.handed c is_new.0;
+          ap (λ (os : List Occurrence). handed_to c (handed_in os)) (sym led.is.told)
+          ∙ (past_led setup led.events led.world (past_of_led old story led)).apart.handed c (before story led);
       closed = sound.absent c (moves.further sound.events sound.shown sound.past sound.shows).is_new.0;
       kept = own_kept old.taps new.taps conn (Some []) put;
       others = others_kept old.taps new.taps conn (Some []) put;
     }
 
 -- none was
-pub is_same : (old new : AnsweringState) → Moves old.world new.world [] [] None None → new.taps ≡ old.taps
+pub is_same : (old new : AnsweringState) → Moves old.world new.world [] → new.taps ≡ old.taps
     → Keeps (HasLedTo old) (HasLedTo new) (Kept old) (Kept new)
 is_same old new moves same = record {
-  past = λ story led. same_story old new story None moves led;
+  past = λ story led. same_story old new story moves led;
   kept = λ c. ap (kept_at c) same;
 }
 
 -- bytes were fed
 pub is_fed : (old new : AnsweringState) (c : Connection) (time : ℕ) (bytes : Bytes)
-    → Moves old.world new.world (record { connection = c; moment = moment time; bytes = bytes } ∷ []) [] None None → new.taps ≡ old.taps
+    → Moves old.world new.world (Fed (record { connection = c; moment = moment time; bytes = bytes }) ∷ []) → new.taps ≡ old.taps
     → IsFed c time bytes (HasLedTo old) (HasLedTo new) (Kept old) (Kept new)
 is_fed old new c time bytes moves same = record {
-  past = λ story led.
-      let feedings : List Feeding = record { connection = c; moment = moment time; bytes = bytes } ∷ [] in
-      led_on old new story (record story { fed = story.fed ++ feedings }) feedings [] None None moves led refl refl (sym (append-nil story.handed))
-      (λ none. (refl, none));
+  past = λ story led. led_on old new story (Fed (record { connection = c; moment = moment time; bytes = bytes }) ∷ []) moves led;
   kept = λ other. ap (kept_at other) same;
 }
 
 -- bytes were handed out, and the world behind that is settled
 rests_on : (old new : AnsweringState) (story : Story) (handed : List Handed) → IsSound new.world new.taps → Settles old.world new.world handed
-    → new.failed ≡ false → HasLedTo old story → IsAtRest new (record story { handed = story.handed ++ handed })
+    → new.failed ≡ false → HasLedTo old story → IsAtRest new (going_on story (map HandedOut handed))
 rests_on old new story handed sound settles works led =
     let setup = old.world.setup in
     let past = past_of_led old story led in
     let h = settles.taken led.events led.world past led.shows in
     let more = events_of h.rounds in
     let after = after_events setup led.world more in
-    let same = rounds_same setup led.world h.rounds h.are in
     record {
       events = led.events ++ more;
       world = after;
-      is = story_on setup story (record story { handed = story.handed ++ handed }) led.events more led.world [] handed led.is led.sized refl
-          (rounds_are setup led.world h.rounds h.are) (same.0 ∙ sym (append-nil led.world.fed)) (sym h.handed_is) (λ none. (none, same.1))
-          (sym (append-nil story.fed)) refl;
+      is = story_on setup story led.events more led.world (map HandedOut handed) led.is led.sized
+          (rounds_are setup led.world h.rounds h.are) (rounds_told setup led.world h.rounds h.are ∙ ap (map HandedOut) (sym h.handed_is));
       sized = settles.setup ∙ led.sized;
       shows = h.shows;
       works = works;
@@ -205,28 +197,34 @@ rests_on old new story handed sound settles works led =
 pub has_worked : (old new : AnsweringState) (handed : List Handed) → IsSound old.world old.taps → new.failed ≡ false → Rests old.world new.world handed
     → AreKept handed old.taps new.taps → HasWorked (HasLedTo old) (HasLedTo new) (IsAtRest new) (Kept old) (Kept new)
 has_worked old new handed sound works rests put =
-    let after = sound_kept old.world new.world old.taps new.taps [] handed None sound rests.moves (added_absent old.taps new.taps handed put) in
+    let after = sound_kept old.world new.world old.taps new.taps (map HandedOut handed) sound rests.moves (added_absent old.taps new.taps handed put) in
     record {
       handed = handed;
-      past = λ story led.
-          led_on old new story (record story { handed = story.handed ++ handed }) [] handed None None rests.moves led refl (sym (append-nil story.fed)) refl
-          (λ none. (refl, none));
+      past = λ story led. led_on old new story (map HandedOut handed) rests.moves led;
       rest = λ story led. rests_on old new story handed after rests.settles works led;
       kept = put.at;
     }
 
--- a connection was closed
-not_none : (closed : List Connection) (c : Connection) → closed ++ c ∷ [] ≡ [] → ⊥
-not_none [] c e = absurd (cc e)
-not_none (d ∷ closed) c e = absurd (cc e)
+-- what a close added tells whether its connection took no room before
+shut_told : (old : WorldState) (world : World) (c : Connection) (shut : List Occurrence) → Shows old world
+    → shut ≡ cond (is_gone world c) [] (Closed c ∷ []) → IsShut c (IsGone old c) shut
+shut_told old world c shut shows is =
+    elim (cases_Bool (is_gone world c)) [
+      | inl gone ↦ inr (
+        is ∙ ap (λ (b : Bool). cond b [] (Closed c ∷ [])) gone,
+        λ shown also. gone_in world shown c (sym shows.nodes ∙ also.nodes) gone,
+      )
+      | inr there ↦ inl (is ∙ ap (λ (b : Bool). cond b [] (Closed c ∷ [])) there, λ gone. absurd (cc (gone world shows, there)))
+    ]
 
-pub is_closed : (old new : AnsweringState) (conn : ConnId) → Moves old.world new.world [] [] None (Some (connection_of conn)) → IsPut conn None old.taps new.taps
-    → IsClosed (connection_of conn) (HasLedTo old) (HasLedTo new) (Kept old) (Kept new)
-is_closed old new conn moves put = record {
-  past = λ story led.
-      let c = connection_of conn in
-      led_on old new story (record story { closed = story.closed ++ c ∷ [] }) [] [] None (Some c) moves led refl (sym (append-nil story.fed))
-      (sym (append-nil story.handed)) (λ none. absurd (not_none story.closed c none));
+-- a connection was closed
+pub is_closed : (old new : AnsweringState) (conn : ConnId) → IsSound old.world old.taps → Closes old.world new.world (connection_of conn)
+    → IsPut conn None old.taps new.taps
+    → IsClosed (connection_of conn) (IsGone old.world (connection_of conn)) (HasLedTo old) (HasLedTo new) (Kept old) (Kept new)
+is_closed old new conn sound closes put = record {
+  shut = closes.shut;
+  is = shut_told old.world sound.shown (connection_of conn) closes.shut sound.shows (closes.is sound.events sound.shown sound.past sound.shows);
+  past = λ story led. led_on old new story closes.shut closes.moves led;
   kept = own_kept old.taps new.taps conn None put;
   others = others_kept old.taps new.taps conn None put;
 }
@@ -238,34 +236,29 @@ nodes_many world taps sound =
 
 -- a connection was opened, or none was
 pub sound_tapped : (old new : WorldState) (before after : Taps) (opened : Option ConnId) → IsSound old before
-    → Moves old new [] [] (option_map connection_of opened) None → IsTapped opened before after → IsSound new after
+    → Moves old new (opening (option_map connection_of opened)) → IsTapped opened before after → IsSound new after
 sound_tapped old new before after None sound moves same =
-    sound_kept old new before after [] [] None sound moves (λ c none. ap (kept_at c) same ∙ none)
+    sound_kept old new before after [] sound moves (λ c none. ap (kept_at c) same ∙ none)
 sound_tapped old new before after (Some conn) sound moves put = sound_opened old new before after conn sound moves put
 
 -- in terms of what was opened
 pub opened_told : (old new : AnsweringState) (opened : Option ConnId) → IsSound old.world old.taps
-    → Moves old.world new.world [] [] (option_map connection_of opened) None → IsTapped opened old.taps new.taps
+    → Moves old.world new.world (opening (option_map connection_of opened)) → IsTapped opened old.taps new.taps
     → IfSome opened (λ (conn : ConnId). IsOpened (connection_of conn) (HasLedTo old) (HasLedTo new) (Kept old) (Kept new))
 opened_told old new None sound moves tapped = tt
 opened_told old new (Some conn) sound moves put = is_opened old new conn sound moves put
 
-pub none_told : (old new : AnsweringState) (opened : Option ConnId) → Moves old.world new.world [] [] (option_map connection_of opened) None
+pub none_told : (old new : AnsweringState) (opened : Option ConnId) → Moves old.world new.world (opening (option_map connection_of opened))
     → IsTapped opened old.taps new.taps → IfNone opened (Keeps (HasLedTo old) (HasLedTo new) (Kept old) (Kept new))
 none_told old new None moves same = is_same old new moves same
 none_told old new (Some conn) moves put = tt
 
 -- its connection takes no room any more, in each world that is shown
-gone_in : (a b : World) (c : Connection) → a.nodes ≡ b.nodes → is_gone a c ≡ true → is_gone b c ≡ true
-gone_in a b c same is = sym (ap (λ (nodes : List Node). is_gone (record a { nodes = nodes }) c) same) ∙ is
-
-pub gone_told : (old new : WorldState) (taps : Taps) (c : Connection) → IsSound old taps → Moves old new [] [] None (Some c) → IsGone new c
-gone_told old new taps c sound moves = λ world shows.
-    let f = moves.further sound.events sound.shown sound.past sound.shows in
-    gone_in (after_events old.setup sound.shown f.events) world c (sym f.shows.nodes ∙ shows.nodes) f.gone
+pub gone_told : (old new : WorldState) (taps : Taps) (c : Connection) → IsSound old taps → Closes old new c → IsGone new c
+gone_told old new taps c sound closes = closes.gone sound.events sound.shown sound.past sound.shows
 
 -- none was opened since no node had room
-pub full_told : (old new : WorldState) (taps : Taps) (opened : Option ConnId) → IsSound old taps → IfNone opened (FindsFull old new)
-    → IfNone opened (IsFull new)
-full_told old new taps None sound full = full sound.events sound.shown sound.past sound.shows
-full_told old new taps (Some conn) sound full = tt
+pub full_told : (old : WorldState) (taps : Taps) (opened : Option ConnId) → IsSound old taps → IfNone opened (FindsFull old)
+    → IfNone opened (IsFull old)
+full_told old taps None sound full = full sound.events sound.shown sound.past sound.shows
+full_told old taps (Some conn) sound full = tt

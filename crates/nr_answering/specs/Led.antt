@@ -1,25 +1,23 @@
 -- Which stories may have led to what answers, and what that says of one sequential Redis.
-use Rattle.std.specs.Prelude.{◌≡◌, false, List, [], None}
+use Rattle.std.specs.Prelude.{◌≡◌, false, List, None}
 use Rattle.nr_model.specs.Items.{Connection, Sequence}
 use Rattle.nr_model.specs.Sequential.{emitted_for}
-use Rattle.nr_model.specs.Worlds.{handed_to}
-use Rattle.nr_model.specs.Explains.{IsBeginningOf}
+use Rattle.nr_model.specs.Bytes.{IsBeginningOf}
 use Rattle.nr_model.specs.Nodes.{World}
 use Rattle.nr_model.specs.Nodes.Steps.{is_client}
-use Rattle.nr_model.specs.Nodes.Pasts.{Event, IsPast, handed_in}
+use Rattle.nr_model.specs.Nodes.Pasts.{Event, IsPast}
 use Rattle.nr_model.specs.Nodes.Explained.{Explains}
 use Rattle.nr_model.specs.Nodes.Settling.{IsSettled}
 use Rattle.nr_nodes.specs.WorldState.{Shows}
-use Rattle.nr_service_ends.specs.Stories.{Story}
+use Rattle.nr_service_ends.specs.Stories.{Story, bytes_handed}
 use Rattle.nr_answering.specs.Kept.{kept_at}
 use Rattle.nr_answering.specs.State.{AnsweringState}
+use Rattle.nr_answering.specs.Told.{told_in}
 
--- A story is that of events which led to a world: of its size, with what was fed and handed out, and no connection was closed there where none is in the story.
+-- A story is that of events which led to a world of its size: what happened by them is what happened in it, in that order.
 pub record IsOf (story : Story) (events : List Event) (world : World) : Type 0 where
   pub past : IsPast story.setup events world
-  pub fed : story.fed ≡ world.fed
-  pub handed : story.handed ≡ handed_in events
-  pub closed : story.closed ≡ [] → world.closed ≡ []
+  pub told : told_in events ≡ story.occurrences
 
 -- So may a story have led to it: its nodes show that world.
 pub record HasLedTo (a : AnsweringState) (story : Story) : Type 0 where
@@ -48,7 +46,7 @@ pub record IsExplained (story : Story) : Type 0 where
   pub items : Sequence
   pub is : IsOf story events world
   pub explains : Explains items story.setup events world
-  pub begins : (c : Connection) → IsBeginningOf (handed_to c story.handed) (emitted_for c items)
+  pub begins : (c : Connection) → IsBeginningOf (bytes_handed c story) (emitted_for c items)
 
 abbrev pub StoryLaw : Type 0
 StoryLaw = (a : AnsweringState) (story : Story) → HasLedTo a story → IsExplained story

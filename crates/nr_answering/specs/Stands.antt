@@ -2,7 +2,7 @@
 use Rattle.std.specs.Prelude.{◌≡◌, Bool, true, false, not, ◌||◌, nat_le, cond}
 use Rattle.std.specs.List.{list_all}
 use Rattle.nr_model.specs.Items.{Connection}
-use Rattle.nr_model.specs.Worlds.{Setup}
+use Rattle.nr_model.specs.Connections.{Setup}
 use Rattle.nr_model.specs.Nodes.{Node, World, node_at, client_of}
 use Rattle.nr_model.specs.Nodes.Steps.{is_client, in_use}
 use Rattle.nr_nodes.specs.Standing.{has_ended}

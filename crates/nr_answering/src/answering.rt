@@ -1,11 +1,13 @@
 // The server of several nodes with the bytes that it handed out and that weren't written yet.
-ghost use Rattle.std.specs.Prelude.{◌≡◌, false, [], None, IfOk, IfNone};
+ghost use Rattle.std.specs.Prelude.{◌≡◌, false, None, IfOk, IfSome, IfNone};
 ghost use Rattle.std.specs.Option.{option_map};
 ghost use Rattle.nr_model.specs.Items.{Connection};
 ghost use Rattle.nr_entry.specs.Jobs.{connection_of};
 ghost use Rattle.nr_answering.specs.Kept.{kept_at, IsTapped};
 ghost use Rattle.nr_answering.specs.Moves.{Moves, FindsFull};
+ghost use Rattle.nr_answering.specs.Placing.{Places};
 ghost use Rattle.nr_answering.specs.Led.{HasLedTo};
+ghost use Rattle.nr_answering.specs.Told.{opening};
 ghost use Rattle.nr_service_ends.specs.Stories.{beginning};
 
 use crate::moving;
@@ -65,9 +67,10 @@ impl Answering {
 
 // Opens a connection, and an empty tap for it.
 fn open_tapped(world: &mut World, taps: &mut Taps, number: u64) -> Result<Option<ConnId>, Memory>
-    ensures moves { IfOk result (λ opened. Moves world.old world.new [] [] (option_map connection_of opened) None) }
+    ensures moves { IfOk result (λ opened. Moves world.old world.new (opening (option_map connection_of opened))) }
     ensures taps { IfOk result (λ opened. IsTapped opened taps.old.by_conn.entries taps.new.by_conn.entries) }
-    ensures full { IfOk result (λ opened. IfNone opened (FindsFull world.old world.new)) }
+    ensures full { IfOk result (λ opened. IfNone opened (FindsFull world.old)) }
+    ensures placed { IfOk result (λ opened. IfSome opened (λ conn. Places world.old world.new number (connection_of conn))) }
 {
     match moving::open(world, number)? {
         Some(conn) => {
@@ -82,6 +85,7 @@ impl Answers for Answering {
     ghost use Rattle.nr_answering.specs.Kept.{kept_at};
     ghost use Rattle.nr_answering.specs.Led.{HasLedTo, IsAtRest};
     ghost use Rattle.nr_answering.specs.Stands.{Stands, AreDown, IsFull, IsGone};
+    ghost use Rattle.nr_answering.specs.Placing.{IsPlaced};
 
     ghost is_past = { HasLedTo };
 
@@ -94,6 +98,8 @@ impl Answers for Answering {
     ghost falls = { AreDown };
 
     ghost is_full = { λ a. IsFull a.world };
+
+    ghost is_placed = { λ a b. IsPlaced a.world b.world };
 
     ghost is_gone = { λ a. IsGone a.world };
 

@@ -1,5 +1,5 @@
 // What a service asks of the nodes, as steps of their world.
-ghost use Rattle.std.specs.Prelude.{◌≡◌, ◌<◌, ◌%◌, ◌/◌, true, false, [], ◌∷◌, Some, None, IfOk, IfNone, OnOk, length, map};
+ghost use Rattle.std.specs.Prelude.{◌≡◌, ◌<◌, ◌%◌, ◌/◌, true, [], ◌∷◌, IfOk, IfSome, IfNone, OnOk, length, map};
 ghost use Rattle.std.specs.List.{list_all};
 ghost use Rattle.std.specs.Option.{option_map};
 ghost use Rattle.nr_model.specs.Keyspace.{moment as moment_of};
@@ -9,8 +9,11 @@ ghost use Rattle.nr_entry.specs.Jobs.{connection_of};
 ghost use Rattle.nr_nodes.specs.Seen.{handed_seen};
 ghost use Rattle.nr_nodes.specs.WorldState.{Shows};
 ghost use Rattle.nr_service_ends.specs.declared.answers.Standing.TheVariants as standings;
-ghost use Rattle.nr_answering.specs.Moves.{Moves, Refuses, FindsFull, Rests};
+ghost use Rattle.nr_answering.specs.Placing.{Places, StandsAt};
+ghost use Rattle.nr_answering.specs.Moves.{Closes, FindsFull, Moves, Refuses, Rests};
 ghost use Rattle.nr_answering.specs.Stands.{StandsIn};
+ghost use Rattle.nr_answering.specs.Told.{opening};
+ghost use Rattle.nr_service_ends.specs.Stories.{Fed};
 
 use nr_blob::Memory;
 use nr_entry::ConnId;
@@ -39,8 +42,9 @@ fn place_of(setup: Setup, number: u64) -> Place
 }
 
 fn open_at(world: &mut World, node: usize, worker: usize) -> Result<Option<ConnId>, Memory>
-    ensures moves { IfOk result (λ opened. Moves world.old world.new [] [] (option_map connection_of opened) None) }
+    ensures moves { IfOk result (λ opened. Moves world.old world.new (opening (option_map connection_of opened))) }
     ensures refuses { IfOk result (λ opened. IfNone opened (Refuses world.old world.new node worker)) }
+    ensures stands { IfOk result (λ opened. IfSome opened (λ conn. StandsAt world.old world.new node worker (connection_of conn))) }
 {
     match world.open(node, worker)? {
         Outcome::Opened(conn) => Ok(Some(conn)),
@@ -50,8 +54,9 @@ fn open_at(world: &mut World, node: usize, worker: usize) -> Result<Option<ConnI
 
 /// Opens a connection at the place of its number, or at that worker of the next node that takes it.
 pub(crate) fn open(world: &mut World, number: u64) -> Result<Option<ConnId>, Memory>
-    ensures moves { IfOk result (λ opened. Moves world.old world.new [] [] (option_map connection_of opened) None) }
-    ensures full { IfOk result (λ opened. IfNone opened (FindsFull world.old world.new)) }
+    ensures moves { IfOk result (λ opened. Moves world.old world.new (opening (option_map connection_of opened))) }
+    ensures full { IfOk result (λ opened. IfNone opened (FindsFull world.old)) }
+    ensures placed { IfOk result (λ opened. IfSome opened (λ conn. Places world.old world.new number (connection_of conn))) }
 {
     let setup = world.setup();
     let place = place_of(setup, number);
@@ -69,7 +74,7 @@ pub(crate) fn open(world: &mut World, number: u64) -> Result<Option<ConnId>, Mem
 pub(crate) fn feed(world: &mut World, conn: ConnId, moment: u64, bytes: &[u8]) -> Result<(), Memory>
     requires { StandsIn world.old (connection_of conn) standings.Open }
     ensures { OnOk result (Moves world.old world.new
-        (record { connection = connection_of conn; moment = moment_of moment; bytes = bytes.now } ∷ []) [] None None) }
+        (Fed (record { connection = connection_of conn; moment = moment_of moment; bytes = bytes.now }) ∷ [])) }
 {
     world.feed(conn, moment, bytes)?;
     Ok(())
@@ -83,9 +88,9 @@ pub(crate) fn settle(world: &mut World) -> Result<Vec<Handed>, Memory>
     Ok(handed)
 }
 
-/// Closes a connection, where it isn't closed yet, at a moment in milliseconds.
+/// Closes a connection, where it takes room, at a moment in milliseconds.
 pub(crate) fn close(world: &mut World, conn: ConnId, moment: u64) -> Result<(), Memory>
-    ensures { OnOk result (Moves world.old world.new [] [] None (Some (connection_of conn))) }
+    ensures { OnOk result (Closes world.old world.new (connection_of conn)) }
 {
     world.close(conn, moment)?;
     Ok(())

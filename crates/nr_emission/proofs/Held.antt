@@ -6,8 +6,7 @@ use Rattle.std.proofs.Math.Seq.{drop-append_seam}
 use Rattle.nr_model.specs.Bytes.{Bytes}
 use Rattle.nr_entry.specs.declared.conn.ConnId.{ConnId}
 use Rattle.nr_entry.specs.Jobs.{connection_of}
-use Rattle.nr_emission.specs.Emitted.{Written}
-use Rattle.nr_emission.specs.Staged.{written_in, IsWithin, AreWithin}
+use Rattle.nr_emission.specs.Staged.{written_in, IsWithin, AreWithin, bytes_named, AreHeld}
 use Rattle.nr_emission.specs.declared.staging.Staged.{Staged}
 use Rattle.nr_emission.specs.declared.staging.Staged.TheVariants.{Reply, Message}
 
@@ -45,21 +44,29 @@ and_one : (bytes : Bytes) (all : List Staged) (one : Staged) → AreWithin bytes
 and_one bytes [] one within last = (last, tt)
 and_one bytes (first ∷ all) one within last = (within.0, and_one bytes all one within.1 last)
 
+named_more : (all : List Staged) (one : Staged) → bytes_named (all ++ one ∷ []) ≡ bytes_named all + bytes_named (one ∷ [])
+named_more [] one = omega arith
+named_more (Reply conn from len ∷ all) one = omega (arith, named_more all one)
+named_more (Message conn message ∷ all) one = named_more all one
+
 -- a reply is written
 pub reply_held : (bytes text bytes' : Bytes) (all all' : List Staged) (conn : ConnId) (from len : ℕ) → bytes' ≡ bytes ++ text → from ≡ length bytes
-    → len ≡ length bytes' - from → all' ≡ all ++ Reply conn from len ∷ [] → AreWithin bytes all → AreWithin bytes' all'
-reply_held bytes text bytes' all all' conn from len is start size more within =
+    → len ≡ length bytes' - from → all' ≡ all ++ Reply conn from len ∷ [] → AreHeld bytes all → AreHeld bytes' all'
+reply_held bytes text bytes' all all' conn from len is start size more held =
     let long : length bytes' ≡ length bytes + length text = ap length is ∙ length-append bytes text in
-    let before : AreWithin bytes' all = subst (λ (b : Bytes). AreWithin b all) (sym is) (all_within bytes text all within) in
-    subst (AreWithin bytes') (sym more) (and_one bytes' all (Reply conn from len) before (omega (arith, start, size, long)))
+    let before : AreWithin bytes' all = subst (λ (b : Bytes). AreWithin b all) (sym is) (all_within bytes text all held.within) in
+    record {
+      within = subst (AreWithin bytes') (sym more) (and_one bytes' all (Reply conn from len) before (omega (arith, start, size, long)));
+      exact = omega (arith, start, size, long, held.exact, ap bytes_named more, named_more all (Reply conn from len));
+    }
 
 pub reply_seen : (bytes text bytes' : Bytes) (all all' : List Staged) (conn : ConnId) (from len : ℕ) → bytes' ≡ bytes ++ text → from ≡ length bytes
-    → len ≡ length bytes' - from → all' ≡ all ++ Reply conn from len ∷ [] → AreWithin bytes all
+    → len ≡ length bytes' - from → all' ≡ all ++ Reply conn from len ∷ [] → AreHeld bytes all
     → map (written_in bytes') all' ≡ map (written_in bytes) all ++ record { connection = connection_of conn; bytes = text } ∷ []
-reply_seen bytes text bytes' all all' conn from len is start size more within =
+reply_seen bytes text bytes' all all' conn from len is start size more held =
     let long : length bytes' ≡ length bytes + length text = ap length is ∙ length-append bytes text in
     let old : map (written_in bytes') all ≡ map (written_in bytes) all =
-    ap (λ (b : Bytes). map (written_in b) all) is ∙ all_kept bytes text all within in
+    ap (λ (b : Bytes). map (written_in b) all) is ∙ all_kept bytes text all held.within in
     let behind : drop from bytes' ≡ text = (λ i. drop (start i) (is i)) ∙ drop-append_seam bytes text in
     let whole : take len (drop from bytes') ≡ text = ap (take len) behind ∙ take_all len text (omega (arith, start, size, long)) in
     ap (map (written_in bytes')) more
@@ -67,6 +74,9 @@ reply_seen bytes text bytes' all all' conn from len is start size more within =
     ∙ (λ i. old i ++ record { connection = connection_of conn; bytes = whole i } ∷ [])
 
 -- a message is kept
-pub message_held : (bytes : Bytes) (all all' : List Staged) (one : Staged) → all' ≡ all ++ one ∷ [] → IsWithin bytes one → AreWithin bytes all
-    → AreWithin bytes all'
-message_held bytes all all' one more last within = subst (AreWithin bytes) (sym more) (and_one bytes all one within last)
+pub message_held : (bytes : Bytes) (all all' : List Staged) (one : Staged) → all' ≡ all ++ one ∷ [] → IsWithin bytes one → bytes_named (one ∷ []) ≡ 0
+    → AreHeld bytes all → AreHeld bytes all'
+message_held bytes all all' one more last none held = record {
+  within = subst (AreWithin bytes) (sym more) (and_one bytes all one held.within last);
+  exact = omega (arith, held.exact, ap bytes_named more, named_more all one, none);
+}

@@ -1,14 +1,16 @@
 // Counts, as replies show them.
-ghost use Rattle.std.specs.Prelude.{◌≡◌, ◌+◌, IfOk, pos};
+ghost use Rattle.std.specs.Prelude.{◌≡◌, ◌+◌, ◌<◌, ◌^◌, IfOk, IsOk, pos};
 ghost use Rattle.nr_model.specs.Replies as model;
 ghost use Rattle.nr_resp.specs.Seen.{reply_of};
 
 use nr_blob::Memory;
 use nr_resp::Reply;
 
-/// A count as a reply. What is counted takes memory, so there is none left before a count is more than a reply shows.
+/// A count as a reply, refused from 2^63 on alone. What is counted takes memory, so there is none left before a count is more than
+/// a reply shows.
 pub(crate) fn count_reply(count: usize) -> Result<Reply, Memory>
-    ensures { IfOk result (λ reply. reply_of reply ≡ model.Int (pos count)) }
+    ensures ok { IfOk result (λ reply. reply_of reply ≡ model.Int (pos count)) }
+    ensures few { count < 2 ^ 63 → IsOk result }
 {
     if count > i64::MAX as usize {
         return Err(Memory);
@@ -16,9 +18,10 @@ pub(crate) fn count_reply(count: usize) -> Result<Reply, Memory>
     Ok(Reply::Int(count as i64))
 }
 
-/// Two counts together, or no memory where the sum is more than any count of what is stored.
+/// Two counts together, or no memory where the sum is 2^64 or more, which is more than any count of what is stored.
 pub(crate) fn together(count: usize, more: usize) -> Result<usize, Memory>
-    ensures { IfOk result (λ sum. sum ≡ count + more) }
+    ensures ok { IfOk result (λ sum. sum ≡ count + more) }
+    ensures few { count + more < 2 ^ 64 → IsOk result }
 {
     match count.checked_add(more) {
         Some(sum) => Ok(sum),

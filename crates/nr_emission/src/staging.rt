@@ -37,13 +37,13 @@ pub struct Staging {
 impl Model for Staging {
     ghost use Rattle.std.specs.Prelude.{List, map};
     ghost use Rattle.nr_emission.specs.Emitted.{Written};
-    ghost use Rattle.nr_emission.specs.Staged.{written_in, AreWithin};
+    ghost use Rattle.nr_emission.specs.Staged.{written_in, AreHeld};
 
     ghost Value = { List Written };
 
     ghost view = { λ s. map (written_in s.bytes.items) s.staged.items };
 
-    ghost invariant = { λ s. AreWithin s.bytes.items s.staged.items };
+    ghost invariant = { λ s. AreHeld s.bytes.items s.staged.items };
 }
 
 impl Staging {
@@ -90,17 +90,15 @@ impl Sink for Staging {
 
     ghost after = { written_after };
 
-    #[tactic(auto, using(crate::proofs::Held::reply_held, crate::proofs::Held::reply_seen))]
     fn put(&mut self, conn: ConnId, shown: Shown<'_>) -> Result<(), Memory> {
         self.staged.reserve(1)?;
         let from = self.bytes.len();
         shown.write(&mut self.bytes)?;
         let len = self.bytes.len() - from;
-        self.staged.push(Staged::Reply { conn, from, len })?;
+        self.staged.push_reserved(Staged::Reply { conn, from, len });
         Ok(())
     }
 
-    #[tactic(auto, using(crate::proofs::Held::message_held))]
     fn share(&mut self, conn: ConnId, message: &Arc<Vec<u8>>) -> Result<(), Memory> {
         let message = Arc::try_clone(message)?;
         self.staged.push(Staged::Message { conn, message })?;

@@ -1,5 +1,4 @@
 pub mod Marks
-pub mod Moving
 pub mod Taking
 pub mod Crossing
 pub mod Changes

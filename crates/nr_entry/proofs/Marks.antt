@@ -14,28 +14,6 @@ use Rattle.nr_entry.specs.declared.job.Job.{Job}
 use Rattle.nr_entry.specs.Jobs.{connection_of, conn_cmp, item_of, items_of}
 use Rattle.nr_entry.specs.Choice.{marked, unmarked, is_blocked, leads_among, is_taken, room_behind, leading_marks, room_after}
 
--- marks of the jobs with one more
-before_none : (before : Jobs) → before ++ [] ≡ before
-before_none before = append-nil before
-
-pub leading_marks-push : (leads : Jobs → Item → Bool) (room : ℕ) (before jobs : Jobs) (job : Item)
-    → leading_marks leads room before (jobs ++ job ∷ []) ≡ leading_marks leads room before jobs ++ is_taken leads (room_after leads room before jobs) (before ++ jobs) job ∷ []
-leading_marks-push leads room before [] job = ap (λ (b : Jobs). is_taken leads room b job ∷ []) (sym (before_none before))
-leading_marks-push leads room before (x ∷ jobs) job =
-    let first = is_taken leads room before x in
-    let less = room_behind first room in
-    ap (λ (marks : List Bool). first ∷ marks)
-    (leading_marks-push leads less (before ++ x ∷ []) jobs job
-    ∙ ap (λ (b : Jobs). leading_marks leads less (before ++ x ∷ []) jobs ++ is_taken leads (room_after leads less (before ++ x ∷ []) jobs) b job ∷ []) (append_assoc before (x ∷ []) jobs))
-
-pub room_after-push : (leads : Jobs → Item → Bool) (room : ℕ) (before jobs : Jobs) (job : Item)
-    → room_after leads room before (jobs ++ job ∷ []) ≡ room_behind (is_taken leads (room_after leads room before jobs) (before ++ jobs) job) (room_after leads room before jobs)
-room_after-push leads room before [] job = ap (λ (b : Jobs). room_behind (is_taken leads room b job) room) (sym (before_none before))
-room_after-push leads room before (x ∷ jobs) job =
-    let less = room_behind (is_taken leads room before x) room in
-    room_after-push leads less (before ++ x ∷ []) jobs job
-    ∙ ap (λ (b : Jobs). room_behind (is_taken leads (room_after leads less (before ++ x ∷ []) jobs) b job) (room_after leads less (before ++ x ∷ []) jobs)) (append_assoc before (x ∷ []) jobs)
-
 -- the marked jobs are the first that lead
 take_none : (jobs : Jobs) → take zero jobs ≡ []
 take_none [] = refl
@@ -129,16 +107,6 @@ pub length-leading_marks : (leads : Jobs → Item → Bool) (room : ℕ) (before
 length-leading_marks leads room before [] = refl
 length-leading_marks leads room before (x ∷ jobs) = ap suc (length-leading_marks leads (room_behind (is_taken leads room before x) room) (before ++ x ∷ []) jobs)
 
--- connections compared
-tied : (a b : ℕ) (o : Ordering) → is_eq (ordering_then (nat_cmp a b) o) ≡ (a == b && is_eq o)
-tied a b o = grind (arith, nat_tests)
-
-tied_last : (a b : ℕ) → is_eq (nat_cmp a b) ≡ (a == b)
-tied_last a b = grind (arith, nat_tests)
-
-pub same_cmp : (a b : ConnId) → is_eq (conn_cmp a b) ≡ same_connection (connection_of a) (connection_of b)
-same_cmp a b = tied a.node b.node (nat_cmp a.serial b.serial) ∙ ap (λ t. a.node == b.node && t) (tied_last a.serial b.serial)
-
 -- one more job blocks its connection, where it is of the other kind
 or_none : (b : Bool) → (b || false) ≡ b
 or_none true = refl
@@ -181,25 +149,6 @@ blocked_as_before updates c jobs job own_kind =
     ∙ ap (λ (b : Bool). is_blocked updates c jobs || b) (and_none (same_connection job.connection c))
     ∙ or_none (is_blocked updates c jobs)
 
-and_all : (b : Bool) → (b && true) ≡ b
-and_all true = refl
-and_all false = refl
-
-or_cond : (a b : Bool) → cond b true a ≡ (a || b)
-or_cond true true = refl
-or_cond true false = refl
-or_cond false true = refl
-or_cond false false = refl
-
--- one of the other kind blocks its connection
-pub blocked_more : (updates : Bool) (c : Connection) (jobs : Jobs) (job : Item) (same : Bool) → beq (is_update job.deed) updates ≡ false → same ≡ same_connection job.connection c
-    → cond same true (is_blocked updates c jobs) ≡ is_blocked updates c (jobs ++ job ∷ [])
-blocked_more updates c jobs job same other_kind is =
-    or_cond (is_blocked updates c jobs) same
-    ∙ ap (λ (b : Bool). is_blocked updates c jobs || b) (is ∙ sym (and_all (same_connection job.connection c)))
-    ∙ ap (λ (b : Bool). is_blocked updates c jobs || (same_connection job.connection c && not b)) (sym other_kind)
-    ∙ sym (is_blocked-push updates c jobs job)
-
 -- which job is taken
 beq_true : (b : Bool) → beq b true ≡ true → b ≡ true
 beq_true true e = refl
@@ -221,54 +170,6 @@ pub leads_is : (updates : Bool) (jobs : Jobs) (job : Item) → beq (is_update jo
 leads_is true jobs job own_kind = let update : is_update job.deed ≡ true = beq_true (is_update job.deed) own_kind in ap (λ (b : Bool). b && not (has_read_of job.connection jobs)) update
 leads_is false jobs job own_kind = let read : is_update job.deed ≡ false = beq_false (is_update job.deed) own_kind in ap (λ (b : Bool). not b && not (has_update_of job.connection jobs)) read
 
-pub taken_with_room : (updates : Bool) (room : ℕ) (jobs : Jobs) (job : Item) (blocked : Bool) → beq (is_update job.deed) updates ≡ true → 0 < room → blocked ≡ is_blocked updates job.connection jobs
-    → not blocked ≡ is_taken (leads_among updates) room jobs job
-taken_with_room updates zero jobs job blocked own_kind some is = absurd (omega arith)
-taken_with_room updates (suc room) jobs job blocked own_kind some is = ap not is ∙ sym (leads_is updates jobs job own_kind)
-
-pub none_without_room : (updates : Bool) (room : ℕ) (jobs : Jobs) (job : Item) → room ≤ 0 → false ≡ is_taken (leads_among updates) room jobs job
-none_without_room updates zero jobs job none = refl
-none_without_room updates (suc room) jobs job none = absurd (omega arith)
-
 pub other_leads_not : (updates : Bool) (jobs : Jobs) (job : Item) → beq (is_update job.deed) updates ≡ false → leads_among updates jobs job ≡ false
 other_leads_not true jobs job other = ap (λ (b : Bool). b && not (has_read_of job.connection jobs)) (not_beq_true (is_update job.deed) other)
 other_leads_not false jobs job other = ap (λ (b : Bool). not b && not (has_update_of job.connection jobs)) (not_beq_false (is_update job.deed) other)
-
-pub other_not_taken : (updates : Bool) (room : ℕ) (jobs : Jobs) (job : Item) → beq (is_update job.deed) updates ≡ false → false ≡ is_taken (leads_among updates) room jobs job
-other_not_taken updates zero jobs job other = refl
-other_not_taken updates (suc room) jobs job other = sym (other_leads_not updates jobs job other)
-
-pub room_taken : (room : ℕ) → room - 1 ≡ room_behind true room
-room_taken zero = refl
-room_taken (suc room) = omega arith
-
--- a step of the loop
-pub items_more : (xs : List Job) (i : ℕ) (x : Job) → i < length xs → x ≡ get_or xs i x → items_of (take (i + 1) xs) ≡ items_of (take i xs) ++ item_of x ∷ []
-items_more xs i x lt is = ap items_of (take_more xs i x lt ∙ ap (λ (y : Job). take i xs ++ y ∷ []) (sym is)) ∙ map-append item_of (take i xs) (x ∷ [])
-
-pub marks_more : (leads : Jobs → Item → Bool) (most room : ℕ) (jobs more : Jobs) (job : Item) (marks new : List Bool) (taken : Bool)
-    → more ≡ jobs ++ job ∷ []
-    → marks ≡ leading_marks leads most [] jobs
-    → room ≡ room_after leads most [] jobs
-    → taken ≡ is_taken leads room jobs job
-    → new ≡ marks ++ taken ∷ []
-    → new ≡ leading_marks leads most [] more
-marks_more leads most room jobs more job marks new taken one so_far left is pushed =
-    pushed
-    ∙ ap (λ (ms : List Bool). ms ++ taken ∷ []) so_far
-    ∙ ap (λ (t : Bool). leading_marks leads most [] jobs ++ t ∷ []) (is ∙ ap (λ (r : ℕ). is_taken leads r jobs job) left)
-    ∙ sym (leading_marks-push leads most [] jobs job)
-    ∙ ap (leading_marks leads most []) (sym one)
-
-pub room_more : (leads : Jobs → Item → Bool) (most room left : ℕ) (jobs more : Jobs) (job : Item) (taken : Bool)
-    → more ≡ jobs ++ job ∷ []
-    → room ≡ room_after leads most [] jobs
-    → taken ≡ is_taken leads room jobs job
-    → left ≡ room_behind taken room
-    → left ≡ room_after leads most [] more
-room_more leads most room left jobs more job taken one so_far is less =
-    less
-    ∙ ap (λ (t : Bool). room_behind t room) is
-    ∙ ap (λ (r : ℕ). room_behind (is_taken leads r jobs job) r) so_far
-    ∙ sym (room_after-push leads most [] jobs job)
-    ∙ ap (room_after leads most []) (sym one)

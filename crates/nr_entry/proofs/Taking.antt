@@ -15,9 +15,6 @@ pub how_many : (jobs : List Job) → length (items_of jobs) ≡ length jobs
 how_many [] = refl
 how_many (x ∷ jobs) = ap suc (how_many jobs)
 
-pub one_mark_each : (leads : Jobs → Item → Bool) (most : ℕ) (waiting : List Job) (marks : List Bool) → marks ≡ leading_marks leads most [] (items_of waiting) → length marks ≡ length waiting
-one_mark_each leads most waiting marks is = ap length is ∙ length-leading_marks leads most [] (items_of waiting) ∙ how_many waiting
-
 pub taken_lead : (leads : Jobs → Item → Bool) (most : ℕ) (waiting taken : List Job) (marks : List Bool)
     → marks ≡ leading_marks leads most [] (items_of waiting)
     → taken ≡ marked marks waiting

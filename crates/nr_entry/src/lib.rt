@@ -2,7 +2,6 @@
 #![tactic(auto)]
 
 pub use batch::{Answer, Batch, Outcome, Refusal};
-pub use choice::{take_reads, take_updates};
 pub use conn::ConnId;
 pub use entry::{Entry, MOST_JOBS};
 pub use job::{Job, JobKind, Queueable, Queued, Read, SessionUpdate, Transaction, Update};
@@ -11,7 +10,6 @@ pub use waiting::Waiting;
 
 mod batch;
 mod blocked;
-mod choice;
 mod conn;
 mod entry;
 mod job;

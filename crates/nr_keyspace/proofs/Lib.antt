@@ -11,3 +11,4 @@ pub mod Listed
 pub mod Counted
 pub mod Seen
 pub mod Edited
+pub mod Swept

@@ -5,3 +5,4 @@ pub mod Names
 pub mod Seen
 pub mod Stores
 pub mod Values
+pub mod Swept

@@ -280,10 +280,11 @@ impl Database {
         while self.take_expired(now) {}
     }
 
-    /// Takes a few expired names out, the earliest first.
+    /// Takes a few expired names out, the earliest first. Says whether there may be more.
     pub(crate) fn sweep_some(&mut self, now: u64) -> bool
         ensures same_live { (name : Bytes) → only_live now (map.get self.new name) ≡ only_live now (map.get self.old name) }
         ensures few { map.len self.old ≤ map.len self.new + 4 }
+        ensures taken { result ≡ true → map.len self.new + 4 ≡ map.len self.old }
         ensures all { result ≡ false → (name : Bytes) → only_live now (map.get self.new name) ≡ map.get self.new name }
     {
         for _ in 0..SWEPT_AT_ONCE {

@@ -8,6 +8,7 @@ ghost use Rattle.nr_keyspace.specs.Values.{value_of};
 ghost use Rattle.nr_keyspace.specs.Edited.{IsEdited};
 ghost use Rattle.nr_keyspace.specs.Stores.{is_undated, redated};
 ghost use Rattle.nr_keyspace.specs.Joined.{key_of, store_at, exchanged, IsSwept};
+ghost use Rattle.nr_keyspace.specs.Swept.{IsSweptAt};
 
 use crate::database::Database;
 use crate::db::{DATABASES, Db};
@@ -218,9 +219,10 @@ impl Databases {
         sweep_each(&mut self.databases, now);
     }
 
-    /// Takes a few of the keys of one database out that are gone at the moment.
+    /// Takes a few of the keys of one database out that are gone at the moment. Says whether there may be more.
     pub(crate) fn sweep_some(&mut self, now: u64, database: Db) -> bool
-        ensures { model.live self.new now ≡ model.live self.old now }
+        ensures same_live { model.live self.new now ≡ model.live self.old now }
+        ensures swept { IsSweptAt now database result self.old self.new }
     {
         self.databases[database.index()].sweep_some(now)
     }

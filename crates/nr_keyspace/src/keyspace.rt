@@ -9,6 +9,7 @@ ghost use Rattle.nr_keyspace.specs.Edited.{IsEdited};
 ghost use Rattle.nr_keyspace.specs.Stores.{is_undated, redated};
 ghost use Rattle.nr_keyspace.specs.Joined.{key_of, exchanged};
 ghost use Rattle.nr_keyspace.specs.Seen.{seen_after, is_seen_after};
+ghost use Rattle.nr_keyspace.specs.Swept.{IsSweptInTurn};
 
 use crate::databases::Databases;
 use crate::db::Db;
@@ -64,6 +65,18 @@ fn settle(databases: &mut Databases, latest: Option<u64>, deadline: Option<i64>)
     }
     databases.sweep(moment);
     None
+}
+
+// Takes a few of the keys out that are gone at the moment, of the database whose turn it is. The turn passes on exactly where none of
+// them is left there.
+fn sweep_in_turn(databases: &mut Databases, turn: &mut Db, now: u64)
+    ensures same_live { model.live databases.new now ≡ model.live databases.old now }
+    ensures swept { IsSweptInTurn now turn.old turn.new databases.old databases.new }
+{
+    if databases.sweep_some(now, *turn) {
+        return;
+    }
+    *turn = turn.next();
 }
 
 impl Keyspace {
@@ -220,10 +233,7 @@ impl Keyspace {
         ensures { self.new ≡ model.live self.old now }
     {
         let now = later(self.latest, now);
-        let more = self.databases.sweep_some(now, self.turn);
+        sweep_in_turn(&mut self.databases, &mut self.turn, now);
         self.latest = Some(now);
-        if !more {
-            self.turn = self.turn.next();
-        }
     }
 }

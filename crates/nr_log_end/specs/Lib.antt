@@ -1,2 +1,3 @@
 pub mod Standings
 pub mod Reserves
+pub mod Tries

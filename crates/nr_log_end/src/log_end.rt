@@ -1,11 +1,12 @@
 // One node's end of the log.
-ghost use Rattle.std.specs.Prelude.{◌≡◌, ◌<◌, ◌≤◌, IfSome, IfNone, IsSome, None, slice_index_or};
+ghost use Rattle.std.specs.Prelude.{◌≡◌, ◌≤◌, ◌∷◌, ◌++◌, [], IfSome, IfNone, IsSome, None, slice_index_or};
 ghost use Rattle.std.specs.Arc.{arc_value};
-ghost use Rattle.nr_log_end.specs.Standings.{LooksOn, IsSharesFor, IsAllFilled, StandsInLog, reserved_as, filled_for, fetched_with, passed_on, noted_with};
+ghost use Rattle.nr_log_end.specs.Standings.{LooksOn, IsSharesFor, IsAllFilled, StandsInLog, filled_for, fetched_with, passed_on, noted_with};
 ghost use Rattle.nr_log_end.specs.Reserves.{IfTaken, IfFull, IfLost};
+ghost use Rattle.nr_log_end.specs.Tries.{IsTaken, IsFull, IsLost};
 
 use crate::reserve::Reserve;
-use crate::standing::Standing;
+use crate::standing::{Look, Standing};
 use nr_entry::{Entry, Job, Shares};
 use std::alloc::Global;
 use std::sync::Arc;
@@ -13,7 +14,9 @@ use std::sync::Arc;
 /// One node's end of the operation log. Entries have the numbers 0, 1, 2 and so on, in the order in which they were reserved, and each node
 /// fetches all of them in this order. No call waits or takes memory.
 pub trait LogEnd {
+    ghost use Rattle.std.specs.Prelude.{ℕ, List};
     ghost use Rattle.nr_log_end.specs.declared.standing.Standing.{Standing};
+    ghost use Rattle.nr_log_end.specs.declared.standing.Look.{Look};
 
     /// What an end knew at one moment.
     type Token;
@@ -22,13 +25,19 @@ pub trait LogEnd {
 
     ghost kept_by: { Self.Token → Standing };
 
+    /// The loads of the tail and of passed counts that an end has made, in order.
+    ghost looks: { Self → List Look };
+
+    /// How many places the log has.
+    ghost places: { ℕ };
+
     /// Tries once to reserve the next number for an entry of this node.
     fn reserve(&mut self, shares: Shares) -> Reserve
         requires shares { IsSharesFor (standing self.old) shares }
         requires filled { IsAllFilled (standing self.old) }
-        ensures taken { IfTaken result (λ at. ((standing self.old).seen ≤ at) × (standing self.new ≡ reserved_as at shares (standing self.old))) }
-        ensures full { IfFull result (λ back. (back ≡ shares) × LooksOn (standing self.old) (standing self.new)) }
-        ensures lost { IfLost result (λ back. (back ≡ shares) × LooksOn (standing self.old) (standing self.new) × ((standing self.old).seen < (standing self.new).seen)) };
+        ensures taken { IfTaken result (λ at. IsTaken (standing self.old) (looks self.old) at shares (standing self.new) (looks self.new)) }
+        ensures full { IfFull result (λ back. (back ≡ shares) × IsFull (standing self.old) (looks self.old) places (standing self.new) (looks self.new)) }
+        ensures lost { IfLost result (λ back. (back ≡ shares) × IsLost (standing self.old) (looks self.old) (standing self.new) (looks self.new)) };
 
     /// Puts a node's share of the entry that was reserved last into that node's cell.
     fn fill(&mut self, at: u64, node: usize)
@@ -51,12 +60,14 @@ pub trait LogEnd {
     /// How many entries were reserved.
     fn tail(&mut self) -> u64
         ensures tail { result ≡ (standing self.new).seen }
-        ensures standing { LooksOn (standing self.old) (standing self.new) };
+        ensures standing { LooksOn (standing self.old) (standing self.new) }
+        ensures looks { looks self.new ≡ looks self.old ++ Look.Tail result ∷ [] };
 
     /// Notes that this node's replica has run a read, behind the entries that were passed so far.
     fn note(&mut self, job: &Job)
         ensures noted { standing self.new ≡ noted_with job.now (standing self.new).seen (standing self.old) }
-        ensures seen { (standing self.old).seen ≤ (standing self.new).seen };
+        ensures seen { (standing self.old).seen ≤ (standing self.new).seen }
+        ensures looks { looks self.new ≡ looks self.old ++ Look.Tail (standing self.new).seen ∷ [] };
 
     /// A token that keeps how this end stands now.
     fn token(&mut self) -> Self::Token

@@ -10,6 +10,14 @@ pub enum Turn {
     Ran(Job),
 }
 
+/// A load that an end made, and what it found. No value of it is made: contracts alone speak of it.
+pub enum Look {
+    /// The tail.
+    Tail(u64),
+    /// The count of entries that a node has passed.
+    Passed(u64, u64),
+}
+
 /// How a node stands to the log: what its seat has met of it, and done. No value of it is made: contracts alone speak of it.
 pub struct Standing {
     /// The node, and how many nodes the log has.

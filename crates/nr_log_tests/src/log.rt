@@ -43,6 +43,16 @@ fn seats_in_turn(rt: HostRuntime) -> Result<(), Fail> {
     Ok(())
 }
 
+// The largest log that is allowed takes an entry, and gives it.
+#[test]
+fn with_65536_places(rt: HostRuntime) -> Result<(), Fail> {
+    let moves = [(1, Move::Append(50)), (0, Move::Take)];
+    let outcomes = play(rt.alloc(), 2, 65_536, &moves).expect(&rt, "memory");
+    assert!(&rt; outcomes.get(0) == Some(&Outcome::At(0)));
+    assert!(&rt; outcomes.get(1) == Some(&Outcome::Took(50)));
+    Ok(())
+}
+
 // Whether each node took the same entries in the same order.
 fn agree(lists: &[Vec<u64>]) -> bool {
     lists.iter().all(|list| Some(list) == lists.first())

@@ -127,6 +127,19 @@ fn slots_in_turn(rt: HostRuntime) -> Result<(), Fail> {
     Ok(())
 }
 
+// A batch of the last of sixteen workers goes over and back.
+#[test]
+fn last_of_16(rt: HostRuntime) -> Result<(), Fail> {
+    let Ok((slots, mut seats, mut combiner)) = Slots::open(rt.alloc(), 16) else {
+        panic!(rt; "no memory");
+    };
+    let Some(mut last) = seats.pop() else {
+        panic!(rt; "no seat");
+    };
+    hand_once(&rt, rt.alloc(), &slots, &mut last, &mut combiner, 15, 0);
+    Ok(())
+}
+
 #[test]
 fn opens_for_1_to_16(rt: HostRuntime) -> Result<(), Fail> {
     for workers in [0, 17, usize::MAX] {

@@ -3,11 +3,10 @@ use Rattle.std.proofs.Common.{◌≡◌, ℕ, Bool, true, false, cond, inl, inr,
 use Rattle.std.proofs.lemmas.Bool.{cases_Bool, and_cases, ltb-true, ltb-false, not-true}
 use Rattle.std.proofs.lemmas.List.{append-nil}
 use Rattle.std.proofs.lemmas.List.Concat.{flat_map-append}
-use Rattle.nr_model.specs.Bytes.{Bytes}
+use Rattle.nr_model.specs.Bytes.{Bytes, IsBeginningOf}
 use Rattle.nr_model.specs.Items.{Connection}
 use Rattle.nr_model.specs.Sequential.{emitted_for}
-use Rattle.nr_model.specs.Worlds.{Setup, Handed, handed_to}
-use Rattle.nr_model.specs.Explains.{IsBeginningOf}
+use Rattle.nr_model.specs.Connections.{Setup, Handed, handed_to}
 use Rattle.nr_model.specs.Nodes.{World, fresh, fresh_node, node_at, client_of, sequence_of, part_of}
 use Rattle.nr_model.specs.Nodes.Steps.{Outcome, is_client, outcome}
 use Rattle.nr_model.specs.Nodes.Pasts.{Event, IsEvent, is_done, handed_by, after_event, world_after, AreEvents, handed_in}

@@ -9,11 +9,11 @@ use Rattle.nr_model.specs.Sequential.Events.{Emission}
 use Rattle.nr_model.specs.Servers as servers
 use Rattle.nr_model.specs.Servers.{after_all, emitted_all}
 use Rattle.nr_model.specs.Entries.{entry_items, read_jobs}
-use Rattle.nr_model.specs.Worlds.{Handed, handed_to}
+use Rattle.nr_model.specs.Connections.{Handed, handed_to}
 use Rattle.nr_model.specs.Nodes.{Client, fresh_client, Node, Taken, Reads, Logged, log_of, part_from}
 use Rattle.nr_model.specs.Nodes.Steps.{Cut, Refused, delivered_to, with_executed, passing, fallen, with_entry, falls_at, advanced, advanced_by, with_reads}
-use Rattle.nr_model.proofs.WorldsTaken.{look_reads}
-use Rattle.nr_model.proofs.WorldsEmitted.{after_all-append, emitted_for-more}
+use Rattle.nr_model.proofs.Choices.{look_reads}
+use Rattle.nr_model.proofs.Emitted.{after_all-append, emitted_for-more}
 use Rattle.nr_model.proofs.NodesParts.{ReadsWithin, part_of_own, part_applied, within_own, within_applied}
 use Rattle.nr_model.proofs.NodesPartsEmitted.{AreRun, after_reads}
 use Rattle.nr_model.proofs.NodesAccountsQueues.{IsReceived, delivered_received, delivered_connection}

@@ -6,11 +6,11 @@ use Rattle.std.proofs.lemmas.List.{append-nil, length-map, get_or-map}
 use Rattle.nr_model.specs.Bytes.{Bytes}
 use Rattle.nr_model.specs.Items.{Connection, same_connection}
 use Rattle.nr_model.specs.Sequential.{emitted_for}
-use Rattle.nr_model.specs.Worlds.{Handed, handed_to, is_some_bytes}
+use Rattle.nr_model.specs.Connections.{Handed, handed_to, is_some_bytes}
 use Rattle.nr_model.specs.Nodes.{Client, fresh_client, Worker, Node, Taken, part_from}
 use Rattle.nr_model.specs.Nodes.Steps.{collected, emptied}
-use Rattle.nr_model.proofs.WorldsLists.{same_self}
-use Rattle.nr_model.proofs.WorldsHanded.{handed_to-append}
+use Rattle.nr_model.proofs.JobLists.{same_self}
+use Rattle.nr_model.proofs.Exchanged.{handed_to-append}
 use Rattle.nr_model.proofs.NodesAccountsQueues.{IsBegun, IsReceived, taken_from, emptied_is_begun, emptied_received}
 use Rattle.nr_model.proofs.NodesAccountsKept.{connection_at, client_in, queue_in, all_taken, IsKept}
 use Rattle.nr_model.proofs.NodesAccountsApplied.{AreNumbered}

@@ -12,9 +12,9 @@ use Rattle.nr_model.specs.Servers as servers
 use Rattle.nr_model.specs.Servers.{after_all, emitted_all}
 use Rattle.nr_model.specs.Entries.{Jobs}
 use Rattle.nr_model.specs.Queues.{Queue}
-use Rattle.nr_model.specs.Worlds.{Handed, handed_to}
+use Rattle.nr_model.specs.Connections.{Handed, handed_to}
 use Rattle.nr_model.specs.Nodes.{Client, fresh_client, Node, Taken, Entry, Reads, log_of, items_taken, part_from, Worker}
-use Rattle.nr_model.proofs.WorldsEmitted.{emitted_for-more}
+use Rattle.nr_model.proofs.Emitted.{emitted_for-more}
 use Rattle.nr_model.proofs.NodesParts.{ReadsWithin, part_of_entry, part_of_other, within_entry, within_other}
 use Rattle.nr_model.proofs.NodesPartsEmitted.{AreRun, begins_on, part_emits}
 use Rattle.nr_model.proofs.NodesAccountsQueues.{IsBegun, IsReceived, begun_more, all_begun}

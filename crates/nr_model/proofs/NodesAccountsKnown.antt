@@ -6,14 +6,15 @@ use Rattle.std.proofs.Common.{ltb}
 use Rattle.std.proofs.lemmas.Bool.{cases_Bool, and_from, lt-ltb}
 use Rattle.nr_model.specs.Items.{Connection, same_connection, Item}
 use Rattle.nr_model.specs.Entries.{Jobs}
-use Rattle.nr_model.specs.Worlds.{Setup, own_jobs, handed_to}
+use Rattle.nr_model.specs.Connections.{Setup, handed_to}
+use Rattle.nr_model.specs.Asked.{own_jobs}
 use Rattle.nr_model.specs.Sequential.{emitted_for}
-use Rattle.nr_model.specs.Explains.{IsBeginningOf}
+use Rattle.nr_model.specs.Bytes.{IsBeginningOf}
 use Rattle.nr_model.specs.Nodes.{Taken, Entry, Reads, Node, World, fresh, node_at, jobs_taken, sequence_of}
 use Rattle.nr_model.specs.Nodes.Steps.{is_client}
 use Rattle.nr_model.specs.Nodes.Pasts.{Event, world_after, AreEvents, handed_in}
 use Rattle.nr_model.specs.Nodes.Explained.{is_up, IsAccounted, IsReplica}
-use Rattle.nr_model.proofs.WorldsLists.{same_is}
+use Rattle.nr_model.proofs.JobLists.{same_is}
 use Rattle.nr_model.proofs.NodesOwnPlaces.{ArePlaced, each_placed}
 use Rattle.nr_model.proofs.NodesOwnTaken.{AreTaken, each_taken}
 use Rattle.nr_model.proofs.NodesOwnLists.{All-weaker, none_own}

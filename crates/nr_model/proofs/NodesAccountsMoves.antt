@@ -8,20 +8,21 @@ use Rattle.std.proofs.lemmas.List.Elements.{filter-append}
 use Rattle.nr_model.specs.Bytes.{Bytes}
 use Rattle.nr_model.specs.Items.{Connection, same_connection, Item}
 use Rattle.nr_model.specs.Entries.{Jobs, entry_moment, entry_items, entry_jobs, left_by_entry, read_jobs}
-use Rattle.nr_model.specs.Worlds.{Setup, Handed, handed_to, own_jobs}
+use Rattle.nr_model.specs.Connections.{Setup, Handed, handed_to}
+use Rattle.nr_model.specs.Asked.{own_jobs}
 use Rattle.nr_model.specs.Nodes.{Client, fresh_client, Worker, Answered, Node, Taken, Entry, Reads, World, node_at, worker_at, client_at, with_node, with_worker, jobs_taken, part_from, log_of, tail_of}
 use Rattle.nr_model.specs.Nodes.Steps.{Step, Outcome, Refused, is_client, collected, emptied, posted_worker, lifted_node, fed_client, fed_node, closed_client, closed_node, collected_node, advanced, advanced_by, with_reads, looked}
 use Rattle.nr_model.specs.Nodes.Pasts.{is_done, handed_by}
 use Rattle.nr_model.specs.Nodes.Explained.{jobs_executed}
-use Rattle.nr_model.proofs.WorldsLists.{filter-keeps, filter-drops}
-use Rattle.nr_model.proofs.WorldsEmitted.{silent}
+use Rattle.nr_model.proofs.JobLists.{filter-keeps, filter-drops}
+use Rattle.nr_model.proofs.Emitted.{silent}
 use Rattle.nr_model.proofs.NodesSteps.{Moves, node_here, node_other, by_look}
 use Rattle.nr_model.proofs.NodesPartsEmitted.{AreRun}
 use Rattle.nr_model.proofs.NodesAccountsQueues.{closed_received}
 use Rattle.nr_model.proofs.NodesAccountsKept.{connection_at, IsKept, kept_entry, kept_other, kept_handed, kept_client, kept_opened}
 use Rattle.nr_model.proofs.NodesAccountsApplied.{AreNumbered, IsLevel, same_kept, level_advanced, level_advanced_by, passed_by, kept_reads}
 use Rattle.nr_model.proofs.NodesAccountsCollected.{collected_other, kept_collected}
-use Rattle.nr_model.proofs.WorldsHanded.{handed_to-append}
+use Rattle.nr_model.proofs.Exchanged.{handed_to-append}
 
 -- What is known of every world that events lead to: clients are numbered; a node that is up has applied what it passed, and no node passed more than was
 -- reserved; looks ran reads of their node's connections; and of a connection that there isn't nothing was executed.

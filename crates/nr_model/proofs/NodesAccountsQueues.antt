@@ -3,13 +3,12 @@ use Rattle.std.proofs.Common.{◌≡◌, ℕ, ◌+◌, true, false, not, cond, L
 use Rattle.std.specs.Prelude.{◌==◌, nat_lt, Option, Some, None}
 use Rattle.std.proofs.lemmas.Bool.{and_parts, not-true, cond_both}
 use Rattle.std.proofs.lemmas.List.{append-nil, take-append-drop}
-use Rattle.nr_model.specs.Bytes.{Bytes}
+use Rattle.nr_model.specs.Bytes.{Bytes, IsBeginningOf}
 use Rattle.nr_model.specs.Replies.{reply_text}
 use Rattle.nr_model.specs.Items.{Connection, same_connection}
 use Rattle.nr_model.specs.Sequential.Events.{Emission}
 use Rattle.nr_model.specs.Sequential.{bytes_for}
 use Rattle.nr_model.specs.Queues.{Queue, takes, with_bytes, cut_off, put, puts, received}
-use Rattle.nr_model.specs.Explains.{IsBeginningOf}
 use Rattle.nr_model.specs.Nodes.{Client}
 use Rattle.nr_model.specs.Nodes.Steps.{Cut, cut_of, texts_for, delivered_to, emptied, closed_client}
 

@@ -3,7 +3,7 @@ use Rattle.std.proofs.Common.{◌≡◌, ℕ, ◌-◌, ◌<◌, true, cond, List
 use Rattle.std.specs.Prelude.{Some, None}
 use Rattle.std.proofs.lemmas.List.Elements.{Contains-append_left}
 use Rattle.nr_model.specs.Items.{Item}
-use Rattle.nr_model.specs.Worlds.{Setup}
+use Rattle.nr_model.specs.Connections.{Setup}
 use Rattle.nr_model.specs.Nodes.{Slot, Empty, Posted, Lifted, Answered, Batch, World, fresh, node_at, worker_at, log_of}
 use Rattle.nr_model.specs.Nodes.Steps.{Outcome, outcome}
 use Rattle.nr_model.specs.Nodes.Pasts.{Answering, Event, answer_in, is_done, answer_by, AreEvents, world_after}

@@ -4,8 +4,8 @@ use Rattle.std.specs.Prelude.{flat_map, fold}
 use Rattle.std.proofs.lemmas.List.{append-nil}
 use Rattle.std.proofs.lemmas.Grind.{flat_map-append}
 use Rattle.nr_model.specs.Entries.{read_jobs}
-use Rattle.nr_model.specs.Worlds.{Setup}
-use Rattle.nr_model.specs.Explains.{IsBeginningOf}
+use Rattle.nr_model.specs.Connections.{Setup}
+use Rattle.nr_model.specs.Bytes.{IsBeginningOf}
 use Rattle.nr_model.specs.Nodes.{Reads, World, fresh, node_at, with_node, log_of, tail_of, items_taken, jobs_taken, sequence_of}
 use Rattle.nr_model.specs.Nodes.Steps.{Step, Open, Feed, Post, Lift, Reserve, Fill, Fetch, Apply, Look, Answer, Collect, Close, Refuse, Outcome, Opened, Done, Idle, Refused, advanced_by, with_reads, effect, effect_by, outcome, after_step}
 use Rattle.nr_model.specs.Nodes.Pasts.{Event, after_event, world_after}

@@ -6,8 +6,8 @@ use Rattle.std.proofs.lemmas.List.{take-append-drop, take_all}
 use Rattle.std.proofs.lemmas.List.Elements.{Contains-append_right, filter-append}
 use Rattle.nr_model.specs.Items.{Item}
 use Rattle.nr_model.specs.Entries.{Jobs, leading, left_after, leads_as_update, leads_as_read, entry_jobs, left_by_entry, read_jobs, left_by_reads, most_entry_jobs}
-use Rattle.nr_model.proofs.WorldsLists.{filter-keeps, take_none}
-use Rattle.nr_model.proofs.WorldsTaken.{left_none, left_by_all, leading_within}
+use Rattle.nr_model.proofs.JobLists.{filter-keeps, take_none}
+use Rattle.nr_model.proofs.Choices.{left_none, left_by_all, leading_within}
 
 -- less, or not
 pub lt_or_le : (m n : ℕ) → (m < n) ⊎ (n ≤ m)

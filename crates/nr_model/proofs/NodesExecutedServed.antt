@@ -5,7 +5,7 @@ use Rattle.std.proofs.lemmas.List.{get_or_default}
 use Rattle.std.proofs.lemmas.List.Elements.{All-from_recursion, All-contains}
 use Rattle.nr_model.specs.Items.{Item}
 use Rattle.nr_model.specs.Entries.{Jobs}
-use Rattle.nr_model.specs.Worlds.{Setup}
+use Rattle.nr_model.specs.Connections.{Setup}
 use Rattle.nr_model.specs.Nodes.{Client, fresh_client, Slot, Posted, Node, Taken, Entry, Reads, Logged, World, node_at, worker_at, log_of}
 use Rattle.nr_model.specs.Nodes.Steps.{posted_jobs}
 use Rattle.nr_model.specs.Nodes.Pasts.{Event, world_after}

@@ -8,7 +8,7 @@ use Rattle.std.proofs.lemmas.List.Elements.{Contains-append_cases, Contains-push
 use Rattle.std.proofs.lemmas.Grind.{flat_map-append}
 use Rattle.nr_model.specs.Items.{Item}
 use Rattle.nr_model.specs.Entries.{Jobs, entry_jobs, read_jobs}
-use Rattle.nr_model.specs.Worlds.{Setup}
+use Rattle.nr_model.specs.Connections.{Setup}
 use Rattle.nr_model.specs.Nodes.{Client, fresh_client, Slot, Empty, Posted, Lifted, Answered, Worker, fresh_worker, Node, fresh_node, Taken, Entry, Reads, Batch, Logged, World, fresh, node_at, worker_at, client_at, with_node, with_worker, log_of, tail_of, jobs_taken}
 use Rattle.nr_model.specs.Nodes.Steps.{is_free, is_posted, is_lifted, owed_in, posted_jobs, most_batch_jobs, posted_worker, cleared, emptied, advanced_by, with_reads, fed_client, closed_client}
 use Rattle.nr_model.specs.Nodes.Pasts.{Event, after_event, world_after}

@@ -1,7 +1,7 @@
 -- One sequence explains every past: what was taken, in order.
 use Rattle.std.proofs.Common.{List, sym, subst}
 use Rattle.nr_model.specs.Items.{Sequence}
-use Rattle.nr_model.specs.Worlds.{Setup}
+use Rattle.nr_model.specs.Connections.{Setup}
 use Rattle.nr_model.specs.Nodes.{World, fresh, sequence_of}
 use Rattle.nr_model.specs.Nodes.Pasts.{Event, AreEvents, world_after}
 use Rattle.nr_model.specs.Nodes.Explained.{Explains, NodesLaw}

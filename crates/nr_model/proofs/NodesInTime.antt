@@ -8,13 +8,14 @@ use Rattle.nr_model.specs.Items.{Connection, same_connection, Item, Sequence}
 use Rattle.nr_model.specs.Sequential.{bytes_for, emitted_for}
 use Rattle.nr_model.specs.Servers.{fresh as fresh_server, after_all, emitted_all}
 use Rattle.nr_model.specs.Entries.{Jobs}
-use Rattle.nr_model.specs.Worlds.{Setup, handed_to, own_jobs}
-use Rattle.nr_model.specs.Explains.{IsBeginningOf}
+use Rattle.nr_model.specs.Connections.{Setup, handed_to}
+use Rattle.nr_model.specs.Asked.{own_jobs}
+use Rattle.nr_model.specs.Bytes.{IsBeginningOf}
 use Rattle.nr_model.specs.Nodes.{Taken, Entry, Reads, World, fresh, items_taken, jobs_taken, sequence_of}
 use Rattle.nr_model.specs.Nodes.Pasts.{Event, AreEvents, world_after, handed_in}
 use Rattle.nr_model.specs.Nodes.Explained.{jobs_executed, asked_jobs, waiting_for, account_of, StandsBefore, IsHandedOut, IsInTime}
-use Rattle.nr_model.proofs.WorldsLists.{same_self}
-use Rattle.nr_model.proofs.WorldsEmitted.{emitted_for-more}
+use Rattle.nr_model.proofs.JobLists.{same_self}
+use Rattle.nr_model.proofs.Emitted.{emitted_for-more}
 use Rattle.nr_model.proofs.NodesSteps.{are_first}
 use Rattle.nr_model.proofs.NodesExecuted.{are_executed}
 use Rattle.nr_model.proofs.NodesExecutedLists.{stands, kept_in, lt_or_le}

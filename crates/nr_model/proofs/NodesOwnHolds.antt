@@ -4,13 +4,14 @@ use Rattle.std.specs.List.{range_with_len}
 use Rattle.std.proofs.lemmas.Bool.{cases_Bool, and_from, lt-ltb}
 use Rattle.std.proofs.lemmas.List.{append-nil, length-map}
 use Rattle.nr_model.specs.Items.{Connection, Item}
-use Rattle.nr_model.specs.Worlds.{Setup, fed_to, own_jobs}
-use Rattle.nr_model.specs.Explains.{IsBeginningOf}
+use Rattle.nr_model.specs.Connections.{Setup, fed_to}
+use Rattle.nr_model.specs.Asked.{own_jobs}
+use Rattle.nr_model.specs.Bytes.{IsBeginningOf}
 use Rattle.nr_model.specs.Nodes.{World, node_at, worker_at, client_of, sequence_of}
 use Rattle.nr_model.specs.Nodes.Steps.{is_client, posted_jobs}
 use Rattle.nr_model.specs.Nodes.Pasts.{Event, world_after}
 use Rattle.nr_model.specs.Nodes.Explained.{jobs_executed, asked_jobs, Holds}
-use Rattle.nr_model.proofs.WorldsLists.{CountsFrom, CountsFrom-front, numbers_of}
+use Rattle.nr_model.proofs.JobLists.{CountsFrom, CountsFrom-front, numbers_of}
 use Rattle.nr_model.proofs.NodesSteps.{IsClient, a_client}
 use Rattle.nr_model.proofs.NodesOwnShape.{of_at}
 use Rattle.nr_model.proofs.NodesOwnShaped.{IsShapedWorld, each_shaped}

@@ -12,13 +12,12 @@ use Rattle.nr_model.specs.Items.{Connection, same_connection, End, Item}
 use Rattle.nr_model.specs.Sequential.Events.{Emission}
 use Rattle.nr_model.specs.Servers.{after_all, emitted_all}
 use Rattle.nr_model.specs.Entries.{Jobs, entry_items, entry_jobs, left_by_entry, read_jobs, left_by_reads}
-use Rattle.nr_model.specs.Worlds.{own_jobs, close_number}
-use Rattle.nr_model.specs.Explains.{cut_by}
+use Rattle.nr_model.specs.Asked.{own_jobs, close_number, cut_by}
 use Rattle.nr_model.specs.Nodes.{Client, fresh_client, Slot, Empty, Lifted, Worker, Node, Logged, worker_at, client_at, with_worker}
 use Rattle.nr_model.specs.Nodes.Steps.{Cut, Refused, posted_jobs, posted_worker, most_batch_jobs, lifted_node, fed_client, fed_node, asked_next, delivered_to, executed_from, with_executed, fallen, passing, advanced, with_reads, emptied, cleared, collected_node, close_job, dropped_at, closed_client, closed_node}
-use Rattle.nr_model.proofs.WorldsLists.{same_is, same_self, own_jobs_from, no_jobs_from}
-use Rattle.nr_model.proofs.WorldsTaken.{entry_apart, reads_apart}
-use Rattle.nr_model.proofs.WorldsAsked.{others_stay, own_dropped, close_other, close_own}
+use Rattle.nr_model.proofs.JobLists.{same_is, same_self, own_jobs_from, no_jobs_from}
+use Rattle.nr_model.proofs.Choices.{entry_apart, reads_apart}
+use Rattle.nr_model.proofs.Asked.{others_stay, own_dropped, close_other, close_own}
 use Rattle.nr_model.proofs.NodesOwnLists.{All-weaker, none_own}
 use Rattle.nr_model.proofs.NodesOwnAdvance.{by_advance, next_entry}
 use Rattle.nr_model.proofs.NodesOwnShape.{client_in, connection_at, IsOf, IsAt, client_mapped, client_before, posted_owing, posted_cleared, worker_in, executed_at, worker_here, worker_other}

@@ -5,8 +5,8 @@ use Rattle.std.specs.List.{AllByRecursion}
 use Rattle.std.proofs.lemmas.Bool.{cond_both}
 use Rattle.nr_model.specs.Items.{Connection, same_connection, Item}
 use Rattle.nr_model.specs.Entries.{Jobs, leading, not_leading, left_after, leads_as_update, leads_as_read, most_entry_jobs, entry_jobs, left_by_entry, read_jobs, left_by_reads}
-use Rattle.nr_model.specs.Worlds.{own_jobs}
-use Rattle.nr_model.proofs.WorldsLists.{All-take, filter-drops}
+use Rattle.nr_model.specs.Asked.{own_jobs}
+use Rattle.nr_model.proofs.JobLists.{All-take, filter-drops}
 
 -- all of what is behind a front
 pub All-drop : {A : Type 0} (P : A → Type 0) (n : ℕ) (xs : List A) → AllByRecursion P xs → AllByRecursion P (drop n xs)

@@ -15,14 +15,15 @@ use Rattle.nr_model.specs.Items.{Connection, same_connection, Item}
 use Rattle.nr_model.specs.Modes.{deeds_by}
 use Rattle.nr_model.specs.Entries.{Jobs, entry_jobs, left_by_entry, read_jobs}
 use Rattle.nr_model.specs.Servers.{emitted_all}
-use Rattle.nr_model.specs.Worlds.{Setup, Feeding, Closing, fed_to, own_jobs, jobs_from}
-use Rattle.nr_model.specs.Explains.{jobs_of_feeds, cut_by, closing_job}
+use Rattle.nr_model.specs.Connections.{Setup, Feeding, Closing, fed_to}
+use Rattle.nr_model.specs.Asked.{own_jobs, jobs_from, jobs_of_feeds, cut_by, closing_job}
 use Rattle.nr_model.specs.Nodes.{Client, fresh_client, Slot, Empty, Posted, Lifted, Answered, Node, Taken, Entry, Reads, Logged, World, fresh, no_node, node_at, worker_at, client_at, log_of, tail_of, jobs_taken}
 use Rattle.nr_model.specs.Nodes.Steps.{Cut, Refused, fed_client, closed_client, emptied, advanced, advanced_by, with_reads, delivered_to, asked_next, fed_node, closed_node, close_job, dropped_at, posted_jobs, is_lifted, is_posted}
 use Rattle.nr_model.specs.Nodes.Pasts.{Event, world_after}
 use Rattle.nr_model.proofs.Ordered.{or_false}
-use Rattle.nr_model.proofs.WorldsLists.{same_is, same_self}
-use Rattle.nr_model.proofs.WorldsGrow.{fed_to-append, jobs_of_feeds-append, own_feed, other_feed, own_bytes, other_bytes, closing_none, closing_first, closing_other}
+use Rattle.nr_model.proofs.JobLists.{same_is, same_self}
+use Rattle.nr_model.proofs.Exchanged.{fed_to-append, own_bytes, other_bytes}
+use Rattle.nr_model.proofs.Asked.{jobs_of_feeds-append, own_feed, other_feed, closing_none, closing_first, closing_other}
 use Rattle.nr_model.proofs.NodesSteps.{fresh_at, Moves, Beside, each_beside, by_look}
 use Rattle.nr_model.proofs.NodesOwnLists.{All-entry, All-reads}
 use Rattle.nr_model.proofs.NodesOwnAdvance.{by_advance, each_advance, ahead_waiting}

@@ -4,7 +4,7 @@ use Rattle.std.proofs.lemmas.Bool.{cases_Bool, cond_both}
 use Rattle.std.proofs.lemmas.Bool.Decides.{eqb_tells}
 use Rattle.std.proofs.lemmas.List.{append-nil, length-append}
 use Rattle.nr_model.specs.Entries.{Jobs, entry_jobs, read_jobs}
-use Rattle.nr_model.specs.Worlds.{Setup}
+use Rattle.nr_model.specs.Connections.{Setup}
 use Rattle.nr_model.specs.Nodes.{Taken, Entry, Reads, Logged, Node, World, fresh, node_at, with_node, log_of, tail_of}
 use Rattle.nr_model.specs.Nodes.Steps.{Refused, advanced, advanced_by, with_reads, next_fetch}
 use Rattle.nr_model.specs.Nodes.Pasts.{Event, world_after}

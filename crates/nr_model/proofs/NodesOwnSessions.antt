@@ -3,7 +3,7 @@ use Rattle.std.proofs.Common.{◌≡◌, ℕ, ◌+◌, Bool, true, false, cond, 
 use Rattle.std.specs.Prelude.{◌&&◌, ◌==◌, None, option_to_list}
 use Rattle.std.proofs.lemmas.Bool.{cases_Bool}
 use Rattle.std.proofs.lemmas.List.{length-append}
-use Rattle.nr_model.specs.Bytes.{Bytes}
+use Rattle.nr_model.specs.Bytes.{Bytes, IsBeginningOf}
 use Rattle.nr_model.specs.Keyspace.{moment}
 use Rattle.nr_model.specs.Requests.{Framing, framing_of, frames_within}
 use Rattle.nr_model.specs.Requests.Laws.{with_frames}
@@ -11,14 +11,12 @@ use Rattle.nr_model.specs.Commands.{served}
 use Rattle.nr_model.specs.Items.{Connection, End, Item}
 use Rattle.nr_model.specs.Modes.{Conversation, framed_conversation, plain, deeds_by}
 use Rattle.nr_model.specs.Entries.{Jobs}
-use Rattle.nr_model.specs.Worlds.{jobs_from, close_number}
-use Rattle.nr_model.specs.Explains.{IsBeginningOf, cut_by}
+use Rattle.nr_model.specs.Asked.{jobs_from, close_number, cut_by}
 use Rattle.nr_model.specs.Nodes.{Client, fresh_client}
 use Rattle.nr_model.specs.Nodes.Steps.{asked_next, fed_client, closed_client, close_job}
 use Rattle.nr_model.proofs.Conversing.{together}
-use Rattle.nr_model.proofs.WorldsFed.{asks_for, asked_behind, goes_on}
-use Rattle.nr_model.proofs.WorldsLists.{CountsFrom, CountsFrom-append, jobs_from-counts, length-jobs_from}
-use Rattle.nr_model.proofs.WorldsAsked.{cuts, cut_counts, number_is}
+use Rattle.nr_model.proofs.Asked.{asks_for, asked_behind, goes_on, cuts, cut_counts, number_is}
+use Rattle.nr_model.proofs.JobLists.{CountsFrom, CountsFrom-append, jobs_from-counts, length-jobs_from}
 
 -- a client's session is what all its bytes leave
 pub record IsSession (client : Client) (text : Bytes) : Type 0 where

@@ -15,10 +15,11 @@ use Rattle.nr_model.specs.Sequential.Events.{Emission}
 use Rattle.nr_model.specs.Entries.{Jobs, entry_items, read_jobs}
 use Rattle.nr_model.specs.Queues.{Queue, takes, put, puts, received}
 use Rattle.nr_model.specs.Servers.{after_all, emitted_all}
-use Rattle.nr_model.specs.Worlds.{Setup, jobs_from}
+use Rattle.nr_model.specs.Connections.{Setup}
+use Rattle.nr_model.specs.Asked.{jobs_from}
 use Rattle.nr_model.specs.Nodes.{Client, fresh_client, Slot, Empty, Posted, Lifted, Answered, Worker, Node, Logged, fresh_worker, worker_at, client_at, with_worker}
 use Rattle.nr_model.specs.Nodes.Steps.{Cut, Refused, posted_jobs, posted_worker, most_batch_jobs, lifted_node, fed_client, fed_node, asked_next, delivered_to, cut_of, texts_for, owing_less, jobs_of_worker, executed_from, fallen, passing, advanced, advanced_by, with_reads, emptied, cleared, collected_node, close_job, dropped_at, closed_client, closed_node, cut_of}
-use Rattle.nr_model.proofs.WorldsLists.{All-append, All-take}
+use Rattle.nr_model.proofs.JobLists.{All-append, All-take}
 use Rattle.nr_model.proofs.NodesOwnLists.{All-drop, All-filtered, All-weaker, All-left_by_reads}
 use Rattle.nr_model.proofs.NodesOwnAdvance.{by_advance, each_advance, next_entry}
 

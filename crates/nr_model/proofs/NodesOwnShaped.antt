@@ -6,11 +6,11 @@ use Rattle.std.proofs.lemmas.Bool.{cases_Bool, ltb-true, ltb-false}
 use Rattle.std.proofs.lemmas.Bool.Decides.{eqb_tells}
 use Rattle.std.proofs.lemmas.List.{append-nil, length-set, length-replicate, get_or-replicate, get_or_past, get_or-set_same, get_or-set_other}
 use Rattle.nr_model.specs.Entries.{Jobs, entry_jobs, left_by_entry, read_jobs}
-use Rattle.nr_model.specs.Worlds.{Setup}
+use Rattle.nr_model.specs.Connections.{Setup}
 use Rattle.nr_model.specs.Nodes.{Answered, Node, Taken, Entry, Reads, Batch, World, fresh, fresh_worker, no_node, node_at, worker_at, client_at, log_of, tail_of}
 use Rattle.nr_model.specs.Nodes.Steps.{Step, Refused, Outcome, most_batch_jobs, advanced_by, with_reads}
 use Rattle.nr_model.specs.Nodes.Pasts.{Event, world_after}
-use Rattle.nr_model.proofs.WorldsLists.{All-append, All-take}
+use Rattle.nr_model.proofs.JobLists.{All-append, All-take}
 use Rattle.nr_model.proofs.NodesSteps.{keeps_of, sized_moves, fresh_sized, AreSized, IsSized, Moves, Keeps, each_world, by_look, fresh_at}
 use Rattle.nr_model.proofs.NodesOwnLists.{All-weaker, All-entry, All-left_by_entry, All-reads}
 use Rattle.nr_model.proofs.NodesOwnAdvance.{ahead_waiting}

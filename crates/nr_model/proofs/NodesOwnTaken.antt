@@ -1,45 +1,21 @@
 -- What was taken, in order: its updates are those of the entries, and its reads stand behind the entries that their node had applied.
-use Rattle.std.proofs.Common.{◌≡◌, ℕ, zero, suc, ◌+◌, ◌-◌, List, [], ◌∷◌, ◌++◌, length, map, refl, ap, sym, ◌∙◌, subst, arith, append_assoc}
+use Rattle.std.proofs.Common.{◌≡◌, ℕ, zero, suc, ◌+◌, ◌-◌, true, List, [], ◌∷◌, ◌++◌, length, map, refl, ap, sym, ◌∙◌, subst, arith, append_assoc}
 use Rattle.std.specs.Prelude.{flat_map, filter}
 use Rattle.std.specs.List.{AllByRecursion}
-use Rattle.std.proofs.lemmas.List.{append-nil, length-append}
-use Rattle.nr_model.specs.Items.{Connection, Item, Sequence, is_update}
+use Rattle.std.proofs.lemmas.List.{append-nil, length-append, map-append}
+use Rattle.std.proofs.lemmas.List.Elements.{filter-append}
+use Rattle.nr_model.specs.Items.{Connection, same_connection, Deed, Item, is_update}
 use Rattle.nr_model.specs.Entries.{Jobs, entry_items, entry_moment, entry_jobs, read_jobs}
-use Rattle.nr_model.specs.Worlds.{Setup, own_jobs, Executed, executed_items, executed_jobs}
-use Rattle.nr_model.specs.Worlds as one_node
-use Rattle.nr_model.specs.Explains as explains
-use Rattle.nr_model.specs.Explains.{Placed, placed_all, reads_in}
+use Rattle.nr_model.specs.Connections.{Setup}
+use Rattle.nr_model.specs.Asked.{own_jobs}
 use Rattle.nr_model.specs.Nodes.{Taken, Entry, Reads, World, node_at, items_taken, jobs_taken, log_of, tail_of}
-use Rattle.nr_model.specs.Nodes.Explained.{logged_part, items_before, placed_reads}
+use Rattle.nr_model.specs.Nodes.Explained.{Placed, placed_all, reads_in, logged_part, items_before, placed_reads}
 use Rattle.nr_model.specs.Nodes.Steps.{advanced_by}
 use Rattle.nr_model.specs.Nodes.Pasts.{Event, world_after}
-use Rattle.nr_model.proofs.WorldsTaken.{entry_updates, look_reads}
-use Rattle.nr_model.proofs.WorldsFormed.{AreUpdates, AreReads, IsFormed}
-use Rattle.nr_model.proofs.WorldsLogged.{all_logged, passed, placed}
-use Rattle.nr_model.proofs.WorldsEmitted.{own_numbers}
+use Rattle.nr_model.proofs.Choices.{entry_updates, look_reads}
+use Rattle.nr_model.proofs.Logged.{AreUpdates, AreReads, All-at_moment, all_kept, none_kept, updates, passed, placed, numbers, moved_numbers}
 use Rattle.nr_model.proofs.NodesSteps.{Moves, Beside, each_beside, by_look}
 use Rattle.nr_model.proofs.NodesOwnPlaces.{ArePlaced, fresh_placed, keeps_placed, placed_ahead, log_of-append}
-
--- what was taken, as what one node executes
-abbrev pub executed_of : Taken → Executed
-executed_of (Entry node jobs) = one_node.Entry jobs
-executed_of (Reads node count jobs) = one_node.Reads jobs
-
--- its items, jobs and logged items are the same
-pub same_items : (taken : List Taken) → flat_map items_taken taken ≡ flat_map executed_items (map executed_of taken)
-same_items [] = refl
-same_items (Entry node jobs ∷ taken) = ap (λ (items : Sequence). entry_items jobs ++ items) (same_items taken)
-same_items (Reads node count jobs ∷ taken) = ap (λ (items : Sequence). jobs ++ items) (same_items taken)
-
-pub same_jobs : (taken : List Taken) → flat_map jobs_taken taken ≡ flat_map executed_jobs (map executed_of taken)
-same_jobs [] = refl
-same_jobs (Entry node jobs ∷ taken) = ap (λ (js : Jobs). jobs ++ js) (same_jobs taken)
-same_jobs (Reads node count jobs ∷ taken) = ap (λ (js : Jobs). jobs ++ js) (same_jobs taken)
-
-pub same_logged : (taken : List Taken) → flat_map logged_part taken ≡ flat_map explains.logged_part (map executed_of taken)
-same_logged [] = refl
-same_logged (Entry node jobs ∷ taken) = ap (λ (items : Sequence). entry_items jobs ++ items) (same_logged taken)
-same_logged (Reads node count jobs ∷ taken) = same_logged taken
 
 -- an entry has updates, and a look ran reads behind as many entries as were reserved before it
 abbrev pub IsTaken : ℕ → Taken → Type 0
@@ -61,12 +37,6 @@ taken_more tail (Entry node jobs ∷ taken) one are is =
     let e : tail + suc (length (log_of taken)) ≡ suc tail + length (log_of taken) = omega arith in
     (are.0, taken_more (suc tail) taken one are.1 (subst (λ (k : ℕ). IsTaken k one) e is))
 taken_more tail (Reads node count jobs ∷ taken) one are is = (are.0, are.1, taken_more tail taken one are.2 is)
-
--- each is formed
-pub all_formed : (tail : ℕ) (taken : List Taken) → AreTaken tail taken → AllByRecursion IsFormed (map executed_of taken)
-all_formed tail [] are = tt
-all_formed tail (Entry node jobs ∷ taken) are = (are.0, all_formed (suc tail) taken are.1)
-all_formed tail (Reads node count jobs ∷ taken) are = (are.1, all_formed tail taken are.2)
 
 -- how many items the entries have
 abbrev pub how_many_logged : List Taken → ℕ
@@ -130,18 +100,39 @@ pub reads_are : (taken : List Taken) → AreTaken 0 taken → reads_in 0 (flat_m
 reads_are taken are = reads_from [] taken are
 
 -- the updates are the entries'
+updates_from : (tail : ℕ) (taken : List Taken) → AreTaken tail taken → filter updates (flat_map items_taken taken) ≡ flat_map logged_part taken
+updates_from tail [] are = refl
+updates_from tail (Entry node jobs ∷ taken) are =
+    let one = all_kept updates (entry_items jobs) (All-at_moment (λ (deed : Deed). is_update deed ≡ true) (entry_moment jobs) jobs are.0) in
+    let more = updates_from (suc tail) taken are.1 in
+    filter-append updates (entry_items jobs) (flat_map items_taken taken) ∙ (λ i. one i ++ more i)
+updates_from tail (Reads node count jobs ∷ taken) are =
+    let one = none_kept updates jobs are.1 in
+    let more = updates_from tail taken are.2 in
+    filter-append updates jobs (flat_map items_taken taken) ∙ (λ i. one i ++ more i)
+
 pub logged_are : (taken : List Taken) → AreTaken 0 taken → filter (λ (item : Item). is_update item.deed) (flat_map items_taken taken) ≡ flat_map logged_part taken
-logged_are taken are =
-    ap (filter (λ (item : Item). is_update item.deed)) (same_items taken)
-    ∙ all_logged (map executed_of taken) (all_formed 0 taken are)
-    ∙ sym (same_logged taken)
+logged_are taken are = updates_from 0 taken are
+
+-- the numbers of a connection's items in two parts
+numbers_apart : (c : Connection) (xs ys : Jobs) → numbers (own_jobs c (xs ++ ys)) ≡ numbers (own_jobs c xs) ++ numbers (own_jobs c ys)
+numbers_apart c xs ys =
+    ap numbers (filter-append (λ (job : Item). same_connection job.connection c) xs ys)
+    ∙ map-append (λ (item : Item). item.number) (own_jobs c xs) (own_jobs c ys)
 
 -- an item has its job's number
 pub taken_numbers : (c : Connection) (taken : List Taken)
     → map (λ (item : Item). item.number) (own_jobs c (flat_map items_taken taken)) ≡ map (λ (item : Item). item.number) (own_jobs c (flat_map jobs_taken taken))
-taken_numbers c taken =
-    let numbers = λ (js : Jobs). map (λ (item : Item). item.number) (own_jobs c js) in
-    ap numbers (same_items taken) ∙ own_numbers c (map executed_of taken) ∙ ap numbers (sym (same_jobs taken))
+taken_numbers c [] = refl
+taken_numbers c (Entry node jobs ∷ taken) =
+    let one = moved_numbers c (entry_moment jobs) jobs in
+    let more = taken_numbers c taken in
+    numbers_apart c (entry_items jobs) (flat_map items_taken taken) ∙ (λ i. one i ++ more i) ∙ sym (numbers_apart c jobs (flat_map jobs_taken taken))
+taken_numbers c (Reads node count jobs ∷ taken) =
+    let more = taken_numbers c taken in
+    numbers_apart c jobs (flat_map items_taken taken)
+    ∙ ap (λ (ns : List ℕ). numbers (own_jobs c jobs) ++ ns) more
+    ∙ sym (numbers_apart c jobs (flat_map jobs_taken taken))
 
 -- so it is in each world
 abbrev pub AreAllTaken : World → Type 0

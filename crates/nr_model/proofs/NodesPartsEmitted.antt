@@ -6,7 +6,7 @@ use Rattle.std.proofs.Common.{eqb}
 use Rattle.std.proofs.lemmas.Bool.{cases_Bool, not-true, and_left, ne_eqb, eqb-false}
 use Rattle.std.proofs.lemmas.List.{append-nil}
 use Rattle.std.proofs.lemmas.List.Elements.{filter-append}
-use Rattle.nr_model.specs.Bytes.{Bytes}
+use Rattle.nr_model.specs.Bytes.{Bytes, IsBeginningOf}
 use Rattle.nr_model.specs.Items.{Connection, same_connection, Call, Deed, Say, Act, Run, Abort, End, Item, Sequence, is_update}
 use Rattle.nr_model.specs.declared.command.Command.{Command}
 use Rattle.nr_model.specs.declared.command.Command.TheVariants.{Perform, Session}
@@ -17,12 +17,10 @@ use Rattle.nr_model.specs.Sequential.{Found, Progress, start, done_by, acted, by
 use Rattle.nr_model.specs.Servers as servers
 use Rattle.nr_model.specs.Servers.{Server, found_in, now_in, progress_in, stepped, emitted_in, after_all, emitted_all}
 use Rattle.nr_model.specs.Entries.{Jobs, entry_items}
-use Rattle.nr_model.specs.Explains.{IsBeginningOf}
 use Rattle.nr_model.specs.Nodes.{Taken, Entry, Reads, items_taken, part_from}
 use Rattle.nr_model.proofs.Serving.{server_is_redis}
-use Rattle.nr_model.proofs.WorldsLogged.{none_kept}
-use Rattle.nr_model.proofs.WorldsFormed.{AreReads}
-use Rattle.nr_model.proofs.WorldsEmitted.{emitted_all-append, bytes_for-append, emitted_for-is, emitted_for-more, replies_to, to_others}
+use Rattle.nr_model.proofs.Logged.{none_kept, AreReads}
+use Rattle.nr_model.proofs.Emitted.{emitted_all-append, bytes_for-append, emitted_for-is, emitted_for-more, replies_to, to_others}
 use Rattle.nr_model.proofs.NodesParts.{ReadsWithin, part_none}
 
 -- jobs of connections of a node

@@ -3,7 +3,7 @@ use Rattle.std.proofs.Common.{◌≡◌, ℕ, ◌<◌, true, List, length, ap, s
 use Rattle.std.proofs.lemmas.Bool.{not-true}
 use Rattle.nr_model.specs.Servers as servers
 use Rattle.nr_model.specs.Servers.{database_in, subscribers_in, is_spoiled_in}
-use Rattle.nr_model.specs.Worlds.{Setup, Handed}
+use Rattle.nr_model.specs.Connections.{Setup, Handed}
 use Rattle.nr_model.specs.Nodes.{World, fresh, node_at, sequence_of, part_of}
 use Rattle.nr_model.specs.Nodes.Pasts.{Event, world_after, AreEvents}
 use Rattle.nr_model.specs.Nodes.Explained.{is_up, IsReplica}

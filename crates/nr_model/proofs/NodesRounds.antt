@@ -5,7 +5,7 @@ use Rattle.std.proofs.lemmas.Bool.{eq-eqb}
 use Rattle.std.proofs.lemmas.List.{drop_all}
 use Rattle.std.proofs.lemmas.List.Folds.{list_any-append}
 use Rattle.nr_model.specs.Entries.{read_jobs}
-use Rattle.nr_model.specs.Worlds.{Setup}
+use Rattle.nr_model.specs.Connections.{Setup}
 use Rattle.nr_model.specs.Nodes.{Slot, Empty, Posted, Lifted, Answered, World, fresh, node_at, worker_at, log_of, tail_of}
 use Rattle.nr_model.specs.Nodes.Steps.{is_posted, posted_jobs, owed_in}
 use Rattle.nr_model.specs.Nodes.Pasts.{Event, is_done, IsPast, world_after}

@@ -1,7 +1,7 @@
 -- After any round the world is calm, and no more jobs are left than before it.
 use Rattle.std.proofs.Common.{◌≡◌, ℕ, zero, suc, ◌≤◌, List, [], ◌∷◌, ◌++◌, map, ap, sym, ◌∙◌, subst, arith, append_assoc}
 use Rattle.std.specs.List.{range_with_len}
-use Rattle.nr_model.specs.Worlds.{Setup}
+use Rattle.nr_model.specs.Connections.{Setup}
 use Rattle.nr_model.specs.Nodes.{World}
 use Rattle.nr_model.specs.Nodes.Steps.{Step, Post, Lift, Reserve, Fill, Fetch, Apply, Look, Answer, Collect}
 use Rattle.nr_model.specs.Nodes.Pasts.{Event}

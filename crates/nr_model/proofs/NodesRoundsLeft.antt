@@ -5,7 +5,7 @@ use Rattle.std.proofs.lemmas.Bool.{cond_both}
 use Rattle.std.proofs.lemmas.List.{length-append, length-take, length-drop}
 use Rattle.nr_model.specs.Items.{Item}
 use Rattle.nr_model.specs.Entries.{Jobs, entry_jobs, left_by_entry, read_jobs, left_by_reads}
-use Rattle.nr_model.specs.Worlds.{Setup}
+use Rattle.nr_model.specs.Connections.{Setup}
 use Rattle.nr_model.specs.Nodes.{Client, Slot, Empty, Posted, Lifted, Answered, Worker, Node, Logged, World, node_at, worker_at, with_worker, log_of, tail_of}
 use Rattle.nr_model.specs.Nodes.Steps.{Step, Open, Feed, Post, Lift, Reserve, Fill, Fetch, Apply, Look, Answer, Collect, Close, Refuse, Outcome, Opened, Done, Idle, Cut, Refused, outcome, posted_jobs, posted_worker, most_batch_jobs, lifted_node, owing_less, jobs_of_worker, executed_from, with_executed, with_entry, with_reads, advanced, advanced_by, looked, reserved, cleared, effect, effect_by, after_step}
 use Rattle.nr_model.specs.Nodes.Pasts.{is_done}

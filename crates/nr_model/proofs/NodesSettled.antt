@@ -6,7 +6,8 @@ use Rattle.std.proofs.lemmas.List.{append-nil}
 use Rattle.nr_model.specs.Bytes.{Bytes}
 use Rattle.nr_model.specs.Items.{Connection}
 use Rattle.nr_model.specs.Sequential.{emitted_for}
-use Rattle.nr_model.specs.Worlds.{Setup, handed_to, own_jobs}
+use Rattle.nr_model.specs.Connections.{Setup, handed_to}
+use Rattle.nr_model.specs.Asked.{own_jobs}
 use Rattle.nr_model.specs.Nodes.{World, fresh, node_at, worker_at, client_of, sequence_of}
 use Rattle.nr_model.specs.Nodes.Steps.{is_client, posted_jobs}
 use Rattle.nr_model.specs.Nodes.Pasts.{Event, AreEvents, IsPast, world_after, handed_in}

@@ -3,7 +3,7 @@ use Rattle.std.proofs.Common.{◌≡◌, ℕ, ◌-◌, ◌<◌, true, false, not
 use Rattle.std.specs.Prelude.{◌==◌}
 use Rattle.std.proofs.lemmas.Bool.{both_ways, cond_both}
 use Rattle.nr_model.specs.Entries.{left_by_entry}
-use Rattle.nr_model.specs.Worlds.{Setup}
+use Rattle.nr_model.specs.Connections.{Setup}
 use Rattle.nr_model.specs.Nodes.{Worker, fresh_worker, Answered, Node, Logged, World, fresh, node_at, worker_at, with_node, with_worker, log_of, tail_of}
 use Rattle.nr_model.specs.Nodes.Steps.{Cut, Refused, fed_node, posted_worker, lifted_node, fallen, passing, advanced, advanced_by, with_entry, with_reads, cleared, collected_node, closed_node}
 use Rattle.nr_model.specs.Nodes.Pasts.{Event, world_after}

@@ -6,7 +6,7 @@ use Rattle.std.proofs.lemmas.Bool.{cases_Bool, both_ways, and_from, and_right, o
 use Rattle.std.proofs.lemmas.List.{get_or_past}
 use Rattle.nr_model.specs.Items.{Item, is_update}
 use Rattle.nr_model.specs.Entries.{Jobs, leading, leads_as_update, leads_as_read, entry_jobs, read_jobs}
-use Rattle.nr_model.specs.Worlds.{Setup}
+use Rattle.nr_model.specs.Connections.{Setup}
 use Rattle.nr_model.specs.Nodes.{Node, World, no_node, node_at, logged_at, tail_of}
 use Rattle.nr_model.specs.Nodes.Steps.{Outcome, Done, Reason, NoSuch, Busy, Nothing, Full, NotYet, Down, idle_where, is_node, is_worker, is_empty, has_place, is_filled, are_filled, next_fetch}
 use Rattle.nr_model.specs.Nodes.Pasts.{is_done}

@@ -9,8 +9,8 @@ use Rattle.nr_model.specs.Servers as servers
 use Rattle.nr_model.specs.Servers.{Server, after_all, emitted_all}
 use Rattle.nr_model.specs.Entries.{entry_items}
 use Rattle.nr_model.specs.Nodes.{Taken, Entry, Reads, log_of, items_taken, part_from}
-use Rattle.nr_model.proofs.WorldsFormed.{AreReads}
-use Rattle.nr_model.proofs.WorldsEmitted.{emitted_for-is}
+use Rattle.nr_model.proofs.Logged.{AreReads}
+use Rattle.nr_model.proofs.Emitted.{emitted_for-is}
 use Rattle.nr_model.proofs.NodesPartsEmitted.{AreOfNode, AreRun, after_reads, others_emit, two_parts}
 
 -- as many bytes behind the same items

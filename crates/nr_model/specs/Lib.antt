@@ -13,9 +13,8 @@ pub mod Sequential
 pub mod Servers
 pub mod Conversations
 pub mod Entries
-pub mod Worlds
-pub mod Explains
-pub mod Explained
+pub mod Connections
+pub mod Asked
 pub mod Rows
 pub mod Queues
 pub mod Nodes

@@ -10,7 +10,7 @@ use Rattle.nr_model.specs.Modes.{Mode, plain}
 use Rattle.nr_model.specs.Servers as servers
 use Rattle.nr_model.specs.Entries.{Jobs, entry_items}
 use Rattle.nr_model.specs.Queues.{Queue}
-use Rattle.nr_model.specs.Worlds.{Setup, Feeding, Closing}
+use Rattle.nr_model.specs.Connections.{Setup, Feeding, Closing}
 
 -- A connection of a node: the worker that serves it, the bytes behind its last whole request, the mode that its requests left, the number of its
 -- next job, whether its bytes asked for its end, whether it was closed, and what waits for it

@@ -7,5 +7,4 @@ pub mod Commands
 pub mod Strings
 pub mod Modes
 pub mod Sequential
-pub mod Worlds
 pub mod Nodes

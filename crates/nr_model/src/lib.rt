@@ -6,10 +6,10 @@
 pub mod command;
 pub mod fault;
 mod machines;
+mod nodes;
 mod numbers;
 mod patterns;
 pub mod refused;
 mod replies;
 mod requests;
 mod rows;
-mod worlds;

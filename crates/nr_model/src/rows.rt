@@ -4,7 +4,6 @@ ghost use Rattle.nr_model.specs.Rows.Modes.{ModeRows};
 ghost use Rattle.nr_model.specs.Rows.Sequential.{MessageRows, SequentialRows};
 ghost use Rattle.nr_model.specs.Rows.Strings.{StringRows};
 ghost use Rattle.nr_model.specs.Rows.Nodes.{NodesRows};
-ghost use Rattle.nr_model.specs.Rows.Worlds.{WorldRows};
 
 /// What the bytes of a connection ask for: transactions, subscriptions, unknown names and ends.
 fn mode_rows()
@@ -19,11 +18,6 @@ fn message_rows()
 /// Moments, watches, and reads between writes.
 fn sequential_rows()
     ensures { SequentialRows }
-{}
-
-/// Steps of a world of one node: their outcomes, what is handed out, and a sequence that explains it.
-fn world_rows()
-    ensures { WorldRows }
 {}
 
 /// Steps of several nodes: why they are idle, reads off the log, a full circle, a node that falls, and a close.

@@ -5,8 +5,8 @@ use Rattle.std.specs.Option.{option_map, is_some}
 use Rattle.std.proofs.lemmas.Bool.{cases_Bool, and_parts, not-true}
 use Rattle.std.proofs.lemmas.List.{length-map, length-set, set-get_or}
 use Rattle.nr_model.specs.Bytes.{Bytes}
-use Rattle.nr_model.specs.Worlds as worlds
-use Rattle.nr_model.specs.Worlds.{is_some_bytes}
+use Rattle.nr_model.specs.Connections as traffic
+use Rattle.nr_model.specs.Connections.{is_some_bytes}
 use Rattle.nr_model.specs.Nodes as nodes
 use Rattle.nr_model.specs.Nodes.Steps as steps
 use Rattle.nr_model.specs.Items.{Item}
@@ -116,7 +116,7 @@ none_left client [] e none =
     λ i. record client { queue = record client.queue { waiting = e i; handed = same i } }
 none_left client (b ∷ bytes) e none = absurd (cc none)
 
-one_left : (served : Bool) (client : nodes.Client) (more : List worlds.Handed)
+one_left : (served : Bool) (client : nodes.Client) (more : List traffic.Handed)
     → cond (served && is_some_bytes client.queue.waiting) (record { connection = client.queue.connection; bytes = client.queue.waiting } ∷ more) more ≡ []
     → (cond served (record client { queue = record client.queue { waiting = []; handed = client.queue.handed + length client.queue.waiting } }) client ≡ client)
     × (more ≡ [])
@@ -180,7 +180,7 @@ no_answer n w worker h = by_slot n w worker.pending worker.batches worker.slot h
   by_slot n w pending batches (nodes.Answered executed) h = absurd (cc h)
 
 -- a collect as a step of the world, by whether there was anything to collect
-idle_collect : (n w : ℕ) (node new : nodes.Node) (outcome : steps.Outcome) (handed : List worlds.Handed) (answer : Option Answering)
+idle_collect : (n w : ℕ) (node new : nodes.Node) (outcome : steps.Outcome) (handed : List traffic.Handed) (answer : Option Answering)
     → IsCollected n w node new outcome handed answer
     → (not (steps.is_answered (nodes.worker_at w node).slot) && length (steps.collected w node.clients) == 0) ≡ true
     → (outcome ≡ steps.Idle steps.Nothing) × (handed ≡ []) × (answer ≡ None) × (new ≡ node)
@@ -194,10 +194,10 @@ idle_collect n w node new outcome handed answer c e =
       c.node ∙ collected_nothing w node unanswered none,
     )
 
-makes_collect : (setup : worlds.Setup) (n w : ℕ) → Makes setup (steps.Collect n w) n (steps.collected_node w)
+makes_collect : (setup : traffic.Setup) (n w : ℕ) → Makes setup (steps.Collect n w) n (steps.collected_node w)
 makes_collect setup n w = record { nodes_are = λ world. refl; taken_is = λ world. refl; passed_is = λ node. refl }
 
-is_taken : (v new : WorldState) (world : nodes.World) (n w : ℕ) (outcome : steps.Outcome) (handed : List worlds.Handed) (answer : Option Answering)
+is_taken : (v new : WorldState) (world : nodes.World) (n w : ℕ) (outcome : steps.Outcome) (handed : List traffic.Handed) (answer : Option Answering)
     → outcome ≡ steps.outcome v.setup world (steps.Collect n w)
     → handed ≡ cond (is_done outcome) (steps.collected w (nodes.node_at n world).clients) []
     → answer ≡ cond (is_done outcome) (answer_in n w (nodes.worker_at w (nodes.node_at n world))) None
@@ -209,7 +209,7 @@ is_taken v new world n w outcome handed answer is h a s = record {
   shows = subst (λ (o : steps.Outcome). Shows new (steps.effect_by o v.setup world (steps.Collect n w) steps.nothing_refused)) is s;
 }
 
-pub collect_takes : (v : WorldState) (n w : ℕ) (x old : Node) (outcome : steps.Outcome) (handed : List worlds.Handed) (answer : Option Answering)
+pub collect_takes : (v : WorldState) (n w : ℕ) (x old : Node) (outcome : steps.Outcome) (handed : List traffic.Handed) (answer : Option Answering)
     → steps.is_worker v.setup n w ≡ true → n < length v.nodes → old ≡ get_or v.nodes n old → IsCollected n w (node_seen old) (node_seen x) outcome handed answer
     → Takes v (record v { nodes = set v.nodes n x }) (steps.Collect n w) outcome handed answer
 collect_takes v n w x old outcome handed answer e there at collected = record {
@@ -260,8 +260,8 @@ whole_owing n w owed waiting old new replica sessions workers used whole =
     (ap (λ (r : ReplicaState). length r.owed) replica ∙ length-set old.replica.owed w owed) workers used whole
 
 -- a collect, and that the world behind it is held
-pub collected_at : (v : WorldState) (setup : worlds.Setup) (all : List Node) (log : Log) (failed after : Bool) (n w : ℕ) (x old : Node)
-    (outcome : steps.Outcome) (handed : List worlds.Handed) (answer : Option Answering)
+pub collected_at : (v : WorldState) (setup : traffic.Setup) (all : List Node) (log : Log) (failed after : Bool) (n w : ℕ) (x old : Node)
+    (outcome : steps.Outcome) (handed : List traffic.Handed) (answer : Option Answering)
     → state setup all log failed ≡ v → failed ≡ false → after ≡ false → (failed ≡ false → IsHeld (state setup all log failed))
     → steps.is_worker v.setup n w ≡ true → HasWorker v n w → old ≡ get_or all n old
     → IsCollected n w (node_seen old) (node_seen x) outcome handed answer → IsWhole n x
@@ -276,24 +276,24 @@ collected_at v setup all log failed after n w x old outcome handed answer is up 
     (taken, held_at v setup all log failed after step outcome handed answer n x is up still held taken whole)
 
 -- what a post, a lift and an answer make of their node
-pub makes_post : (setup : worlds.Setup) (n w : ℕ) → Makes setup (steps.Post n w) n (posted_node w)
+pub makes_post : (setup : traffic.Setup) (n w : ℕ) → Makes setup (steps.Post n w) n (posted_node w)
 makes_post setup n w = record { nodes_are = λ world. refl; taken_is = λ world. refl; passed_is = λ node. refl }
 
-pub makes_lift : (setup : worlds.Setup) (n w : ℕ) → Makes setup (steps.Lift n w) n (steps.lifted_node w)
+pub makes_lift : (setup : traffic.Setup) (n w : ℕ) → Makes setup (steps.Lift n w) n (steps.lifted_node w)
 makes_lift setup n w = record { nodes_are = λ world. refl; taken_is = λ world. refl; passed_is = λ node. refl }
 
-pub makes_answer : (setup : worlds.Setup) (n w : ℕ) → Makes setup (steps.Answer n w) n (answered_node w)
+pub makes_answer : (setup : traffic.Setup) (n w : ℕ) → Makes setup (steps.Answer n w) n (answered_node w)
 makes_answer setup n w = record { nodes_are = λ world. refl; taken_is = λ world. refl; passed_is = λ node. refl }
 
 -- a collect at a worker that there isn't
-pub collect_idle : (v : WorldState) (n w : ℕ) (outcome : steps.Outcome) (handed : List worlds.Handed) (answer : Option Answering)
+pub collect_idle : (v : WorldState) (n w : ℕ) (outcome : steps.Outcome) (handed : List traffic.Handed) (answer : Option Answering)
     → steps.is_worker v.setup n w ≡ false
     → outcome ≡ steps.Idle steps.NoSuch → handed ≡ [] → answer ≡ None → Takes v v (steps.Collect n w) outcome handed answer
 collect_idle v n w outcome handed answer e is none unanswered =
     let step = steps.Collect n w in
     let comes = comes_to_no_such v step n w (may_collect w) (λ world. refl) e in
     subst (λ (o : steps.Outcome). Takes v v step o handed answer) (sym is)
-    (subst (λ (hs : List worlds.Handed). Takes v v step (steps.Idle steps.NoSuch) hs answer) (sym none)
+    (subst (λ (hs : List traffic.Handed). Takes v v step (steps.Idle steps.NoSuch) hs answer) (sym none)
     (subst (λ (a : Option Answering). Takes v v step (steps.Idle steps.NoSuch) [] a) (sym unanswered) (takes_nothing v step reasons.NoSuch comes.is)))
 
 -- one that took an answer, or handed something out
@@ -303,7 +303,7 @@ none_executed (nodes.Posted jobs) h = refl
 none_executed (nodes.Lifted owed) h = refl
 none_executed (nodes.Answered executed) h = absurd (cc h)
 
-pub collect_done : (w : ℕ) (node : nodes.Node) (executed : Option Bool) (handed : List worlds.Handed) → executed ≡ executed_in (nodes.worker_at w node).slot
+pub collect_done : (w : ℕ) (node : nodes.Node) (executed : Option Bool) (handed : List traffic.Handed) → executed ≡ executed_in (nodes.worker_at w node).slot
     → handed ≡ steps.collected w node.clients → (executed ≡ None → handed ≡ [] → ⊥) → steps.Done ≡ may_collect w node
 collect_done w node executed handed is out some =
     let slot = (nodes.worker_at w node).slot in

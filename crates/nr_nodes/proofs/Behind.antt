@@ -1,7 +1,7 @@
 -- What a collect handed out, behind what was handed out before.
 use Rattle.std.proofs.Common.{◌≡◌, ℕ, false, List, [], ◌++◌, length, map, append-nil, refl, ap, sym, ◌∙◌, subst, None, Option}
 use Rattle.std.proofs.lemmas.List.{length-map}
-use Rattle.nr_model.specs.Worlds as worlds
+use Rattle.nr_model.specs.Connections as traffic
 use Rattle.nr_model.specs.Nodes.Steps as steps
 use Rattle.nr_model.specs.Nodes.Pasts.{Answering}
 use Rattle.nr_nodes.specs.WorldState.{WorldState}
@@ -10,14 +10,14 @@ use Rattle.nr_nodes.specs.Behind.{CollectsBehind}
 use Rattle.nr_nodes.proofs.Batches.{collect_idle}
 
 -- behind nothing it is all
-pub all_behind : (old new : WorldState) (n w : ℕ) (outcome : steps.Outcome) (before after : List worlds.Handed) (answer : Option Answering)
+pub all_behind : (old new : WorldState) (n w : ℕ) (outcome : steps.Outcome) (before after : List traffic.Handed) (answer : Option Answering)
     → CollectsBehind old new n w outcome before after answer → before ≡ [] → Takes old new (steps.Collect n w) outcome after answer
 all_behind old new n w outcome before after answer c none =
-    subst (λ (handed : List worlds.Handed). Takes old new (steps.Collect n w) outcome handed answer)
-    (sym (c.behind ∙ ap (λ (front : List worlds.Handed). front ++ c.more) none)) c.taken
+    subst (λ (handed : List traffic.Handed). Takes old new (steps.Collect n w) outcome handed answer)
+    (sym (c.behind ∙ ap (λ (front : List traffic.Handed). front ++ c.more) none)) c.taken
 
 -- at a worker that there isn't, it is nothing
-pub none_behind : (v : WorldState) (n w : ℕ) (before : List worlds.Handed) → steps.is_worker v.setup n w ≡ false
+pub none_behind : (v : WorldState) (n w : ℕ) (before : List traffic.Handed) → steps.is_worker v.setup n w ≡ false
     → CollectsBehind v v n w (steps.Idle steps.NoSuch) before before None
 none_behind v n w before e =
     record { more = []; behind = sym (append-nil before); taken = collect_idle v n w (steps.Idle steps.NoSuch) [] None e refl refl refl }

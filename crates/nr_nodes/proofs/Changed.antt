@@ -6,7 +6,7 @@ use Rattle.nr_model.specs.Bytes.{Bytes}
 use Rattle.nr_model.specs.Items.{Connection, Item, same_connection}
 use Rattle.nr_model.specs.Keyspace.{moment}
 use Rattle.nr_model.specs.Entries.{Jobs}
-use Rattle.nr_model.specs.Worlds.{jobs_from, own_jobs}
+use Rattle.nr_model.specs.Asked.{jobs_from, own_jobs}
 use Rattle.nr_model.specs.Modes.{plain}
 use Rattle.nr_model.specs.Nodes as nodes
 use Rattle.nr_model.specs.Nodes.Steps.{posted_jobs, lifted_node, fed_client, fed_node, asked_next, closed_client, closed_node, close_job}
@@ -105,7 +105,7 @@ posted_at node w old h k at =
 pub opened_is : (node : Node) (replica : ReplicaState) (session : SessionState) (sessions : List SessionState) (limit w : ℕ) (conn : ConnId)
     → length node.sessions ≡ length node.replica.members
     → replica ≡ record node.replica { members = node.replica.members ++ fresh_member (record { node = node.replica.node; serial = length node.replica.members }) w limit ∷ [] }
-    → session ≡ record { connection = connection_of conn; rest = []; mode = plain; next = 0; ended = false; gave_end = false }
+    → session ≡ record { connection = connection_of conn; rest = []; mode = plain; next = 0; fed = 0; ended = false; gave_end = false }
     → sessions ≡ node.sessions ++ session ∷ []
     → seen_of node replica sessions ≡ opened_node limit node.replica.node w (node_seen node)
 opened_is node replica session sessions limit w conn h r s p =

@@ -5,7 +5,7 @@ use Rattle.std.proofs.lemmas.List.{take_all, drop_all, append-nil, set-get_or, l
 use Rattle.std.proofs.Math.Seq.{get_or-append_seam, set-append_seam}
 use Rattle.nr_model.specs.Items.{Connection}
 use Rattle.nr_model.specs.Bytes.{Bytes}
-use Rattle.nr_model.specs.Worlds.{Handed, is_some_bytes}
+use Rattle.nr_model.specs.Connections.{Handed, is_some_bytes}
 use Rattle.nr_replica.specs.Members.{Member, AreNumbered}
 use Rattle.nr_model.specs.Nodes.Steps as steps
 use Rattle.nr_session.specs.SessionState.{SessionState}

@@ -5,7 +5,7 @@ use Rattle.std.proofs.lemmas.Bool.{and_parts, and_left, or_parts, or_left, ltb-t
 use Rattle.std.proofs.lemmas.List.{length-map}
 use Rattle.nr_model.specs.Bytes.{Bytes}
 use Rattle.nr_model.specs.Items.{Connection}
-use Rattle.nr_model.specs.Worlds as worlds
+use Rattle.nr_model.specs.Connections as traffic
 use Rattle.nr_model.specs.Nodes as nodes
 use Rattle.nr_model.specs.Nodes.Steps as steps
 use Rattle.nr_model.specs.Nodes.Steps.{Opened, Done, Idle}
@@ -31,10 +31,10 @@ use Rattle.nr_nodes.proofs.Paired.{paired_many, pair_at, some_in_use, client_of_
 use Rattle.nr_nodes.proofs.Shown.{seen_at, node_is, nodes_many, shows_changed, whole_at, whole_set, held_on, takes_nothing}
 
 -- of every past
-pub sized_of : (setup : worlds.Setup) (events : List Event) (world : nodes.World) → IsPast setup events world → AreSized setup world
+pub sized_of : (setup : traffic.Setup) (events : List Event) (world : nodes.World) → IsPast setup events world → AreSized setup world
 sized_of setup events world past = subst (AreSized setup) (sym past.1) (each_sized setup events)
 
-pub shaped_of : (setup : worlds.Setup) (events : List Event) (world : nodes.World) → IsPast setup events world → IsShapedWorld setup world
+pub shaped_of : (setup : traffic.Setup) (events : List Event) (world : nodes.World) → IsPast setup events world → IsShapedWorld setup world
 shaped_of setup events world past = subst (IsShapedWorld setup) (sym past.1) (each_shaped setup events)
 
 -- one of whole nodes
@@ -58,7 +58,7 @@ pub clients_many : (n : ℕ) (node : Node) → IsWhole n node → length (node_s
 clients_many n node w = length-both client_seen node.sessions node.replica.members (paired_many n 0 node.sessions node.replica.members w.pairs)
 
 abbrev pub no_session : SessionState
-no_session = record { connection = record { node = 0; serial = 0 }; rest = []; mode = plain; next = 0; ended = false; gave_end = false }
+no_session = record { connection = record { node = 0; serial = 0 }; rest = []; mode = plain; next = 0; fed = 0; ended = false; gave_end = false }
 
 -- the worker of a connection is one of its node's
 pub worker_within : (v : WorldState) (n serial : ℕ) (node : Node) (d : Member) → IsHeld v → n < length v.nodes → node ≡ get_or v.nodes n node
@@ -165,11 +165,11 @@ pub going_there : (node : Node) (serial n : ℕ) (s : SessionState) (m : Member)
 going_there node serial n s m pairs h e = (or_parts _ _ (ended_is node serial n s m pairs h ∙ e)).0
 
 -- the outcomes by what was found
-pub open_none : (setup : worlds.Setup) (xs : List Node) (n w : ℕ) → steps.is_worker setup n w ≡ false → steps.outcome setup (seen_world xs)
+pub open_none : (setup : traffic.Setup) (xs : List Node) (n w : ℕ) → steps.is_worker setup n w ≡ false → steps.outcome setup (seen_world xs)
     (steps.Open n w) ≡ steps.Idle steps.NoSuch
 open_none setup xs n w e = cond-true (not (steps.is_worker setup n w)) _ _ (not_from_false _ e)
 
-pub open_some : (setup : worlds.Setup) (xs : List Node) (n w : ℕ) (d : Node) (many down : Bool) → steps.is_worker setup n w ≡ true
+pub open_some : (setup : traffic.Setup) (xs : List Node) (n w : ℕ) (d : Node) (many down : Bool) → steps.is_worker setup n w ≡ true
     → n < length xs → d ≡ get_or xs n d → IsWhole n d → nat_le setup.connections d.in_use ≡ many → d.replica.down ≡ down
     → steps.outcome setup (seen_world xs) (steps.Open n w)
     ≡ steps.idle_where many steps.TooMany (steps.idle_where down steps.Down
@@ -182,11 +182,11 @@ open_some setup xs n w d many down is h at whole m p =
     ∙ (λ i. steps.idle_where (nat_le setup.connections (sym whole.counted i)) steps.TooMany (steps.idle_where (p i) steps.Down opened))
     ∙ (λ i. steps.idle_where (m i) steps.TooMany (steps.idle_where down steps.Down opened))
 
-pub feed_none : (setup : worlds.Setup) (xs : List Node) (c : Connection) (time : ℕ) (bytes : Bytes) → steps.is_client (seen_world xs) c ≡ false
+pub feed_none : (setup : traffic.Setup) (xs : List Node) (c : Connection) (time : ℕ) (bytes : Bytes) → steps.is_client (seen_world xs) c ≡ false
     → steps.outcome setup (seen_world xs) (steps.Feed c time bytes) ≡ steps.Idle steps.NoSuch
 feed_none setup xs c time bytes e = cond-true (not (steps.is_client (seen_world xs) c)) _ _ (not_from_false _ e)
 
-pub feed_some : (setup : worlds.Setup) (xs : List Node) (c : Connection) (time : ℕ) (bytes : Bytes) (d : Node) (ended down : Bool) → steps.is_client
+pub feed_some : (setup : traffic.Setup) (xs : List Node) (c : Connection) (time : ℕ) (bytes : Bytes) (d : Node) (ended down : Bool) → steps.is_client
     (seen_world xs) c ≡ true
     → d ≡ get_or xs c.node d → takes_none (nodes.client_at c.serial (node_seen d)) ≡ ended → d.replica.down ≡ down
     → steps.outcome setup (seen_world xs) (steps.Feed c time bytes) ≡ steps.idle_where ended steps.Ended (steps.idle_where down steps.Down steps.Done)
@@ -196,11 +196,11 @@ feed_some setup xs c time bytes d ended down is at e p =
     ∙ (λ i. steps.idle_where (takes_none (nodes.client_at c.serial (seen i))) steps.Ended (steps.idle_where (seen i).down steps.Down steps.Done))
     ∙ (λ i. steps.idle_where (e i) steps.Ended (steps.idle_where (p i) steps.Down steps.Done))
 
-pub close_none : (setup : worlds.Setup) (xs : List Node) (c : Connection) (time : ℕ) → steps.is_client (seen_world xs) c ≡ false
+pub close_none : (setup : traffic.Setup) (xs : List Node) (c : Connection) (time : ℕ) → steps.is_client (seen_world xs) c ≡ false
     → steps.outcome setup (seen_world xs) (steps.Close c time) ≡ steps.Idle steps.NoSuch
 close_none setup xs c time e = cond-true (not (steps.is_client (seen_world xs) c)) _ _ (not_from_false _ e)
 
-pub close_some : (setup : worlds.Setup) (xs : List Node) (c : Connection) (time : ℕ) (d : Node) (closed down : Bool) → steps.is_client (seen_world xs) c ≡
+pub close_some : (setup : traffic.Setup) (xs : List Node) (c : Connection) (time : ℕ) (d : Node) (closed down : Bool) → steps.is_client (seen_world xs) c ≡
     true
     → d ≡ get_or xs c.node d → (nodes.client_at c.serial (node_seen d)).closed ≡ closed → d.replica.down ≡ down
     → steps.outcome setup (seen_world xs) (steps.Close c time) ≡ steps.idle_where closed steps.Ended (steps.idle_where down steps.Down steps.Done)
@@ -216,11 +216,11 @@ not_idle : (b : Bool) (reason : steps.Reason) (o other : steps.Outcome) → is_d
 not_idle true reason o other done e = absurd (let no : false ≡ true = ap is_done e ∙ done in cc)
 not_idle false reason o other done e = (refl, e)
 
-pub record MayOpen (setup : worlds.Setup) (world : nodes.World) (n w : ℕ) : Type 0 where
+pub record MayOpen (setup : traffic.Setup) (world : nodes.World) (n w : ℕ) : Type 0 where
   pub worker : steps.is_worker setup n w ≡ true
   pub room : nat_le setup.connections (steps.in_use (nodes.node_at n world)) ≡ false
 
-pub may_open : (setup : worlds.Setup) (xs : List Node) (n w : ℕ) (c : Connection) → steps.outcome setup (seen_world xs) (steps.Open n w) ≡ steps.Opened c
+pub may_open : (setup : traffic.Setup) (xs : List Node) (n w : ℕ) (c : Connection) → steps.outcome setup (seen_world xs) (steps.Open n w) ≡ steps.Opened c
     → MayOpen setup (seen_world xs) n w
 may_open setup xs n w c e =
     let a = not_idle _ steps.NoSuch _ (steps.Opened c) refl e in
@@ -231,7 +231,7 @@ pub record MayFeed (world : nodes.World) (c : Connection) : Type 0 where
   pub there : steps.is_client world c ≡ true
   pub going : takes_none (nodes.client_of c world) ≡ false
 
-pub may_feed : (setup : worlds.Setup) (xs : List Node) (c : Connection) (time : ℕ) (bytes : Bytes) → steps.outcome setup (seen_world xs)
+pub may_feed : (setup : traffic.Setup) (xs : List Node) (c : Connection) (time : ℕ) (bytes : Bytes) → steps.outcome setup (seen_world xs)
     (steps.Feed c time bytes) ≡ steps.Done
     → MayFeed (seen_world xs) c
 may_feed setup xs c time bytes e =
@@ -243,7 +243,7 @@ pub record MayClose (world : nodes.World) (c : Connection) : Type 0 where
   pub there : steps.is_client world c ≡ true
   pub unclosed : (nodes.client_of c world).closed ≡ false
 
-pub may_close : (setup : worlds.Setup) (xs : List Node) (c : Connection) (time : ℕ) → steps.outcome setup (seen_world xs) (steps.Close c time) ≡ steps.Done
+pub may_close : (setup : traffic.Setup) (xs : List Node) (c : Connection) (time : ℕ) → steps.outcome setup (seen_world xs) (steps.Close c time) ≡ steps.Done
     → MayClose (seen_world xs) c
 may_close setup xs c time e =
     let a = not_idle _ steps.NoSuch _ steps.Done refl e in
@@ -252,7 +252,7 @@ may_close setup xs c time e =
 
 -- the outcome in each world that is shown
 abbrev pub IsBlind : steps.Step → Type 0
-IsBlind step = (setup : worlds.Setup) (world : nodes.World) → steps.outcome setup world step ≡ steps.outcome setup
+IsBlind step = (setup : traffic.Setup) (world : nodes.World) → steps.outcome setup world step ≡ steps.outcome setup
     (record { nodes = world.nodes; taken = []; fed = []; closed = []; batches = [] }) step
 
 pub outcome_in : (v : WorldState) (world : nodes.World) (step : steps.Step) → IsBlind step → Shows v world
@@ -267,7 +267,7 @@ pub idles : (v : WorldState) (step : steps.Step) (reason : Reason) → IsBlind s
 idles v step reason blind e = takes_nothing v step reason (λ events world past s. outcome_in v world step blind s ∙ e)
 
 -- what a step that is done does
-by_done : (P : nodes.World → Type 0) (o : steps.Outcome) (setup : worlds.Setup) (world : nodes.World) (step : steps.Step) → is_done o ≡ true
+by_done : (P : nodes.World → Type 0) (o : steps.Outcome) (setup : traffic.Setup) (world : nodes.World) (step : steps.Step) → is_done o ≡ true
     → P (steps.effect setup world step steps.nothing_refused) → P (steps.effect_by o setup world step steps.nothing_refused)
 by_done P (Opened c) setup world step e p = p
 by_done P Done setup world step e p = p

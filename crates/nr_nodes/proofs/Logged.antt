@@ -6,7 +6,7 @@ use Rattle.std.specs.List.{list_any, list_all, AllByRecursion}
 use Rattle.std.proofs.lemmas.Bool.{lt-ltb, ne_eqb}
 use Rattle.std.proofs.lemmas.List.{length-append, get_or-drop, drop-append-le}
 use Rattle.std.proofs.lemmas.List.Folds.{list_all-map}
-use Rattle.nr_model.specs.Worlds as worlds
+use Rattle.nr_model.specs.Connections as traffic
 use Rattle.nr_model.specs.Entries.{Jobs, entry_jobs}
 use Rattle.nr_model.specs.Nodes as nodes
 use Rattle.nr_model.specs.Nodes.Steps as steps
@@ -203,7 +203,7 @@ holds b reason otherwise e = ap (λ (x : Bool). steps.idle_where x reason otherw
 pub fails : (b : Bool) (reason : steps.Reason) (otherwise : steps.Outcome) → b ≡ false → steps.idle_where b reason otherwise ≡ otherwise
 fails b reason otherwise e = ap (λ (x : Bool). steps.idle_where x reason otherwise) e
 
-is_node_true : (setup : worlds.Setup) (n : ℕ) → n < setup.nodes → not (steps.is_node setup n) ≡ false
+is_node_true : (setup : traffic.Setup) (n : ℕ) → n < setup.nodes → not (steps.is_node setup n) ≡ false
 is_node_true setup n h = ap not (lt-ltb n setup.nodes h)
 
 pub some_lead : (jobs : Jobs) → has_some jobs ≡ true → steps.is_empty jobs ≡ false

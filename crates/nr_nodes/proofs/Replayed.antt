@@ -6,7 +6,7 @@ use Rattle.std.proofs.lemmas.List.{append-nil, length-drop, get_or-drop, drop-dr
 use Rattle.nr_model.specs.Items.{Connection}
 use Rattle.nr_model.specs.Entries.{Jobs, read_jobs}
 use Rattle.nr_entry.specs.Waiting.{has_some}
-use Rattle.nr_model.specs.Worlds as worlds
+use Rattle.nr_model.specs.Connections as traffic
 use Rattle.nr_model.specs.Nodes as nodes
 use Rattle.nr_model.specs.Nodes.Steps as steps
 use Rattle.nr_model.specs.Nodes.Pasts.{Event, IsPast}
@@ -32,13 +32,13 @@ use Rattle.nr_nodes.proofs.Kept.{paired_long}
 use Rattle.nr_nodes.proofs.Joined.{none_yet, one_more, looked_up}
 
 -- what every past tells
-pub sized_of : (setup : worlds.Setup) (events : List Event) (world : nodes.World) → IsPast setup events world → AreSized setup world
+pub sized_of : (setup : traffic.Setup) (events : List Event) (world : nodes.World) → IsPast setup events world → AreSized setup world
 sized_of setup events world past = subst (AreSized setup) (sym past.1) (each_sized setup events)
 
-pub placed_of : (setup : worlds.Setup) (events : List Event) (world : nodes.World) → IsPast setup events world → ArePlaced world
+pub placed_of : (setup : traffic.Setup) (events : List Event) (world : nodes.World) → IsPast setup events world → ArePlaced world
 placed_of setup events world past = subst ArePlaced (sym past.1) (each_placed setup events)
 
-pub shaped_of : (setup : worlds.Setup) (events : List Event) (world : nodes.World) → IsPast setup events world
+pub shaped_of : (setup : traffic.Setup) (events : List Event) (world : nodes.World) → IsPast setup events world
     → (n : ℕ) → n < length world.nodes → IsShaped setup n (nodes.node_at n world)
 shaped_of setup events world past =
     subst (λ (w : nodes.World). (n : ℕ) → n < length w.nodes → IsShaped setup n (nodes.node_at n w)) (sym past.1) (each_shaped setup events).shaped
@@ -53,7 +53,7 @@ idle_done true reason otherwise e = absurd (cc e)
 idle_done false reason otherwise e = (refl, e)
 
 -- a number of no node, and of a node: what is asked of it is asked of the node there
-pub no_such : (setup : worlds.Setup) (n : ℕ) (otherwise : steps.Outcome) → setup.nodes ≤ n
+pub no_such : (setup : traffic.Setup) (n : ℕ) (otherwise : steps.Outcome) → setup.nodes ≤ n
     → steps.idle_where (not (steps.is_node setup n)) steps.NoSuch otherwise ≡ steps.Idle steps.NoSuch
 no_such setup n otherwise h = ap (λ (b : Bool). steps.idle_where (not b) steps.NoSuch otherwise) (le-ltb n setup.nodes h)
 

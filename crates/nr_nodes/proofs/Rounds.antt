@@ -6,7 +6,7 @@ use Rattle.std.proofs.lemmas.List.{append-nil, append_assoc, map-append, length-
 use Rattle.std.proofs.lemmas.List.Concat.{flat_map-append}
 use Rattle.std.proofs.lemmas.List.Folds.{list_any-append}
 use Rattle.std.proofs.lemmas.List.FromFn.{map-range_with_len_more}
-use Rattle.nr_model.specs.Worlds.{Setup, Handed}
+use Rattle.nr_model.specs.Connections.{Setup, Handed}
 use Rattle.nr_model.specs.Nodes.{World, fresh}
 use Rattle.nr_model.specs.Nodes.Steps.{Step, Reserve, Fill, Fetch, Apply, Look, Collect, Outcome, after_step}
 use Rattle.nr_model.specs.Nodes.Pasts.{Answering, Event, IsEvent, AreEvents, IsPast, handed_in, is_done}
@@ -520,25 +520,27 @@ events_more : (rounds : List (List Event)) (last : List Event) → events_of rou
 events_more rounds last =
     sym (flat_map-append (λ (events : List Event). events) rounds (last ∷ []) ∙ ap (λ (es : List Event). events_of rounds ++ es) (append-nil last))
 
-pub rounds_none : (a : WorldState) (first : List out.Handed) → first ≡ [] → TakesRounds a a (map handed_seen first)
+pub rounds_none : (a : WorldState) (first : List out.Handed) → first ≡ [] → TakesRounds 0 a a (map handed_seen first)
 rounds_none a first none = record {
   setup = refl;
-  taken = λ events world past shows. record { rounds = []; busy = tt; handed_is = ap (map handed_seen) none; shows = shows };
+  taken = λ events world past shows. record { rounds = []; busy = tt; many = refl; handed_is = ap (map handed_seen) none; shows = shows };
 }
 
 -- what a round leads to behind others
-record Led (setup : Setup) (new : WorldState) (after : List Handed) (done : Bool) (past : List Event) (world : World) : Type 0 where
+record Led (count : ℕ) (setup : Setup) (new : WorldState) (after : List Handed) (done : Bool) (past : List Event) (world : World) : Type 0 where
   rounds : List (List Event)
   busy : AreBusy setup world rounds
+  many : length rounds ≡ count
   last : List Event
   round : IsRound setup (after_events setup world (events_of rounds)) last
   done_is : does last ≡ done
   handed_is : after ≡ handed_in (events_of (rounds ++ last ∷ []))
   shows : Shows new (after_events setup world (events_of (rounds ++ last ∷ [])))
 
-led : (a b c : WorldState) (h k : List Handed) (done : Bool) → TakesRounds a b h → TakesRound b c h k done → (events : List Event) (world : World)
-    → IsPast a.setup events world → Shows a world → Led a.setup c k done events world
-led a b c h k done p q events world past shows =
+led : (count : ℕ) (a b c : WorldState) (h k : List Handed) (done : Bool) → TakesRounds count a b h
+    → TakesRound b c h k done → (events : List Event) (world : World)
+    → IsPast a.setup events world → Shows a world → Led count a.setup c k done events world
+led count a b c h k done p q events world past shows =
     let r = p.taken events world past shows in
     let all = events_of r.rounds in
     let next = after_events a.setup world all in
@@ -547,6 +549,7 @@ led a b c h k done p q events world past shows =
     record {
       rounds = r.rounds;
       busy = r.busy;
+      many = r.many;
       last = t.events;
       round = t.round;
       done_is = t.done_is;
@@ -555,25 +558,29 @@ led a b c h k done p q events world past shows =
       shows = subst (Shows c) (sym (world_after-append a.setup world all t.events) ∙ ap (after_events a.setup world) (events_more r.rounds t.events)) t.shows;
     }
 
-pub rounds_more : (a b c : WorldState) (h k : List Handed) (done : Bool) → TakesRounds a b h → TakesRound b c h k done → done ≡ true → TakesRounds a c k
-rounds_more a b c h k done p q is = record {
+pub rounds_more : (count : ℕ) (a b c : WorldState) (h k : List Handed) (done : Bool) → TakesRounds count a b h
+    → TakesRound b c h k done → done ≡ true → TakesRounds (count + 1) a c k
+rounds_more count a b c h k done p q is = record {
   setup = q.setup ∙ p.setup;
   taken = λ events world past shows.
-      let l = led a b c h k done p q events world past shows in
+      let l = led count a b c h k done p q events world past shows in
+      let many = l.many in
       record {
         rounds = l.rounds ++ l.last ∷ [];
         busy = busy_on a.setup l.rounds l.last world l.busy l.round (l.done_is ∙ is);
+        many = omega (arith, length-append l.rounds (l.last ∷ []));
         handed_is = l.handed_is;
         shows = l.shows;
       };
 }
 
-pub rounds_all : (a b c : WorldState) (h k : List Handed) (done : Bool) → TakesRounds a b h → TakesRound b c h k done → done ≡ false → IsAllowed b.setup
+pub rounds_all : (count : ℕ) (a b c : WorldState) (h k : List Handed) (done : Bool) → TakesRounds count a b h
+    → TakesRound b c h k done → done ≡ false → IsAllowed b.setup
     → Settles a c k
-rounds_all a b c h k done p q is there = record {
+rounds_all count a b c h k done p q is there = record {
   setup = q.setup ∙ p.setup;
   taken = λ events world past shows.
-      let l = led a b c h k done p q events world past shows in
+      let l = led count a b c h k done p q events world past shows in
       let rounds = l.rounds ++ l.last ∷ [] in
       let are = rounds_end a.setup l.rounds l.last world l.busy l.round (l.done_is ∙ is) in
       let allowed = subst IsAllowed p.setup there in

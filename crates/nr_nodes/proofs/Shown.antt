@@ -3,7 +3,7 @@ use Rattle.std.proofs.Common.{◌≡◌, ℕ, zero, suc, ◌+◌, ◌-◌, ◌<�
 use Rattle.std.specs.Prelude.{fold}
 use Rattle.std.proofs.lemmas.Bool.Decides.{eqb_tells}
 use Rattle.std.proofs.lemmas.List.{length-map, length-set, length-drop, get_or-set_same, get_or-set_other}
-use Rattle.nr_model.specs.Worlds as worlds
+use Rattle.nr_model.specs.Connections as traffic
 use Rattle.nr_model.specs.Nodes as nodes
 use Rattle.nr_model.specs.Nodes.Steps as steps
 use Rattle.nr_model.specs.Nodes.Pasts.{Answering, Event, IsEvent, IsPast, AreEvents, after_event, handed_by, answer_by, may_refuse}
@@ -79,12 +79,12 @@ whole_set (y ∷ xs) first (suc n) x w (v, vs) =
     (v, whole_set xs (suc first) n x (subst (λ k. IsWhole k x) (let e : first + suc n ≡ suc first + n = omega arith in e) w) vs)
 
 -- one event more is a past of the world behind it
-events_on : (setup : worlds.Setup) (world : nodes.World) (before : List Event) (e : Event) → AreEvents setup world before
+events_on : (setup : traffic.Setup) (world : nodes.World) (before : List Event) (e : Event) → AreEvents setup world before
     → IsEvent setup (fold (after_event setup) world before) e → AreEvents setup world (before ++ e ∷ [])
 events_on setup world [] e are is = (is, tt)
 events_on setup world (d ∷ before) e are is = (are.0, events_on setup (after_event setup world d) before e are.1 is)
 
-pub past_on : (setup : worlds.Setup) (events : List Event) (world : nodes.World) (e : Event) → IsPast setup events world → IsEvent setup world e
+pub past_on : (setup : traffic.Setup) (events : List Event) (world : nodes.World) (e : Event) → IsPast setup events world → IsEvent setup world e
     → IsPast setup (events ++ e ∷ []) (after_event setup world e)
 past_on setup events world e past is = (
   events_on setup (nodes.fresh setup) events e past.0 (subst (λ (w : nodes.World). IsEvent setup w e) past.1 is),
@@ -92,7 +92,7 @@ past_on setup events world e past is = (
 )
 
 -- A step that was taken by a world that is held leaves one that is held, where its nodes are whole and its numbers fit.
-pub held_on : (old new : WorldState) (step : steps.Step) (outcome : steps.Outcome) (handed : List worlds.Handed) (answer : Option Answering)
+pub held_on : (old new : WorldState) (step : steps.Step) (outcome : steps.Outcome) (handed : List traffic.Handed) (answer : Option Answering)
     → IsHeld old → Takes old new step outcome handed answer → AreWhole 0 new.nodes → new.log.base + length (log_seen new.log) < 2 ^ 64 → IsHeld new
 held_on old new step outcome handed answer held takes whole fits =
     let t = takes.taken held.events held.world held.past held.shows in
@@ -100,7 +100,7 @@ held_on old new step outcome handed answer held takes whole fits =
     record {
       events = held.events ++ e ∷ [];
       world = after_event old.setup held.world e;
-      past = subst (λ (s : worlds.Setup). IsPast s (held.events ++ e ∷ []) (after_event old.setup held.world e)) (sym takes.setup)
+      past = subst (λ (s : traffic.Setup). IsPast s (held.events ++ e ∷ []) (after_event old.setup held.world e)) (sym takes.setup)
           (past_on old.setup held.events held.world e held.past t.event);
       shows = t.shows;
       whole = whole;

@@ -4,7 +4,7 @@ use Rattle.std.specs.Prelude.{◌&&◌, not, IsTrue}
 use Rattle.std.specs.List.{AllByRecursion}
 use Rattle.std.proofs.lemmas.Bool.{and_parts, ltb-true}
 use Rattle.nr_model.specs.Entries.{Jobs}
-use Rattle.nr_model.specs.Worlds as worlds
+use Rattle.nr_model.specs.Connections as traffic
 use Rattle.nr_model.specs.Nodes as nodes
 use Rattle.nr_model.specs.Nodes.Steps as steps
 use Rattle.nr_model.specs.Nodes.Pasts.{Answering, handed_by, answer_by}
@@ -58,7 +58,7 @@ own_jobs n w clients (job ∷ jobs) h =
     let more = own_jobs n w clients jobs h.1 in
     λ i. here i && more i
 
-pub place_of : (setup : worlds.Setup) (n w : ℕ) (node : Node) → IsWhole n node → IsSized setup (node_seen node) → IsShaped setup n (node_seen node)
+pub place_of : (setup : traffic.Setup) (n w : ℕ) (node : Node) → IsWhole n node → IsSized setup (node_seen node) → IsShaped setup n (node_seen node)
     → w < setup.workers → IsPlace n w node
 place_of setup n w node whole sized shaped within =
     let pairs : length node.sessions ≡ length node.replica.members = paired_length n 0 node.sessions node.replica.members whole.pairs in
@@ -100,7 +100,7 @@ has_worker v n w held e =
     }
 
 -- a step at a worker comes to what its node says
-abbrev pub IsAtWorker : worlds.Setup → steps.Step → ℕ → ℕ → (nodes.Node → steps.Outcome) → Type 0
+abbrev pub IsAtWorker : traffic.Setup → steps.Step → ℕ → ℕ → (nodes.Node → steps.Outcome) → Type 0
 IsAtWorker setup step n w f =
     (world : nodes.World) → steps.outcome setup world step ≡ steps.idle_where (not (steps.is_worker setup n w)) steps.NoSuch (f (nodes.node_at n world))
 
@@ -123,7 +123,7 @@ comes_to v step n w f node outcome by e there at is =
     }
 
 -- what a step makes of a node
-pub record Makes (setup : worlds.Setup) (step : steps.Step) (n : ℕ) (g : nodes.Node → nodes.Node) : Type 0 where
+pub record Makes (setup : traffic.Setup) (step : steps.Step) (n : ℕ) (g : nodes.Node → nodes.Node) : Type 0 where
   pub nodes_are : (world : nodes.World) → (steps.effect setup world step steps.nothing_refused).nodes ≡ set world.nodes n (g (nodes.node_at n world))
   pub taken_is : (world : nodes.World) → nodes.log_of (steps.effect setup world step steps.nothing_refused).taken ≡ nodes.log_of world.taken
   pub passed_is : (node : nodes.Node) → (g node).passed ≡ node.passed
@@ -150,7 +150,7 @@ steps_done v step n g x old makes none unanswered there at seen comes =
     (λ events world past s. (steps.nothing_refused, λ _. refl, comes.is events world past s, shows_made v world step n g x old makes there at seen s))
 
 -- and it is held, where the node is whole
-pub held_with : (v : WorldState) (step : steps.Step) (outcome : steps.Outcome) (handed : List worlds.Handed) (answer : Option Answering) (n : ℕ) (x : Node)
+pub held_with : (v : WorldState) (step : steps.Step) (outcome : steps.Outcome) (handed : List traffic.Handed) (answer : Option Answering) (n : ℕ) (x : Node)
     → IsHeld v
     → Takes v (record v { nodes = set v.nodes n x }) step outcome handed answer → IsWhole n x → IsHeld (record v { nodes = set v.nodes n x })
 held_with v step outcome handed answer n x held takes whole =
@@ -158,11 +158,11 @@ held_with v step outcome handed answer n x held takes whole =
     held_on v (record v { nodes = set v.nodes n x }) step outcome handed answer held takes
     (whole_set v.nodes 0 n x (subst (λ (k : ℕ). IsWhole k x) first whole) held.whole) held.fits
 
-abbrev pub state : worlds.Setup → List Node → Log → Bool → WorldState
+abbrev pub state : traffic.Setup → List Node → Log → Bool → WorldState
 state setup all log failed = record { setup = setup; nodes = all; log = log; failed = failed }
 
 -- by the parts of a world that hasn't failed, before and after
-pub done_at : (v : WorldState) (setup : worlds.Setup) (all : List Node) (log : Log) (failed after : Bool) (step : steps.Step) (n : ℕ)
+pub done_at : (v : WorldState) (setup : traffic.Setup) (all : List Node) (log : Log) (failed after : Bool) (step : steps.Step) (n : ℕ)
     (g : nodes.Node → nodes.Node) (x old : Node)
     → state setup all log failed ≡ v → failed ≡ false → after ≡ false → Makes setup step n g
     → ((world : nodes.World) → handed_by world step ≡ []) → ((world : nodes.World) → answer_by world step ≡ None)
@@ -174,8 +174,8 @@ done_at v setup all log failed after step n g x old is up still makes none unans
     (steps_done (state setup all log failed) step n g x old makes none unanswered there at seen
     (subst (λ (o : WorldState). ComesTo o step steps.Done) (sym is) comes)))
 
-pub held_at : (v : WorldState) (setup : worlds.Setup) (all : List Node) (log : Log) (failed after : Bool) (step : steps.Step) (outcome : steps.Outcome)
-    (handed : List worlds.Handed) (answer : Option Answering) (n : ℕ) (x : Node)
+pub held_at : (v : WorldState) (setup : traffic.Setup) (all : List Node) (log : Log) (failed after : Bool) (step : steps.Step) (outcome : steps.Outcome)
+    (handed : List traffic.Handed) (answer : Option Answering) (n : ℕ) (x : Node)
     → state setup all log failed ≡ v → failed ≡ false → after ≡ false
     → (failed ≡ false → IsHeld (state setup all log failed))
     → Takes v (state setup (set all n x) log after) step outcome handed answer → IsWhole n x → IsHeld (state setup (set all n x) log after)
@@ -186,18 +186,18 @@ held_at v setup all log failed after step outcome handed answer n x is up still 
     (subst (λ (b : Bool). Takes v (state setup (set all n x) log b) step outcome handed answer) (still ∙ sym up) takes)) whole)
 
 -- a worker of it, by its parts
-pub has_there : (v : WorldState) (setup : worlds.Setup) (all : List Node) (log : Log) (failed : Bool) (n w : ℕ) → state setup all log failed ≡ v
+pub has_there : (v : WorldState) (setup : traffic.Setup) (all : List Node) (log : Log) (failed : Bool) (n w : ℕ) → state setup all log failed ≡ v
     → HasWorker v n w → n < length all
 has_there v setup all log failed n w is has = subst (λ (o : WorldState). n < length o.nodes) (sym is) has.there
 
-pub has_place : (v : WorldState) (setup : worlds.Setup) (all : List Node) (log : Log) (failed : Bool) (n w : ℕ) (old : Node) → state setup all log failed ≡ v
+pub has_place : (v : WorldState) (setup : traffic.Setup) (all : List Node) (log : Log) (failed : Bool) (n w : ℕ) (old : Node) → state setup all log failed ≡ v
     → HasWorker v n w
     → old ≡ get_or all n old → IsPlace n w old
 has_place v setup all log failed n w old is has at =
     subst (IsPlace n w) (sym at) (subst (λ (o : WorldState). IsPlace n w (get_or o.nodes n old)) (sym is) (has.place old))
 
 -- a step of a worker that was done, and that the world behind it is held
-pub step_at : (v : WorldState) (setup : worlds.Setup) (all : List Node) (log : Log) (failed after : Bool) (step : steps.Step) (n w : ℕ)
+pub step_at : (v : WorldState) (setup : traffic.Setup) (all : List Node) (log : Log) (failed after : Bool) (step : steps.Step) (n w : ℕ)
     (g : nodes.Node → nodes.Node) (x old : Node)
     → state setup all log failed ≡ v → failed ≡ false → after ≡ false → (failed ≡ false → IsHeld (state setup all log failed)) → Makes setup step n g
     → ((world : nodes.World) → handed_by world step ≡ []) → ((world : nodes.World) → answer_by world step ≡ None)

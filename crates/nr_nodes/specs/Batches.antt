@@ -1,6 +1,6 @@
 -- What a worker's steps come to, by its node alone.
 use Rattle.std.specs.Prelude.{◌≡◌, ◌<◌, ℕ, Bool, not, ◌&&◌, ◌||◌, ◌==◌, List, length, slice_index_or, Option, Some, None, IsTrue}
-use Rattle.nr_model.specs.Worlds as worlds
+use Rattle.nr_model.specs.Connections as traffic
 use Rattle.nr_model.specs.Nodes as nodes
 use Rattle.nr_model.specs.Nodes.Steps as steps
 use Rattle.nr_model.specs.Nodes.Steps.{idle_where, is_free, is_posted, is_lifted, is_answered, is_empty, owed_in, posted_jobs, collected, collected_node}
@@ -46,7 +46,7 @@ executed_in (nodes.Lifted owed) = None
 executed_in (nodes.Answered executed) = Some executed
 
 -- what a collect at a worker of node n came to, what it handed out, the answer that it took, and the node behind it
-pub record IsCollected (n w : ℕ) (old new : nodes.Node) (outcome : steps.Outcome) (handed : List worlds.Handed) (answer : Option Answering) : Type 0 where
+pub record IsCollected (n w : ℕ) (old new : nodes.Node) (outcome : steps.Outcome) (handed : List traffic.Handed) (answer : Option Answering) : Type 0 where
   pub comes_to : outcome ≡ may_collect w old
   pub node : new ≡ collected_node w old
   pub handed_out : handed ≡ collected w old.clients

@@ -1,6 +1,6 @@
 -- What a collect hands out, by the members of a replica.
 use Rattle.std.specs.Prelude.{ℕ, ◌+◌, ◌<◌, ◌&&◌, ◌==◌, cond, List, [], ◌∷◌, ◌++◌, length, slice_index_or, slice_set}
-use Rattle.nr_model.specs.Worlds.{Handed, is_some_bytes}
+use Rattle.nr_model.specs.Connections.{Handed, is_some_bytes}
 use Rattle.nr_replica.specs.Members.{Member, fresh_member}
 
 -- what waits for one was handed out

@@ -3,7 +3,7 @@ use Rattle.std.specs.Prelude.{◌≡◌, ℕ, ◌++◌}
 use Rattle.nr_model.specs.Bytes.{Bytes}
 use Rattle.nr_model.specs.Keyspace.{moment}
 use Rattle.nr_model.specs.Entries.{Jobs}
-use Rattle.nr_model.specs.Worlds.{jobs_from}
+use Rattle.nr_model.specs.Asked.{jobs_from}
 use Rattle.nr_model.specs.Nodes.Steps.{fed_client, asked_next}
 use Rattle.nr_session.specs.SessionState.{SessionState}
 use Rattle.nr_replica.specs.Members.{Member}

@@ -1,7 +1,7 @@
 -- What a run of steps came to: the headline.
 use Rattle.std.specs.Prelude.{◌≡◌, List, [], ◌∷◌, map, option_map}
 use Rattle.nr_model.specs.Items.{Sequence}
-use Rattle.nr_model.specs.Worlds.{Setup}
+use Rattle.nr_model.specs.Connections.{Setup}
 use Rattle.nr_model.specs.Nodes as nodes
 use Rattle.nr_model.specs.Nodes.Steps as steps
 use Rattle.nr_model.specs.Nodes.Pasts.{Event, IsPast}

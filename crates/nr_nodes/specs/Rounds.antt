@@ -1,6 +1,6 @@
 -- Steps that were taken one behind another, as far as a round and as all rounds, whatever past the world has.
 use Rattle.std.specs.Prelude.{◌≡◌, ℕ, Bool, true, false, List, [], ◌∷◌, ◌++◌, length, map}
-use Rattle.nr_model.specs.Worlds as worlds
+use Rattle.nr_model.specs.Connections as traffic
 use Rattle.nr_model.specs.Nodes as nodes
 use Rattle.nr_model.specs.Nodes.Steps as steps
 use Rattle.nr_model.specs.Nodes.Pasts.{Event, AreEvents, IsPast, handed_in}
@@ -24,7 +24,7 @@ pub record AreLooks (events : List Event) : Type 0 where
   pub idle : (n : ℕ) (front back : List Event) (look : Event) → events ≡ front ++ look ∷ back → look.step ≡ steps.Look n → EndsIdle n front
 
 -- From a world, these steps were events that led to one that is shown. What was handed out before and after them is given, and whether one of them was done.
-pub record IsRun (setup : worlds.Setup) (new : WorldState) (made : List steps.Step) (before after : List worlds.Handed) (done : Bool)
+pub record IsRun (setup : traffic.Setup) (new : WorldState) (made : List steps.Step) (before after : List traffic.Handed) (done : Bool)
     (world : nodes.World) : Type 0 where
   pub events : List Event
   pub are : AreEvents setup world events
@@ -34,7 +34,7 @@ pub record IsRun (setup : worlds.Setup) (new : WorldState) (made : List steps.St
   pub looks : AreLooks events
   pub shows : Shows new (after_events setup world events)
 
-pub record Runs (old new : WorldState) (made : List steps.Step) (before after : List worlds.Handed) (done : Bool) : Type 0 where
+pub record Runs (old new : WorldState) (made : List steps.Step) (before after : List traffic.Handed) (done : Bool) : Type 0 where
   pub setup : new.setup ≡ old.setup
   pub taken : (events : List Event) (world : nodes.World) → IsPast old.setup events world → Shows old world → IsRun old.setup new made before after done world
 
@@ -61,28 +61,30 @@ pub record ReplayEach (count : ℕ) (old new : WorldState) (done : Bool) : Type 
   pub runs : RunsBy old new (applying 0 turns) done
 
 -- a round was taken
-pub record IsRoundTaken (setup : worlds.Setup) (new : WorldState) (before after : List worlds.Handed) (done : Bool) (world : nodes.World) : Type 0 where
+pub record IsRoundTaken (setup : traffic.Setup) (new : WorldState) (before after : List traffic.Handed) (done : Bool) (world : nodes.World) : Type 0 where
   pub events : List Event
   pub round : IsRound setup world events
   pub handed : after ≡ before ++ handed_in events
   pub done_is : does events ≡ done
   pub shows : Shows new (after_events setup world events)
 
-pub record TakesRound (old new : WorldState) (before after : List worlds.Handed) (done : Bool) : Type 0 where
+pub record TakesRound (old new : WorldState) (before after : List traffic.Handed) (done : Bool) : Type 0 where
   pub setup : new.setup ≡ old.setup
   pub taken : (events : List Event) (world : nodes.World) → IsPast old.setup events world → Shows old world → IsRoundTaken old.setup new before after done world
 
 -- rounds, in each of which something was done
-abbrev pub AreBusy : worlds.Setup → nodes.World → List (List Event) → Type 0
+abbrev pub AreBusy : traffic.Setup → nodes.World → List (List Event) → Type 0
 AreBusy setup world [] = Unit {0}
 AreBusy setup world (events ∷ more) = IsRound setup world events × (does events ≡ true) × AreBusy setup (after_events setup world events) more
 
-pub record AreRoundsTaken (setup : worlds.Setup) (new : WorldState) (handed : List worlds.Handed) (world : nodes.World) : Type 0 where
+-- so many of them
+pub record AreRoundsTaken (count : ℕ) (setup : traffic.Setup) (new : WorldState) (handed : List traffic.Handed) (world : nodes.World) : Type 0 where
   pub rounds : List (List Event)
   pub busy : AreBusy setup world rounds
+  pub many : length rounds ≡ count
   pub handed_is : handed ≡ handed_in (events_of rounds)
   pub shows : Shows new (after_events setup world (events_of rounds))
 
-pub record TakesRounds (old new : WorldState) (handed : List worlds.Handed) : Type 0 where
+pub record TakesRounds (count : ℕ) (old new : WorldState) (handed : List traffic.Handed) : Type 0 where
   pub setup : new.setup ≡ old.setup
-  pub taken : (events : List Event) (world : nodes.World) → IsPast old.setup events world → Shows old world → AreRoundsTaken old.setup new handed world
+  pub taken : (events : List Event) (world : nodes.World) → IsPast old.setup events world → Shows old world → AreRoundsTaken count old.setup new handed world

@@ -1,9 +1,8 @@
 -- Steps, outcomes, answers and what was handed out, as those of the definitions.
-use Rattle.std.specs.Prelude.{ℕ, List, map, codes}
-use Rattle.std.specs.Option.{option_map}
-use Rattle.nr_model.specs.Worlds as worlds
+use Rattle.std.specs.Prelude.{ℕ, List, codes}
+use Rattle.nr_model.specs.Connections as traffic
 use Rattle.nr_model.specs.Nodes.Steps as steps
-use Rattle.nr_model.specs.Nodes.Pasts.{Answering, Event}
+use Rattle.nr_model.specs.Nodes.Pasts.{Answering}
 use Rattle.nr_entry.specs.Jobs.{connection_of}
 use Rattle.nr_nodes.specs.declared.step.Step.{Step}
 use Rattle.nr_nodes.specs.declared.step.Step.TheVariants.{Open, Feed, Post, Lift, Reserve, Fill, Fetch, Apply, Look, Answer, Collect, Close, Refuse}
@@ -13,7 +12,6 @@ use Rattle.nr_nodes.specs.declared.step.Outcome.{Outcome}
 use Rattle.nr_nodes.specs.declared.step.Outcome.TheVariants.{Opened, Done, Idle}
 use Rattle.nr_nodes.specs.declared.step.Handed.{Handed}
 use Rattle.nr_nodes.specs.declared.step.Answered.{Answered}
-use Rattle.nr_nodes.specs.declared.step.Happened.{Happened}
 
 abbrev pub step_seen : Step → steps.Step
 step_seen (Open node worker) = steps.Open node worker
@@ -65,19 +63,8 @@ outcome_seen (Opened conn) = steps.Opened (connection_of conn)
 outcome_seen Done = steps.Done
 outcome_seen (Idle reason) = steps.Idle (reason_seen reason)
 
-abbrev pub handed_seen : Handed → worlds.Handed
+abbrev pub handed_seen : Handed → traffic.Handed
 handed_seen handed = record { connection = connection_of handed.conn; bytes = handed.bytes.items }
 
 abbrev pub answer_seen : Answered → Answering
 answer_seen answer = record { node = answer.node; worker = answer.worker; batch = answer.batch; executed = answer.executed }
-
--- what a step handed back, as its event, where this was refused for memory in it
-abbrev pub event_of : steps.Step → Happened → steps.Refused → Event
-event_of step happened refused =
-    record {
-      step = step;
-      outcome = outcome_seen happened.outcome;
-      handed = map handed_seen happened.handed.items;
-      answer = option_map answer_seen happened.answer;
-      refused = refused;
-    }

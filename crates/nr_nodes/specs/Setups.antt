@@ -1,6 +1,6 @@
 -- Which setups are allowed.
 use Rattle.std.specs.Prelude.{◌≤◌}
-use Rattle.nr_model.specs.Worlds.{Setup}
+use Rattle.nr_model.specs.Connections.{Setup}
 
 -- each number is in its range
 pub record IsAllowed (setup : Setup) : Type 0 where

@@ -1,6 +1,6 @@
 -- What a step does to a world, whatever past it has.
 use Rattle.std.specs.Prelude.{◌≡◌, List, [], None, Option}
-use Rattle.nr_model.specs.Worlds as worlds
+use Rattle.nr_model.specs.Connections as traffic
 use Rattle.nr_model.specs.Nodes as nodes
 use Rattle.nr_model.specs.Nodes.Steps as steps
 use Rattle.nr_model.specs.Nodes.Pasts.{Answering, Event, IsEvent, IsPast}
@@ -16,12 +16,12 @@ idle_or (Some reason) outcome = steps.Idle (reason_seen reason)
 
 -- Whatever past a world has, it shows the world behind it: then the step was an event of this outcome, which handed out these bytes and took this answer, and the
 -- world behind it is shown.
-pub record IsTaken (old new : WorldState) (step : steps.Step) (outcome : steps.Outcome) (handed : List worlds.Handed) (answer : Option Answering) (world : nodes.World) : Type 0 where
+pub record IsTaken (old new : WorldState) (step : steps.Step) (outcome : steps.Outcome) (handed : List traffic.Handed) (answer : Option Answering) (world : nodes.World) : Type 0 where
   pub refused : steps.Refused
   pub event : IsEvent old.setup world (record { step = step; outcome = outcome; handed = handed; answer = answer; refused = refused })
   pub shows : Shows new (steps.after_step old.setup world step refused)
 
-pub record Takes (old new : WorldState) (step : steps.Step) (outcome : steps.Outcome) (handed : List worlds.Handed) (answer : Option Answering) : Type 0 where
+pub record Takes (old new : WorldState) (step : steps.Step) (outcome : steps.Outcome) (handed : List traffic.Handed) (answer : Option Answering) : Type 0 where
   pub setup : new.setup ≡ old.setup
   pub taken : (events : List Event) (world : nodes.World) → IsPast old.setup events world → Shows old world → IsTaken old new step outcome handed answer world
 

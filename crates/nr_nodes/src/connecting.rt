@@ -1,7 +1,7 @@
 // What happens to connections: they are opened, fed and closed.
 ghost use Rattle.std.specs.Prelude.{◌≡◌, ℕ, true, IfOk, OnErr, IsErr, length};
 ghost use Rattle.nr_model.specs.Bytes.{Bytes};
-ghost use Rattle.nr_model.specs.Worlds as worlds;
+ghost use Rattle.nr_model.specs.Connections as traffic;
 ghost use Rattle.nr_model.specs.Nodes.{node_at};
 ghost use Rattle.nr_model.specs.Nodes.Steps as steps;
 ghost use Rattle.nr_entry.specs.Jobs.{connection_of};
@@ -127,7 +127,7 @@ pub(crate) fn has_ended_in(nodes: &[Node], conn: ConnId) -> bool
 // Why a connection can't be fed.
 fn why_not_feed(nodes: &[Node], conn: ConnId) -> Option<Reason>
     requires whole { AreWhole 0 nodes.now }
-    ensures { (setup : worlds.Setup) → (time : ℕ) → (bytes : Bytes)
+    ensures { (setup : traffic.Setup) → (time : ℕ) → (bytes : Bytes)
         → steps.outcome setup (seen_world nodes.now) (steps.Feed (connection_of conn) time bytes) ≡ idle_or result steps.Done }
 {
     if !is_there(nodes, conn) {
@@ -146,7 +146,7 @@ fn why_not_feed(nodes: &[Node], conn: ConnId) -> Option<Reason>
 // Why a connection can't be closed.
 fn why_not_close(nodes: &[Node], conn: ConnId) -> Option<Reason>
     requires whole { AreWhole 0 nodes.now }
-    ensures { (setup : worlds.Setup) → (time : ℕ)
+    ensures { (setup : traffic.Setup) → (time : ℕ)
         → steps.outcome setup (seen_world nodes.now) (steps.Close (connection_of conn) time) ≡ idle_or result steps.Done }
 {
     if !is_there(nodes, conn) {

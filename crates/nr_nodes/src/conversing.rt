@@ -4,7 +4,7 @@ ghost use Rattle.std.specs.Option.{option_map};
 ghost use Rattle.nr_model.specs.Items.{Item, same_connection};
 ghost use Rattle.nr_model.specs.Keyspace.{moment, last_moment};
 ghost use Rattle.nr_model.specs.Modes.{plain};
-ghost use Rattle.nr_model.specs.Worlds.{jobs_from, own_jobs};
+ghost use Rattle.nr_model.specs.Asked.{jobs_from, own_jobs};
 ghost use Rattle.nr_model.specs.Nodes.Steps.{fed_client, asked_next, close_job};
 ghost use Rattle.nr_entry.specs.Jobs.{connection_of, item_of, items_of};
 ghost use Rattle.nr_replica.specs.Members.{Member};

@@ -1,7 +1,7 @@
 // The jobs of a connection that is closed are dropped, and the number of the first one is kept.
 ghost use Rattle.std.specs.Prelude.{◌≡◌, not, filter};
 ghost use Rattle.nr_model.specs.Items.{Item, same_connection};
-ghost use Rattle.nr_model.specs.Worlds.{own_jobs};
+ghost use Rattle.nr_model.specs.Asked.{own_jobs};
 ghost use Rattle.nr_entry.specs.Jobs.{connection_of, items_of};
 ghost use Rattle.nr_nodes.specs.Dropped.{first_number};
 

@@ -1,5 +1,5 @@
 // The circle of the operation log: the entries that some node has still to pass.
-ghost use Rattle.std.specs.Prelude.{◌≡◌, ◌<◌, ◌≤◌, ◌+◌, ◌-◌, ◌^◌, ◌++◌, ◌∷◌, [], OnOk, OnErr, length, drop, slice_index_or};
+ghost use Rattle.std.specs.Prelude.{◌≡◌, ◌↔◌, ◌<◌, ◌≤◌, ◌+◌, ◌-◌, ◌^◌, ◌++◌, ◌∷◌, [], OnOk, OnErr, IsTrue, length, drop, slice_index_or};
 ghost use Rattle.nr_model.specs.Nodes as nodes;
 ghost use Rattle.nr_nodes.specs.Served.{entry_seen};
 ghost use Rattle.nr_nodes.specs.Logs.{log_seen};
@@ -46,17 +46,22 @@ impl Log {
         &self.entries[(number - self.base) as usize]
     }
 
-    /// One entry more. Where memory runs out, or the numbers of entries do, nothing changes.
+    /// Whether there is a number for one entry more: there are 2^64 - 1 of them.
+    pub(crate) fn has_number(&self) -> bool
+        requires { self.now.base + length (log_seen self.now) < 2 ^ 64 }
+        ensures { IsTrue result ↔ (self.now.base + length (log_seen self.now) + 1 < 2 ^ 64) }
+    {
+        self.tail() < u64::MAX
+    }
+
+    /// One entry more. Where memory runs out nothing changes.
     pub(crate) fn push(&mut self, alloc: Global, entry: Entry) -> Result<(), Memory>
-        requires { self.old.base + length (log_seen self.old) < 2 ^ 64 }
+        requires { self.old.base + length (log_seen self.old) + 1 < 2 ^ 64 }
         ensures entries { OnOk result (log_seen self.new ≡ log_seen self.old ++ entry_seen entry ∷ []) }
         ensures base { self.new.base ≡ self.old.base }
         ensures fits { OnOk result (self.new.base + length (log_seen self.new) < 2 ^ 64) }
         ensures unchanged { OnErr result (log_seen self.new ≡ log_seen self.old) }
     {
-        if self.tail() == u64::MAX {
-            return Err(Memory);
-        }
         self.entries.push_back(Arc::new(alloc, entry)?)?;
         Ok(())
     }

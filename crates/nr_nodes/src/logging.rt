@@ -32,6 +32,9 @@ impl World {
             return Ok(Outcome::Idle(reason));
         }
         self.has_failed = true;
+        if !self.log.has_number() {
+            return Err(Memory);
+        }
         let entry = self.nodes[node].reserve(self.log.tail())?;
         self.log.push(self.alloc, entry)?;
         self.has_failed = false;

@@ -1,6 +1,6 @@
 // A node: its replica, its connections' sessions, and its workers.
 ghost use Rattle.std.specs.Prelude.{◌≡◌, ◌<◌, ◌≤◌, ◌+◌, ◌^◌, ◌++◌, map, ℕ, Option, Some, None, IfOk, IfSome, IfNone, OnOk, OnErr, IsTrue, IsSome, List, [], length, replicate, true, false, slice_index_or};
-ghost use Rattle.nr_model.specs.Worlds as worlds;
+ghost use Rattle.nr_model.specs.Connections as traffic;
 ghost use Rattle.nr_model.specs.Nodes as nodes;
 ghost use Rattle.nr_model.specs.Nodes.Steps.{next_fetch, lifted_node, posted_jobs, fed_node, closed_node, passing, collected, collected_node};
 ghost use Rattle.nr_entry.specs.Entry.{are_of};

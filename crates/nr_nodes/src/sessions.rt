@@ -1,7 +1,7 @@
 // The sessions of a node's connections.
 ghost use Rattle.std.specs.Prelude.{◌≡◌, ◌<◌, ◌∷◌, ◌++◌, [], false, not, OnOk, filter, length, option_to_list, slice_index_or, slice_set};
 ghost use Rattle.nr_model.specs.Items.{Item, same_connection};
-ghost use Rattle.nr_model.specs.Worlds.{own_jobs};
+ghost use Rattle.nr_model.specs.Asked.{own_jobs};
 ghost use Rattle.nr_model.specs.Nodes.Steps.{close_job};
 ghost use Rattle.nr_entry.specs.Jobs.{connection_of, items_of};
 ghost use Rattle.nr_session.specs.SessionState.{SessionState};

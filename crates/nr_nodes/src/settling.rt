@@ -1,12 +1,13 @@
 // Rounds of steps, until nothing is left to do.
-ghost use Rattle.std.specs.Prelude.{◌≡◌, [], ◌∷◌, true, IfOk, OnOk, OnErr, IsErr, flat_map, map};
+ghost use Rattle.std.specs.Prelude.{◌≡◌, ◌-◌, ◌^◌, [], ◌∷◌, true, IfOk, OnOk, OnErr, IsErr, flat_map, map};
 ghost use Rattle.std.specs.List.{range_with_len};
+ghost use Rattle.std.specs.Bool.{OnTrue, OnFalse};
 ghost use Rattle.nr_model.specs.Nodes.Steps as steps;
 ghost use Rattle.nr_model.specs.Nodes.Settling.{lifting, reserving, answering};
 ghost use Rattle.nr_nodes.specs.Setups.{IsAllowed};
 ghost use Rattle.nr_nodes.specs.Seen.{handed_seen};
 ghost use Rattle.nr_nodes.specs.Settles.{Settles};
-ghost use Rattle.nr_nodes.specs.Rounds.{Runs, RunsBy, TakesTurns, Replays, ReplayEach, TakesRound};
+ghost use Rattle.nr_nodes.specs.Rounds.{Runs, RunsBy, TakesTurns, Replays, ReplayEach, TakesRound, TakesRounds};
 
 use crate::setup::Setup;
 use crate::step::Handed;
@@ -27,23 +28,26 @@ impl World {
             return Err(Memory);
         }
         let mut handed = Vec::new(self.alloc);
-        self.take_rounds(&mut handed)?;
-        Ok(handed)
+        if self.take_rounds(&mut handed)? {
+            return Ok(handed);
+        }
+        Err(self.fail())
     }
 
-    // Rounds up to one in which nothing was done.
-    fn take_rounds(&mut self, handed: &mut Vec<Handed>) -> Result<(), Memory>
+    // Rounds up to one in which nothing was done, or so many as can be counted, and whether there was such a one.
+    fn take_rounds(&mut self, handed: &mut Vec<Handed>) -> Result<bool, Memory>
         requires none { handed.old.items ≡ [] }
-        ensures settles { OnOk result (Settles self.old self.new (map handed_seen handed.new.items)) }
+        ensures settles { IfOk result (λ ends. OnTrue ends (Settles self.old self.new (map handed_seen handed.new.items))) }
+        ensures most { IfOk result (λ ends. OnFalse ends (TakesRounds (2 ^ 64 - 1) self.old self.new (map handed_seen handed.new.items))) }
         ensures failed { OnErr result (self.new.failed ≡ true) }
         ensures setup { self.new.setup ≡ self.old.setup }
     {
         for _ in 0..u64::MAX {
             if !self.take_round(handed)? {
-                return Ok(());
+                return Ok(true);
             }
         }
-        Err(self.fail())
+        Ok(false)
     }
 
     // The world has failed.

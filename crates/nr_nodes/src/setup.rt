@@ -16,10 +16,10 @@ pub struct Setup {
 }
 
 impl Model for Setup {
-    ghost use Rattle.nr_model.specs.Worlds as worlds;
+    ghost use Rattle.nr_model.specs.Connections as traffic;
     ghost use Rattle.nr_nodes.specs.Setups.{IsAllowed};
 
-    ghost Value = { worlds.Setup };
+    ghost Value = { traffic.Setup };
 
     ghost view = { λ s. record { nodes = s.nodes; places = s.places; workers = s.workers; connections = s.connections; queue_limit = s.queue_limit } };
 

@@ -2,7 +2,7 @@
 use Rattle.std.proofs.Common.{ℕ, zero, suc, ◌≤◌, List, [], ◌∷◌, ◌++◌, set, get_or, Option, ◌∙◌, le_refl, le_trans, length-set}
 use Rattle.atomic_table.specs.Table.{Me}
 use Rattle.nr_oplog.specs.declared.view.LogView.{LogView}
-use Rattle.nr_oplog.specs.declared.view.Look.TheVariants.{Passed}
+use Rattle.nr_log_end.specs.declared.standing.Look.TheVariants.{Passed}
 use Rattle.nr_oplog.specs.Rule.{Share}
 use Rattle.nr_oplog.specs.Plays.{with_passed}
 use Rattle.nr_oplog.specs.Seats.{CountsOf}

@@ -8,7 +8,7 @@ use lib.Seq.{set-get_or}
 use Rattle.std.specs.Arc.{arc_value}
 use Rattle.atomic_table.specs.Table.{State, Me, Act, Valid, takes, keeps, stepped, carried_after, Allows}
 use Rattle.atomic_table.proofs.Lists.{set_else}
-use Rattle.nr_model.specs.Explains.{IsBeginningOf}
+use Rattle.nr_model.specs.Bytes.{IsBeginningOf}
 use Rattle.nr_entry.specs.declared.entry.Entry.{Entry}
 use Rattle.nr_log_end.specs.Standings.{applied_of, passed_of, StandsInLog, fetched_with}
 use Rattle.nr_oplog.specs.declared.view.LogView.{LogView}

@@ -7,7 +7,7 @@ use native.Mathlib.Decide.{ℕ_discrete}
 use lib.ListN.{get_elem?}
 use Rattle.atomic_table.specs.Table.{State, Me, gives, homes_after, Allows}
 use Rattle.atomic_table.proofs.Lists.{set_here, set_else}
-use Rattle.nr_model.specs.Explains.{IsBeginningOf}
+use Rattle.nr_model.specs.Bytes.{IsBeginningOf}
 use Rattle.nr_entry.specs.declared.entry.Entry.{Entry}
 use Rattle.nr_log_end.specs.declared.standing.Turn.{Turn}
 use Rattle.nr_log_end.specs.declared.standing.Turn.TheVariants.{Applied}

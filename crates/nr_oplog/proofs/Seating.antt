@@ -12,13 +12,14 @@ use Rattle.nr_log_end.specs.declared.reserve.Reserve.TheVariants.{Taken, Full, L
 use Rattle.nr_log_end.specs.Reserves.{IfTaken, IfFull, IfLost}
 use Rattle.nr_log_end.specs.Standings.{applied_of, passed_of, passed_on, reserved_as, IsSharesFor}
 use Rattle.nr_oplog.specs.declared.view.LogView.{LogView}
-use Rattle.nr_oplog.specs.declared.view.Look.{Look}
-use Rattle.nr_oplog.specs.declared.view.Look.TheVariants.{Tail, Passed}
+use Rattle.nr_log_end.specs.declared.standing.Look.{Look}
+use Rattle.nr_log_end.specs.declared.standing.Look.TheVariants.{Tail, Passed}
 use Rattle.nr_oplog.specs.Layout.{slot_of}
 use Rattle.nr_oplog.specs.Rule.{Share}
 use Rattle.nr_oplog.specs.Plays.{with_read}
 use Rattle.nr_oplog.specs.Seats.{CountsOf, IsBehind}
-use Rattle.nr_oplog.specs.Calls.{IsSeated, LooksAtTail, OnlyCounts, IsTaken, IsFull, IsLost, most_entries}
+use Rattle.nr_log_end.specs.Tries.{IsTaken, IsFull, IsLost, most_entries}
+use Rattle.nr_oplog.specs.Calls.{IsSeated, LooksAtTail, OnlyCounts}
 use Rattle.nr_oplog.proofs.Fronts.{applied_append}
 
 abbrev Sat : Type 0
@@ -95,8 +96,8 @@ pub only_counts : (v : LogView) (m n : Sat) → v ≡ m.0 → CountsOf m n → (
 only_counts v m n is c more = subst (λ z. OnlyCounts z n.0) (sym is) (c.1, more)
 
 -- the log has taken all entries that it can
-pub full_of_all : (v t : LogView) → LooksAtTail v t → most_entries ≤ t.standing.seen → IsFull v t
-full_of_all v t l far = (ap (λ (z : LogView). z.standing) l.1, ([], (l.0, ap (λ (z : LogView). z.looks) l.1), inr far))
+pub full_of_all : (v t : LogView) (places : ℕ) → LooksAtTail v t → most_entries ≤ t.standing.seen → IsFull v.standing v.looks places t.standing t.looks
+full_of_all v t places l far = (ap (λ (z : LogView). z.standing) l.1, ([], (l.0, ap (λ (z : LogView). z.looks) l.1), inr far))
 
 module _ (v t w : LogView) (l : LooksAtTail v t) (o : OnlyCounts t w) where
   standing_is : w.standing ≡ t.standing
@@ -112,26 +113,28 @@ module _ (v t w : LogView) (l : LooksAtTail v t) (o : OnlyCounts t w) where
   looked more is = is ∙ ap (λ (z : LogView). z.looks ++ more) l.1 ∙ append_assoc v.looks (Tail t.standing.seen ∷ []) more
 
   -- a node is all places behind
-  pub full_of_places : (places : ℕ) → v.places ≡ places → IsBehind t.standing.seen places t w → IsFull v w
-  full_of_places places is b = (
+  pub full_of_places : (places : ℕ) → IsBehind v.standing.nodes places t.standing.seen t w → IsFull v.standing v.looks places w.standing w.looks
+  full_of_places places b = (
     began ∙ (λ i. record v.standing { seen = sym seen_is i }),
     (
       b.0 ++ Passed b.1 b.2 ∷ [],
       (subst (λ z. v.standing.seen ≤ z) (sym seen_is) l.0, looked (b.0 ++ Passed b.1 b.2 ∷ []) b.3 ∙ ap (λ z. v.looks ++ (Tail z ∷ (b.0 ++ Passed b.1 b.2 ∷ []))) (sym seen_is)),
-      inl (b.0, b.1, b.2, refl, subst (λ z. b.2 + v.places ≤ z) (sym seen_is) (subst (λ z. b.2 + z ≤ t.standing.seen) (sym is) b.4)),
+      inl (b.0, b.1, b.2, refl, subst (λ z. b.2 + places ≤ z) (sym seen_is) b.4, b.5),
     ),
   )
 
   pub shares_still : (shares : List (Option Entry)) → IsSharesFor v.standing shares → IsSharesFor w.standing shares
   shares_still shares s = subst (λ z. IsSharesFor z shares) (sym began) s
 
-  pub taken_from : (x : LogView) (shares : List (Option Entry)) (at : ℕ) → (at ≡ t.standing.seen) × (x ≡ record w { standing = reserved_as at shares w.standing }) → IsTaken at shares v x
+  pub taken_from : (x : LogView) (shares : List (Option Entry)) (at : ℕ) → (at ≡ t.standing.seen) × (x ≡ record w { standing = reserved_as at shares w.standing })
+      → IsTaken v.standing v.looks at shares x.standing x.looks
   taken_from x shares at c = (
     ap (λ (z : LogView). z.standing) c.1 ∙ ap (reserved_as at shares) began,
     (o.1.0, (subst (λ z. v.standing.seen ≤ z) (sym c.0) l.0, ap (λ (z : LogView). z.looks) c.1 ∙ looked o.1.0 o.1.1 ∙ ap (λ z. v.looks ++ (Tail z ∷ o.1.0)) (sym c.0))),
   )
 
-  pub lost_from : (x : LogView) → (x ≡ record w { standing = record w.standing { seen = x.standing.seen } }) → t.standing.seen < x.standing.seen → IsLost v x
+  pub lost_from : (x : LogView) → (x ≡ record w { standing = record w.standing { seen = x.standing.seen } }) → t.standing.seen < x.standing.seen
+      → IsLost v.standing v.looks x.standing x.looks
   lost_from x is later = (
     ap (λ (z : LogView). z.standing) is ∙ (λ i. record (began i) { seen = x.standing.seen }),
     (t.standing.seen, o.1.0, (l.0, ap (λ (z : LogView). z.looks) is ∙ looked o.1.0 o.1.1), later),

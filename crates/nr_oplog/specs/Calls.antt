@@ -1,11 +1,11 @@
 -- What the calls of a seat say, and what a seat holds.
-use Rattle.std.specs.Prelude.{◌≡◌, ◌⊎◌, ℕ, suc, ◌+◌, ◌^◌, ◌<◌, ◌≤◌, Bool, true, List, [], ◌∷◌, ◌++◌, length, slice_index, Option, None, is_some, if◌then◌else◌}
+use Rattle.std.specs.Prelude.{◌≡◌, ℕ, suc, ◌^◌, ◌<◌, ◌≤◌, Bool, true, List, [], ◌∷◌, ◌++◌, length, slice_index, Option, None, is_some, if◌then◌else◌}
 use Rattle.atomic_table.specs.Table.{Me}
 use Rattle.nr_entry.specs.declared.entry.Entry.{Entry}
-use Rattle.nr_log_end.specs.Standings.{passed_of, reserved_as}
+use Rattle.nr_log_end.specs.Standings.{passed_of}
 use Rattle.nr_oplog.specs.declared.view.LogView.{LogView}
-use Rattle.nr_oplog.specs.declared.view.Look.{Look}
-use Rattle.nr_oplog.specs.declared.view.Look.TheVariants.{Tail, Passed}
+use Rattle.nr_log_end.specs.declared.standing.Look.{Look}
+use Rattle.nr_log_end.specs.declared.standing.Look.TheVariants.{Tail}
 use Rattle.nr_oplog.specs.Layout.{slot_of}
 use Rattle.nr_oplog.specs.Rule.{Share}
 use Rattle.nr_oplog.specs.Plays.{with_tail}
@@ -29,31 +29,9 @@ pub record IsSeated (me : Me (Option Share) LogView) (node passed : ℕ) (held :
   pub counts : length me.0.met ≡ me.0.standing.nodes
   pub least_is : (other : ℕ) → other < me.0.standing.nodes → least ≤ slice_index me.0.met other
 
--- how many entries a log takes at most
-abbrev pub most_entries : ℕ
-most_entries = 2 ^ 63
-
 -- the tail was loaded once, and nothing else happened
 abbrev pub LooksAtTail : LogView → LogView → Type 0
 LooksAtTail v w = (v.standing.seen ≤ w.standing.seen) × (w ≡ with_tail w.standing.seen v)
-
--- the loads of a call: the tail, which was so, and behind it these
-abbrev pub LookedAt : LogView → LogView → ℕ → List Look → Type 0
-LookedAt v w tail more = (v.standing.seen ≤ tail) × (w.looks ≡ v.looks ++ (Tail tail ∷ more))
-
--- the number is that of the tail which the call loaded
-abbrev pub IsTaken : ℕ → List (Option Entry) → LogView → LogView → Type 0
-IsTaken at shares v w = (w.standing ≡ reserved_as at shares v.standing) × ((more : List Look) × LookedAt v w at more)
-
--- a passed count that the call loaded is all places behind the tail that it loaded; or the log has taken all entries that it can
-abbrev pub IsFull : LogView → LogView → Type 0
-IsFull v w = (w.standing ≡ record v.standing { seen = w.standing.seen })
-    × ((more : List Look) × LookedAt v w w.standing.seen more
-    × (((before : List Look) × (node : ℕ) × (count : ℕ) × (more ≡ before ++ Passed node count ∷ []) × (count + v.places ≤ w.standing.seen)) ⊎ (most_entries ≤ w.standing.seen)))
-
--- the tail has moved on since the call loaded it
-abbrev pub IsLost : LogView → LogView → Type 0
-IsLost v w = (w.standing ≡ record v.standing { seen = w.standing.seen }) × ((tail : ℕ) × (more : List Look) × LookedAt v w tail more × (tail < w.standing.seen))
 
 -- the tail was loaded once, and no passed count
 abbrev pub LookedOnce : LogView → LogView → Type 0

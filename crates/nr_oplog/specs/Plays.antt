@@ -3,7 +3,7 @@ use Rattle.std.specs.Prelude.{◌≡◌, ◌≢◌, ℕ, suc, ◌^◌, ◌<◌, 
 use mathlib.Core.Option.{some}
 use Rattle.std.specs.Arc.{arc_value}
 use Rattle.atomic_table.specs.Table.{Me, Step, rest}
-use Rattle.nr_model.specs.Explains.{IsBeginningOf}
+use Rattle.nr_model.specs.Bytes.{IsBeginningOf}
 use Rattle.nr_entry.specs.declared.entry.Entry.{Entry}
 use Rattle.nr_entry.specs.Shares.{shares_of}
 use Rattle.nr_log_end.specs.declared.standing.Standing.{Standing}
@@ -11,7 +11,7 @@ use Rattle.nr_log_end.specs.declared.standing.Turn.TheVariants.{Ran}
 use Rattle.nr_entry.specs.declared.job.Job.{Job}
 use Rattle.nr_log_end.specs.Standings.{known_of, passed_of, StandsInLog, reserved_as, filled_for, fetched_with, passed_on}
 use Rattle.nr_oplog.specs.declared.view.LogView.{LogView}
-use Rattle.nr_oplog.specs.declared.view.Look.TheVariants.{Tail, Passed}
+use Rattle.nr_log_end.specs.declared.standing.Look.TheVariants.{Tail, Passed}
 use Rattle.nr_oplog.specs.Layout.{passed_word, stamp_word, slot_of}
 use Rattle.nr_oplog.specs.Rule.{Share, opening_view}
 

@@ -5,8 +5,8 @@ use Rattle.atomic_table.specs.Table.{Me}
 use Rattle.atomic_table.specs.declared.shared.Seat.{Seat}
 use Rattle.nr_entry.specs.declared.entry.Entry.{Entry}
 use Rattle.nr_oplog.specs.declared.view.LogView.{LogView}
-use Rattle.nr_oplog.specs.declared.view.Look.{Look}
-use Rattle.nr_oplog.specs.declared.view.Look.TheVariants.{Passed}
+use Rattle.nr_log_end.specs.declared.standing.Look.{Look}
+use Rattle.nr_log_end.specs.declared.standing.Look.TheVariants.{Passed}
 use Rattle.nr_oplog.specs.Rule.{Share}
 
 abbrev Sat : Type 0
@@ -28,6 +28,7 @@ abbrev pub CountsOf : Me (Option Share) LogView → Me (Option Share) LogView �
 CountsOf m n = (n.1 ≡ m.1) × (n.0 ≡ record m.0 { met = n.0.met; looks = n.0.looks }) × (length n.0.met ≡ length m.0.met)
     × ((node : ℕ) → slice_index m.0.met node ≤ slice_index n.0.met node)
 
--- among the loads made since, one found a count that is all places behind the tail
-abbrev pub IsBehind : ℕ → ℕ → LogView → LogView → Type 0
-IsBehind tail places v w = (before : List Look) × (node : ℕ) × (count : ℕ) × (w.looks ≡ v.looks ++ (before ++ Passed node count ∷ [])) × (count + places ≤ tail)
+-- the last of the loads made since found that the count of one of the nodes is all places behind the tail
+abbrev pub IsBehind : ℕ → ℕ → ℕ → LogView → LogView → Type 0
+IsBehind nodes places tail v w = (before : List Look) × (node : ℕ) × (count : ℕ)
+    × (w.looks ≡ v.looks ++ (before ++ Passed node count ∷ [])) × (count + places ≤ tail) × (node < nodes)

@@ -44,6 +44,10 @@ impl<B: LogName> LogEnd for End<B> {
 
     ghost kept_by = { λ v. v.standing };
 
+    ghost looks = { λ v. v.looks };
+
+    ghost places = { B.places };
+
     fn reserve(&mut self, shares: Shares) -> Reserve {
         self.seat.reserve(&self.log, shares)
     }

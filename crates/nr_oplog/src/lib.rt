@@ -41,7 +41,7 @@ pub use log::{LogName, Oplog};
 pub use open::{OpenError, Opened};
 pub use seat::{LogSeat, MOST_ENTRIES};
 pub use token::Token;
-pub use view::{LogView, Look, Shape};
+pub use view::{LogView, Shape};
 
 mod end;
 mod log;

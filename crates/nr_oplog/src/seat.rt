@@ -1,20 +1,21 @@
 // A node's seat at the log.
-ghost use Rattle.std.specs.Prelude.{ℕ, ◌≡◌, ◌≢◌, ◌+◌, ◌^◌, ◌<◌, ◌≤◌, ◌++◌, [], length, slice_index, slice_index_or, IfSome, IfNone, IsSome, Some, None};
+ghost use Rattle.std.specs.Prelude.{ℕ, ◌≡◌, ◌∷◌, ◌≢◌, ◌+◌, ◌^◌, ◌<◌, ◌≤◌, ◌++◌, [], length, slice_index, slice_index_or, IfSome, IfNone, IsSome, Some, None};
 ghost use Rattle.std.specs.Bool.{OnTrue, OnFalse};
 ghost use Rattle.std.specs.Arc.{arc_value};
 ghost use Rattle.nr_log_end.specs.Reserves.{IfTaken, IfFull, IfLost};
+ghost use Rattle.nr_log_end.specs.Tries.{IsTaken, IsFull, IsLost};
 ghost use Rattle.nr_log_end.specs.Standings.{IsSharesFor, IsAllFilled, StandsInLog, reserved_as, filled_for, fetched_with, passed_on, noted_with};
 ghost use Rattle.nr_oplog.specs.Rule.{opening_view};
 ghost use Rattle.nr_oplog.specs.Plays.{with_read};
 ghost use Rattle.nr_oplog.specs.Seats.{IsBehind};
-ghost use Rattle.nr_oplog.specs.Calls.{LooksAtTail, LookedOnce, IsTaken, IsFull, IsLost, OnlyCounts};
+ghost use Rattle.nr_oplog.specs.Calls.{LooksAtTail, OnlyCounts};
 
 use crate::log::{LogName, Oplog};
 use crate::plays::RanJob;
 use crate::token::Token;
 use crate::view::LogSlotSeat;
 use nr_entry::{Entry, Job, Shares};
-use nr_log_end::Reserve;
+use nr_log_end::{Look, Reserve};
 use std::alloc::Global;
 use std::marker::{Brand, Model, PhantomData};
 use std::sync::Arc;
@@ -76,9 +77,9 @@ impl<B: LogName> LogSeat<B> {
     pub fn reserve(&mut self, log: &Oplog<B>, shares: Shares) -> Reserve
         requires shares { IsSharesFor self.old.standing shares }
         requires filled { IsAllFilled self.old.standing }
-        ensures taken { IfTaken result (λ at. IsTaken at shares self.old self.new) }
-        ensures full { IfFull result (λ back. (back ≡ shares) × IsFull self.old self.new) }
-        ensures lost { IfLost result (λ back. (back ≡ shares) × IsLost self.old self.new) }
+        ensures taken { IfTaken result (λ at. IsTaken self.old.standing self.old.looks at shares self.new.standing self.new.looks) }
+        ensures full { IfFull result (λ back. (back ≡ shares) × IsFull self.old.standing self.old.looks B.places self.new.standing self.new.looks) }
+        ensures lost { IfLost result (λ back. (back ≡ shares) × IsLost self.old.standing self.old.looks self.new.standing self.new.looks) }
     {
         let tail = self.tail(log);
         if tail >= MOST_ENTRIES {
@@ -93,7 +94,7 @@ impl<B: LogName> LogSeat<B> {
     // Whether some node has to pass more before there is a place at this tail. Passed counts are loaded only where there seems to be none.
     fn is_full(&mut self, log: &Oplog<B>, tail: u64) -> bool
         ensures view { OnlyCounts self.old self.new }
-        ensures full { OnTrue result (IsBehind tail self.old.places self.old self.new) }
+        ensures full { OnTrue result (IsBehind self.old.standing.nodes B.places tail self.old self.new) }
         ensures room { OnFalse result ((node : ℕ) → node < self.old.standing.nodes → tail < slice_index self.new.met node + self.old.places) }
     {
         if tail.saturating_sub(self.least) < log.places as u64 {
@@ -174,7 +175,7 @@ impl<B: LogName> LogSeat<B> {
     pub fn note(&mut self, log: &Oplog<B>, job: &Job)
         ensures noted { self.new.standing ≡ noted_with job.now self.new.standing.seen self.old.standing }
         ensures seen { self.old.standing.seen ≤ self.new.standing.seen }
-        ensures looks { LookedOnce self.old self.new }
+        ensures looks { self.new.looks ≡ self.old.looks ++ Look.Tail self.new.standing.seen ∷ [] }
     {
         self.note_named::<Brand>(log, job);
     }

@@ -4,7 +4,7 @@ ghost use Rattle.std.specs.Arc.{arc_value};
 ghost use Rattle.atomic_table.specs.Table.{rest};
 ghost use Rattle.nr_entry.specs.Shares.{shares_of};
 ghost use Rattle.nr_log_end.specs.Standings.{passed_of, IsAllFilled, StandsInLog, reserved_as, filled_for, fetched_with, passed_on};
-ghost use Rattle.nr_oplog.specs.declared.view.Look.{Look};
+ghost use Rattle.nr_log_end.specs.declared.standing.Look.{Look};
 ghost use Rattle.nr_oplog.specs.Layout.{passed_word, stamp_word, slot_of, words_of, slots_of};
 ghost use Rattle.nr_oplog.specs.Plays.{with_tail, with_read, with_passed, token_view, with_told, with_look, AreOfOneLog};
 ghost use Rattle.nr_oplog.specs.Rule.{opening_view};
@@ -77,7 +77,7 @@ impl<B: LogName> Oplog<B> {
         ensures seat { IsSameSeat seat.old seat.new }
         ensures view { CountsOf seat.old.me seat.new.me }
         ensures looks { (more : List Look) × (seat.new.me.0.looks ≡ seat.old.me.0.looks ++ more) }
-        ensures found { MatchOption result (IsBehind tail self.now.table.shared.key.places seat.old.me.0 seat.new.me.0) (λ least. (tail < least + self.now.table.shared.key.places) × ((node : ℕ) → node < self.now.table.shared.key.nodes → least ≤ slice_index seat.new.me.0.met node)) }
+        ensures found { MatchOption result (IsBehind self.now.table.shared.key.nodes self.now.table.shared.key.places tail seat.old.me.0 seat.new.me.0) (λ least. (tail < least + self.now.table.shared.key.places) × ((node : ℕ) → node < self.now.table.shared.key.nodes → least ≤ slice_index seat.new.me.0.met node)) }
     {
         let places = self.places as u64;
         let mut least = u64::MAX;

@@ -1,7 +1,7 @@
 // What a seat at the log knows.
 use atomic_table::{Seat, Table, TableRule};
 use nr_entry::Entry;
-use nr_log_end::Standing;
+use nr_log_end::{Look, Standing};
 use std::alloc::Global;
 use std::collections::LinkedList;
 use std::sync::Arc;
@@ -11,14 +11,6 @@ use std::sync::Arc;
 pub struct Shape {
     pub nodes: u64,
     pub places: u64,
-}
-
-/// A load that a seat made, and what it found.
-pub enum Look {
-    /// The tail.
-    Tail(u64),
-    /// The count of entries that a node has passed.
-    Passed(u64, u64),
 }
 
 /// What a seat knows of its log. No value of it is made: contracts alone speak of it.

@@ -4,3 +4,4 @@ pub mod Found
 pub mod Said
 pub mod Spelled
 pub mod Texts
+pub mod Played

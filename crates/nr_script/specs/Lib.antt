@@ -4,3 +4,4 @@ pub mod Said
 pub mod Spellings
 pub mod Texts
 pub mod Endings
+pub mod Playing

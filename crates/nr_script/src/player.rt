@@ -1,4 +1,8 @@
 // A script that is played: each line is taken by a server of several nodes, and what comes of it is printed.
+ghost use Rattle.std.specs.Prelude.{◌≡◌, ◌↔◌, ◌++◌, [], length, IfOk, OnOk, Err, None, codes};
+ghost use Rattle.nr_script.specs.declared.player.PlayError.TheVariants as errors;
+ghost use Rattle.nr_script.specs.Playing.{IsSetUp, SaysNone, StandsAs, IsPlayed, outcome_line, opened_by};
+
 use crate::line::{Line, LineError, read_line};
 use crate::opened::Opened;
 use crate::written::{write_done, write_handed, write_idle, write_ok, write_opened, write_settled};
@@ -6,6 +10,7 @@ use nr_blob::Memory;
 use nr_nodes::{Happened, Outcome, Reason, Setup, World};
 use std::alloc::Global;
 use std::hash::RandomState;
+use std::marker::Model;
 
 /// How many connections of a node are open at most.
 const CONNECTIONS: usize = 256;
@@ -53,9 +58,21 @@ pub struct Player {
     opened: Opened,
 }
 
+impl Model for Player {
+    ghost use Rattle.nr_script.specs.Playing.{Played, coded_played};
+
+    ghost Value = { Played };
+
+    ghost coded = { coded_played };
+
+    ghost view = { λ p. record { world = p.world; opened = p.opened } };
+}
+
 impl Player {
     /// A script that begins. Strangers choose the keys of the servers, so their hashers take a seed of their own.
-    pub fn new(alloc: Global, keys: RandomState) -> Player {
+    pub fn new(alloc: Global, keys: RandomState) -> Player
+        ensures { result ≡ record { world = None; opened = [] } }
+    {
         Player {
             alloc,
             keys,
@@ -65,14 +82,19 @@ impl Player {
     }
 
     /// Takes a line, which is given without its LF, and appends what comes of it.
-    pub fn play(&mut self, line: &[u8], out: &mut Vec<u8>) -> Result<(), PlayError> {
+    #[tactic(auto, using(crate::proofs::Played::says_nothing, crate::proofs::Played::says_step))]
+    pub fn play(&mut self, line: &[u8], out: &mut Vec<u8>) -> Result<(), PlayError>
+        ensures { OnOk result (IsPlayed line.now self.old self.new out.old.items out.new.items) }
+    {
         match read_line(self.alloc, line)? {
             None => Ok(()),
             Some(step) => self.take(&step, out),
         }
     }
 
-    fn take(&mut self, step: &Line, out: &mut Vec<u8>) -> Result<(), PlayError> {
+    fn take(&mut self, step: &Line, out: &mut Vec<u8>) -> Result<(), PlayError>
+        ensures { OnOk result (StandsAs step.now self.old.world self.new.world out.old.items out.new.items) }
+    {
         match &mut self.world {
             None => {
                 self.world = Some(set_up(self.alloc, self.keys, step)?);
@@ -85,7 +107,10 @@ impl Player {
 }
 
 // The server that the first step sets up.
-fn set_up(alloc: Global, keys: RandomState, step: &Line) -> Result<World, PlayError> {
+fn set_up(alloc: Global, keys: RandomState, step: &Line) -> Result<World, PlayError>
+    ensures ok { IfOk result (IsSetUp step.now) }
+    ensures bad { (result ≡ Err errors.BadStep) ↔ SaysNone step.now }
+{
     let Line::Setup {
         nodes,
         places,
@@ -115,7 +140,9 @@ fn act(
     opened: &mut Opened,
     step: &Line,
     out: &mut Vec<u8>,
-) -> Result<(), PlayError> {
+) -> Result<(), PlayError>
+    ensures setup { world.new.setup ≡ world.old.setup }
+{
     let outcome = match step {
         Line::Setup { .. } => return Err(PlayError::BadStep),
         Line::Settle => return settle(world, opened, out),
@@ -155,7 +182,10 @@ fn show(
     opened: &mut Opened,
     outcome: Outcome,
     out: &mut Vec<u8>,
-) -> Result<(), PlayError> {
+) -> Result<(), PlayError>
+    ensures opened { OnOk result (opened.new ≡ opened_by outcome opened.old) }
+    ensures out { OnOk result (out.new.items ≡ out.old.items ++ outcome_line (length opened.old) outcome) }
+{
     match outcome {
         Outcome::Opened(conn) => {
             let number = opened.add(alloc, conn)?;
@@ -180,7 +210,9 @@ fn show_collected(
     show_received(opened, out)
 }
 
-fn settle(world: &mut World, opened: &mut Opened, out: &mut Vec<u8>) -> Result<(), PlayError> {
+fn settle(world: &mut World, opened: &mut Opened, out: &mut Vec<u8>) -> Result<(), PlayError>
+    ensures { world.new.setup ≡ world.old.setup }
+{
     let handed = world.settle()?;
     write_settled(out)?;
     opened.receive(&handed)?;

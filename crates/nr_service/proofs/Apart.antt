@@ -5,7 +5,7 @@ use Rattle.std.specs.List.{AllByRecursion}
 use Rattle.std.proofs.lemmas.Bool.{cases_Bool}
 use Rattle.std.proofs.lemmas.List.Elements.{All-nil, All-cons, All-head, All-tail}
 use Rattle.nr_model.specs.Items.{Connection, same_connection}
-use Rattle.nr_model.proofs.WorldsLists.{same_is}
+use Rattle.nr_model.proofs.JobLists.{same_is}
 use Rattle.nr_service.specs.Serving.{connection}
 use Rattle.nr_service.specs.declared.client.Client.{Client}
 

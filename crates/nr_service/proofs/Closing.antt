@@ -1,71 +1,165 @@
 -- Clients that are let go.
-use Rattle.std.proofs.Common.{◌≡◌, ℕ, ◌<◌, List, [], ◌∷◌, ◌++◌, length, get_or, refl, sym, subst, append_assoc, append-nil}
-use Rattle.std.specs.Prelude.{Option, map}
+use Rattle.std.proofs.Common.{◌≡◌, ℕ, ◌<◌, Bool, true, false, cond, inl, inr, List, [], ◌∷◌, ◌++◌, length, get_or, refl, sym, ap, ◌∙◌, subst, append_assoc, append-nil}
+use Rattle.std.specs.Prelude.{Option, Some, None, map}
+use Rattle.std.specs.Option.{option_map}
 use Rattle.std.specs.List.{swap_remove}
 use Rattle.std.specs.List.Sorted.{IsPermutation}
-use Rattle.std.proofs.lemmas.List.Elements.{All-tail}
+use Rattle.std.proofs.lemmas.List.{map-append}
+use Rattle.std.proofs.lemmas.List.Elements.{All-nil, All-cons, All-append, All-tail}
 use Rattle.std.proofs.lemmas.List.Sorted.{IsPermutation-refl, IsPermutation-trans, IsPermutation-map, IsPermutation-append_right, IsPermutation-swap_remove}
 use Rattle.std.proofs.lemmas.Map.Keys.{IsDistinct-tail}
 use Rattle.nr_model.specs.Bytes.{Bytes}
 use Rattle.nr_model.specs.Items.{Connection, same_connection}
 use Rattle.nr_service.specs.Serving.{connection, IsServed, AreServed}
-use Rattle.nr_service.specs.Steps.{LetsGo, with_closed}
+use Rattle.nr_service.specs.Leaving.{Gone, shut_by, parting, parting_of, client_of, LetsGo, LetsGoOne, TurnsAway}
+use Rattle.nr_service.specs.declared.client.Ending.{Ending}
+use Rattle.nr_service_ends.specs.Devices.{Parting, Abandoned, PartsWith}
 use Rattle.nr_service.specs.declared.client.Client.{Client}
-use Rattle.nr_service_ends.specs.Stories.{Past, Kept, IsClosed}
+use Rattle.nr_service_ends.specs.Stories.{Occurrence, Closed, Story, Past, Kept, IsShut, IsClosed, fed_in, handed_in, going_on}
+use Rattle.nr_service_ends.proofs.Occurrences.{fed_still, handed_still, going_none, going_both}
 use Rattle.nr_service.proofs.Served.{others_served, served_moved}
+use Rattle.nr_service.proofs.Working.{get_or_within}
+
+-- more closes behind others
+shut_both : {S : Type 0} (xs ys : List (Gone S)) → shut_by (xs ++ ys) ≡ shut_by xs ++ shut_by ys
+shut_both [] ys = refl
+shut_both (one ∷ xs) ys =
+    let more = shut_both xs ys in
+    elim one.closed as (λ b. cond b (Closed (connection one.client) ∷ shut_by (xs ++ ys)) (shut_by (xs ++ ys))
+    ≡ cond b (Closed (connection one.client) ∷ shut_by xs) (shut_by xs) ++ shut_by ys) [
+      | true ↦ ap (λ (l : List Occurrence). Closed (connection one.client) ∷ l) more
+      | false ↦ more
+    ]
+
+-- no stream was given back
+pub parts_none : {S : Type 0} (known : Option (List (Parting S))) → PartsWith [] known known
+parts_none None = refl
+parts_none (Some before) = ap (λ (l : List (Parting _)). Some l) (sym (append-nil before))
+
+-- some were, and then others
+pub parts_then : {S : Type 0} (xs ys : List (Parting S)) (a b c : Option (List (Parting S))) → PartsWith xs a b → PartsWith ys b c → PartsWith (xs ++ ys) a c
+parts_then {S} xs ys None b c p q = q ∙ ap (λ (o : Option (List (Parting S))). option_map (λ (before : List (Parting S)). before ++ ys) o) p
+parts_then {S} xs ys (Some before) b c p q =
+    q ∙ ap (λ (o : Option (List (Parting S))). option_map (λ (before : List (Parting S)). before ++ ys) o) p
+    ∙ ap (λ (l : List (Parting S)). Some l) (append_assoc before xs ys)
+
+-- none was turned away
+pub away_none : {S : Type 0} (old new : Option (List (Parting S))) → new ≡ old → TurnsAway old new
+away_none old new same = ([], subst (λ (o : Option (List (Parting _))). PartsWith [] old o) (sym same) (parts_none old))
+
+-- one was
+pub away_one : {S : Type 0} (stream : S) (old new : Option (List (Parting S))) → PartsWith (Abandoned stream ∷ []) old new → TurnsAway old new
+away_one stream old new parts = (stream ∷ [], parts)
+
+-- some, and then others
+pub away_then : {S : Type 0} (a b c : Option (List (Parting S))) → TurnsAway a b → TurnsAway b c → TurnsAway a c
+away_then {S} a b c p q = (
+  p.0 ++ q.0,
+  subst (λ (more : List (Parting S)). PartsWith more a c) (sym (map-append Abandoned p.0 q.0)) (parts_then (map Abandoned p.0) (map Abandoned q.0) a b c p.1 q.1),
+)
 
 -- none was closed
-pub lets_none : {A S : Type 0} (was_received was_sent : S → Option Bytes) (has_ended : S → Type 0) (is_past : A → Past) (keeps : A → Kept) (state : A)
-    (clients : List (Client S)) → LetsGo was_received was_sent has_ended is_past keeps state state clients clients
-lets_none was_received was_sent has_ended is_past keeps state clients = record {
-  further = λ story a. record {
-    shut = [];
-    all = IsPermutation-refl (map connection clients);
-    served = subst (λ (closed : List Connection).
-        AreServed was_received was_sent has_ended (is_past state) (keeps state) (record story { closed = closed }) clients) (sym (append-nil story.closed)) a;
-  };
+pub lets_none : {A S D : Type 0} (was_received was_sent : S → Option Bytes) (has_ended : S → Type 0) (is_past : A → Past) (keeps : A → Kept)
+    (parted : D → Option (List (Parting S))) (state : A) (device : D) (clients : List (Client S))
+    → LetsGo was_received was_sent has_ended is_past keeps parted state state device device clients clients
+lets_none was_received was_sent has_ended is_past keeps parted state device clients = record {
+  gone = [];
+  all = IsPermutation-refl clients;
+  over = All-nil (λ (one : Gone _). one.client.ending ≡ Some one.ending);
+  parts = parts_none (parted device);
+  further = λ story a.
+      subst (λ (s : Story). AreServed was_received was_sent has_ended (is_past state) (keeps state) s clients) (sym (going_none story)) a;
 }
 
 -- one step behind another
-pub lets_then : {A S : Type 0} (was_received was_sent : S → Option Bytes) (has_ended : S → Type 0) (is_past : A → Past) (keeps : A → Kept) (a b c : A)
-    (xs ys zs : List (Client S)) → LetsGo was_received was_sent has_ended is_past keeps a b xs ys
-    → LetsGo was_received was_sent has_ended is_past keeps b c ys zs → LetsGo was_received was_sent has_ended is_past keeps a c xs zs
-lets_then was_received was_sent has_ended is_past keeps a b c xs ys zs p q = record {
-  further = λ story s.
-      let first = p.further story s in
-      let second = q.further (with_closed story first.shut) first.served in
-      record {
-        shut = first.shut ++ second.shut;
-        all = IsPermutation-trans (map connection xs) (first.shut ++ map connection ys) ((first.shut ++ second.shut) ++ map connection zs) first.all
-            (subst (IsPermutation (first.shut ++ map connection ys)) (sym (append_assoc first.shut second.shut (map connection zs)))
-            (IsPermutation-append_right first.shut (map connection ys) (second.shut ++ map connection zs) second.all));
-        served = subst (λ (closed : List Connection).
-            AreServed was_received was_sent has_ended (is_past c) (keeps c) (record story { closed = closed }) zs)
-            (append_assoc story.closed first.shut second.shut) second.served;
-      };
-}
+pub lets_then : {A S D : Type 0} (was_received was_sent : S → Option Bytes) (has_ended : S → Type 0) (is_past : A → Past) (keeps : A → Kept)
+    (parted : D → Option (List (Parting S))) (a b c : A) (d e f : D) (xs ys zs : List (Client S))
+    → LetsGo was_received was_sent has_ended is_past keeps parted a b d e xs ys
+    → LetsGo was_received was_sent has_ended is_past keeps parted b c e f ys zs → LetsGo was_received was_sent has_ended is_past keeps parted a c d f xs zs
+lets_then {A} {S} {D} was_received was_sent has_ended is_past keeps parted a b c d e f xs ys zs p q =
+    let first = map client_of p.gone in
+    let second = map client_of q.gone in
+    record {
+      gone = p.gone ++ q.gone;
+      all = subst (λ (gone : List (Client S)). IsPermutation xs (gone ++ zs)) (sym (map-append client_of p.gone q.gone))
+          (IsPermutation-trans xs (first ++ ys) ((first ++ second) ++ zs) p.all
+          (subst (IsPermutation (first ++ ys)) (sym (append_assoc first second zs))
+          (IsPermutation-append_right first ys (second ++ zs) q.all)));
+      over = All-append (λ (one : Gone S). one.client.ending ≡ Some one.ending) p.gone q.gone p.over q.over;
+      parts = subst (λ (more : List (Parting S)). PartsWith more (parted d) (parted f)) (sym (map-append parting_of p.gone q.gone))
+          (parts_then (map parting_of p.gone) (map parting_of q.gone) (parted d) (parted e) (parted f) p.parts q.parts);
+      further = λ story s.
+          subst (λ (next : Story). AreServed was_received was_sent has_ended (is_past c) (keeps c) next zs)
+          (going_both story (shut_by p.gone) (shut_by q.gone) ∙ ap (going_on story) (sym (shut_both p.gone q.gone)))
+          (q.further (going_on story (shut_by p.gone)) (p.further story s));
+    }
+
+-- whether a close closed its connection
+shut_as : {S : Type 0} (client : Client S) (ending : Ending) (was_gone : Type 0) (shut : List Occurrence) → IsShut (connection client) was_gone shut
+    → (closed : Bool) × (shut ≡ shut_by (record { client = client; ending = ending; closed = closed } ∷ []))
+shut_as client ending was_gone shut (inl is) = (true, is.0)
+shut_as client ending was_gone shut (inr is) = (false, is.0)
+
+-- it adds nothing that was fed or handed out
+shut_bytes : (c : Connection) (was_gone : Type 0) (shut : List Occurrence) → IsShut c was_gone shut → (fed_in shut ≡ []) × (handed_in shut ≡ [])
+shut_bytes c was_gone shut (inl is) = (ap fed_in is.0, ap handed_in is.0)
+shut_bytes c was_gone shut (inr is) = (ap fed_in is.0, ap handed_in is.0)
+
+-- one of them is some
+pub lets_one : {A S D : Type 0} (was_received was_sent : S → Option Bytes) (has_ended : S → Type 0) (is_past : A → Past) (keeps : A → Kept)
+    (is_gone : A → Connection → Type 0) (parted : D → Option (List (Parting S))) (ending : Ending) (index : ℕ) (before after : A)
+    (device_before device_after : D) (old new : List (Client S)) (client : Client S) → index < length old → client ≡ get_or old index client
+    → client.ending ≡ Some ending
+    → LetsGoOne was_received was_sent has_ended is_past keeps is_gone parted ending index before after device_before device_after old new
+    → LetsGo was_received was_sent has_ended is_past keeps parted before after device_before device_after old new
+lets_one {A} {S} {D} was_received was_sent has_ended is_past keeps is_gone parted ending index before after device_before device_after old new client within is
+    over one =
+    let told = shut_as one.client ending (is_gone before (connection one.client)) one.shut one.is in
+    let same : one.client ≡ client = one.at ∙ get_or_within old index one.client client within ∙ sym is in
+    record {
+      gone = record { client = one.client; ending = ending; closed = told.0 } ∷ [];
+      all = one.moved;
+      over = All-cons (λ (g : Gone S). g.client.ending ≡ Some g.ending) (record { client = one.client; ending = ending; closed = told.0 }) []
+          (ap (λ (c : Client S). c.ending) same ∙ over) (All-nil _);
+      parts = one.parts;
+      further = λ story s.
+          subst (λ (shut : List Occurrence). AreServed was_received was_sent has_ended (is_past after) (keeps after) (going_on story shut) new) told.1
+          (one.further story s);
+    }
 
 -- one was taken from the list and closed
-pub closed_one : {A S : Type 0} (was_received was_sent : S → Option Bytes) (has_ended : S → Type 0) (is_past : A → Past) (keeps : A → Kept)
-    (before after : A) (client : Client S) (clients others : List (Client S)) (index : ℕ) → index < length clients → client ≡ get_or clients index client
-    → others ≡ swap_remove clients index client → IsClosed (connection client) (is_past before) (is_past after) (keeps before) (keeps after)
-    → LetsGo was_received was_sent has_ended is_past keeps before after clients others
-closed_one {A} {S} was_received was_sent has_ended is_past keeps before after client clients others index within is rest k = record {
-  further = λ story s.
-      let c = connection client in
-      let next = with_closed story (c ∷ []) in
-      let moved : IsPermutation clients (client ∷ others) =
-      subst (λ (ys : List (Client S)). IsPermutation clients (client ∷ ys)) (sym rest) (IsPermutation-swap_remove clients index client within is) in
-      let a = served_moved was_received was_sent has_ended (is_past before) (keeps before) story clients (client ∷ others) moved s in
-      record {
-        shut = c ∷ [];
-        all = IsPermutation-map connection clients (client ∷ others) moved;
-        served = record {
-          past = k.past story a.past;
-          each = others_served was_received was_sent has_ended (keeps before) (keeps after) story next client others
-              (record { fed = λ other differs. refl; handed = λ other differs. refl; kept = λ other differs. k.others other differs }) a.apart
-              (All-tail (IsServed was_received was_sent has_ended (keeps before) story) client others a.each);
-          apart = IsDistinct-tail same_connection c (map connection others) a.apart;
-        };
-      };
-}
+pub closed_one : {A S D : Type 0} (was_received was_sent : S → Option Bytes) (has_ended : S → Type 0) (is_past : A → Past) (keeps : A → Kept)
+    (is_gone : A → Connection → Type 0) (parted : D → Option (List (Parting S))) (ending : Ending) (before after : A) (device_before device_after : D)
+    (client : Client S) (clients others : List (Client S)) (index : ℕ) → index < length clients
+    → client ≡ get_or clients index client → others ≡ swap_remove clients index client
+    → PartsWith (parting ending client.stream ∷ []) (parted device_before) (parted device_after)
+    → IsClosed (connection client) (is_gone before (connection client)) (is_past before) (is_past after) (keeps before) (keeps after)
+    → LetsGoOne was_received was_sent has_ended is_past keeps is_gone parted ending index before after device_before device_after clients others
+closed_one {A} {S} {D} was_received was_sent has_ended is_past keeps is_gone parted ending before after device_before device_after client clients others index
+    within is rest parts k =
+    let c = connection client in
+    let bytes = shut_bytes c (is_gone before c) k.shut k.is in
+    let moved : IsPermutation clients (client ∷ others) =
+    subst (λ (ys : List (Client S)). IsPermutation clients (client ∷ ys)) (sym rest) (IsPermutation-swap_remove clients index client within is) in
+    record {
+      client = client;
+      shut = k.shut;
+      at = is;
+      moved = moved;
+      parts = parts;
+      is = k.is;
+      further = λ story s.
+          let next = going_on story k.shut in
+          let a = served_moved was_received was_sent has_ended (is_past before) (keeps before) story clients (client ∷ others) moved s in
+          record {
+            past = k.past story a.past;
+            each = others_served was_received was_sent has_ended (keeps before) (keeps after) story next client others
+                (record {
+                  fed = λ other differs. fed_still other story k.shut bytes.0;
+                  handed = λ other differs. handed_still other story k.shut bytes.1;
+                  kept = λ other differs. k.others other differs;
+                })
+                a.apart (All-tail (IsServed was_received was_sent has_ended (keeps before) story) client others a.each);
+            apart = IsDistinct-tail same_connection c (map connection others) a.apart;
+          };
+    }

@@ -6,23 +6,24 @@ use Rattle.std.proofs.lemmas.List.Elements.{All-nil, All-cons}
 use Rattle.nr_model.specs.Bytes.{Bytes}
 use Rattle.nr_model.specs.Items.{Connection}
 use Rattle.nr_model.specs.Keyspace.{moment}
-use Rattle.nr_model.specs.Worlds.{Feeding, fed_to, handed_to}
-use Rattle.nr_model.proofs.WorldsLists.{same_self}
-use Rattle.nr_model.proofs.WorldsGrow.{fed_to-append, own_bytes, other_bytes}
+use Rattle.nr_model.specs.Connections.{Feeding}
+use Rattle.nr_model.proofs.JobLists.{same_self}
+use Rattle.nr_model.proofs.Exchanged.{own_bytes, other_bytes}
 use Rattle.nr_service.specs.Serving.{connection}
 use Rattle.nr_service.specs.Steps.{ServesOne, settled_past}
 use Rattle.nr_service.specs.declared.client.Client.{Client}
-use Rattle.nr_service_ends.specs.Stories.{Story, Past, Kept, kept_bytes, IsFed, IsWritten}
+use Rattle.nr_service_ends.specs.Stories.{Fed, Story, Past, Kept, kept_bytes, IsFed, IsWritten, bytes_fed, bytes_handed, going_on}
+use Rattle.nr_service_ends.proofs.Occurrences.{fed_behind, handed_still}
 use Rattle.nr_service_ends.specs.Streams.{GrowsBy}
 use Rattle.nr_service.proofs.Apart.{flips}
 use Rattle.nr_service.proofs.Known.{grows_none, fed_more, sent_more}
-use Rattle.nr_service.proofs.Served.{one_served, nothing_fed, serves_then}
+use Rattle.nr_service.proofs.Served.{one_served, nothing_done, serves_then}
 
 abbrev feeding_of : Connection → ℕ → Bytes → Feeding
 feeding_of c now bytes = record { connection = c; moment = moment now; bytes = bytes }
 
 abbrev with_feeding : Story → Connection → ℕ → Bytes → Story
-with_feeding story c now bytes = record story { fed = story.fed ++ feeding_of c now bytes ∷ [] }
+with_feeding story c now bytes = going_on story (Fed (feeding_of c now bytes) ∷ [])
 
 -- bytes were read and fed
 pub fed_one : {A S : Type 0} (was_received was_sent : S → Option Bytes) (has_ended : S → Type 0) (is_past : A → Past) (keeps : A → Kept) (now : ℕ)
@@ -34,8 +35,8 @@ pub fed_one : {A S : Type 0} (was_received was_sent : S → Option Bytes) (has_e
 fed_one {A} {S} was_received was_sent has_ended is_past keeps now before after old new bytes same grows sent ended fed =
     let c = connection old in
     let one : connection new ≡ c = ap (λ conn. record { node = conn.node; serial = conn.serial }) same in
-    let own : (story : Story) → fed_to c (story.fed ++ feeding_of c now bytes ∷ []) ≡ fed_to c story.fed ++ bytes = λ story.
-    fed_to-append c story.fed (feeding_of c now bytes ∷ []) ∙ ap (λ (b : Bytes). fed_to c story.fed ++ b)
+    let own : (story : Story) → bytes_fed c (with_feeding story c now bytes) ≡ bytes_fed c story ++ bytes = λ story.
+    fed_behind c story (Fed (feeding_of c now bytes) ∷ []) ∙ ap (λ (b : Bytes). bytes_fed c story ++ b)
     (own_bytes c (feeding_of c now bytes) (same_self c)) in
     record {
       beside = λ others. record {
@@ -43,28 +44,30 @@ fed_one {A} {S} was_received was_sent has_ended is_past keeps now before after o
             let next = with_feeding story c now bytes in
             record {
               next = next;
-              more = feeding_of c now bytes ∷ [];
-              setup = refl;
-              fed = refl;
+              more = Fed (feeding_of c now bytes) ∷ [];
+              is = refl;
+              opens = refl;
               closed = refl;
               in_time = All-cons (λ (feeding : Feeding). feeding.moment ≡ moment now) (feeding_of c now bytes) [] refl (All-nil _);
               served = one_served was_received was_sent has_ended (is_past before) (is_past after) (keeps before) (keeps after) story next old new others one
                   (fed.past story a.past)
                   (record {
                     fed = λ other differs.
-                        fed_to-append other story.fed (feeding_of c now bytes ∷ [])
-                        ∙ ap (λ (b : Bytes). fed_to other story.fed ++ b) (other_bytes other (feeding_of c now bytes) (flips c other ∙ differs))
-                        ∙ append-nil (fed_to other story.fed);
-                    handed = λ other differs. refl;
+                        fed_behind other story (Fed (feeding_of c now bytes) ∷ [])
+                        ∙ ap (λ (b : Bytes). bytes_fed other story ++ b) (other_bytes other (feeding_of c now bytes) (flips c other ∙ differs))
+                        ∙ append-nil (bytes_fed other story);
+                    handed = λ other differs. handed_still other story (Fed (feeding_of c now bytes) ∷ []) refl;
                     kept = λ other differs. fed.kept other;
                   })
                   (λ s. record {
                     pending = s.pending;
                     kept = ap (keeps after) one ∙ fed.kept c ∙ s.kept;
-                    received = fed_more (was_received old.stream) (was_received new.stream) bytes (fed_to c story.fed) (fed_to (connection new) next.fed) grows
-                        (sym (ap (λ (d : Connection). fed_to d next.fed) one ∙ own story)) s.received;
-                    sent = subst (λ (o : Option Bytes). IfSome o (λ front. handed_to (connection new) story.handed ≡ front ++ s.pending)) (sym sent)
-                        (subst (λ (d : Connection). IfSome (was_sent old.stream) (λ front. handed_to d story.handed ≡ front ++ s.pending)) (sym one) s.sent);
+                    received = fed_more (was_received old.stream) (was_received new.stream) bytes (bytes_fed c story) (bytes_fed (connection new) next) grows
+                        (sym (ap (λ (d : Connection). bytes_fed d next) one ∙ own story)) s.received;
+                    sent = subst (λ (o : Option Bytes). IfSome o (λ front. bytes_handed (connection new) next ≡ front ++ s.pending)) (sym sent)
+                        (subst (λ (d : Connection). IfSome (was_sent old.stream) (λ front. bytes_handed d next ≡ front ++ s.pending)) (sym one)
+                        (subst (λ (b : Bytes). IfSome (was_sent old.stream) (λ front. b ≡ front ++ s.pending))
+                        (sym (handed_still c story (Fed (feeding_of c now bytes) ∷ []) refl)) s.sent));
                     ended = ended;
                   })
                   a;
@@ -82,16 +85,16 @@ still_one was_received was_sent has_ended is_past keeps now state old new same r
     record {
       beside = λ others. record {
         further = λ story a.
-            nothing_fed was_received was_sent has_ended now (is_past state) (keeps state) story story (new ∷ others) refl refl refl
+            nothing_done was_received was_sent has_ended now (is_past state) (keeps state) story (new ∷ others)
             (one_served was_received was_sent has_ended (is_past state) (is_past state) (keeps state) (keeps state) story story old new others one a.past
             (record { fed = λ other differs. refl; handed = λ other differs. refl; kept = λ other differs. refl })
             (λ s. record {
               pending = s.pending;
               kept = ap (keeps state) one ∙ s.kept;
-              received = subst (λ (o : Option Bytes). IfSome o (λ bytes. bytes ≡ fed_to (connection new) story.fed)) (sym received)
-                  (subst (λ (d : Connection). IfSome (was_received old.stream) (λ bytes. bytes ≡ fed_to d story.fed)) (sym one) s.received);
-              sent = subst (λ (o : Option Bytes). IfSome o (λ bytes. handed_to (connection new) story.handed ≡ bytes ++ s.pending)) (sym sent)
-                  (subst (λ (d : Connection). IfSome (was_sent old.stream) (λ bytes. handed_to d story.handed ≡ bytes ++ s.pending)) (sym one) s.sent);
+              received = subst (λ (o : Option Bytes). IfSome o (λ bytes. bytes ≡ bytes_fed (connection new) story)) (sym received)
+                  (subst (λ (d : Connection). IfSome (was_received old.stream) (λ bytes. bytes ≡ bytes_fed d story)) (sym one) s.received);
+              sent = subst (λ (o : Option Bytes). IfSome o (λ bytes. bytes_handed (connection new) story ≡ bytes ++ s.pending)) (sym sent)
+                  (subst (λ (d : Connection). IfSome (was_sent old.stream) (λ bytes. bytes_handed d story ≡ bytes ++ s.pending)) (sym one) s.sent);
               ended = ended s.ended;
             })
             a);
@@ -129,7 +132,7 @@ written_one was_received was_sent has_ended is_past is_settled keeps now before 
     record {
       beside = λ others. record {
         further = λ story a.
-            nothing_fed was_received was_sent has_ended now (settled_past is_past is_settled after) (keeps after) story story (new ∷ others) refl refl refl
+            nothing_done was_received was_sent has_ended now (settled_past is_past is_settled after) (keeps after) story (new ∷ others)
             (one_served was_received was_sent has_ended (settled_past is_past is_settled before) (settled_past is_past is_settled after) (keeps before)
             (keeps after) story story old new others one
             (record { past = written.past story a.past.past; rest = written.rest story a.past.rest })
@@ -139,11 +142,11 @@ written_one was_received was_sent has_ended is_past is_settled keeps now before 
             record {
               pending = drop count s.pending;
               kept = ap (keeps after) one ∙ written.kept ∙ ap (λ (o : Option Bytes). option_map (λ (b : Bytes). drop count b) o) s.kept;
-              received = subst (λ (o : Option Bytes). IfSome o (λ bytes. bytes ≡ fed_to (connection new) story.fed)) (sym received)
-                  (subst (λ (d : Connection). IfSome (was_received old.stream) (λ bytes. bytes ≡ fed_to d story.fed)) (sym one) s.received);
-              sent = sent_more (was_sent old.stream) (was_sent new.stream) count s.pending (handed_to (connection new) story.handed)
+              received = subst (λ (o : Option Bytes). IfSome o (λ bytes. bytes ≡ bytes_fed (connection new) story)) (sym received)
+                  (subst (λ (d : Connection). IfSome (was_received old.stream) (λ bytes. bytes ≡ bytes_fed d story)) (sym one) s.received);
+              sent = sent_more (was_sent old.stream) (was_sent new.stream) count s.pending (bytes_handed (connection new) story)
                   (grows ∙ ap (λ (b : Bytes). option_map (λ (front : Bytes). front ++ take count b) (was_sent old.stream)) kept)
-                  (subst (λ (d : Connection). IfSome (was_sent old.stream) (λ bytes. handed_to d story.handed ≡ bytes ++ s.pending)) (sym one) s.sent);
+                  (subst (λ (d : Connection). IfSome (was_sent old.stream) (λ bytes. bytes_handed d story ≡ bytes ++ s.pending)) (sym one) s.sent);
               ended = λ is. ended (s.ended (sym going ∙ is));
             })
             a);

@@ -4,7 +4,7 @@ use Rattle.std.specs.Prelude.{Option, Some, None, IfSome}
 use Rattle.std.specs.Option.{option_map}
 use Rattle.std.proofs.lemmas.List.{take-append-drop}
 use Rattle.nr_model.specs.Bytes.{Bytes}
-use Rattle.nr_model.proofs.WorldsLists.{take_none}
+use Rattle.nr_model.proofs.JobLists.{take_none}
 use Rattle.nr_service_ends.specs.Streams.{GrowsBy}
 
 -- no bytes came

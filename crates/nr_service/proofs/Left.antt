@@ -1,26 +1,28 @@
 -- What holds of clients where memory ran out.
 use Rattle.std.proofs.Common.{◌≡◌, ℕ, ◌<◌, List, [], ◌∷◌, ◌++◌, length, get_or, refl, sym, ap, ◌∙◌, subst, append-nil}
-use Rattle.std.specs.Prelude.{Option, Some, None, Result, Ok, Err, OnErr, IfErr, IfSome, All}
+use Rattle.std.specs.Prelude.{map, Option, Some, None, Result, Ok, Err, OnErr, IfErr, IfSome, All}
 use Rattle.std.specs.Option.{option_map}
 use Rattle.std.proofs.Math.ListN.{set}
 use Rattle.std.specs.List.{remove, swap_remove}
 use Rattle.std.specs.List.Sorted.{IsPermutation}
 use Rattle.std.proofs.lemmas.List.Elements.{All-cons, All-head, All-tail, All-weaker}
 use Rattle.std.proofs.lemmas.List.Sorted.{All-permutation, IsPermutation-remove, IsPermutation-sym, IsPermutation-swap_remove}
-use Rattle.nr_model.specs.Bytes.{Bytes}
-use Rattle.nr_model.specs.Explains.{IsBeginningOf}
+use Rattle.nr_model.specs.Bytes.{Bytes, IsBeginningOf}
 use Rattle.nr_model.specs.Items.{Connection}
-use Rattle.nr_model.specs.Worlds.{Setup, fed_to, handed_to}
+use Rattle.nr_model.specs.Connections.{Setup}
 use Rattle.nr_service.specs.Endings.{ByEnding, RanOut}
 use Rattle.nr_service.specs.Serving.{connection, IsServed, IsServing}
-use Rattle.nr_service.specs.Steps.{Serves, ServesOne, Exchanges, IsLeft, AreLeft, Leaves, LeavesOne, LeavesSome}
+use Rattle.nr_service.specs.Leaving.{LetsGo, shut_by, unmarked}
+use Rattle.nr_service.specs.Steps.{Serves, ServesOne, Accepts, Exchanges, IsLeft, AreLeft, Leaves, LeavesOne, LeavesSome}
+use Rattle.nr_service_ends.specs.Devices.{Parting}
 use Rattle.nr_service.specs.declared.client.Client.{Client}
 use Rattle.nr_service.specs.declared.ended.Ended.{Ended}
 use Rattle.nr_service.specs.declared.ended.Ended.TheVariants as endings
 use Rattle.nr_service.specs.declared.service.Service.{Service}
-use Rattle.nr_service_ends.specs.Stories.{Story, Past, Kept}
+use Rattle.nr_service_ends.specs.Stories.{Story, Past, Kept, closed_in, bytes_fed, bytes_handed, going_on}
+use Rattle.nr_service_ends.proofs.Occurrences.{closed_both, going_none, going_both}
 use Rattle.nr_service.proofs.Served.{served_moved}
-use Rattle.nr_service.proofs.Turns.{served_to}
+use Rattle.nr_service.proofs.Turns.{served_to, served_marked}
 use Rattle.nr_service.proofs.Working.{get_or_within, set_moved}
 
 -- what was fed is a beginning of what was received
@@ -43,11 +45,11 @@ served_left : {S : Type 0} (was_received was_sent : S → Option Bytes) (has_end
 served_left was_received was_sent has_ended kept story old new piece same grows sent s =
     let one : connection new ≡ connection old = ap (λ conn. record { node = conn.node; serial = conn.serial }) same in
     record {
-      received = fed_begins (was_received old.stream) (was_received new.stream) piece (fed_to (connection new) story.fed) grows
-          (subst (λ (d : Connection). IfSome (was_received old.stream) (λ bytes. bytes ≡ fed_to d story.fed)) (sym one) s.received);
-      sent = subst (λ (o : Option Bytes). IfSome o (λ bytes. IsBeginningOf bytes (handed_to (connection new) story.handed))) (sym sent)
-          (subst (λ (d : Connection). IfSome (was_sent old.stream) (λ bytes. IsBeginningOf bytes (handed_to d story.handed))) (sym one)
-          (sent_begins (was_sent old.stream) s.pending (handed_to (connection old) story.handed) s.sent));
+      received = fed_begins (was_received old.stream) (was_received new.stream) piece (bytes_fed (connection new) story) grows
+          (subst (λ (d : Connection). IfSome (was_received old.stream) (λ bytes. bytes ≡ bytes_fed d story)) (sym one) s.received);
+      sent = subst (λ (o : Option Bytes). IfSome o (λ bytes. IsBeginningOf bytes (bytes_handed (connection new) story))) (sym sent)
+          (subst (λ (d : Connection). IfSome (was_sent old.stream) (λ bytes. IsBeginningOf bytes (bytes_handed d story))) (sym one)
+          (sent_begins (was_sent old.stream) s.pending (bytes_handed (connection old) story) s.sent));
     }
 
 grows_by_none : (known : Option Bytes) → known ≡ option_map (λ (bytes : Bytes). bytes ++ []) known
@@ -64,9 +66,10 @@ left_by : {A S : Type 0} (was_received was_sent : S → Option Bytes) (is_past :
     → is_past state story → All (IsLeft was_received was_sent story) clients → AreLeft was_received was_sent is_past story [] clients
 left_by was_received was_sent is_past state story clients past each = record {
   next = story;
+  more = [];
   answers = state;
-  setup = refl;
-  closed = sym (append-nil story.closed);
+  is = sym (going_none story);
+  closed = refl;
   past = past;
   each = each;
 }
@@ -121,7 +124,7 @@ leaves_others {A} {S} was_received was_sent has_ended is_past keeps state client
 
 -- served further, and then left
 pub leaves_then : {A S : Type 0} (was_received was_sent : S → Option Bytes) (has_ended : S → Type 0) (is_past : A → Past) (keeps : A → Kept) (now : ℕ)
-    (a b : A) (xs ys zs : List (Client S)) → Serves was_received was_sent has_ended is_past keeps now a b xs ys
+    {opened : List Connection} (a b : A) (xs ys zs : List (Client S)) → Serves was_received was_sent has_ended is_past keeps now opened a b xs ys
     → Leaves was_received was_sent has_ended is_past keeps b ys zs → Leaves was_received was_sent has_ended is_past keeps a xs zs
 leaves_then was_received was_sent has_ended is_past keeps now a b xs ys zs p q = record {
   further = λ story s.
@@ -129,9 +132,10 @@ leaves_then was_received was_sent has_ended is_past keeps now a b xs ys zs p q =
       let left = q.further first.next first.served in
       record {
         next = left.next;
+        more = first.more ++ left.more;
         answers = left.answers;
-        setup = left.setup ∙ first.setup;
-        closed = left.closed ∙ ap (λ (l : List Connection). l ++ []) first.closed;
+        is = left.is ∙ ap (λ (s : Story). going_on s left.more) first.is ∙ going_both story first.more left.more;
+        closed = closed_both first.more left.more ∙ (λ i. first.closed i ++ left.closed i);
         past = left.past;
         each = left.each;
       };
@@ -160,14 +164,38 @@ leaves_at was_received was_sent has_ended is_past keeps state clients index item
           (IsPermutation-remove clients index old within is) a) in
           record {
             next = left.next;
+            more = left.more;
             answers = left.answers;
-            setup = left.setup;
+            is = left.is;
             closed = left.closed;
             past = left.past;
             each = All-permutation (IsLeft was_received was_sent left.next) (new ∷ remove clients index) (set clients index new)
                 (IsPermutation-sym _ _ (set_moved clients index new within)) left.each;
           };
     }
+
+-- some were let go, and then they were left
+pub leaves_behind : {A S D : Type 0} (was_received was_sent : S → Option Bytes) (has_ended : S → Type 0) (is_past : A → Past) (keeps : A → Kept)
+    (parted : D → Option (List (Parting S))) (a b : A) (d e : D)
+    (xs ys zs : List (Client S)) → LetsGo was_received was_sent has_ended is_past keeps parted a b d e xs ys
+    → Leaves was_received was_sent has_ended is_past keeps b ys zs → LeavesSome was_received was_sent has_ended is_past keeps a xs zs
+leaves_behind was_received was_sent has_ended is_past keeps parted a b d e xs ys zs gone leaves = record {
+  further = λ story s.
+      let shut = shut_by gone.gone in
+      let left = leaves.further (going_on story shut) (gone.further story s) in
+      record {
+        shut = closed_in (shut ++ left.more);
+        left = record {
+          next = left.next;
+          more = shut ++ left.more;
+          answers = left.answers;
+          is = left.is ∙ going_both story shut left.more;
+          closed = refl;
+          past = left.past;
+          each = left.each;
+        };
+      };
+}
 
 -- the clients of a service were left
 pub ran_out : {A S D M : Type 0} (was_received was_sent : S → Option Bytes) (has_ended : S → Type 0) (shows : M → ℕ → Type 0) (is_past : A → Past)
@@ -190,7 +218,7 @@ ran_out_still was_received was_sent has_ended shows is_past keeps service setup 
 -- they were served further, and then left
 pub ran_out_then : {A S D M : Type 0} (was_received was_sent : S → Option Bytes) (has_ended : S → Type 0) (shows : M → ℕ → Type 0)
     (is_past is_settled : A → Past) (keeps : A → Kept) (now : ℕ) (old new : Service A S D M) (a b : A) (xs ys : List (Client S))
-    → Serves was_received was_sent has_ended is_past keeps now old.answers a old.clients.items xs
+    → Accepts was_received was_sent has_ended is_past keeps old.answers a old.clients.items xs
     → Exchanges was_received was_sent has_ended is_past is_settled keeps now a b xs ys
     → LeavesSome was_received was_sent has_ended is_past keeps b ys new.clients.items
     → (setup : Setup) → IsServing was_received was_sent has_ended shows is_past keeps setup old → RanOut was_received was_sent is_past setup new
@@ -199,7 +227,7 @@ ran_out_then was_received was_sent has_ended shows is_past is_settled keeps now 
     s.served in
     record {
       story = done.next;
-      sized = done.setup ∙ s.sized;
+      sized = ap (λ (story : Story). story.setup) done.is ∙ s.sized;
       left = leaves.further done.next done.served;
     }
 
@@ -213,3 +241,11 @@ pub by_memory : {T : Type 0} (result : Result T Ended) (P Q : Type 0) → IfErr 
     → IfErr result (λ ended. ByEnding ended P Q)
 by_memory (Ok _) P Q is q = tt
 by_memory (Err ended) P Q is q = subst (λ (e : Ended). ByEnding e P Q) (sym is) q
+
+-- how clients end makes no difference to how they are left
+pub leaves_marked : {A S : Type 0} (was_received was_sent : S → Option Bytes) (has_ended : S → Type 0) (is_past : A → Past) (keeps : A → Kept) (state : A)
+    (served marked new : List (Client S)) → map unmarked marked ≡ map unmarked served
+    → LeavesSome was_received was_sent has_ended is_past keeps state marked new → LeavesSome was_received was_sent has_ended is_past keeps state served new
+leaves_marked was_received was_sent has_ended is_past keeps state served marked new same leaves = record {
+  further = λ story s. leaves.further story (served_marked was_received was_sent has_ended (is_past state) (keeps state) story served marked same s);
+}

@@ -1,4 +1,5 @@
 pub mod Apart
+pub mod Counted
 pub mod Known
 pub mod Served
 pub mod Feeding

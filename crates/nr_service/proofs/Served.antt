@@ -1,6 +1,7 @@
 -- How a step on one client leaves the others, and steps behind one another.
 use Rattle.std.proofs.Common.{◌≡◌, ℕ, false, List, [], ◌∷◌, ◌++◌, map, refl, sym, ap, ◌∙◌, subst, append_assoc, append-nil}
 use Rattle.std.specs.Prelude.{Option, IfSome, All}
+use Rattle.std.proofs.lemmas.List.{map-append}
 use Rattle.std.specs.List.Sorted.{IsPermutation}
 use Rattle.std.proofs.lemmas.List.Elements.{All-nil, All-cons, All-head, All-tail, All-append}
 use Rattle.std.proofs.lemmas.List.Sorted.{All-permutation, IsPermutation-map}
@@ -9,17 +10,18 @@ use Rattle.std.specs.List.{IsDistinct}
 use Rattle.nr_model.specs.Bytes.{Bytes}
 use Rattle.nr_model.specs.Items.{Connection, same_connection}
 use Rattle.nr_model.specs.Keyspace.{moment}
-use Rattle.nr_model.specs.Worlds.{Feeding, fed_to, handed_to}
+use Rattle.nr_model.specs.Connections.{Feeding}
 use Rattle.nr_service.specs.Serving.{connection, IsServed, AreServed}
-use Rattle.nr_service.specs.Steps.{HasServed, Serves}
+use Rattle.nr_service.specs.Steps.{HasServed, Serves, Accepts}
 use Rattle.nr_service.specs.declared.client.Client.{Client}
-use Rattle.nr_service_ends.specs.Stories.{Story, Past, Kept, KeepsOthers}
+use Rattle.nr_service_ends.specs.Stories.{Occurrence, Story, Past, Kept, KeepsOthers, opened_in, fed_in, closed_in, bytes_fed, bytes_handed, going_on}
+use Rattle.nr_service_ends.proofs.Occurrences.{opened_both, fed_both, closed_both, going_none, going_both}
 use Rattle.nr_service.proofs.Apart.{flips, of_others}
 
 -- one for which nothing was fed, handed out or written
 pub served_still : {S : Type 0} (was_received was_sent : S → Option Bytes) (has_ended : S → Type 0) (old_kept new_kept : Kept) (story next : Story)
-    (client : Client S) → fed_to (connection client) next.fed ≡ fed_to (connection client) story.fed
-    → handed_to (connection client) next.handed ≡ handed_to (connection client) story.handed
+    (client : Client S) → bytes_fed (connection client) next ≡ bytes_fed (connection client) story
+    → bytes_handed (connection client) next ≡ bytes_handed (connection client) story
     → new_kept (connection client) ≡ old_kept (connection client)
     → IsServed was_received was_sent has_ended old_kept story client → IsServed was_received was_sent has_ended new_kept next client
 served_still was_received was_sent has_ended old_kept new_kept story next client fed handed kept s = record {
@@ -32,8 +34,8 @@ served_still was_received was_sent has_ended old_kept new_kept story next client
 
 -- what a step on one connection leaves of the others
 pub record LeavesOthers (c : Connection) (old_kept new_kept : Kept) (story next : Story) : Type 0 where
-  pub fed : (other : Connection) → same_connection other c ≡ false → fed_to other next.fed ≡ fed_to other story.fed
-  pub handed : (other : Connection) → same_connection other c ≡ false → handed_to other next.handed ≡ handed_to other story.handed
+  pub fed : (other : Connection) → same_connection other c ≡ false → bytes_fed other next ≡ bytes_fed other story
+  pub handed : (other : Connection) → same_connection other c ≡ false → bytes_handed other next ≡ bytes_handed other story
   pub kept : KeepsOthers c old_kept new_kept
 
 -- the other clients, behind a step on one
@@ -75,61 +77,102 @@ served_moved was_received was_sent has_ended is_past kept story xs ys moved a = 
   apart = IsDistinct-IsPermutation same_connection flips (map connection xs) (map connection ys) (IsPermutation-map connection xs ys moved) a.apart;
 }
 
-pub has_moved : {S : Type 0} (was_received was_sent : S → Option Bytes) (has_ended : S → Type 0) (now : ℕ) (is_past : Past) (kept : Kept) (story : Story)
-    (xs ys : List (Client S)) → IsPermutation xs ys → HasServed was_received was_sent has_ended now is_past kept story xs
-    → HasServed was_received was_sent has_ended now is_past kept story ys
-has_moved was_received was_sent has_ended now is_past kept story xs ys moved h = record {
+pub has_moved : {S : Type 0} (was_received was_sent : S → Option Bytes) (has_ended : S → Type 0) (now : ℕ) (opened : List Connection) (is_past : Past)
+    (kept : Kept) (story : Story) (xs ys : List (Client S)) → IsPermutation xs ys
+    → HasServed was_received was_sent has_ended now opened is_past kept story xs → HasServed was_received was_sent has_ended now opened is_past kept story ys
+has_moved was_received was_sent has_ended now opened is_past kept story xs ys moved h = record {
   next = h.next;
   more = h.more;
-  setup = h.setup;
-  fed = h.fed;
+  is = h.is;
+  opens = h.opens;
   closed = h.closed;
   in_time = h.in_time;
   served = served_moved was_received was_sent has_ended is_past kept h.next xs ys moved h.served;
 }
 
 -- nothing was fed
-pub nothing_fed : {S : Type 0} (was_received was_sent : S → Option Bytes) (has_ended : S → Type 0) (now : ℕ) (is_past : Past) (kept : Kept) (story next : Story)
-    (clients : List (Client S)) → next.setup ≡ story.setup → next.fed ≡ story.fed → next.closed ≡ story.closed
-    → AreServed was_received was_sent has_ended is_past kept next clients
-    → HasServed was_received was_sent has_ended now is_past kept story clients
-nothing_fed was_received was_sent has_ended now is_past kept story next clients sized same shut a = record {
-  next = next;
-  more = [];
-  setup = sized;
-  fed = same ∙ sym (append-nil story.fed);
+pub nothing_fed : {S : Type 0} (was_received was_sent : S → Option Bytes) (has_ended : S → Type 0) (now : ℕ) (opened : List Connection) (is_past : Past)
+    (kept : Kept) (story : Story) (more : List Occurrence) (clients : List (Client S)) → opened_in more ≡ opened → fed_in more ≡ [] → closed_in more ≡ []
+    → AreServed was_received was_sent has_ended is_past kept (going_on story more) clients
+    → HasServed was_received was_sent has_ended now opened is_past kept story clients
+nothing_fed was_received was_sent has_ended now opened is_past kept story more clients opens none shut a = record {
+  next = going_on story more;
+  more = more;
+  is = refl;
+  opens = opens;
   closed = shut;
+  in_time = subst (λ (fed : List Feeding). All (λ (feeding : Feeding). feeding.moment ≡ moment now) fed) (sym none)
+      (All-nil (λ (feeding : Feeding). feeding.moment ≡ moment now));
+  served = a;
+}
+
+-- nothing happened
+pub nothing_done : {S : Type 0} (was_received was_sent : S → Option Bytes) (has_ended : S → Type 0) (now : ℕ) (is_past : Past) (kept : Kept) (story : Story)
+    (clients : List (Client S)) → AreServed was_received was_sent has_ended is_past kept story clients
+    → HasServed was_received was_sent has_ended now [] is_past kept story clients
+nothing_done was_received was_sent has_ended now is_past kept story clients a = record {
+  next = story;
+  more = [];
+  is = sym (going_none story);
+  opens = refl;
+  closed = refl;
   in_time = All-nil (λ (feeding : Feeding). feeding.moment ≡ moment now);
   served = a;
 }
 
 -- nothing was done
 pub serves_none : {A S : Type 0} (was_received was_sent : S → Option Bytes) (has_ended : S → Type 0) (is_past : A → Past) (keeps : A → Kept) (now : ℕ)
-    (state : A) (clients : List (Client S)) → Serves was_received was_sent has_ended is_past keeps now state state clients clients
+    (state : A) (clients : List (Client S)) → Serves was_received was_sent has_ended is_past keeps now [] state state clients clients
 serves_none was_received was_sent has_ended is_past keeps now state clients = record {
-  further = λ story a. nothing_fed was_received was_sent has_ended now (is_past state) (keeps state) story story clients refl refl refl a;
+  further = λ story a. nothing_done was_received was_sent has_ended now (is_past state) (keeps state) story clients a;
 }
 
 -- served further by a story, and further by the one that goes on from it
-pub has_then : {S : Type 0} (was_received was_sent : S → Option Bytes) (has_ended : S → Type 0) (now : ℕ) (between after : Past) (between_kept kept : Kept)
-    (story : Story) (xs ys : List (Client S)) (first : HasServed was_received was_sent has_ended now between between_kept story xs)
-    → HasServed was_received was_sent has_ended now after kept first.next ys → HasServed was_received was_sent has_ended now after kept story ys
+pub has_then : {S : Type 0} (was_received was_sent : S → Option Bytes) (has_ended : S → Type 0) (now : ℕ) {first_opened opened : List Connection}
+    (between after : Past) (between_kept kept : Kept)
+    (story : Story) (xs ys : List (Client S)) (first : HasServed was_received was_sent has_ended now first_opened between between_kept story xs)
+    → HasServed was_received was_sent has_ended now opened after kept first.next ys
+    → HasServed was_received was_sent has_ended now (first_opened ++ opened) after kept story ys
 has_then was_received was_sent has_ended now between after between_kept kept story xs ys first second = record {
   next = second.next;
   more = first.more ++ second.more;
-  setup = second.setup ∙ first.setup;
-  fed = second.fed ∙ ap (λ (l : List Feeding). l ++ second.more) first.fed ∙ append_assoc story.fed first.more second.more;
-  closed = second.closed ∙ first.closed;
-  in_time = All-append (λ (feeding : Feeding). feeding.moment ≡ moment now) first.more second.more first.in_time second.in_time;
+  is = second.is ∙ ap (λ (s : Story). going_on s second.more) first.is ∙ going_both story first.more second.more;
+  opens = opened_both first.more second.more ∙ (λ i. first.opens i ++ second.opens i);
+  closed = closed_both first.more second.more ∙ (λ i. first.closed i ++ second.closed i);
+  in_time = subst (λ (fed : List Feeding). All (λ (feeding : Feeding). feeding.moment ≡ moment now) fed) (sym (fed_both first.more second.more))
+      (All-append (λ (feeding : Feeding). feeding.moment ≡ moment now) (fed_in first.more) (fed_in second.more) first.in_time second.in_time);
   served = second.served;
 }
 
 -- one step behind another
 pub serves_then : {A S : Type 0} (was_received was_sent : S → Option Bytes) (has_ended : S → Type 0) (is_past : A → Past) (keeps : A → Kept) (now : ℕ)
-    (a b c : A) (xs ys zs : List (Client S)) → Serves was_received was_sent has_ended is_past keeps now a b xs ys
-    → Serves was_received was_sent has_ended is_past keeps now b c ys zs → Serves was_received was_sent has_ended is_past keeps now a c xs zs
+    {first_opened opened : List Connection} (a b c : A) (xs ys zs : List (Client S))
+    → Serves was_received was_sent has_ended is_past keeps now first_opened a b xs ys
+    → Serves was_received was_sent has_ended is_past keeps now opened b c ys zs
+    → Serves was_received was_sent has_ended is_past keeps now (first_opened ++ opened) a c xs zs
 serves_then was_received was_sent has_ended is_past keeps now a b c xs ys zs p q = record {
   further = λ story s.
       let first = p.further story s in
       has_then was_received was_sent has_ended now (is_past b) (is_past c) (keeps b) (keeps c) story ys zs first (q.further first.next first.served);
+}
+
+-- some were taken on behind others
+pub accepts_none : {A S : Type 0} (was_received was_sent : S → Option Bytes) (has_ended : S → Type 0) (is_past : A → Past) (keeps : A → Kept)
+    (state : A) (clients : List (Client S)) → Accepts was_received was_sent has_ended is_past keeps state state clients clients
+accepts_none was_received was_sent has_ended is_past keeps state clients = record {
+  accepted = [];
+  items = sym (append-nil clients);
+  serves = λ now. serves_none was_received was_sent has_ended is_past keeps now state clients;
+}
+
+pub accepts_then : {A S : Type 0} (was_received was_sent : S → Option Bytes) (has_ended : S → Type 0) (is_past : A → Past) (keeps : A → Kept)
+    (a b c : A) (xs ys zs : List (Client S)) → Accepts was_received was_sent has_ended is_past keeps a b xs ys
+    → Accepts was_received was_sent has_ended is_past keeps b c ys zs → Accepts was_received was_sent has_ended is_past keeps a c xs zs
+accepts_then {A} {S} was_received was_sent has_ended is_past keeps a b c xs ys zs p q = record {
+  accepted = p.accepted ++ q.accepted;
+  items = q.items ∙ ap (λ (l : List (Client S)). l ++ q.accepted) p.items ∙ append_assoc xs p.accepted q.accepted;
+  serves = λ now.
+      subst (λ (opened : List Connection). Serves was_received was_sent has_ended is_past keeps now opened a c xs zs)
+      (sym (map-append connection p.accepted q.accepted))
+      (serves_then was_received was_sent has_ended is_past keeps now a b c xs ys zs (p.serves now) (q.serves now));
 }

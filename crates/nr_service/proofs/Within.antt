@@ -1,58 +1,51 @@
--- Which clients were looked at, from the back on, and go on.
-use Rattle.std.proofs.Common.{◌≡◌, ℕ, zero, suc, ◌+◌, ◌-◌, ◌<◌, ◌≤◌, ◌≢◌, false, ◌⊎◌, inl, inr, List, [], ◌∷◌, length, get_or, sym, ap, ◌∙◌, subst, arith, ltb}
-use Rattle.std.specs.Prelude.{Option, All, map}
-use Rattle.std.specs.List.{AllByRecursion, AllWithin, IsDistinct, swap_remove}
+-- Which clients go on, from the back on, and what is kept for them.
+use Rattle.std.proofs.Common.{◌≡◌, ℕ, suc, ◌+◌, ◌-◌, ◌<◌, ◌≤◌, ◌≢◌, false, ◌⊎◌, inl, inr, List, ◌∷◌, length, get_or, refl, sym, ap, ◌∙◌, subst, arith, ltb}
+use Rattle.std.specs.Prelude.{Option, None, All, map}
+use Rattle.std.specs.List.{AllWithin, IsDistinct, swap_remove}
 use Rattle.std.specs.List.Sorted.{IsPermutation}
 use Rattle.std.proofs.lemmas.Bool.{cases_Bool, ltb-true, ltb-false}
-use Rattle.std.proofs.lemmas.List.Sorted.{IsPermutation-map, IsPermutation-swap_remove}
+use Rattle.std.proofs.lemmas.List.Elements.{All-tail}
+use Rattle.std.proofs.lemmas.List.Sorted.{All-permutation, IsPermutation-map, IsPermutation-swap_remove}
 use Rattle.std.proofs.lemmas.Map.Keys.{IsDistinct-head, IsDistinct-tail, IsDistinct-IsPermutation}
 use Rattle.nr_model.specs.Bytes.{Bytes}
 use Rattle.nr_model.specs.Items.{Connection, same_connection}
-use Rattle.nr_service.specs.Serving.{connection, IsWithin}
-use Rattle.nr_service.specs.Steps.{Removes}
+use Rattle.nr_service.specs.Leaving.{Removes, KeepsEach}
+use Rattle.nr_service.specs.Serving.{connection}
 use Rattle.nr_service.specs.declared.client.Client.{Client}
-use Rattle.nr_service_ends.specs.Stories.{Kept, KeepsOthers, kept_bytes}
-use Rattle.nr_service.proofs.Apart.{flips}
+use Rattle.nr_service_ends.specs.Stories.{Kept, KeepsOthers}
+use Rattle.nr_service.proofs.Apart.{flips, of_others}
 use Rattle.nr_service.proofs.Working.{get_or_within}
 
--- no two have one connection, and those from this place on were looked at
-pub record IsChecked {S : Type 0} (keeps : Kept) (limit from : ℕ) (clients : List (Client S)) : Type 0 where
-  pub distinct : IsDistinct same_connection (map connection clients)
-  pub within : AllWithin (IsWithin keeps limit) clients from (length clients)
+-- those from this place on go on
+abbrev pub Stay : {S : Type 0} → ℕ → List (Client S) → Type 0
+Stay from clients = AllWithin (λ client. client.ending ≡ None) clients from (length clients)
 
--- none was yet
-pub none_checked : {S : Type 0} (keeps : Kept) (limit from : ℕ) (clients : List (Client S)) → from ≡ length clients
-    → IsDistinct same_connection (map connection clients) → IsChecked keeps limit from clients
-none_checked keeps limit from clients end distinct = record { distinct = distinct; within = λ k d low high. absurd (omega arith) }
+-- no two have one connection, and the same is kept for each as before
+pub record AreKept {S : Type 0} (old new : Kept) (clients : List (Client S)) : Type 0 where
+  pub distinct : IsDistinct same_connection (map connection clients)
+  pub each : KeepsEach old new clients
+
+-- none was looked at yet
+pub none_stays : {S : Type 0} (from : ℕ) (clients : List (Client S)) → from ≡ length clients → Stay from clients
+none_stays from clients end = λ k d low high. absurd (omega arith)
 
 -- all were
-pub all_checked : {S : Type 0} (keeps : Kept) (limit from : ℕ) (clients : List (Client S)) → from ≡ 0 → IsChecked keeps limit from clients
-    → All (IsWithin keeps limit) clients
-all_checked keeps limit from clients first checked = λ k d high. checked.within k d (omega arith) high
+pub all_stay : {S : Type 0} (from : ℕ) (clients : List (Client S)) → from ≡ 0 → Stay from clients → All (λ client. client.ending ≡ None) clients
+all_stay from clients first stay = λ k d high. stay k d (omega arith) high
 
 -- at a place or behind it
 behind_or_at : (i k : ℕ) → i ≤ k → (k ≡ i) ⊎ (i < k)
 behind_or_at i k low = elim (cases_Bool (ltb i k)) [ inl behind ↦ inr (ltb-true i k behind) | inr at ↦ inl (omega (arith, ltb-false i k at)) ]
 
 -- one more goes on
-pub one_checked : {S : Type 0} (keeps : Kept) (limit from : ℕ) (clients : List (Client S)) (client : Client S) → 0 < from
-    → client ≡ get_or clients (from - 1) client → IsWithin keeps limit client → IsChecked keeps limit from clients → IsChecked keeps limit (from - 1) clients
-one_checked keeps limit from clients client more is here checked = record {
-  distinct = checked.distinct;
-  within = λ k d low high.
-      elim (behind_or_at (from - 1) k low) [
-        | inl at ↦ subst (λ (x : _). IsWithin keeps limit x)
-            (is ∙ ap (λ (i : ℕ). get_or clients i client) (sym at) ∙ get_or_within clients k client d high) here
-        | inr behind ↦ checked.within k d (omega arith) high
-      ];
-}
-
--- another connection at each place
-differs_at : {S : Type 0} (c : Connection) (clients : List (Client S)) (k : ℕ) (d : Client S) → k < length clients
-    → AllByRecursion (λ other. same_connection c other ≡ false) (map connection clients) → same_connection c (connection (get_or clients k d)) ≡ false
-differs_at c [] k d within apart = absurd (omega arith)
-differs_at c (client ∷ clients) zero d within apart = apart.0
-differs_at c (client ∷ clients) (suc k) d within apart = differs_at c clients k d (omega arith) apart.1
+pub one_stays : {S : Type 0} (from : ℕ) (clients : List (Client S)) (client : Client S) → 0 < from
+    → client ≡ get_or clients (from - 1) client → client.ending ≡ None → Stay from clients → Stay (from - 1) clients
+one_stays from clients client more is here stay = λ k d low high.
+    elim (behind_or_at (from - 1) k low) [
+      | inl at ↦ subst (λ (x : Client _). x.ending ≡ None)
+          (is ∙ ap (λ (i : ℕ). get_or clients i client) (sym at) ∙ get_or_within clients k client d high) here
+      | inr behind ↦ stay k d (omega arith) high
+    ]
 
 -- what a list is from which one was taken, whose length is this
 pub removes_one : {A S : Type 0} (keeps : A → Kept) (is_gone : A → Connection → Type 0) (index : ℕ) (before after : A) (old new : List (Client S)) (client : Client S) (len : ℕ)
@@ -69,30 +62,35 @@ removes_one {A} {S} keeps is_gone index before after old new client len long wit
   others = others;
 }
 
--- one was taken from the list
-pub one_removed : {A S : Type 0} (keeps : A → Kept) (is_gone : A → Connection → Type 0) (limit from : ℕ) (before after : A)
+-- one was taken from the list, and those behind it go on
+pub stay_without : {A S : Type 0} (keeps : A → Kept) (is_gone : A → Connection → Type 0) (from : ℕ) (before after : A)
     (old new : List (Client S)) → 0 < from → from ≤ length old
-    → length new + 1 ≡ length old → Removes keeps is_gone (from - 1) before after old new → IsChecked (keeps before) limit from old
-    → IsChecked (keeps after) limit (from - 1) new
-one_removed keeps is_gone limit from before after old new more low_enough shorter gone checked =
+    → length new + 1 ≡ length old → Removes keeps is_gone (from - 1) before after old new → Stay from old → Stay (from - 1) new
+stay_without keeps is_gone from before after old new more low_enough shorter gone stay = λ k d low high.
+    elim (behind_or_at (from - 1) k low) [
+      | inl at ↦ subst (λ (x : Client _). x.ending ≡ None) (sym (ap (λ (i : ℕ). get_or new i d) at ∙ gone.last d (omega arith)))
+          (stay (length old - 1) d (omega arith) (omega arith))
+      | inr behind ↦ subst (λ (x : Client _). x.ending ≡ None) (sym (gone.same k d (λ e. omega arith) (omega arith)))
+          (stay k d (omega arith) (omega arith))
+    ]
+
+-- the same is kept for the others
+pub kept_without : {A S : Type 0} (keeps : A → Kept) (is_gone : A → Connection → Type 0) (index : ℕ) (first before after : A)
+    (old new : List (Client S)) → Removes keeps is_gone index before after old new → AreKept (keeps first) (keeps before) old
+    → AreKept (keeps first) (keeps after) new
+kept_without keeps is_gone index first before after old new gone kept =
     let c = connection gone.client in
     let distinct = IsDistinct-IsPermutation same_connection flips (map connection old) (map connection (gone.client ∷ new))
-    (IsPermutation-map connection old (gone.client ∷ new) gone.moved) checked.distinct in
-    let apart = IsDistinct-head same_connection c (map connection new) distinct in
+    (IsPermutation-map connection old (gone.client ∷ new) gone.moved) kept.distinct in
+    let was = λ (client : Client _). keeps before (connection client) ≡ keeps first (connection client) in
     record {
       distinct = IsDistinct-tail same_connection c (map connection new) distinct;
-      within = λ k d low high.
-          let client = get_or new k d in
-          let was : IsWithin (keeps before) limit client =
-          elim (behind_or_at (from - 1) k low) [
-            | inl at ↦ subst (λ (x : _). IsWithin (keeps before) limit x) (sym (ap (λ (i : ℕ). get_or new i d) at ∙ gone.last d (omega arith)))
-                (checked.within (length old - 1) d (omega arith) (omega arith))
-            | inr behind ↦ subst (λ (x : _). IsWithin (keeps before) limit x) (sym (gone.same k d (λ e. omega arith) (omega arith)))
-                (checked.within k d (omega arith) (omega arith))
-          ] in
-          let differs = flips (connection client) c ∙ differs_at c new k d high apart in
-          record {
-            waiting = subst (λ (o : Option Bytes). length (kept_bytes o) ≤ limit) (sym (gone.others (connection client) differs)) was.waiting;
-            sound = was.sound;
-          };
+      each = of_others was (λ (client : Client _). keeps after (connection client) ≡ keeps first (connection client)) c
+          (λ client differs same. gone.others (connection client) differs ∙ same) new
+          (IsDistinct-head same_connection c (map connection new) distinct)
+          (All-tail was gone.client new (All-permutation was old (gone.client ∷ new) gone.moved kept.each));
     }
+
+-- at first
+pub none_gone : {S : Type 0} (keeps : Kept) (clients : List (Client S)) → IsDistinct same_connection (map connection clients) → AreKept keeps keeps clients
+none_gone keeps clients distinct = record { distinct = distinct; each = λ k d high. refl }

@@ -1,5 +1,5 @@
 -- What is done for all clients, and how the list of them changes.
-use Rattle.std.proofs.Common.{◌≡◌, ℕ, zero, suc, ◌<◌, false, inl, inr, List, [], ◌∷◌, ◌++◌, length, get_or, refl, sym, ap, ◌∙◌, subst, arith, get_or-set_same}
+use Rattle.std.proofs.Common.{◌≡◌, ℕ, zero, suc, ◌<◌, false, inl, inr, List, [], ◌∷◌, ◌++◌, length, get_or, refl, sym, ap, ◌∙◌, subst, arith, append-nil, get_or-set_same}
 use Rattle.std.proofs.Math.ListN.{set, length-set}
 use Rattle.std.specs.Prelude.{Option, Some, None, IfSome, map}
 use Rattle.std.specs.List.{remove}
@@ -14,25 +14,27 @@ use Rattle.nr_entry.specs.Jobs.{connection_of}
 use Rattle.nr_entry.specs.declared.conn.ConnId.{ConnId}
 use Rattle.nr_model.specs.Bytes.{Bytes}
 use Rattle.nr_model.specs.Items.{Connection, same_connection}
-use Rattle.nr_model.specs.Worlds.{handed_to, fed_to}
-use Rattle.nr_model.proofs.WorldsHanded.{handed_to-append}
-use Rattle.nr_model.proofs.WorldsLists.{same_is}
+use Rattle.nr_model.specs.Connections.{handed_to}
+use Rattle.nr_model.proofs.JobLists.{same_is}
 use Rattle.nr_service.specs.Serving.{connection, IsServed, AreServed}
-use Rattle.nr_service.specs.Steps.{Serves, ServesOne, IsSettledPast, settled_past, HasServed, HasSettled, Exchanges}
+use Rattle.nr_service.specs.Steps.{Serves, ServesOne, Accepts, IsSettledPast, settled_past, HasServed, HasSettled, Exchanges}
 use Rattle.nr_service.specs.declared.client.Client.{Client}
-use Rattle.nr_service_ends.specs.Stories.{Story, Past, Kept, Keeps, IsOpened, HasWorked}
+use Rattle.nr_service_ends.specs.Stories.{Opened, HandedOut, Story, Past, Kept, Keeps, IsOpened, HasWorked, bytes_fed, bytes_handed, going_on}
+use Rattle.nr_service_ends.proofs.Occurrences.{pieces_opened, pieces_fed, pieces_handed, pieces_closed, fed_still, handed_still, handed_behind}
 use Rattle.nr_service.proofs.Apart.{from_others}
 use Rattle.nr_service.proofs.Known.{handed_more, none_known}
-use Rattle.nr_service.proofs.Served.{served_still, others_served, served_moved, has_moved, has_then, nothing_fed}
+use Rattle.nr_service.proofs.Served.{served_still, others_served, served_moved, has_moved, has_then, nothing_fed, nothing_done}
 
 -- bytes were handed out, and nothing is left to be done
 pub worked_all : {S : Type 0} (was_received was_sent : S → Option Bytes) (has_ended : S → Type 0) (now : ℕ) (before after settled : Past)
     (old_kept new_kept : Kept) (clients : List (Client S)) → HasWorked before after settled old_kept new_kept
     → (story : Story) → AreServed was_received was_sent has_ended before old_kept story clients
-    → HasServed was_received was_sent has_ended now (IsSettledPast after settled) new_kept story clients
+    → HasServed was_received was_sent has_ended now [] (IsSettledPast after settled) new_kept story clients
 worked_all was_received was_sent has_ended now before after settled old_kept new_kept clients w story a =
-    let next : Story = record story { handed = story.handed ++ w.handed } in
-    nothing_fed was_received was_sent has_ended now (IsSettledPast after settled) new_kept story next clients refl refl refl
+    let more = map HandedOut w.handed in
+    let next = going_on story more in
+    nothing_fed was_received was_sent has_ended now [] (IsSettledPast after settled) new_kept story more clients (pieces_opened w.handed)
+    (pieces_fed w.handed) (pieces_closed w.handed)
     (record {
       past = record { past = w.past story a.past; rest = w.rest story a.past };
       each = All-weaker (IsServed was_received was_sent has_ended old_kept story) (IsServed was_received was_sent has_ended new_kept next)
@@ -40,9 +42,12 @@ worked_all was_received was_sent has_ended now before after settled old_kept new
             pending = s.pending ++ handed_to (connection client) w.handed;
             kept = w.kept (connection client)
                 ∙ ap (λ (o : Option Bytes). option_map (λ (bytes : Bytes). bytes ++ handed_to (connection client) w.handed) o) s.kept;
-            received = s.received;
-            sent = handed_more (was_sent client.stream) s.pending (handed_to (connection client) story.handed) (handed_to (connection client) w.handed)
-                (handed_to (connection client) next.handed) (handed_to-append (connection client) story.handed w.handed) s.sent;
+            received = subst (λ (b : Bytes). IfSome (was_received client.stream) (λ bytes. bytes ≡ b))
+                (sym (fed_still (connection client) story more (pieces_fed w.handed))) s.received;
+            sent = handed_more (was_sent client.stream) s.pending (bytes_handed (connection client) story) (handed_to (connection client) w.handed)
+                (bytes_handed (connection client) next)
+                (handed_behind (connection client) story more
+                ∙ ap (λ l. bytes_handed (connection client) story ++ handed_to (connection client) l) (pieces_handed w.handed)) s.sent;
             ended = s.ended;
           })
           clients a.each;
@@ -51,14 +56,14 @@ worked_all was_received was_sent has_ended now before after settled old_kept new
 
 -- a past that is settled is one
 has_settled : {S : Type 0} (was_received was_sent : S → Option Bytes) (has_ended : S → Type 0) (now : ℕ) (is_past is_settled : Past) (kept : Kept)
-    (story : Story) (clients : List (Client S)) → HasServed was_received was_sent has_ended now (IsSettledPast is_past is_settled) kept story clients
+    (story : Story) (clients : List (Client S)) → HasServed was_received was_sent has_ended now [] (IsSettledPast is_past is_settled) kept story clients
     → HasSettled was_received was_sent has_ended now is_past is_settled kept story clients
 has_settled was_received was_sent has_ended now is_past is_settled kept story clients h = record {
   has = record {
     next = h.next;
     more = h.more;
-    setup = h.setup;
-    fed = h.fed;
+    is = h.is;
+    opens = h.opens;
     closed = h.closed;
     in_time = h.in_time;
     served = record { past = h.served.past.past; each = h.served.each; apart = h.served.apart };
@@ -68,7 +73,7 @@ has_settled was_received was_sent has_ended now is_past is_settled kept story cl
 
 pub worked : {A S : Type 0} (was_received was_sent : S → Option Bytes) (has_ended : S → Type 0) (is_past is_settled : A → Past) (keeps : A → Kept) (now : ℕ)
     (before after : A) (clients : List (Client S)) → HasWorked (is_past before) (is_past after) (is_settled after) (keeps before) (keeps after)
-    → Serves was_received was_sent has_ended is_past keeps now before after clients clients
+    → Serves was_received was_sent has_ended is_past keeps now [] before after clients clients
 worked was_received was_sent has_ended is_past is_settled keeps now before after clients w = record {
   further = λ story a.
       (has_settled was_received was_sent has_ended now (is_past after) (is_settled after) (keeps after) story clients
@@ -77,9 +82,9 @@ worked was_received was_sent has_ended is_past is_settled keeps now before after
 
 -- the clients were served, all work was done, and what is kept was written
 pub exchanged : {A S : Type 0} (was_received was_sent : S → Option Bytes) (has_ended : S → Type 0) (is_past is_settled : A → Past) (keeps : A → Kept)
-    (now : ℕ) (a b c d : A) (xs ys zs : List (Client S)) → Serves was_received was_sent has_ended is_past keeps now a b xs ys
+    (now : ℕ) (a b c d : A) (xs ys zs : List (Client S)) → Serves was_received was_sent has_ended is_past keeps now [] a b xs ys
     → HasWorked (is_past b) (is_past c) (is_settled c) (keeps b) (keeps c)
-    → Serves was_received was_sent has_ended (settled_past is_past is_settled) keeps now c d ys zs
+    → Serves was_received was_sent has_ended (settled_past is_past is_settled) keeps now [] c d ys zs
     → Exchanges was_received was_sent has_ended is_past is_settled keeps now a d xs zs
 exchanged was_received was_sent has_ended is_past is_settled keeps now a b c d xs ys zs p w q = record {
   further = λ story s.
@@ -95,10 +100,10 @@ exchanged was_received was_sent has_ended is_past is_settled keeps now a b c d x
 -- nothing was fed or handed out
 pub kept_all : {A S : Type 0} (was_received was_sent : S → Option Bytes) (has_ended : S → Type 0) (is_past : A → Past) (keeps : A → Kept) (now : ℕ)
     (before after : A) (clients : List (Client S)) → Keeps (is_past before) (is_past after) (keeps before) (keeps after)
-    → Serves was_received was_sent has_ended is_past keeps now before after clients clients
+    → Serves was_received was_sent has_ended is_past keeps now [] before after clients clients
 kept_all was_received was_sent has_ended is_past keeps now before after clients k = record {
   further = λ story a.
-      nothing_fed was_received was_sent has_ended now (is_past after) (keeps after) story story clients refl refl refl
+      nothing_done was_received was_sent has_ended now (is_past after) (keeps after) story clients
       (record {
         past = k.past story a.past;
         each = All-weaker (IsServed was_received was_sent has_ended (keeps before) story) (IsServed was_received was_sent has_ended (keeps after) story)
@@ -121,7 +126,7 @@ pub opened_one : {A S : Type 0} (was_received was_sent : S → Option Bytes) (ha
     (before after : A) (clients : List (Client S)) (client : Client S)
     → client.is_ending ≡ false → IfSome (was_received client.stream) (λ bytes. bytes ≡ []) → IfSome (was_sent client.stream) (λ bytes. bytes ≡ [])
     → IsOpened (connection client) (is_past before) (is_past after) (keeps before) (keeps after)
-    → Serves was_received was_sent has_ended is_past keeps now before after clients (clients ++ client ∷ [])
+    → Serves was_received was_sent has_ended is_past keeps now (connection client ∷ []) before after clients (clients ++ client ∷ [])
 opened_one was_received was_sent has_ended is_past keeps now before after clients client going received sent o = record {
   further = λ story a.
       let c = connection client in
@@ -129,21 +134,28 @@ opened_one was_received was_sent has_ended is_past keeps now before after client
       (λ other s. kept_apart (keeps before) c (connection other) s.pending o.closed s.kept) clients
       a.each in
       let distinct = IsDistinct-cons same_connection c (map connection clients) apart a.apart in
-      nothing_fed was_received was_sent has_ended now (is_past after) (keeps after) story story (clients ++ client ∷ []) refl refl refl
-      (served_moved was_received was_sent has_ended (is_past after) (keeps after) story (client ∷ clients) (clients ++ client ∷ [])
+      let more = Opened c ∷ [] in
+      let next = going_on story more in
+      nothing_fed was_received was_sent has_ended now (c ∷ []) (is_past after) (keeps after) story more (clients ++ client ∷ []) refl refl refl
+      (served_moved was_received was_sent has_ended (is_past after) (keeps after) next (client ∷ clients) (clients ++ client ∷ [])
       (IsPermutation-sym _ _ (IsPermutation-to_front clients client))
       (record {
         past = o.past story a.past;
-        each = All-cons (IsServed was_received was_sent has_ended (keeps after) story) client clients
+        each = All-cons (IsServed was_received was_sent has_ended (keeps after) next) client clients
             (record {
               pending = [];
               kept = o.kept;
-              received = none_known (was_received client.stream) [] received (fed_to c story.fed) (sym (o.fed story a.past));
-              sent = handed_none (was_sent client.stream) (handed_to c story.handed) (o.handed story a.past) sent;
+              received = none_known (was_received client.stream) [] received (bytes_fed c next) (sym (fed_still c story more refl ∙ o.fed story a.past));
+              sent = handed_none (was_sent client.stream) (bytes_handed c next) (handed_still c story more refl ∙ o.handed story a.past) sent;
               ended = λ is. absurd (cc (is, going));
             })
-            (others_served was_received was_sent has_ended (keeps before) (keeps after) story story client clients
-            (record { fed = λ other differs. refl; handed = λ other differs. refl; kept = λ other differs. o.others other differs }) distinct a.each);
+            (others_served was_received was_sent has_ended (keeps before) (keeps after) story next client clients
+            (record {
+              fed = λ other differs. fed_still other story more refl;
+              handed = λ other differs. handed_still other story more refl;
+              kept = λ other differs. o.others other differs;
+            })
+            distinct a.each);
         apart = distinct;
       }));
 }
@@ -153,20 +165,34 @@ opened_one was_received was_sent has_ended is_past keeps now before after client
     handed_none (Some bytes) handed e none = e ∙ sym (ap (λ (b : Bytes). b ++ []) none)
 
 -- it stands behind the others
-pub opened_behind : {A S : Type 0} (was_received was_sent : S → Option Bytes) (has_ended : S → Type 0) (is_past : A → Past) (keeps : A → Kept) (now : ℕ)
+pub opened_behind : {A S : Type 0} (was_received was_sent : S → Option Bytes) (has_ended : S → Type 0) (is_past : A → Past) (keeps : A → Kept)
     (before after : A)
     (clients all : List (Client S)) (client : Client S) (conn : ConnId) (stream : S) → client.conn ≡ conn → client.stream ≡ stream → client.is_ending ≡ false
     → all ≡ clients ++ client ∷ []
     → IfSome (was_received stream) (λ bytes. bytes ≡ []) → IfSome (was_sent stream) (λ bytes. bytes ≡ [])
     → IsOpened (connection_of conn) (is_past before) (is_past after) (keeps before) (keeps after)
-    → Serves was_received was_sent has_ended is_past keeps now before after clients all
-opened_behind {A} {S} was_received was_sent has_ended is_past keeps now before after clients all client conn stream same_conn same_stream going is received sent
-    o =
-    subst (λ (ys : List (Client S)). Serves was_received was_sent has_ended is_past keeps now before after clients ys) (sym is)
-    (opened_one was_received was_sent has_ended is_past keeps now before after clients client going
-    (subst (λ (t : S). IfSome (was_received t) (λ bytes. bytes ≡ [])) (sym same_stream) received)
-    (subst (λ (t : S). IfSome (was_sent t) (λ bytes. bytes ≡ [])) (sym same_stream) sent)
-    (subst (λ (d : ConnId). IsOpened (connection_of d) (is_past before) (is_past after) (keeps before) (keeps after)) (sym same_conn) o))
+    → Accepts was_received was_sent has_ended is_past keeps before after clients all
+opened_behind {A} {S} was_received was_sent has_ended is_past keeps before after clients all client conn stream same_conn same_stream going is received sent o =
+    record {
+      accepted = client ∷ [];
+      items = is;
+      serves = λ now.
+          subst (λ (ys : List (Client S)). Serves was_received was_sent has_ended is_past keeps now (connection client ∷ []) before after clients ys) (sym is)
+          (opened_one was_received was_sent has_ended is_past keeps now before after clients client going
+          (subst (λ (t : S). IfSome (was_received t) (λ bytes. bytes ≡ [])) (sym same_stream) received)
+          (subst (λ (t : S). IfSome (was_sent t) (λ bytes. bytes ≡ [])) (sym same_stream) sent)
+          (subst (λ (d : ConnId). IsOpened (connection_of d) (is_past before) (is_past after) (keeps before) (keeps after)) (sym same_conn) o));
+    }
+
+-- or there was no room for one
+pub opened_none : {A S : Type 0} (was_received was_sent : S → Option Bytes) (has_ended : S → Type 0) (is_past : A → Past) (keeps : A → Kept)
+    (before after : A) (clients : List (Client S)) → Keeps (is_past before) (is_past after) (keeps before) (keeps after)
+    → Accepts was_received was_sent has_ended is_past keeps before after clients clients
+opened_none was_received was_sent has_ended is_past keeps before after clients k = record {
+  accepted = [];
+  items = sym (append-nil clients);
+  serves = λ now. kept_all was_received was_sent has_ended is_past keeps now before after clients k;
+}
 
 -- another element in its place
 pub set_moved : {A : Type 0} (xs : List A) (i : ℕ) (y : A) → i < length xs → IsPermutation (set xs i y) (y ∷ remove xs i)
@@ -192,13 +218,13 @@ map_set_same f (x ∷ xs) (suc i) item new within same = ap (λ ys. f x ∷ ys) 
 pub served_at : {A S : Type 0} (was_received was_sent : S → Option Bytes) (has_ended : S → Type 0) (is_past : A → Past) (keeps : A → Kept) (now : ℕ)
     (before after : A) (clients : List (Client S)) (index : ℕ) (item new : Client S) → index < length clients
     → ServesOne was_received was_sent has_ended is_past keeps now before after (get_or clients index item) new
-    → Serves was_received was_sent has_ended is_past keeps now before after clients (set clients index new)
+    → Serves was_received was_sent has_ended is_past keeps now [] before after clients (set clients index new)
 served_at was_received was_sent has_ended is_past keeps now before after clients index item new within one =
     let old = get_or clients index item in
     let is : old ≡ get_or clients index old = get_or_within clients index item old within in
     record {
       further = λ story a.
-          has_moved was_received was_sent has_ended now (is_past after) (keeps after) story (new ∷ remove clients index) (set clients index new)
+          has_moved was_received was_sent has_ended now [] (is_past after) (keeps after) story (new ∷ remove clients index) (set clients index new)
           (IsPermutation-sym _ _ (set_moved clients index new within))
           ((one.beside (remove clients index)).further story
           (served_moved was_received was_sent has_ended (is_past before) (keeps before) story clients (old ∷ remove clients index)

@@ -1,7 +1,7 @@
 -- What holds where a service ended.
 use Rattle.std.specs.Prelude.{◌≡◌, Option}
 use Rattle.nr_model.specs.Bytes.{Bytes}
-use Rattle.nr_model.specs.Worlds.{Setup}
+use Rattle.nr_model.specs.Connections.{Setup}
 use Rattle.nr_service.specs.Steps.{HasLeft}
 use Rattle.nr_service.specs.declared.ended.Ended.{Ended}
 use Rattle.nr_service.specs.declared.ended.Ended.TheVariants.{Stopped, Memory, Device}

@@ -1,3 +1,5 @@
 pub mod Serving
 pub mod Steps
+pub mod Leaving
+pub mod Turns
 pub mod Endings

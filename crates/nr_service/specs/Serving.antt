@@ -5,10 +5,10 @@ use Rattle.nr_entry.specs.Jobs.{connection_of}
 use Rattle.nr_model.specs.Bytes.{Bytes}
 use Rattle.nr_model.specs.Items.{Connection, same_connection}
 use Rattle.nr_model.specs.Keyspace.{moment}
-use Rattle.nr_model.specs.Worlds.{Setup, Feeding, fed_to, handed_to}
+use Rattle.nr_model.specs.Connections.{Setup, Feeding}
 use Rattle.nr_service.specs.declared.client.Client.{Client}
 use Rattle.nr_service.specs.declared.service.Service.{Service}
-use Rattle.nr_service_ends.specs.Stories.{Story, Past, Kept, kept_bytes}
+use Rattle.nr_service_ends.specs.Stories.{Story, Past, Kept, fed_in, bytes_fed, bytes_handed, kept_bytes}
 
 abbrev pub connection : {S : Type 0} → Client S → Connection
 connection client = connection_of client.conn
@@ -19,8 +19,8 @@ pub record IsServed {S : Type 0} (was_received was_sent : S → Option Bytes) (h
     (client : Client S) : Type 0 where
   pub pending : Bytes
   pub kept : keeps (connection client) ≡ Some pending
-  pub received : IfSome (was_received client.stream) (λ bytes. bytes ≡ fed_to (connection client) story.fed)
-  pub sent : IfSome (was_sent client.stream) (λ bytes. handed_to (connection client) story.handed ≡ bytes ++ pending)
+  pub received : IfSome (was_received client.stream) (λ bytes. bytes ≡ bytes_fed (connection client) story)
+  pub sent : IfSome (was_sent client.stream) (λ bytes. bytes_handed (connection client) story ≡ bytes ++ pending)
   pub ended : client.is_ending ≡ true → has_ended client.stream
 
 -- each of these clients, by a story that may have led to what answers them, and no two of them have one connection
@@ -51,5 +51,5 @@ pub record IsServing {A S D M : Type 0} (was_received was_sent : S → Option By
   pub story : Story
   pub sized : story.setup ≡ setup
   pub served : AreServed was_received was_sent has_ended (is_past service.answers) (keeps service.answers) story service.clients.items
-  pub in_time : All (IsInTime (shows service.clock)) story.fed
+  pub in_time : All (IsInTime (shows service.clock)) (fed_in story.occurrences)
   pub moment : IsMoment (shows service.clock) service.moment

@@ -1,6 +1,7 @@
 // Taking the connections that wait.
-ghost use Rattle.std.specs.Prelude.{ℕ, ◌≡◌, false, [], IfOk, IfSome, OnOk, OnErr};
-ghost use Rattle.nr_service.specs.Steps.{IsTakenOn, Leaves, Serves};
+ghost use Rattle.std.specs.Prelude.{◌≡◌, ◌+◌, ◌≤◌, false, [], if◌then◌else◌, length, IfOk, IfSome, OnOk, OnErr};
+ghost use Rattle.nr_service.specs.Leaving.{TurnsAway};
+ghost use Rattle.nr_service.specs.Steps.{Accepts, HasCounted, IsTakenOn, Leaves, next_number};
 
 use crate::client::Client;
 use crate::signs::Signs;
@@ -10,7 +11,7 @@ use nr_service_ends::{Answers, Device, Stream};
 // How many connections are accepted at most in a turn.
 const MOST_ACCEPTED: u32 = 64;
 
-// Serves a stream from now on, on which nothing was received or sent. False where there is no room for it: then it is abandoned.
+// Serves a stream from now on, on which nothing was received or sent. False where there was no room for it: then it is abandoned.
 pub(crate) fn take_on<A: Answers, S: Stream + Drop, D: Device<S>>(
     answers: &mut A,
     device: &mut D,
@@ -21,11 +22,14 @@ pub(crate) fn take_on<A: Answers, S: Stream + Drop, D: Device<S>>(
 ) -> Result<bool, Memory>
     requires received { IfSome (S.received stream) (λ bytes. bytes ≡ []) }
     requires sent { IfSome (S.sent stream) (λ bytes. bytes ≡ []) }
-    ensures ok { OnOk result ((now : ℕ) → Serves S.received S.sent S.has_ended A.is_past A.kept now answers.old answers.new
-        clients.old.items clients.new.items) }
+    ensures ok { OnOk result (Accepts S.received S.sent S.has_ended A.is_past A.kept answers.old answers.new clients.old.items clients.new.items) }
     ensures err { OnErr result (Leaves S.received S.sent S.has_ended A.is_past A.kept answers.old clients.old.items clients.new.items) }
-    ensures taken { IfOk result (λ is_taken. IsTakenOn is_taken stream clients.old.items clients.new.items) }
-    ensures full { IfOk result (λ is_taken. is_taken ≡ false → A.is_full answers.new) }
+    ensures taken { IfOk result (λ is_taken. IsTakenOn (A.is_placed answers.old answers.new accepted.old) is_taken stream clients.old.items
+        clients.new.items) }
+    ensures counted { accepted.new ≡ next_number accepted.old }
+    ensures few { length clients.new.items ≤ length clients.old.items + 1 }
+    ensures full { IfOk result (λ is_taken. is_taken ≡ false → A.is_full answers.old) }
+    ensures away { OnOk result (TurnsAway (D.parted device.old) (D.parted device.new)) }
 {
     let number = *accepted;
     *accepted = number.wrapping_add(1);
@@ -46,9 +50,11 @@ fn accept_one<A: Answers, S: Stream + Drop, D: Device<S>>(
     accepted: &mut u64,
     signs: &mut Signs,
 ) -> Result<bool, Memory>
-    ensures ok { OnOk result ((now : ℕ) → Serves S.received S.sent S.has_ended A.is_past A.kept now answers.old answers.new
-        clients.old.items clients.new.items) }
+    ensures ok { OnOk result (Accepts S.received S.sent S.has_ended A.is_past A.kept answers.old answers.new clients.old.items clients.new.items) }
     ensures err { OnErr result (Leaves S.received S.sent S.has_ended A.is_past A.kept answers.old clients.old.items clients.new.items) }
+    ensures away { OnOk result (TurnsAway (D.parted device.old) (D.parted device.new)) }
+    ensures counted { IfOk result (λ more. accepted.new ≡ (if more then next_number accepted.old else accepted.old)) }
+    ensures few { IfOk result (λ more. length clients.new.items ≤ length clients.old.items + (if more then 1 else 0)) }
 {
     let Some(stream) = device.accept()? else {
         return Ok(false);
@@ -65,9 +71,10 @@ pub(crate) fn accept_each<A: Answers, S: Stream + Drop, D: Device<S>>(
     accepted: &mut u64,
     signs: &mut Signs,
 ) -> Result<(), Memory>
-    ensures ok { OnOk result ((now : ℕ) → Serves S.received S.sent S.has_ended A.is_past A.kept now answers.old answers.new
-        clients.old.items clients.new.items) }
+    ensures ok { OnOk result (Accepts S.received S.sent S.has_ended A.is_past A.kept answers.old answers.new clients.old.items clients.new.items) }
     ensures err { OnErr result (Leaves S.received S.sent S.has_ended A.is_past A.kept answers.old clients.old.items clients.new.items) }
+    ensures away { OnOk result (TurnsAway (D.parted device.old) (D.parted device.new)) }
+    ensures counted { OnOk result (HasCounted accepted.old accepted.new (length clients.old.items) (length clients.new.items)) }
 {
     for _ in 0..MOST_ACCEPTED {
         let more = accept_one(answers, device, clients, accepted, signs)?;

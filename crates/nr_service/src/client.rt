@@ -1,7 +1,16 @@
 // A connection that is served, and the stream of its bytes.
-ghost use Rattle.std.specs.Prelude.{◌≡◌, false};
+ghost use Rattle.std.specs.Prelude.{◌≡◌, false, None};
 
 use nr_entry::ConnId;
+
+/// How a client ends.
+#[derive(Clone, Copy, Debug, PartialEq, Eq)]
+pub enum Ending {
+    /// All was written that it gets.
+    Finished,
+    /// Its stream failed, or more waits for it than may.
+    Lost,
+}
 
 /// A connection that is served.
 #[derive(Drop)]
@@ -14,6 +23,8 @@ pub struct Client<S> {
     pub is_broken: bool,
     /// It wasn't read in this turn, since too much waited for it.
     pub is_held: bool,
+    /// How it ends, where it is over: it is let go of at the end of this turn.
+    pub ending: Option<Ending>,
 }
 
 impl<S> Client<S> {
@@ -22,6 +33,7 @@ impl<S> Client<S> {
         ensures stream { result.stream ≡ stream }
         ensures going { result.is_ending ≡ false }
         ensures sound { result.is_broken ≡ false }
+        ensures stays { result.ending ≡ None }
     {
         Client {
             conn,
@@ -29,6 +41,7 @@ impl<S> Client<S> {
             is_ending: false,
             is_broken: false,
             is_held: false,
+            ending: None,
         }
     }
 }

@@ -2,7 +2,7 @@
 //! any device, clock and gate, and whatever answers.
 #![tactic(auto)]
 
-pub use client::Client;
+pub use client::{Client, Ending};
 pub use ended::Ended;
 pub use service::Service;
 

@@ -1,6 +1,8 @@
 // Reading what is there, and feeding it.
-ghost use Rattle.std.specs.Prelude.{◌≡◌, false, OnOk, OnErr, IsTrue, map};
+ghost use Rattle.std.specs.Prelude.{◌≡◌, false, [], OnOk, OnErr, map};
+ghost use Rattle.std.specs.Bool.{OnTrue, OnFalse};
 ghost use Rattle.nr_entry.specs.Jobs.{connection_of};
+ghost use Rattle.nr_service.specs.Leaving.{TakesNone};
 ghost use Rattle.nr_service.specs.Serving.{connection};
 ghost use Rattle.nr_service.specs.Steps.{Leaves, LeavesOne, Serves, ServesOne};
 ghost use Rattle.nr_service_ends.specs.declared.answers.Standing.TheVariants as standings;
@@ -16,7 +18,8 @@ pub(crate) const HELD_PART: usize = 16;
 
 /// Whether a connection takes bytes.
 pub(crate) fn is_open<A: Answers>(answers: &A, conn: ConnId) -> bool
-    ensures { IsTrue result → A.stands answers.now (connection_of conn) standings.Open }
+    ensures open { OnTrue result (A.stands answers.now (connection_of conn) standings.Open) }
+    ensures closed { OnFalse result (TakesNone (A.stands answers.now) (connection_of conn)) }
 {
     match answers.standing(conn) {
         Standing::Open => true,
@@ -87,7 +90,7 @@ pub(crate) fn read_each<A: Answers, S: Stream>(
     buffer: &mut [u8],
     signs: &mut Signs,
 ) -> Result<(), Memory>
-    ensures ok { OnOk result (Serves S.received S.sent S.has_ended A.is_past A.kept moment answers.old answers.new clients.old clients.new) }
+    ensures ok { OnOk result (Serves S.received S.sent S.has_ended A.is_past A.kept moment [] answers.old answers.new clients.old clients.new) }
     ensures err { OnErr result (Leaves S.received S.sent S.has_ended A.is_past A.kept answers.old clients.old clients.new) }
     ensures same { map connection clients.new ≡ map connection clients.old }
 {

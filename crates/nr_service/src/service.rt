@@ -1,15 +1,16 @@
 // One thread that serves connections, turn by turn.
-ghost use Rattle.std.specs.Prelude.{ℕ, ◌≡◌, false, [], All, OnOk, OnErr, IfOk, IfErr, IfSome, map};
-ghost use Rattle.nr_model.specs.Worlds.{Setup};
+ghost use Rattle.std.specs.Prelude.{ℕ, ◌≡◌, false, [], All, OnOk, OnErr, IfOk, IfErr, IfSome, length, map};
+ghost use Rattle.nr_model.specs.Connections.{Setup};
 ghost use Rattle.nr_service.specs.Endings.{ByEnding, RanOut};
 ghost use Rattle.nr_service.specs.Serving.{connection, IsMoment, IsServing, IsWithin};
-ghost use Rattle.nr_service.specs.Steps.{Exchanges, IsTakenOn, Leaves, Serves};
+ghost use Rattle.nr_service.specs.Steps.{Accepts, Exchanges, HasCounted, IsTakenOn, Leaves, Serves, next_number};
+ghost use Rattle.nr_service.specs.Turns.{Turns};
 ghost use Rattle.nr_service_ends.specs.Stories.{HasWorked, beginning};
 
 use crate::accepting::{accept_each, take_on};
 use crate::client::Client;
 use crate::ended::Ended;
-use crate::leaving::let_go_each;
+use crate::leaving::{let_go_each, mark_each};
 use crate::reading::read_each;
 use crate::signs::Signs;
 use crate::writing::write_each;
@@ -62,7 +63,7 @@ fn work_left<A: Answers, S: Stream>(
     clients: &[Client<S>],
     signs: &mut Signs,
 ) -> Result<(), Memory>
-    ensures { OnOk result ((now : ℕ) → Serves S.received S.sent S.has_ended A.is_past A.kept now answers.old answers.new clients.now clients.now) }
+    ensures { OnOk result ((now : ℕ) → Serves S.received S.sent S.has_ended A.is_past A.kept now [] answers.old answers.new clients.now clients.now) }
 {
     if signs.has_news {
         work(answers, signs)?;
@@ -111,6 +112,7 @@ where
         ensures clock { IfOk result (λ service. service.clock ≡ clock) }
         ensures moment { IfOk result (λ service. service.moment ≡ 0) }
         ensures limit { IfOk result (λ service. service.limit ≡ limit) }
+        ensures accepted { IfOk result (λ service. service.accepted ≡ 0) }
     {
         let buffer = vec![in alloc; 0; PIECE]?;
         Ok(Service {
@@ -126,7 +128,7 @@ where
         })
     }
 
-    /// Serves a stream from now on, on which nothing was received or sent yet. False where there is no room for it: then it is abandoned.
+    /// Serves a stream from now on, on which nothing was received or sent yet. False where there was no room for it: then it is abandoned.
     ///
     /// # Errors
     ///
@@ -134,11 +136,13 @@ where
     pub fn admit(&mut self, stream: S) -> Result<bool, Memory>
         requires received { IfSome (S.received stream) (λ bytes. bytes ≡ []) }
         requires sent { IfSome (S.sent stream) (λ bytes. bytes ≡ []) }
-        ensures ok { OnOk result ((now : ℕ) → Serves S.received S.sent S.has_ended A.is_past A.kept now self.old.answers self.new.answers
-            self.old.clients.items self.new.clients.items) }
+        ensures ok { OnOk result (Accepts S.received S.sent S.has_ended A.is_past A.kept self.old.answers self.new.answers self.old.clients.items
+            self.new.clients.items) }
         ensures err { OnErr result (Leaves S.received S.sent S.has_ended A.is_past A.kept self.old.answers self.old.clients.items self.new.clients.items) }
-        ensures taken { IfOk result (λ is_taken. IsTakenOn is_taken stream self.old.clients.items self.new.clients.items) }
-        ensures full { IfOk result (λ is_taken. is_taken ≡ false → A.is_full self.new.answers) }
+        ensures taken { IfOk result (λ is_taken. IsTakenOn (A.is_placed self.old.answers self.new.answers self.old.accepted) is_taken stream
+            self.old.clients.items self.new.clients.items) }
+        ensures counted { self.new.accepted ≡ next_number self.old.accepted }
+        ensures full { IfOk result (λ is_taken. is_taken ≡ false → A.is_full self.old.answers) }
         ensures clock { self.new.clock ≡ self.old.clock }
         ensures moment { self.new.moment ≡ self.old.moment }
         ensures limit { self.new.limit ≡ self.old.limit }
@@ -166,6 +170,8 @@ where
         ensures err { OnErr result (Leaves S.received S.sent S.has_ended A.is_past A.kept self.old.answers self.old.clients.items self.new.clients.items) }
         ensures same { map connection self.new.clients.items ≡ map connection self.old.clients.items }
         ensures clock { self.new.clock ≡ self.old.clock }
+        ensures device { self.new.device ≡ self.old.device }
+        ensures accepted { self.new.accepted ≡ self.old.accepted }
         ensures moment { IsMoment (M.shows self.old.clock) self.old.moment → IsMoment (M.shows self.new.clock) self.new.moment }
         ensures limit { self.new.limit ≡ self.old.limit }
     {
@@ -197,6 +203,8 @@ where
         ensures within { (setup : Setup) → IsServing S.received S.sent S.has_ended M.shows A.is_past A.kept setup self.old
             → OnOk result (All (IsWithin (A.kept self.new.answers) self.new.limit) self.new.clients.items) }
         ensures limit { self.new.limit ≡ self.old.limit }
+        ensures counted { OnOk result (HasCounted self.old.accepted self.new.accepted (length self.old.clients.items) (length self.new.clients.items)) }
+        ensures turned { OnOk result (Turns S.received S.sent S.has_ended A.is_past A.is_settled A.kept A.stands D.parted self.old self.new) }
     {
         self.signs.is_busy = false;
         accept_each(
@@ -207,12 +215,12 @@ where
             &mut self.signs,
         )?;
         self.exchange()?;
+        mark_each(&self.answers, &mut self.clients, self.limit);
         let_go_each(
             &mut self.answers,
             &mut self.device,
             &mut self.clients,
             self.moment,
-            self.limit,
             &mut self.signs,
         )?;
         if !self.device.wait(self.signs.is_busy) {

@@ -1,5 +1,5 @@
 // Writing what is kept for clients.
-ghost use Rattle.std.specs.Prelude.{ℕ, ◌≡◌, map};
+ghost use Rattle.std.specs.Prelude.{ℕ, ◌≡◌, [], map};
 ghost use Rattle.nr_service.specs.Serving.{connection};
 ghost use Rattle.nr_service.specs.Steps.{Serves, ServesOne, settled_past};
 
@@ -43,7 +43,7 @@ pub(crate) fn write_each<A: Answers, S: Stream>(
     limit: usize,
     signs: &mut Signs,
 )
-    ensures served { (now : ℕ) → Serves S.received S.sent S.has_ended (settled_past A.is_past A.is_settled) A.kept now answers.old answers.new
+    ensures served { (now : ℕ) → Serves S.received S.sent S.has_ended (settled_past A.is_past A.is_settled) A.kept now [] answers.old answers.new
         clients.old clients.new }
     ensures same { map connection clients.new ≡ map connection clients.old }
 {

@@ -1,17 +1,67 @@
--- What was fed to connections, handed out for them and closed, by what answers them, and what each of its calls adds to that.
-use Rattle.std.specs.Prelude.{◌≡◌, ℕ, false, List, [], ◌∷◌, ◌++◌, drop, Option, None, Some}
+-- What happened to connections, in order, by what answers them, and what each of its calls adds to that.
+use Rattle.std.specs.Prelude.{◌≡◌, ℕ, Bool, false, ◌⊎◌, List, [], ◌∷◌, ◌++◌, map, drop, Option, None, Some}
+use Rattle.std.specs.List.{list_any}
 use Rattle.std.specs.Option.{option_map}
 use Rattle.nr_model.specs.Bytes.{Bytes}
 use Rattle.nr_model.specs.Items.{Connection, same_connection}
 use Rattle.nr_model.specs.Keyspace.{moment}
-use Rattle.nr_model.specs.Worlds.{Setup, Feeding, Handed, fed_to, handed_to}
+use Rattle.nr_model.specs.Connections.{Setup, Feeding, Handed, fed_to, handed_to}
 
--- how large what answers is, the bytes that were fed, those that were handed out, and the connections that were closed, each in order
+-- a connection was opened, bytes were fed to one, bytes were handed out for one, or one was closed
+pub data Occurrence : Type 0 where
+  Opened : Connection → Occurrence
+  Fed : Feeding → Occurrence
+  HandedOut : Handed → Occurrence
+  Closed : Connection → Occurrence
+
+-- how large what answers is, and what happened, in order
 pub record Story : Type 0 where
   pub setup : Setup
-  pub fed : List Feeding
-  pub handed : List Handed
-  pub closed : List Connection
+  pub occurrences : List Occurrence
+
+-- what was opened, fed, handed out and closed, each in order
+abbrev pub opened_in : List Occurrence → List Connection
+opened_in [] = []
+opened_in (Opened c ∷ more) = c ∷ opened_in more
+opened_in (Fed feeding ∷ more) = opened_in more
+opened_in (HandedOut handed ∷ more) = opened_in more
+opened_in (Closed c ∷ more) = opened_in more
+
+abbrev pub fed_in : List Occurrence → List Feeding
+fed_in [] = []
+fed_in (Opened c ∷ more) = fed_in more
+fed_in (Fed feeding ∷ more) = feeding ∷ fed_in more
+fed_in (HandedOut handed ∷ more) = fed_in more
+fed_in (Closed c ∷ more) = fed_in more
+
+abbrev pub handed_in : List Occurrence → List Handed
+handed_in [] = []
+handed_in (Opened c ∷ more) = handed_in more
+handed_in (Fed feeding ∷ more) = handed_in more
+handed_in (HandedOut handed ∷ more) = handed ∷ handed_in more
+handed_in (Closed c ∷ more) = handed_in more
+
+abbrev pub closed_in : List Occurrence → List Connection
+closed_in [] = []
+closed_in (Opened c ∷ more) = closed_in more
+closed_in (Fed feeding ∷ more) = closed_in more
+closed_in (HandedOut handed ∷ more) = closed_in more
+closed_in (Closed c ∷ more) = c ∷ closed_in more
+
+-- all bytes that were fed to a connection, and all that were handed out for it
+abbrev pub bytes_fed : Connection → Story → Bytes
+bytes_fed c story = fed_to c (fed_in story.occurrences)
+
+abbrev pub bytes_handed : Connection → Story → Bytes
+bytes_handed c story = handed_to c (handed_in story.occurrences)
+
+-- it is one of these
+abbrev pub is_among : Connection → List Connection → Bool
+is_among c connections = list_any (λ (other : Connection). same_connection other c) connections
+
+-- these happened behind it
+abbrev pub going_on : Story → List Occurrence → Story
+going_on story more = record story { occurrences = story.occurrences ++ more }
 
 -- what may have led to it, and the bytes that it keeps for a connection that is open
 abbrev pub Past : Type 1
@@ -24,38 +74,39 @@ abbrev pub kept_bytes : Option Bytes → Bytes
 kept_bytes None = []
 kept_bytes (Some bytes) = bytes
 
--- nothing was fed, handed out or closed
+-- nothing happened
 abbrev pub beginning : Setup → Story
-beginning setup = record { setup = setup; fed = []; handed = []; closed = [] }
+beginning setup = record { setup = setup; occurrences = [] }
 
 -- the same is kept for the other connections
 abbrev pub KeepsOthers : Connection → Kept → Kept → Type 0
 KeepsOthers c old new = (other : Connection) → same_connection other c ≡ false → new other ≡ old other
 
--- nothing was fed, handed out, opened or closed
+-- nothing happened
 pub record Keeps (before after : Past) (old new : Kept) : Type 0 where
   pub past : (story : Story) → before story → after story
   pub kept : (c : Connection) → new c ≡ old c
 
--- A connection was opened. Nothing was fed to it or handed out for it before.
+-- A connection was opened, and no other. None of its name was opened before, nothing was fed to it, and nothing handed out for it.
 pub record IsOpened (c : Connection) (before after : Past) (old new : Kept) : Type 0 where
-  pub past : (story : Story) → before story → after story
-  pub fed : (story : Story) → before story → fed_to c story.fed ≡ []
-  pub handed : (story : Story) → before story → handed_to c story.handed ≡ []
+  pub past : (story : Story) → before story → after (going_on story (Opened c ∷ []))
+  pub first : (story : Story) → before story → is_among c (opened_in story.occurrences) ≡ false
+  pub fed : (story : Story) → before story → bytes_fed c story ≡ []
+  pub handed : (story : Story) → before story → bytes_handed c story ≡ []
   pub closed : old c ≡ None
   pub kept : new c ≡ Some []
   pub others : KeepsOthers c old new
 
 -- Bytes were fed to a connection at a moment, or at the last one that is told apart where it is later.
 pub record IsFed (c : Connection) (time : ℕ) (bytes : Bytes) (before after : Past) (old new : Kept) : Type 0 where
-  pub past : (story : Story) → before story → after (record story { fed = story.fed ++ record { connection = c; moment = moment time; bytes = bytes } ∷ [] })
+  pub past : (story : Story) → before story → after (going_on story (Fed (record { connection = c; moment = moment time; bytes = bytes }) ∷ []))
   pub kept : (other : Connection) → new other ≡ old other
 
 -- Bytes were handed out, and nothing is left to be done by a past that is settled. They are kept behind those that were, where their connection is open.
 pub record HasWorked (before after settled : Past) (old new : Kept) : Type 0 where
   pub handed : List Handed
-  pub past : (story : Story) → before story → after (record story { handed = story.handed ++ handed })
-  pub rest : (story : Story) → before story → settled (record story { handed = story.handed ++ handed })
+  pub past : (story : Story) → before story → after (going_on story (map HandedOut handed))
+  pub rest : (story : Story) → before story → settled (going_on story (map HandedOut handed))
   pub kept : (c : Connection) → new c ≡ option_map (λ (bytes : Bytes). bytes ++ handed_to c handed) (old c)
 
 -- The first so many of the bytes that are kept for a connection were written. Where nothing was left to be done, nothing is.
@@ -65,8 +116,14 @@ pub record IsWritten (c : Connection) (count : ℕ) (before after settled_before
   pub kept : new c ≡ option_map (λ (bytes : Bytes). drop count bytes) (old c)
   pub others : KeepsOthers c old new
 
--- A connection was closed.
-pub record IsClosed (c : Connection) (before after : Past) (old new : Kept) : Type 0 where
-  pub past : (story : Story) → before story → after (record story { closed = story.closed ++ c ∷ [] })
+-- what a close adds: its connection was closed, or nothing where it took no room before
+abbrev pub IsShut : Connection → Type 0 → List Occurrence → Type 0
+IsShut c was_gone shut = ((shut ≡ Closed c ∷ []) × (was_gone → ⊥)) ⊎ ((shut ≡ []) × was_gone)
+
+-- A connection was closed, and no other, unless it took no room before.
+pub record IsClosed (c : Connection) (was_gone : Type 0) (before after : Past) (old new : Kept) : Type 0 where
+  pub shut : List Occurrence
+  pub is : IsShut c was_gone shut
+  pub past : (story : Story) → before story → after (going_on story shut)
   pub kept : new c ≡ None
   pub others : KeepsOthers c old new

@@ -21,7 +21,7 @@ pub enum Standing {
 /// What answers connections: bytes are fed to it, it works, and then keeps the bytes that it handed out until they were written. Once memory
 /// ran out it answers nothing any more.
 pub trait Answers {
-    ghost use Rattle.std.specs.Prelude.{Bool, Option};
+    ghost use Rattle.std.specs.Prelude.{ℕ, Bool, Option};
     ghost use Rattle.nr_model.specs.Bytes.{Bytes};
     ghost use Rattle.nr_model.specs.Items.{Connection};
     ghost use Rattle.nr_service_ends.specs.Stories.{Story};
@@ -45,15 +45,19 @@ pub trait Answers {
     // There is no room for one more connection.
     ghost is_full: { Self → Type 0 };
 
+    // A connection was opened at the place of the number as which it was accepted.
+    ghost is_placed: { Self → Self → ℕ → Connection → Type 0 };
+
     // A connection takes no room: it was closed, or what answered it is down.
     ghost is_gone: { Self → Connection → Type 0 };
 
-    /// Opens the connection that was accepted as this number, from 0 on, or `None` where there is no room for it.
+    /// Opens the connection that was accepted as this number, from 0 on, or `None` where there was no room for it.
     fn open(&mut self, number: u64) -> Result<Option<ConnId>, Memory>
         ensures opened { IfOk result (λ opened. IfSome opened (λ conn. IsOpened (connection_of conn) (is_past self.old) (is_past self.new) (kept self.old)
             (kept self.new))) }
         ensures none { IfOk result (λ opened. IfNone opened (Keeps (is_past self.old) (is_past self.new) (kept self.old) (kept self.new))) }
-        ensures full { IfOk result (λ opened. IfNone opened (is_full self.new)) };
+        ensures full { IfOk result (λ opened. IfNone opened (is_full self.old)) }
+        ensures placed { IfOk result (λ opened. IfSome opened (λ conn. is_placed self.old self.new number (connection_of conn))) };
 
     /// How a connection stands.
     fn standing(&self, conn: ConnId) -> Standing
@@ -82,8 +86,10 @@ pub trait Answers {
         ensures { IsWritten (connection_of conn) count (is_past self.old) (is_past self.new) (is_settled self.old) (is_settled self.new) (kept self.old)
             (kept self.new) };
 
-    /// Closes a connection, at a moment in milliseconds: its room comes back. What it keeps for it is lost.
+    /// Closes a connection, at a moment in milliseconds: its room comes back. What it keeps for it is lost. Nothing happens where it took no
+    /// room before.
     fn close(&mut self, conn: ConnId, moment: u64) -> Result<(), Memory>
-        ensures closed { OnOk result (IsClosed (connection_of conn) (is_past self.old) (is_past self.new) (kept self.old) (kept self.new)) }
+        ensures closed { OnOk result (IsClosed (connection_of conn) (is_gone self.old (connection_of conn)) (is_past self.old) (is_past self.new)
+            (kept self.old) (kept self.new)) }
         ensures gone { OnOk result (is_gone self.new (connection_of conn)) };
 }

@@ -1,25 +1,36 @@
 // Where connections come from, and go.
-ghost use Rattle.std.specs.Prelude.{◌≡◌, [], IfOk, IfSome};
+ghost use Rattle.std.specs.Prelude.{◌≡◌, [], ◌∷◌, IfOk, IfSome};
+ghost use Rattle.nr_service_ends.specs.Devices.{Finished, Abandoned, PartsWith};
 
 use crate::stream::Stream;
 use nr_blob::Memory;
 
 /// Where connections come from. Contracts say nothing of when one comes.
 pub trait Device<S: Stream> {
+    ghost use Rattle.std.specs.Prelude.{Option, None, List};
+    ghost use Rattle.nr_service_ends.specs.Devices.{Parting};
+
+    // The streams that it was given back, in order, where they are known.
+    ghost parted: { Self → Option (List (Parting S)) } = { λ _. None };
+
     /// The next connection, `None` where none waits to be taken. Nothing was received or sent on it.
     fn accept(&mut self) -> Result<Option<S>, Memory>
         ensures received { IfOk result (λ accepted. IfSome accepted (λ stream. IfSome (S.received stream) (λ bytes. bytes ≡ []))) }
-        ensures sent { IfOk result (λ accepted. IfSome accepted (λ stream. IfSome (S.sent stream) (λ bytes. bytes ≡ []))) };
+        ensures sent { IfOk result (λ accepted. IfSome accepted (λ stream. IfSome (S.sent stream) (λ bytes. bytes ≡ []))) }
+        ensures parted { parted self.new ≡ parted self.old };
 
     /// Waits until a stream may give or take bytes, or a connection waits to be taken, at most 10 milliseconds, and not at all where there
     /// is work at hand. False where it can't wait any more: it has failed.
-    fn wait(&mut self, is_busy: bool) -> bool;
+    fn wait(&mut self, is_busy: bool) -> bool
+        ensures parted { parted self.new ≡ parted self.old };
 
     /// Lets go of a stream of which all was sent: the peer gets these bytes, and then the end.
-    fn finish(&mut self, stream: S);
+    fn finish(&mut self, stream: S)
+        ensures parted { PartsWith (Finished stream ∷ []) (parted self.old) (parted self.new) };
 
     /// Lets go of a stream at once. What wasn't sent is lost.
-    fn abandon(&mut self, stream: S);
+    fn abandon(&mut self, stream: S)
+        ensures parted { PartsWith (Abandoned stream ∷ []) (parted self.old) (parted self.new) };
 }
 
 /// No connection comes: those that are served were handed over.

@@ -1,20 +1,19 @@
 -- What holds of a connection however its service ended.
 use Rattle.std.proofs.Common.{◌≡◌, [], ◌++◌, sym, ap, ◌∙◌, subst, append_assoc}
 use Rattle.std.specs.Prelude.{Option, Some, None, IfSome}
-use Rattle.nr_model.specs.Bytes.{Bytes}
-use Rattle.nr_model.specs.Explains.{IsBeginningOf}
+use Rattle.nr_model.specs.Bytes.{Bytes, IsBeginningOf}
 use Rattle.nr_model.specs.Sequential.{emitted_for}
-use Rattle.nr_model.specs.Worlds.{Setup, fed_to, handed_to}
+use Rattle.nr_model.specs.Connections.{Setup, fed_to, handed_to}
 use Rattle.nr_model.specs.Nodes.{World, sequence_of}
 use Rattle.nr_model.specs.Nodes.Pasts.{Event, IsPast, handed_in}
 use Rattle.nr_model.specs.Nodes.Explained.{waiting_for}
 use Rattle.nr_service.specs.declared.client.Client.{Client}
 use Rattle.nr_service.specs.Serving.{connection}
 use Rattle.nr_service.specs.Steps.{IsLeft}
-use Rattle.nr_service_ends.specs.Stories.{Story}
+use Rattle.nr_service_ends.specs.Stories.{Story, closed_in, bytes_fed, bytes_handed}
 use Rattle.nr_answering.specs.Led.{IsOf}
 use Rattle.nr_serving.specs.Runs.{alone, IsBegun}
-use Rattle.nr_serving.proofs.Pasts.{past_explained}
+use Rattle.nr_serving.proofs.Pasts.{past_explained, bytes_fed_in, bytes_handed_in, none_closed}
 use Rattle.std.specs.Prelude.{List}
 
 -- a beginning of a beginning
@@ -31,7 +30,7 @@ fed_as known fed other e is = subst (λ (b : Bytes). IfSome known (λ bytes. IsB
 
 -- what was handed out in a past is a beginning of what is emitted along its sequence
 pub begins : {S : Type 0} (was_received was_sent : S → Option Bytes) (story : Story) (events : List Event) (world : World) (client : Client S)
-    → story.setup ≡ alone → story.closed ≡ [] → IsOf story events world → IsLeft was_received was_sent story client
+    → story.setup ≡ alone → closed_in story.occurrences ≡ [] → IsOf story events world → IsLeft was_received was_sent story client
     → IsBegun was_received was_sent (connection client) events world (sequence_of world) client.stream
 begins was_received was_sent story events world client sized calm is left =
     let c = connection client in
@@ -40,13 +39,13 @@ begins was_received was_sent story events world client sized calm is left =
     let beginning = explained.accounts.beginning c in
     let handed = handed_to c (handed_in events) in
     let waits = waiting_for world c in
-    let out : handed_to c story.handed ≡ handed = ap (handed_to c) is.handed in
+    let out : bytes_handed c story ≡ handed = bytes_handed_in story events world c is in
     record {
       past = past;
       explained = explained;
-      unclosed = is.closed calm;
-      fed = fed_as (was_received client.stream) (fed_to c story.fed) (fed_to c world.fed) (ap (fed_to c) is.fed) left.received;
+      unclosed = none_closed story events world is calm;
+      fed = fed_as (was_received client.stream) (bytes_fed c story) (fed_to c world.fed) (bytes_fed_in story events world c is) left.received;
       sent =
-          longer (was_sent client.stream) (handed_to c story.handed) (emitted_for c (sequence_of world))
+          longer (was_sent client.stream) (bytes_handed c story) (emitted_for c (sequence_of world))
           (waits ++ beginning.0, ap (λ (b : Bytes). b ++ (waits ++ beginning.0)) out ∙ sym (append_assoc handed waits beginning.0) ∙ beginning.1) left.sent;
     }

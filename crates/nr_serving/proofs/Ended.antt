@@ -10,7 +10,8 @@ use Rattle.nr_service.specs.declared.client.Client.{Client}
 use Rattle.nr_service.specs.Serving.{connection, AreServed, IsServed as IsServedSo}
 use Rattle.nr_service.specs.Steps.{IsLeft}
 use Rattle.nr_service.proofs.Left.{still_left}
-use Rattle.nr_service_ends.specs.Stories.{Story, beginning}
+use Rattle.nr_service_ends.specs.Stories.{Occurrence, Story, beginning, closed_in, going_on}
+use Rattle.nr_service_ends.proofs.Occurrences.{closed_both}
 use Rattle.nr_answering.specs.Kept.{kept_at}
 use Rattle.nr_answering.specs.Led.{HasLedTo, IsAtRest}
 use Rattle.nr_answering.specs.Stands.{Stands}
@@ -33,16 +34,25 @@ none_served was_received was_sent has_ended a clients none led =
     subst (AreServed was_received was_sent has_ended (HasLedTo a) (Kept a) (beginning alone)) (sym none)
     (record { past = led; each = All-nil _; apart = tt })
 
+-- a story that goes on, in which nothing more was closed
+pub sized_on : (story next : Story) (more : List Occurrence) → next ≡ going_on story more → story.setup ≡ alone → next.setup ≡ alone
+sized_on story next more is sized = ap (λ (s : Story). s.setup) is ∙ sized
+
+pub calm_on : (story next : Story) (more : List Occurrence) → next ≡ going_on story more → closed_in more ≡ [] → closed_in story.occurrences ≡ []
+    → closed_in next.occurrences ≡ []
+calm_on story next more is none calm =
+    ap (λ (s : Story). closed_in s.occurrences) is ∙ closed_both story.occurrences more ∙ (λ i. calm i ++ none i)
+
 -- the first one was served so
 first_served : {S : Type 0} (was_received was_sent : S → Option Bytes) (has_ended : S → Type 0) (a : AnsweringState) (story : Story) (client : Client S)
-    (more : List (Client S)) (done : Done) → story.setup ≡ alone → story.closed ≡ []
+    (more : List (Client S)) (done : Done) → story.setup ≡ alone → closed_in story.occurrences ≡ []
     → HasEnded was_received was_sent has_ended HasLedTo IsAtRest Kept Stands story a (client ∷ more) done
     → IsServed was_received was_sent has_ended (record { stream = client.stream; done = done })
 first_served was_received was_sent has_ended a story client more dones.Whole sized calm ended =
     let o = ended.whole refl in
     let served = All-head (IsServedSo was_received was_sent has_ended (Kept a) o.next) client more o.served.each in
-    let size = o.setup ∙ sized in
-    let shut = o.closed ∙ calm in (
+    let size = sized_on story o.next o.more o.is sized in
+    let shut = calm_on story o.next o.more o.is o.closed calm in (
       connection client,
       o.rest.events,
       o.rest.world,
@@ -57,8 +67,8 @@ first_served was_received was_sent has_ended a story client more dones.Broken si
       l.past.events,
       l.past.world,
       sequence_of l.past.world,
-      begins was_received was_sent l.next l.past.events l.past.world client (l.setup ∙ sized) (l.closed ∙ ap (λ (cs : List Connection). cs ++ []) calm)
-          l.past.is (All-head (IsLeft was_received was_sent l.next) client more l.each),
+      begins was_received was_sent l.next l.past.events l.past.world client (sized_on story l.next l.more l.is sized)
+          (calm_on story l.next l.more l.is l.closed calm) l.past.is (All-head (IsLeft was_received was_sent l.next) client more l.each),
       λ e. absurd (cc e),
     )
 first_served was_received was_sent has_ended a story client more dones.Memory sized calm ended =
@@ -67,13 +77,13 @@ first_served was_received was_sent has_ended a story client more dones.Memory si
       l.past.events,
       l.past.world,
       sequence_of l.past.world,
-      begins was_received was_sent l.next l.past.events l.past.world client (l.setup ∙ sized) (l.closed ∙ ap (λ (cs : List Connection). cs ++ []) calm)
-          l.past.is (All-head (IsLeft was_received was_sent l.next) client more l.each),
+      begins was_received was_sent l.next l.past.events l.past.world client (sized_on story l.next l.more l.is sized)
+          (calm_on story l.next l.more l.is l.closed calm) l.past.is (All-head (IsLeft was_received was_sent l.next) client more l.each),
       λ e. absurd (cc e),
     )
 
 pub served : {S : Type 0} (was_received was_sent : S → Option Bytes) (has_ended : S → Type 0) (a : AnsweringState) (story : Story)
-    (clients : List (Client S)) (client : Client S) (done : Done) → story.setup ≡ alone → story.closed ≡ [] → 0 < length clients
+    (clients : List (Client S)) (client : Client S) (done : Done) → story.setup ≡ alone → closed_in story.occurrences ≡ [] → 0 < length clients
     → client ≡ get_or clients 0 client → HasEnded was_received was_sent has_ended HasLedTo IsAtRest Kept Stands story a clients done
     → IsServed was_received was_sent has_ended (record { stream = client.stream; done = done })
 served was_received was_sent has_ended a story [] client done sized calm some is ended = absurd (omega arith)

@@ -1,5 +1,5 @@
 -- How a service's clients go on from exchange to exchange, whatever answers them.
-use Rattle.std.proofs.Common.{◌≡◌, ℕ, List, [], ◌++◌, refl, ap, ◌∙◌, subst}
+use Rattle.std.proofs.Common.{◌≡◌, ℕ, List, [], ◌++◌, refl, sym, ap, ◌∙◌, subst}
 use Rattle.std.specs.Prelude.{Option}
 use Rattle.nr_model.specs.Bytes.{Bytes}
 use Rattle.nr_model.specs.Items.{Connection}
@@ -7,18 +7,21 @@ use Rattle.nr_service.specs.declared.client.Client.{Client}
 use Rattle.nr_service.specs.Serving.{AreServed}
 use Rattle.nr_service.specs.Steps.{Exchanges, AreLeft, Leaves}
 use Rattle.nr_service.proofs.Left.{leaves_all}
-use Rattle.nr_service_ends.specs.Stories.{Story, Past, Kept}
+use Rattle.nr_service_ends.specs.Stories.{Occurrence, Story, Past, Kept, opened_in, closed_in, going_on}
+use Rattle.nr_service_ends.proofs.Occurrences.{opened_both, closed_both, going_none, going_both}
 use Rattle.nr_service_ends.specs.declared.answers.Standing.{Standing}
 use Rattle.nr_serving.specs.Going.{IsDone, HasEnded}
 use Rattle.nr_serving.specs.declared.run.Done.{Done}
 use Rattle.nr_serving.specs.declared.run.Done.TheVariants as dones
 
--- the clients are served by a story that goes on from this one, in which nothing more was closed
+-- the clients are served by a story that goes on from this one, in which nothing more was opened or closed
 pub record Goes {A S : Type 0} (was_received was_sent : S → Option Bytes) (has_ended : S → Type 0) (is_past : A → Past) (keeps : A → Kept) (story : Story)
     (answers : A) (clients : List (Client S)) : Type 0 where
   pub next : Story
-  pub setup : next.setup ≡ story.setup
-  pub closed : next.closed ≡ story.closed
+  pub more : List Occurrence
+  pub is : next ≡ going_on story more
+  pub opens : opened_in more ≡ []
+  pub closed : closed_in more ≡ []
   pub served : AreServed was_received was_sent has_ended (is_past answers) (keeps answers) next clients
 
 -- nothing was done yet
@@ -26,7 +29,7 @@ pub starts : {A S : Type 0} (was_received was_sent : S → Option Bytes) (has_en
     (answers : A) (clients : List (Client S)) → AreServed was_received was_sent has_ended (is_past answers) (keeps answers) story clients
     → Goes was_received was_sent has_ended is_past keeps story answers clients
 starts was_received was_sent has_ended is_past keeps story answers clients served =
-    record { next = story; setup = refl; closed = refl; served = served }
+    record { next = story; more = []; is = sym (going_none story); opens = refl; closed = refl; served = served }
 
 -- and nothing is left to be done
 pub record Rests {A S : Type 0} (was_received was_sent : S → Option Bytes) (has_ended : S → Type 0) (is_past is_settled : A → Past) (keeps : A → Kept)
@@ -42,7 +45,14 @@ pub exchanged : {A S : Type 0} (was_received was_sent : S → Option Bytes) (has
 exchanged was_received was_sent has_ended is_past is_settled keeps now story a b old new goes exchanges =
     let s = exchanges.further goes.next goes.served in
     record {
-      goes = record { next = s.has.next; setup = s.has.setup ∙ goes.setup; closed = s.has.closed ∙ goes.closed; served = s.has.served };
+      goes = record {
+        next = s.has.next;
+        more = goes.more ++ s.has.more;
+        is = s.has.is ∙ ap (λ (at : Story). going_on at s.has.more) goes.is ∙ going_both story goes.more s.has.more;
+        opens = opened_both goes.more s.has.more ∙ (λ i. goes.opens i ++ s.has.opens i);
+        closed = closed_both goes.more s.has.more ∙ (λ i. goes.closed i ++ s.has.closed i);
+        served = s.has.served;
+      };
       rest = s.rest;
     }
 
@@ -54,9 +64,10 @@ failed was_received was_sent has_ended is_past keeps story a old new goes leaves
     let l = leaves.further goes.next goes.served in
     record {
       next = l.next;
+      more = goes.more ++ l.more;
       answers = l.answers;
-      setup = l.setup ∙ goes.setup;
-      closed = l.closed ∙ ap (λ (cs : List Connection). cs ++ []) goes.closed;
+      is = l.is ∙ ap (λ (at : Story). going_on at l.more) goes.is ∙ going_both story goes.more l.more;
+      closed = closed_both goes.more l.more ∙ (λ i. goes.closed i ++ l.closed i);
       past = l.past;
       each = l.each;
     }
@@ -86,7 +97,9 @@ ends_by was_received was_sent has_ended is_past is_settled keeps stands story a 
       left = goes_left was_received was_sent has_ended is_past keeps story a clients rests.goes;
       whole = λ e. record {
         next = rests.goes.next;
-        setup = rests.goes.setup;
+        more = rests.goes.more;
+        is = rests.goes.is;
+        opens = rests.goes.opens;
         closed = rests.goes.closed;
         served = rests.goes.served;
         rest = rests.rest;

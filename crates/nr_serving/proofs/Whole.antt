@@ -5,7 +5,7 @@ use Rattle.std.proofs.lemmas.Bool.{cases_Bool}
 use Rattle.nr_model.specs.Bytes.{Bytes}
 use Rattle.nr_model.specs.Items.{Connection}
 use Rattle.nr_model.specs.Sequential.{emitted_for}
-use Rattle.nr_model.specs.Worlds.{Setup, fed_to, handed_to}
+use Rattle.nr_model.specs.Connections.{Setup, fed_to}
 use Rattle.nr_model.specs.Nodes.{World, node_at, client_of, sequence_of}
 use Rattle.nr_model.specs.Nodes.Steps.{is_client}
 use Rattle.nr_model.specs.Nodes.Pasts.{IsPast}
@@ -13,7 +13,7 @@ use Rattle.nr_model.proofs.NodesSteps.{a_client}
 use Rattle.nr_nodes.specs.Standing.{has_ended as takes_no_more}
 use Rattle.nr_service.specs.declared.client.Client.{Client}
 use Rattle.nr_service.specs.Serving.{connection, IsServed}
-use Rattle.nr_service_ends.specs.Stories.{Story, kept_bytes}
+use Rattle.nr_service_ends.specs.Stories.{Story, kept_bytes, closed_in, bytes_fed, bytes_handed}
 use Rattle.nr_service_ends.specs.declared.answers.Standing.{Standing}
 use Rattle.nr_service_ends.specs.declared.answers.Standing.TheVariants as standings
 use Rattle.nr_answering.specs.Kept.{kept_at}
@@ -22,7 +22,7 @@ use Rattle.nr_answering.specs.Stands.{Stands}
 use Rattle.nr_answering.specs.State.{AnsweringState}
 use Rattle.nr_serving.specs.Going.{IsOver}
 use Rattle.nr_serving.specs.Runs.{alone, IsOver as IsAtEnd, IsWhole}
-use Rattle.nr_serving.proofs.Pasts.{unclosed}
+use Rattle.nr_serving.proofs.Pasts.{unclosed, bytes_fed_in, bytes_handed_in, none_closed}
 
 -- a node that isn't down, and whether a connection of it takes more
 up_where : (down ended : Bool) (s : Standing) → s ≡ cond down standings.Down (cond ended standings.Over standings.Open)
@@ -64,7 +64,7 @@ all_fed : (known : Option Bytes) (fed other : Bytes) → fed ≡ other → IfSom
 all_fed known fed other e is = subst (λ (b : Bytes). IfSome known (λ bytes. bytes ≡ b)) e is
 
 pub whole : {S : Type 0} (was_received was_sent : S → Option Bytes) (has_ended : S → Type 0) (a : AnsweringState) (story : Story) (client : Client S)
-    → story.setup ≡ alone → story.closed ≡ [] → (rest : IsAtRest a story)
+    → story.setup ≡ alone → closed_in story.occurrences ≡ [] → (rest : IsAtRest a story)
     → IsServed was_received was_sent has_ended (λ c. kept_at c a.taps) story client
     → IsOver (λ (b : AnsweringState) c. kept_at c b.taps) Stands a client
     → IsWhole was_received was_sent has_ended (connection client) rest.world (sequence_of rest.world) client.stream
@@ -75,7 +75,7 @@ whole was_received was_sent has_ended a story client sized calm rest served over
     let there = kept_there a world c served.pending rest.absent served.kept in
     let none : served.pending ≡ [] = sym (ap kept_bytes served.kept) ∙ over.empty in
     let past : IsPast alone rest.events world = subst (λ (s : Setup). IsPast s rest.events world) sized rest.is.past in
-    let shut = unclosed alone rest.events world c past (a_client world c there) (rest.is.closed calm) in
+    let shut = unclosed alone rest.events world c past (a_client world c there) (none_closed story rest.events world rest.is calm) in
     let up : node.down ≡ false =
     elim over.over [
       | inl stands ↦ up_where node.down (takes_no_more world c) standings.Over (stands rest.works world rest.shows) (inl refl)
@@ -92,9 +92,9 @@ whole was_received was_sent has_ended a story client sized calm rest served over
       over = end;
       there = there;
       up = up;
-      fed = all_fed (was_received client.stream) (fed_to c story.fed) (fed_to c world.fed) (ap (fed_to c) rest.is.fed) served.received;
+      fed = all_fed (was_received client.stream) (bytes_fed c story) (fed_to c world.fed) (bytes_fed_in story rest.events world c rest.is) served.received;
       executed = rest.settled.executed c there up;
       sent = λ uncut.
-          all_sent (was_sent client.stream) (handed_to c story.handed) served.pending (emitted_for c (sequence_of world)) none
-          (ap (handed_to c) rest.is.handed ∙ rest.settled.handed c (there, ap not up, uncut)) served.sent;
+          all_sent (was_sent client.stream) (bytes_handed c story) served.pending (emitted_for c (sequence_of world)) none
+          (bytes_handed_in story rest.events world c rest.is ∙ rest.settled.handed c (there, ap not up, uncut)) served.sent;
     }

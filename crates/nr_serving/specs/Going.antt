@@ -5,7 +5,7 @@ use Rattle.nr_model.specs.Items.{Connection}
 use Rattle.nr_service.specs.declared.client.Client.{Client}
 use Rattle.nr_service.specs.Serving.{connection, AreServed}
 use Rattle.nr_service.specs.Steps.{AreLeft}
-use Rattle.nr_service_ends.specs.Stories.{Story, Past, Kept, kept_bytes}
+use Rattle.nr_service_ends.specs.Stories.{Occurrence, Story, Past, Kept, kept_bytes, opened_in, closed_in, going_on}
 use Rattle.nr_service_ends.specs.declared.answers.Standing.{Standing}
 use Rattle.nr_service_ends.specs.declared.answers.Standing.TheVariants as standings
 use Rattle.nr_serving.specs.declared.run.Done.{Done}
@@ -21,12 +21,14 @@ abbrev pub IsDone : {A S : Type 0} → (A → Kept) → (A → Connection → St
 IsDone keeps stands answers [] done = done ≡ dones.Memory
 IsDone keeps stands answers (client ∷ clients) done = done ≡ dones.Whole → IsOver keeps stands answers client
 
--- nothing is left to be done, the clients are served, and the first one is over
+-- nothing was opened or closed, nothing is left to be done, the clients are served, and the first one is over
 pub record AreOver {A S : Type 0} (was_received was_sent : S → Option Bytes) (has_ended : S → Type 0) (is_past is_settled : A → Past) (keeps : A → Kept)
     (stands : A → Connection → Standing → Type 0) (story : Story) (answers : A) (clients : List (Client S)) : Type 0 where
   pub next : Story
-  pub setup : next.setup ≡ story.setup
-  pub closed : next.closed ≡ story.closed
+  pub more : List Occurrence
+  pub is : next ≡ going_on story more
+  pub opens : opened_in more ≡ []
+  pub closed : closed_in more ≡ []
   pub served : AreServed was_received was_sent has_ended (is_past answers) (keeps answers) next clients
   pub rest : is_settled answers next
   pub first : IsDone keeps stands answers clients dones.Whole

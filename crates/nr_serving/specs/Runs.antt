@@ -1,10 +1,10 @@
 -- What serving one connection has done: the theorem of `serve_stream` is `IsServed`.
 use Rattle.std.specs.Prelude.{◌≡◌, true, false, ◌⊎◌, List, [], Option, IfSome}
-use Rattle.nr_model.specs.Bytes.{Bytes}
+use Rattle.nr_model.specs.Bytes.{Bytes, IsBeginningOf}
 use Rattle.nr_model.specs.Items.{Connection, Sequence}
 use Rattle.nr_model.specs.Sequential.{emitted_for}
-use Rattle.nr_model.specs.Worlds.{Setup, fed_to, own_jobs}
-use Rattle.nr_model.specs.Explains.{IsBeginningOf}
+use Rattle.nr_model.specs.Connections.{Setup, fed_to}
+use Rattle.nr_model.specs.Asked.{own_jobs}
 use Rattle.nr_model.specs.Nodes.{World, node_at, client_of}
 use Rattle.nr_model.specs.Nodes.Steps.{is_client}
 use Rattle.nr_model.specs.Nodes.Pasts.{Event, IsPast}

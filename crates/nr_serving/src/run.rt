@@ -1,7 +1,7 @@
 // One connection from its first byte to its end, by the service over a server of one node. It touches the stream and the clock that it is handed, and
 // its own server.
 ghost use Rattle.std.specs.Prelude.{◌≡◌, IfOk, IfSome};
-ghost use Rattle.nr_model.specs.Worlds.{Setup as SetupSeen};
+ghost use Rattle.nr_model.specs.Connections.{Setup as SetupSeen};
 ghost use Rattle.nr_service_ends.specs.Stories.{Story};
 ghost use Rattle.nr_serving.specs.Runs.{alone as one_connection, IsFresh, IsServed};
 ghost use Rattle.nr_serving.specs.Going.{IsDone, Ends};

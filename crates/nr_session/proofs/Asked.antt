@@ -9,7 +9,7 @@ use Rattle.nr_model.specs.Requests.{Frame, framing_of, fault_text}
 use Rattle.nr_model.specs.Replies.{Error}
 use Rattle.nr_model.specs.Items.{Connection, Item, Deed, End}
 use Rattle.nr_model.specs.Modes.{Mode, conversation}
-use Rattle.nr_model.specs.Worlds.{jobs_from}
+use Rattle.nr_model.specs.Asked.{jobs_from}
 use Rattle.nr_model.proofs.Conversing.{deeds_begin, joined_on, joined_over}
 use Rattle.nr_model.proofs.Counts.{frames_le_bytes, deeds_and_rest_le_bytes}
 use Rattle.nr_resp.specs.Stream.{RanOut}

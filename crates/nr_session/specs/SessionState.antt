@@ -7,28 +7,37 @@ use Rattle.nr_model.specs.Requests.{Frame, Framing, framing_of}
 use Rattle.nr_model.specs.Keyspace.{coded_bytes}
 use Rattle.nr_model.specs.Items.{Connection, Item, is_end}
 use Rattle.nr_model.specs.Modes.{Mode, Conversation, conversation, framed_conversation}
-use Rattle.nr_model.specs.Worlds.{jobs_from}
+use Rattle.nr_model.specs.Asked.{jobs_from}
 use Rattle.nr_session.specs.Coded.{coded_mode}
 
 abbrev pub coded_connection : Coded Connection
 coded_connection = code_by (ℕ × ℕ) (coded× coded_ℕ coded_ℕ) (λ c. (c.node, c.serial)) (λ p. record { node = p.0; serial = p.1 }) (λ _. refl)
 
--- the connection, the bytes since its last whole request, the mode that the requests left, the number of its next job, whether it ended, and
--- whether it gave an end then
+-- the connection, the bytes since its last whole request, the mode that the requests left, the number of its next job, how many bytes
+-- it was fed in all, whether it ended, and whether it gave an end then
 pub record SessionState : Type 0 where
   pub connection : Connection
   pub rest : Bytes
   pub mode : Mode
   pub next : ℕ
+  pub fed : ℕ
   pub ended : Bool
   pub gave_end : Bool
 
 abbrev pub coded_session : Coded SessionState
 coded_session =
-    code_by (Connection × (Bytes × (Mode × (ℕ × (Bool × Bool)))))
-    (coded× coded_connection (coded× coded_bytes (coded× coded_mode (coded× coded_ℕ (coded× coded_bool coded_bool)))))
-    (λ s. (s.connection, (s.rest, (s.mode, (s.next, (s.ended, s.gave_end))))))
-    (λ p. record { connection = p.0; rest = p.1.0; mode = p.1.1.0; next = p.1.1.1.0; ended = p.1.1.1.1.0; gave_end = p.1.1.1.1.1 }) (λ _. refl)
+    code_by (Connection × (Bytes × (Mode × (ℕ × (ℕ × (Bool × Bool))))))
+    (coded× coded_connection (coded× coded_bytes (coded× coded_mode (coded× coded_ℕ (coded× coded_ℕ (coded× coded_bool coded_bool))))))
+    (λ s. (s.connection, (s.rest, (s.mode, (s.next, (s.fed, (s.ended, s.gave_end)))))))
+    (λ p. record {
+      connection = p.0;
+      rest = p.1.0;
+      mode = p.1.1.0;
+      next = p.1.1.1.0;
+      fed = p.1.1.1.1.0;
+      ended = p.1.1.1.1.1.0;
+      gave_end = p.1.1.1.1.1.1;
+    }) (λ _. refl)
 
 -- the frames of the rest and a piece behind it, and what they ask for in a mode
 abbrev pub framed : Bytes → Bytes → Framing

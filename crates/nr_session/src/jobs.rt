@@ -4,7 +4,7 @@ ghost use Rattle.nr_model.specs.Commands.{served};
 ghost use Rattle.nr_model.specs.Items.{is_end};
 ghost use Rattle.nr_model.specs.Keyspace.{last_moment};
 ghost use Rattle.nr_model.specs.Modes.{answer};
-ghost use Rattle.nr_model.specs.Worlds.{jobs_from};
+ghost use Rattle.nr_model.specs.Asked.{jobs_from};
 ghost use Rattle.nr_resp.specs.Frames.{frames_seen};
 ghost use Rattle.nr_entry.specs.Kinds.{update_deed};
 ghost use Rattle.nr_entry.specs.Jobs.{connection_of, items_of};

@@ -1,8 +1,8 @@
 // The session of a connection: bytes in, jobs out. It owns the reader and the number of the next job, and touches nothing else.
-ghost use Rattle.std.specs.Prelude.{◌≡◌, ℕ, ◌↔◌, ◌+◌, ◌<◌, ◌≤◌, ◌^◌, ◌++◌, [], true, false, None, Some, Err, OnOk, OnErr, IfOk, IfSome, IsNone, is_ok, unwrap_or, if◌then◌else◌, length};
+ghost use Rattle.std.specs.Prelude.{◌≡◌, ◌↔◌, ◌+◌, ◌<◌, ◌≤◌, ◌^◌, ◌++◌, [], true, false, None, Some, Err, OnOk, OnErr, IfOk, IfSome, IsNone, IsTrue, is_ok, unwrap_or, if◌then◌else◌, length};
 ghost use Rattle.nr_model.specs.Items.{End};
 ghost use Rattle.nr_model.specs.Keyspace.{last_moment};
-ghost use Rattle.nr_model.specs.Worlds.{jobs_from};
+ghost use Rattle.nr_model.specs.Asked.{jobs_from};
 ghost use Rattle.nr_resp.specs.Frames.{frames_seen};
 ghost use Rattle.nr_resp.specs.Stream.{open_at};
 ghost use Rattle.nr_entry.specs.Jobs.{connection_of, item_of, items_of};
@@ -75,13 +75,6 @@ fn feed_requests(
     }
 }
 
-// So many bytes more, or as many as can be counted.
-fn counted(fed: u64, more: usize) -> u64
-    ensures { (n : ℕ) → n ≤ fed + more → n < 2 ^ 64 → n ≤ result }
-{
-    fed.saturating_add(more as u64)
-}
-
 /// Why a session took no bytes.
 #[derive(Clone, Copy, Debug, PartialEq, Eq)]
 pub enum SessionError {
@@ -110,7 +103,7 @@ pub struct Session {
     reader: Reader,
     mode: Mode,
     next: u64,
-    // How many bytes it was fed: at least the next number and the bytes that are kept.
+    // How many bytes it was fed: at least the next number and the bytes that are kept, while it takes bytes.
     fed: u64,
     life: Life,
 }
@@ -126,14 +119,14 @@ impl Model for Session {
 
     ghost coded = { coded_session };
 
-    ghost view = { λ s. record { connection = connection_of s.conn; rest = s.reader.rest; mode = s.mode; next = s.next; ended = has_ended s.life; gave_end = gave_end s.life } };
+    ghost view = { λ s. record { connection = connection_of s.conn; rest = s.reader.rest; mode = s.mode; next = s.next; fed = s.fed; ended = has_ended s.life; gave_end = gave_end s.life } };
 
     ghost invariant = { λ s. s.life ≡ Open → (s.reader.closed ≡ None) × (s.next + length s.reader.rest ≤ s.fed) };
 }
 
 impl Session {
     pub fn new(alloc: Global, conn: ConnId) -> Self
-        ensures { result ≡ record { connection = connection_of conn; rest = []; mode = plain; next = 0; ended = false; gave_end = false } }
+        ensures { result ≡ record { connection = connection_of conn; rest = []; mode = plain; next = 0; fed = 0; ended = false; gave_end = false } }
     {
         Session {
             alloc,
@@ -153,9 +146,9 @@ impl Session {
         self.life != Life::Open
     }
 
-    /// Whether so many more bytes can be counted. So many as come to a connection always can.
+    /// Whether so many more bytes can be counted: the count of all that it was fed goes up to 2^64 - 2.
     pub fn fits(&self, bytes: usize) -> bool
-        ensures { result ≡ true → self.now.ended ≡ false → self.now.next + (length self.now.rest + bytes) + 1 < 2 ^ 64 }
+        ensures { IsTrue result ↔ (self.now.fed + bytes + 1 < 2 ^ 64) }
     {
         (bytes as u64) < u64::MAX - self.fed
     }
@@ -173,11 +166,12 @@ impl Session {
         moment: u64,
         jobs: &mut Vec<Job>,
     ) -> Result<(), SessionError>
-        requires fits { self.old.ended ≡ false → self.old.next + (length self.old.rest + length bytes.now) + 1 < 2 ^ 64 }
+        requires fits { self.old.ended ≡ false → self.old.fed + length bytes.now + 1 < 2 ^ 64 }
         requires in_time { moment ≤ last_moment }
         ensures jobs { OnOk result (items_of jobs.new.items ≡ items_of jobs.old.items
             ++ jobs_from self.old.connection self.old.next moment (asked self.old.mode self.old.rest bytes.now).deeds) }
         ensures next { OnOk result (self.new.next ≡ self.old.next + length (asked self.old.mode self.old.rest bytes.now).deeds) }
+        ensures fed { OnOk result (self.new.fed ≡ self.old.fed + length bytes.now) }
         ensures mode { OnOk result (self.new.mode ≡ (asked self.old.mode self.old.rest bytes.now).mode) }
         ensures goes_on { OnOk result (self.new.ended ≡ (asked self.old.mode self.old.rest bytes.now).ended) }
         ensures gave_end { self.new.gave_end ≡ (if is_ok result then (asked self.old.mode self.old.rest bytes.now).ended else self.old.gave_end) }
@@ -207,11 +201,12 @@ impl Session {
             jobs,
         ) {
             Ok(true) => {
+                self.fed += bytes.len() as u64;
                 self.life = Life::GaveEnd;
                 Ok(())
             }
             Ok(false) => {
-                self.fed = counted(self.fed, bytes.len());
+                self.fed += bytes.len() as u64;
                 Ok(())
             }
             Err(Memory) => {

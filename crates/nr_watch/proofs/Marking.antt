@@ -63,11 +63,7 @@ unmarked key (Some w) none =
 
 unnamed : (kept : Kept) (index : Index) → IsIndexed kept index → (key : Key) (c : Connection) → stands index key.name c ≡ false
     → marks key (kept_at c kept) ≡ kept_at c kept
-unnamed kept index indexed key c apart = unmarked key (kept_at c kept)
-    (elim (names_one key.name (watches_at (kept_at c kept))) as (λ b. names_one key.name (watches_at (kept_at c kept)) ≡ b → b ≡ false) [
-      | true ↦ λ holds. sym (indexed.found c key.name holds) ∙ apart
-      | false ↦ λ _. refl
-    ] refl)
+unnamed kept index indexed key c apart = unmarked key (kept_at c kept) (sym (indexed.at c key.name) ∙ apart)
 
 -- a touch marks those that stand at the name
 pub touch_seen : (old new : Kept) (index : Index) (key : Key) → IsIndexed old index → (among : Connection → Bool)

@@ -104,9 +104,9 @@ stands index name c = is_among c (lookup (is_name name) index)
 abbrev pub names_one : Bytes → List Watch → Bool
 names_one name watches = list_any (λ w. bytes_eq w.key.name name) watches
 
--- who watches a key of a name stands there. Who stands at a name too often does no harm.
+-- a connection stands at a name exactly where it watches a key of that name
 pub record IsIndexed (kept : Kept) (index : Index) : Type 0 where
-  pub found : (c : Connection) (name : Bytes) → names_one name (watches_at (kept_at c kept)) ≡ true → stands index name c ≡ true
+  pub at : (c : Connection) (name : Bytes) → stands index name c ≡ names_one name (watches_at (kept_at c kept))
 
 -- a connection stands at the names that pass a test too, or no more, and everyone else as before
 pub record IsAdded (passes : Bytes → Bool) (conn : ConnId) (old new : Index) : Type 0 where

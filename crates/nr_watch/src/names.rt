@@ -1,10 +1,11 @@
 // By the name of a key, in any database, the connections that watch one of that name.
-ghost use Rattle.std.specs.Prelude.{◌≡◌, false, IfOk, OnOk, OnErr};
+ghost use Rattle.std.specs.Prelude.{◌≡◌, not, false, IfOk, OnOk, OnErr};
 ghost use Rattle.std.specs.Option.{option_map};
 ghost use Rattle.std.specs.Ordering.{eq_by_cmp};
 ghost use Rattle.nr_model.specs.Bytes.{Bytes};
 ghost use Rattle.nr_model.specs.Keyspace.{byte_cmp};
 ghost use Rattle.nr_model.specs.Items.{Connection};
+ghost use Rattle.nr_entry.specs.Jobs.{connection_of};
 ghost use Rattle.nr_watch.specs.Kept.{stands, is_among, names_one, IsAdded, IsTakenOut, IsAsBefore};
 
 use crate::watch::Watch;
@@ -37,20 +38,21 @@ impl Names {
         self.conns.get(name)
     }
 
-    /// The name is copied where nobody stood there. Where memory runs out everyone stands as before.
-    pub(crate) fn add(&mut self, name: &[u8], conn: ConnId) -> Result<(), Memory>
+    /// Says whether the connection didn't stand there before. The name is copied where nobody stood there. Where memory runs out
+    /// everyone stands as before.
+    pub(crate) fn add(&mut self, name: &[u8], conn: ConnId) -> Result<bool, Memory>
         ensures ok { OnOk result (IsAdded (λ other. eq_by_cmp byte_cmp other name.now) conn self.old.conns.entries self.new.conns.entries) }
+        ensures is_new { IfOk result (λ is_new. is_new ≡ not (stands self.old.conns.entries name.now (connection_of conn))) }
         ensures err { OnErr result (IsAsBefore self.old.conns.entries self.new.conns.entries) }
     {
         if let Some(conns) = self.conns.get_mut(name) {
-            conns.insert(conn)?;
-            return Ok(());
+            return Ok(conns.insert(conn)?);
         }
         let mut conns = BTreeSet::new(self.alloc);
         conns.insert(conn)?;
         self.conns
             .insert(Vec::from_slice(self.alloc, name)?, conns)?;
-        Ok(())
+        Ok(true)
     }
 
     pub(crate) fn remove(&mut self, name: &[u8], conn: ConnId)

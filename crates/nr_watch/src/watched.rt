@@ -1,5 +1,5 @@
 // What one connection watches.
-ghost use Rattle.std.specs.Prelude.{◌≡◌, ◌||◌, false, [], ◌∷◌, ◌++◌, IfOk, OnOk, OnErr};
+ghost use Rattle.std.specs.Prelude.{◌≡◌, ◌||◌, false, List, [], ◌∷◌, ◌++◌, IfOk, IfErr, OnOk, OnErr};
 ghost use Rattle.std.specs.List.{list_any};
 ghost use Rattle.nr_model.specs.Keyspace.{live};
 ghost use Rattle.nr_model.specs.Sequential.Watches.{same_key};
@@ -35,15 +35,27 @@ impl Model for Watched {
 }
 
 impl Watched {
-    pub(crate) fn new(alloc: Global, watch: Watch) -> Result<Watched, Memory>
-        ensures { IfOk result (λ watched. watched ≡ record { watches = watch ∷ []; touched = false }) }
+    /// Where memory runs out the watch comes back.
+    pub(crate) fn new(alloc: Global, watch: Watch) -> Result<Watched, Watch>
+        ensures ok { IfOk result (λ watched. watched ≡ record { watches = watch ∷ []; touched = false }) }
+        ensures err { IfErr result (λ back. back ≡ watch) }
     {
         let mut watches = Vec::new(alloc);
-        watches.push(watch)?;
-        Ok(Watched {
-            watches,
-            touched: false,
-        })
+        match watches.push(watch) {
+            Ok(()) => Ok(Watched {
+                watches,
+                touched: false,
+            }),
+            Err(refused) => Err(refused.value),
+        }
+    }
+
+    /// The first of its watches alone.
+    pub(crate) fn into_first(self) -> Watch
+        ensures { (watch : model.Watch) (others : List model.Watch) → self.watches ≡ watch ∷ others → result ≡ watch }
+    {
+        let mut watches = self.watches;
+        watches.remove(0)
     }
 
     /// The same once more. Linear in what it watches.
@@ -62,12 +74,16 @@ impl Watched {
         &self.watches
     }
 
-    pub(crate) fn add(&mut self, watch: Watch) -> Result<(), Memory>
+    /// Where memory runs out nothing changes, and the watch comes back.
+    pub(crate) fn add(&mut self, watch: Watch) -> Result<(), Watch>
         ensures ok { OnOk result (self.new ≡ record self.old { watches = self.old.watches ++ watch ∷ [] }) }
         ensures err { OnErr result (self.new ≡ self.old) }
+        ensures back { IfErr result (λ back. back ≡ watch) }
     {
-        self.watches.push(watch)?;
-        Ok(())
+        match self.watches.push(watch) {
+            Ok(()) => Ok(()),
+            Err(refused) => Err(refused.value),
+        }
     }
 
     /// Remembers that a key was touched, if it is watched. Where one was touched before it looks at nothing.

@@ -1,6 +1,6 @@
 // All that connections watch: by connection, and by name beside it, so that a touch looks at those alone that may watch
 // the key.
-ghost use Rattle.std.specs.Prelude.{◌≡◌, ◌↔◌, ◌||◌, [], ◌∷◌, Some, None, IsTrue, IfOk, OnOk, OnErr};
+ghost use Rattle.std.specs.Prelude.{◌≡◌, ◌↔◌, ◌||◌, [], ◌∷◌, Some, None, IsTrue, IfOk, IfErr, OnOk, OnErr};
 ghost use Rattle.std.specs.List.{list_any};
 ghost use Rattle.std.specs.FinMap as map;
 ghost use Rattle.std.specs.FinSet as set;
@@ -10,7 +10,7 @@ ghost use Rattle.nr_model.specs.Servers.{watches_in, has_gone, watches_added, to
 ghost use Rattle.nr_entry.specs.Jobs.{connection_of};
 ghost use Rattle.nr_keyspace.specs.Joined.{key_of};
 ghost use Rattle.nr_watch.specs.Watching.{nobody, touched_at};
-ghost use Rattle.nr_watch.specs.Kept.{is_conn, kept_at, with_watch, is_named_in, IsMarked, IsMarkedWhere, IsPut, IsKeptAsBefore};
+ghost use Rattle.nr_watch.specs.Kept.{is_conn, kept_at, with_watch, is_named_in, IsMarked, IsMarkedWhere, IsPut, IsKeptAsBefore, IsIndexed};
 
 use crate::names::Names;
 use crate::watch::Watch;
@@ -84,22 +84,48 @@ fn mark_named(
     });
 }
 
-// Adds a watch to those of a connection. Where memory runs out everyone watches what it did.
+// Adds a watch to those of a connection. Where memory runs out everyone watches what it did, and the watch comes back.
 fn add(
     alloc: Global,
     by_conn: &mut BTreeMap<ConnId, Watched>,
     conn: ConnId,
     watch: Watch,
-) -> Result<(), Memory>
+) -> Result<(), Watch>
     ensures ok { OnOk result (IsPut conn (Some (with_watch watch (kept_at (connection_of conn) by_conn.old.entries))) by_conn.old.entries by_conn.new.entries) }
     ensures err { OnErr result (IsKeptAsBefore by_conn.old.entries by_conn.new.entries) }
+    ensures back { IfErr result (λ back. back ≡ watch) }
 {
     if let Some(watched) = by_conn.get_mut(&conn) {
         watched.add(watch)?;
         return Ok(());
     }
-    by_conn.insert(conn, Watched::new(alloc, watch)?)?;
-    Ok(())
+    match by_conn.insert(conn, Watched::new(alloc, watch)?) {
+        Ok(_) => Ok(()),
+        Err(refused) => Err(refused.value.1.into_first()),
+    }
+}
+
+// Adds a watch to those of a connection, which stands at its name from now on. Where memory runs out nothing changes.
+fn begin(
+    alloc: Global,
+    by_conn: &mut BTreeMap<ConnId, Watched>,
+    by_name: &mut Names,
+    conn: ConnId,
+    watch: Watch,
+) -> Result<(), Memory>
+    requires was_indexed { IsIndexed by_conn.old.entries by_name.old.conns.entries }
+    ensures ok { OnOk result (IsPut conn (Some (with_watch watch (kept_at (connection_of conn) by_conn.old.entries))) by_conn.old.entries by_conn.new.entries) }
+    ensures err { OnErr result (IsKeptAsBefore by_conn.old.entries by_conn.new.entries) }
+    ensures indexed { IsIndexed by_conn.new.entries by_name.new.conns.entries }
+{
+    let is_new = by_name.add(watch.name(), conn)?;
+    let Err(watch) = add(alloc, by_conn, conn, watch) else {
+        return Ok(());
+    };
+    if is_new {
+        by_name.remove(watch.name(), conn);
+    }
+    Err(Memory)
 }
 
 // Keeps this as what a connection watches.
@@ -174,10 +200,10 @@ impl Watches {
         }) }
         ensures err { OnErr result (self.new ≡ self.old) }
     {
-        self.by_name.add(name.bytes(), conn)?;
-        add(
+        begin(
             self.alloc,
             &mut self.by_conn,
+            &mut self.by_name,
             conn,
             Watch::new(database, name, deadline),
         )?;

@@ -1,7 +1,7 @@
 -- What it means that one sequence explains a server of several nodes, and the law that there is one for every past.
 use Rattle.std.specs.Prelude.{◌≡◌, ◌<◌, ◌≤◌, ℕ, zero, suc, ◌+◌, Bool, true, false, not, cond, List, [], ◌∷◌, ◌++◌, length, map, take, drop, filter, flat_map, Contains, Some}
 use Rattle.std.specs.List.{range_with_len}
-use Rattle.nr_model.specs.Bytes.{Bytes}
+use Rattle.nr_model.specs.Bytes.{Bytes, IsBeginningOf}
 use Rattle.nr_model.specs.declared.command.Kind.{Kind}
 use Rattle.nr_model.specs.Items.{Connection, Item, Sequence, is_update}
 use Rattle.nr_model.specs.Sequential.{redis, past_of, emitted_for}
@@ -10,8 +10,8 @@ use Rattle.nr_model.specs.Sequential.Subscribers.{subscribers}
 use Rattle.nr_model.specs.Sequential.Watches.{is_spoiled}
 use Rattle.nr_model.specs.Servers.{database_in, subscribers_in, is_spoiled_in}
 use Rattle.nr_model.specs.Entries.{Jobs, entry_items}
-use Rattle.nr_model.specs.Worlds.{Setup, handed_to, own_jobs}
-use Rattle.nr_model.specs.Explains.{IsBeginningOf, Placed, placed_all, reads_in, jobs_of_feeds, cut_by, closing_job}
+use Rattle.nr_model.specs.Connections.{Setup, handed_to}
+use Rattle.nr_model.specs.Asked.{own_jobs, jobs_of_feeds, cut_by, closing_job}
 use Rattle.nr_model.specs.Nodes.{Taken, Entry, Reads, Batch, World, node_at, client_of, jobs_taken, part_of}
 use Rattle.nr_model.specs.Nodes.Steps.{is_client}
 use Rattle.nr_model.specs.Nodes.Pasts.{Event, Answering, IsPast, world_after, handed_in}
@@ -38,6 +38,21 @@ items_before count [] = 0
 items_before zero (taken ∷ more) = 0
 items_before (suc count) (Entry node jobs ∷ more) = length jobs + items_before count more
 items_before (suc count) (Reads node at jobs ∷ more) = items_before (suc count) more
+
+-- a read, and how many logged items stand before it
+pub record Placed : Type 0 where
+  pub before : ℕ
+  pub item : Item
+
+abbrev pub placed_all : ℕ → Jobs → List Placed
+placed_all before [] = []
+placed_all before (job ∷ jobs) = record { before = before; item = job } ∷ placed_all before jobs
+
+-- the reads of a sequence, each with the number of updates before it
+abbrev pub reads_in : ℕ → Sequence → List Placed
+reads_in before [] = []
+reads_in before (item ∷ items) =
+    cond (is_update item.deed) (reads_in (before + 1) items) (record { before = before; item = item } ∷ reads_in before items)
 
 -- the reads that looks ran, each behind all items of the entries that its node had applied
 abbrev pub placed_reads : List Taken → List Taken → List Placed

@@ -1,6 +1,6 @@
 -- What happened to a server of several nodes: its past, event by event.
 use Rattle.std.specs.Prelude.{◌≡◌, ℕ, ◌-◌, Bool, true, false, cond, List, [], ◌∷◌, flat_map, fold, Option, Some, None}
-use Rattle.nr_model.specs.Worlds.{Setup, Handed}
+use Rattle.nr_model.specs.Connections.{Setup, Handed}
 use Rattle.nr_model.specs.Nodes.{Empty, Posted, Lifted, Answered, Worker, World, fresh, node_at, worker_at}
 use Rattle.nr_model.specs.Nodes.Steps.{Step, Apply, Look, Collect, Outcome, Opened, Done, Idle, Refused, nothing_refused, outcome, collected, after_step}
 

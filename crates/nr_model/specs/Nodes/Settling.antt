@@ -3,7 +3,8 @@ use Rattle.std.specs.Prelude.{◌≡◌, ◌<◌, ◌≤◌, ℕ, zero, suc, ◌
 use Rattle.std.specs.List.{list_any, range_with_len}
 use Rattle.nr_model.specs.Items.{Connection}
 use Rattle.nr_model.specs.Sequential.{emitted_for}
-use Rattle.nr_model.specs.Worlds.{Setup, handed_to, own_jobs}
+use Rattle.nr_model.specs.Connections.{Setup, handed_to}
+use Rattle.nr_model.specs.Asked.{own_jobs}
 use Rattle.nr_model.specs.Nodes.{Slot, Empty, Posted, Lifted, Answered, Worker, Node, World, node_at, worker_at, tail_of, sequence_of}
 use Rattle.nr_model.specs.Nodes.Steps.{Step, Post, Lift, Reserve, Fill, Fetch, Apply, Look, Answer, Collect, Outcome, outcome, is_client}
 use Rattle.nr_model.specs.Nodes.Pasts.{Event, AreEvents, IsPast, after_event, handed_in, is_done}

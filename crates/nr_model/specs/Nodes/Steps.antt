@@ -12,7 +12,8 @@ use Rattle.nr_model.specs.Sequential.Events.{Emission}
 use Rattle.nr_model.specs.Servers.{fresh, after_all, emitted_all}
 use Rattle.nr_model.specs.Entries.{Jobs, entry_jobs, left_by_entry, read_jobs, left_by_reads, entry_items}
 use Rattle.nr_model.specs.Queues.{received, closed_queue}
-use Rattle.nr_model.specs.Worlds.{Setup, Handed, is_some_bytes, jobs_from, own_jobs, close_number}
+use Rattle.nr_model.specs.Connections.{Setup, Handed, is_some_bytes}
+use Rattle.nr_model.specs.Asked.{jobs_from, own_jobs, close_number}
 use Rattle.nr_model.specs.Nodes.{Client, fresh_client, Slot, Empty, Posted, Lifted, Answered, Worker, Node, Entry, Reads, Logged, World, node_at, worker_at, client_at, client_of, with_node, with_worker, with_client, log_of, logged_at, tail_of}
 
 pub data Step : Type 0 where

@@ -1,7 +1,7 @@
 use Rattle.std.proofs.Common.{arith, ◌≡◌, ◌≤◌, List, length, ◌++◌, get_or, ap, sym, ◌∙◌}
 use Rattle.std.specs.Prelude.{map}
 use Rattle.std.proofs.lemmas.List.{map-append}
-use Rattle.nr_model.specs.Worlds as worlds
+use Rattle.nr_model.specs.Connections as traffic
 use Rattle.nr_entry.specs.Jobs.{connection_of}
 use Rattle.nr_replica.specs.Members.{Member}
 use Rattle.nr_nodes.specs.Seen.{handed_seen}
@@ -22,6 +22,6 @@ returns-clause-handed c = λ d.
     let some = rw c.in-Some.is at c.in_ok-piece.ensures.some in
     ap (map handed_seen) c.in_ok-push.ensures.items
     ∙ map-append handed_seen c.args.handed.now.items _
-    ∙ ap (λ (more : List worlds.Handed). map handed_seen c.args.handed.now.items ++ more)
+    ∙ ap (λ (more : List traffic.Handed). map handed_seen c.args.handed.now.items ++ more)
     (some_waits c.waiting-waiting.result m (connection_of c.in-Some.piece.conn) c.in-Some.piece.bytes.items all (got.0
     ∙ sym (c.requires.named d)) got.2 some)

@@ -1,5 +1,5 @@
 use Rattle.std.proofs.Common.{◌≡◌, drop}
-use Rattle.nr_model.specs.Worlds.{own_jobs}
+use Rattle.nr_model.specs.Asked.{own_jobs}
 use Rattle.nr_entry.specs.Jobs.{connection_of, items_of}
 use Rattle.nr_nodes.specs.Dropped.{first_number}
 use Rattle.nr_nodes.proofs.dropping.first_own.Given as goal

@@ -7,8 +7,8 @@ use Rattle.nr_service.proofs.leaving.let_go.Goals as goal
 
 pub returns-clause-gone : goal.returns-clause-gone
 returns-clause-gone g c =
-    closed_one _ _ _ _ _ _ _ c.swap_remove-stream.result _ _ c.args.index c.requires c.swap_remove-stream.ensures.value c.swap_remove-stream.ensures.items
-    c.in_ok-close.ensures.closed
+    closed_one _ _ _ _ _ _ _ _ _ _ _ _ c.swap_remove-stream.result _ _ c.args.index c.requires c.swap_remove-stream.ensures.value
+    c.swap_remove-stream.ensures.items c.part.ensures c.in_ok-close.ensures.closed
 
 pub returns-clause-removed : goal.returns-clause-removed
 returns-clause-removed g c =

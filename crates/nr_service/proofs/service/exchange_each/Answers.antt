@@ -4,6 +4,9 @@ use Rattle.nr_service.proofs.Served.{serves_then}
 use Rattle.nr_service.proofs.Working.{exchanged}
 use Rattle.nr_service.proofs.service.exchange_each.Goals as goal
 
+pub returns-in_err-work_left-clause-err : goal.returns-in_err-work_left-clause-err
+returns-in_err-work_left-clause-err g c = on_err c.from_residual.result _ (leaves_all _ _ _ _ _ _ _)
+
 pub returns-in_err-read_each-clause-err : goal.returns-in_err-read_each-clause-err
 returns-in_err-read_each-clause-err g c =
     on_err c.from_residual-in_err-read_each.result _

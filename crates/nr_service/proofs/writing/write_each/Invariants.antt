@@ -1,5 +1,5 @@
 -- All were served so far, and they are of the same connections.
-use Rattle.std.proofs.Common.{ℕ, ◌≡◌, map}
+use Rattle.std.proofs.Common.{ℕ, ◌≡◌, [], map}
 use Rattle.nr_service.specs.Serving.{connection}
 use Rattle.nr_service.specs.Steps.{Serves, settled_past}
 use Rattle.nr_service.proofs.writing.write_each.Given as goal
@@ -8,6 +8,6 @@ abbrev pub invariant-loop-client : goal.invariant-loop-client
 invariant-loop-client g l = record {
   served : (now : ℕ) → Serves g.S.Stream.received g.S.Stream.sent g.S.Stream.has_ended
       (settled_past g.A.Answers.is_past g.A.Answers.is_settled) g.A.Answers.kept
-      now l.fn.answers l.answers l.fn.clients l.clients;
+      now [] l.fn.answers l.answers l.fn.clients l.clients;
   same : map connection l.clients ≡ map connection l.fn.clients;
 }

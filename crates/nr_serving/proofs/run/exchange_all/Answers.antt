@@ -5,6 +5,9 @@ use Rattle.nr_serving.proofs.run.exchange_all.Goals as goal
 pub loop-init : goal.loop-init
 loop-init g c = λ story a. starts _ _ _ _ _ story _ _ a
 
+pub loop-preserved : goal.loop-preserved
+loop-preserved g c = λ story a. (exchanged _ _ _ _ _ _ _ story _ _ _ _ (c.loop.invariant story a) c.in-Ok.ensures.ok).goes
+
 pub returns : goal.returns
 returns g c = λ story a. ends_at_last _ _ _ _ _ _ _ story _ _ (c.loop.invariant story a)
 

@@ -8,7 +8,7 @@ use Rattle.nr_model.specs.declared.fault.Fault.{Fault}
 use Rattle.nr_model.specs.Modes.{Mode, Conversation, conversation}
 use Rattle.nr_model.specs.Replies.{Error}
 use Rattle.nr_model.specs.Requests.{Frame, fault_text}
-use Rattle.nr_model.specs.Worlds.{jobs_from}
+use Rattle.nr_model.specs.Asked.{jobs_from}
 use Rattle.nr_resp.specs.Frames.{frames_seen}
 use Rattle.nr_resp.specs.Stream.{Stream}
 use Rattle.nr_resp.specs.declared.frame.Frame as code

@@ -26,13 +26,13 @@ returns-in-Some-clause-ok c =
           (c.in_ok-add.ensures.ok ∙ ap (with_watch c.args.watch) c.in-Some.ensures.value);
     }
 
-pub returns-clause-ok : goal.returns-clause-ok
-returns-clause-ok c =
+pub returns-in-Ok-clause-ok : goal.returns-in-Ok-clause-ok
+returns-in-Ok-clause-ok c =
     let old = c.args.by_conn.now.entries in
     let new = c.insert.new.self.entries in
-    let changes = rw c.get_mut.follows.holds-at-none at c.in_ok-insert.ensures.updates in
+    let changes = rw c.get_mut.follows.holds-at-none at c.in-Ok.ensures.updates in
     record {
       at = λ d. kept_changed old new c.args.conn (Some c.in_ok-new.field-0) changes.1 changes.3 d
           ∙ ap (λ (w : Watcher). cond (is_conn d c.args.conn) (Some w) (kept_at d old))
-          (c.in_ok-new.ensures ∙ ap (with_watch c.args.watch) c.in_default.ensures.value);
+          (c.in_ok-new.ensures.ok ∙ ap (with_watch c.args.watch) c.in_default.ensures.value);
     }

@@ -1,8 +1,9 @@
-use Rattle.std.proofs.Common.{[], false, Some, subst}
+use Rattle.std.proofs.Common.{false, subst}
 use Rattle.nr_entry.specs.Jobs.{connection_of}
 use Rattle.nr_service_ends.specs.Stories.{IsClosed}
 use Rattle.nr_answering.specs.State.{AnsweringState}
 use Rattle.nr_answering.specs.Led.{HasLedTo}
+use Rattle.nr_answering.specs.Stands.{IsGone}
 use Rattle.nr_answering.proofs.Told.{Kept, sound_kept, put_none, is_closed, gone_told}
 use Rattle.nr_answering.proofs.answering.AnsweringAnswers.close.Goals as goal
 
@@ -10,7 +11,7 @@ pub invariant_of-self-2 : goal.invariant_of-self-2
 invariant_of-self-2 c = λ up.
     let before = c.self.inside.taps.by_conn.entries in
     let after = c.close-2.new.self.by_conn.entries in
-    sound_kept c.self.inside.world c.close.new.world before after [] [] (Some (connection_of c.args.conn)) (c.self.invariant c.if-self.false) c.in_ok-close.ensures
+    sound_kept c.self.inside.world c.close.new.world before after c.in_ok-close.ensures.shut (c.self.invariant c.if-self.false) c.in_ok-close.ensures.moves
     (put_none before after c.args.conn c.close-2.ensures)
 
 pub returns-clause-closed : goal.returns-clause-closed
@@ -18,8 +19,8 @@ returns-clause-closed c =
     let conn = connection_of c.args.conn in
     let old : AnsweringState = record { world = c.self.inside.world; taps = c.self.inside.taps.by_conn.entries; failed = c.self.inside.has_failed } in
     let new : AnsweringState = record { world = c.close.new.world; taps = c.close-2.new.self.by_conn.entries; failed = false } in
-    subst (λ (a : AnsweringState). IsClosed conn (HasLedTo a) (HasLedTo new) (Kept a) (Kept new)) c.self.view_is
-    (is_closed old new c.args.conn c.in_ok-close.ensures c.close-2.ensures)
+    subst (λ (a : AnsweringState). IsClosed conn (IsGone a.world conn) (HasLedTo a) (HasLedTo new) (Kept a) (Kept new)) c.self.view_is
+    (is_closed old new c.args.conn (c.self.invariant c.if-self.false) c.in_ok-close.ensures c.close-2.ensures)
 
 pub returns-clause-gone : goal.returns-clause-gone
 returns-clause-gone c =

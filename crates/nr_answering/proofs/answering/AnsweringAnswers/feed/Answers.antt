@@ -1,8 +1,8 @@
-use Rattle.std.proofs.Common.{[], ◌∷◌, false, None, refl, subst}
+use Rattle.std.proofs.Common.{[], ◌∷◌, false, refl, subst}
 use Rattle.nr_model.specs.Keyspace.{moment}
-use Rattle.nr_model.specs.Worlds.{Feeding}
+use Rattle.nr_model.specs.Connections.{Feeding}
 use Rattle.nr_entry.specs.Jobs.{connection_of}
-use Rattle.nr_service_ends.specs.Stories.{IsFed}
+use Rattle.nr_service_ends.specs.Stories.{Fed, IsFed}
 use Rattle.nr_answering.specs.State.{AnsweringState}
 use Rattle.nr_answering.specs.Led.{HasLedTo}
 use Rattle.nr_answering.proofs.Told.{Kept, sound_kept, is_fed}
@@ -12,7 +12,7 @@ pub invariant_of-self-2 : goal.invariant_of-self-2
 invariant_of-self-2 c = λ up.
     let taps = c.self.inside.taps.by_conn.entries in
     let fed : Feeding = record { connection = connection_of c.args.conn; moment = moment c.args.moment; bytes = c.args.bytes.now } in
-    sound_kept c.self.inside.world c.feed.new.world taps taps (fed ∷ []) [] None (c.self.invariant c.if-self.false) c.in_ok-feed.ensures (λ d none. none)
+    sound_kept c.self.inside.world c.feed.new.world taps taps (Fed fed ∷ []) (c.self.invariant c.if-self.false) c.in_ok-feed.ensures (λ d none. none)
 
 pub returns : goal.returns
 returns c =

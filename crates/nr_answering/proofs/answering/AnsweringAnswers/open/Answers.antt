@@ -3,9 +3,12 @@ use Rattle.nr_entry.specs.Jobs.{connection_of}
 use Rattle.nr_service_ends.specs.Stories.{IsOpened, Keeps}
 use Rattle.nr_answering.specs.State.{AnsweringState}
 use Rattle.nr_answering.specs.Led.{HasLedTo}
+use Rattle.nr_answering.specs.Stands.{IsFull}
 use Rattle.nr_answering.proofs.Told.{Kept, sound_tapped, opened_told, none_told, full_told}
 use Rattle.std.specs.Prelude.{IfSome, IfNone}
 use Rattle.nr_entry.specs.declared.conn.ConnId.{ConnId}
+use Rattle.nr_answering.specs.Placing.{IsPlaced}
+use Rattle.nr_answering.proofs.Placed.{placed_told}
 use Rattle.nr_answering.proofs.answering.AnsweringAnswers.open.Goals as goal
 
 pub invariant_of-self-2 : goal.invariant_of-self-2
@@ -29,7 +32,16 @@ returns-clause-none c =
     subst (λ (a : AnsweringState). IfNone c.in_ok-opened.opened (Keeps (HasLedTo a) (HasLedTo new) (Kept a) (Kept new))) c.self.view_is
     (none_told old new c.in_ok-opened.opened c.in_ok-opened.ensures.moves c.in_ok-opened.ensures.taps)
 
+pub returns-clause-placed : goal.returns-clause-placed
+returns-clause-placed c =
+    subst (λ (a : AnsweringState). IfSome c.in_ok-opened.opened
+    (λ (conn : ConnId). IsPlaced a.world c.open_tapped.new.world c.args.number (connection_of conn)))
+    c.self.view_is
+    (placed_told c.self.inside.world c.open_tapped.new.world c.self.inside.taps.by_conn.entries c.args.number c.in_ok-opened.opened
+    (c.self.invariant c.if-self.false) c.in_ok-opened.ensures.placed)
+
 pub returns-clause-full : goal.returns-clause-full
 returns-clause-full c =
-    full_told c.self.inside.world c.open_tapped.new.world c.self.inside.taps.by_conn.entries c.in_ok-opened.opened (c.self.invariant c.if-self.false)
-    c.in_ok-opened.ensures.full
+    subst (λ (a : AnsweringState). IfNone c.in_ok-opened.opened (IsFull a.world)) c.self.view_is
+    (full_told c.self.inside.world c.self.inside.taps.by_conn.entries c.in_ok-opened.opened (c.self.invariant c.if-self.false)
+    c.in_ok-opened.ensures.full)

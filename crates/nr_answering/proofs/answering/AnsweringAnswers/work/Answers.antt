@@ -1,6 +1,6 @@
-use Rattle.std.proofs.Common.{[], false, None, map, refl, subst}
+use Rattle.std.proofs.Common.{false, map, refl, subst}
 use Rattle.nr_nodes.specs.Seen.{handed_seen}
-use Rattle.nr_service_ends.specs.Stories.{HasWorked}
+use Rattle.nr_service_ends.specs.Stories.{HandedOut, HasWorked}
 use Rattle.nr_answering.specs.State.{AnsweringState}
 use Rattle.nr_answering.specs.Led.{HasLedTo, IsAtRest}
 use Rattle.nr_answering.proofs.Told.{Kept, sound_kept, added_absent, has_worked}
@@ -11,7 +11,7 @@ invariant_of-self-2 c = λ up.
     let before = c.self.inside.taps.by_conn.entries in
     let after = c.put_each.new.self.by_conn.entries in
     let handed = map handed_seen c.in_ok-handed.handed.items in
-    sound_kept c.self.inside.world c.settle.new.world before after [] handed None (c.self.invariant c.if-self.false) c.in_ok-handed.ensures.moves
+    sound_kept c.self.inside.world c.settle.new.world before after (map HandedOut handed) (c.self.invariant c.if-self.false) c.in_ok-handed.ensures.moves
     (added_absent before after handed c.in_ok-put_each.ensures)
 
 pub returns : goal.returns

@@ -1,4 +1,4 @@
-use Rattle.std.proofs.Common.{◌≡◌, ◌≤◌, ◌+◌}
+use Rattle.std.proofs.Common.{◌≡◌, ◌+◌}
 use Rattle.std.specs.FinMap as map
 use Rattle.nr_model.specs.Bytes.{Bytes}
 use Rattle.nr_model.specs.Keyspace.{only_live}
@@ -7,5 +7,5 @@ use Rattle.nr_keyspace.proofs.database.Database.sweep_some.Given as goal
 abbrev pub invariant-loop : goal.invariant-loop
 invariant-loop l = record {
   same_live : (name : Bytes) → only_live l.now (map.get l.self name) ≡ only_live l.now (map.get l.fn.self name);
-  few : map.len l.fn.self ≤ map.len l.self + l.counter;
+  taken : map.len l.self + l.counter ≡ map.len l.fn.self;
 }

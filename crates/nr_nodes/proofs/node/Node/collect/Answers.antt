@@ -1,6 +1,6 @@
 use Rattle.std.proofs.Common.{rules, ◌≡◌, ◌++◌, None, List, get_or, refl, ap, ◌∙◌}
 use Rattle.std.specs.Prelude.{map}
-use Rattle.nr_model.specs.Worlds as worlds
+use Rattle.nr_model.specs.Connections as traffic
 use Rattle.nr_model.specs.Nodes as nodes
 use Rattle.nr_replica.specs.Members.{Member}
 use Rattle.nr_nodes.specs.declared.worker.Worker.{Worker}
@@ -37,7 +37,7 @@ returns-clause-handed c =
     let own = own_serials c.args.self.now.workers.items c.args.self.now.replica.members c.args.worker old c.deref.result.now c.requires.is_there at
     c.deref.ensures.value c.requires.listed in
     c.in_ok-collect.ensures.handed
-    ∙ ap (λ (more : List worlds.Handed). map handed_seen c.args.handed.now.items ++ more)
+    ∙ ap (λ (more : List traffic.Handed). map handed_seen c.args.handed.now.items ++ more)
     (collected_all c.args.worker c.deref.result.now c.args.self.now.replica.members own c.requires.listed.silent
     ∙ clients_collected c.args.worker c.args.self.now.sessions c.args.self.now.replica.members c.requires.clients)
 

@@ -1,7 +1,7 @@
 use Rattle.std.specs.Prelude.{not, filter, option_to_list}
 use Rattle.nr_entry.specs.Jobs.{connection_of, items_of}
 use Rattle.nr_model.specs.Items.{Item, same_connection}
-use Rattle.nr_model.specs.Worlds.{own_jobs}
+use Rattle.nr_model.specs.Asked.{own_jobs}
 use Rattle.nr_model.specs.Nodes.Steps.{close_job}
 use Rattle.nr_nodes.specs.Served.{client_seen}
 use Rattle.std.proofs.Common.{◌++◌, Some, None, ap, ◌∙◌}

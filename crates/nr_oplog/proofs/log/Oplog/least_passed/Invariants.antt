@@ -1,5 +1,5 @@
 use Rattle.std.proofs.Common.{◌≡◌, ℕ, ◌+◌, ◌<◌, ◌≤◌, List, ◌++◌, slice_index}
-use Rattle.nr_oplog.specs.declared.view.Look.{Look}
+use Rattle.nr_log_end.specs.declared.standing.Look.{Look}
 use Rattle.nr_oplog.specs.Seats.{IsSameSeat, CountsOf}
 use Rattle.nr_oplog.proofs.log.Oplog.least_passed.Given as goal
 

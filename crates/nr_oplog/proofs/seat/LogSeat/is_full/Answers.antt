@@ -1,5 +1,5 @@
 use Rattle.std.proofs.Common.{rules, ◌≡◌, List, ◌++◌}
-use Rattle.nr_oplog.specs.declared.view.Look.{Look}
+use Rattle.nr_log_end.specs.declared.standing.Look.{Look}
 use Rattle.nr_oplog.proofs.Seating.{only_counts}
 use Rattle.nr_oplog.proofs.seat.LogSeat.is_full.Goals as goal
 

@@ -1,6 +1,6 @@
 -- All are served where they were at first, and no more turns were taken than were asked for.
 use Rattle.std.proofs.Common.{◌≤◌}
-use Rattle.nr_model.specs.Worlds.{Setup}
+use Rattle.nr_model.specs.Connections.{Setup}
 use Rattle.nr_service.specs.Serving.{IsServing}
 use Rattle.nr_service.proofs.service.Service.serve.Given as goal
 

@@ -6,7 +6,7 @@ use Rattle.std.proofs.lemmas.Map.Keys.{IsDistinct-from_sorted}
 use Rattle.nr_model.specs.Servers.{Watch}
 use Rattle.nr_watch.specs.Kept.{Watcher, Kept, names_one, IsPut, IsAdded, IsIndexed}
 use Rattle.nr_watch.proofs.Seen.{seen_alike}
-use Rattle.nr_watch.proofs.Copying.{conn_cmp, IsCopied, copied_none, copied_more, copied_all, none_indexed, copy_indexed}
+use Rattle.nr_watch.proofs.Copying.{conn_cmp, IsCopied, copied_none, copied_more, copied_all, not_yet, none_indexed, copy_indexed}
 use Rattle.nr_watch.proofs.watches.Watches.copy.Goals as goal
 
 pub loop-conn-init : goal.loop-conn-init
@@ -17,7 +17,7 @@ loop-conn-init c =
           (subst (IsCopied all []) (sym (c.into_iter-conn-iterator.ensures.into_iter_gives ∙ c.iter-conn-items.ensures.rest))
           (copied_none all (IsDistinct-from_sorted conn_cmp (keys_of all) c.iter-conn-items.ensures.ordered)));
       indexed = subst (λ (copy : Kept). IsIndexed copy c.new-by_name.result.conns.entries) (sym c.new-by_conn.ensures.empty)
-          (none_indexed c.new-by_name.result.conns.entries);
+          (none_indexed c.new-by_name.result.conns.entries c.new-by_name.ensures);
     }
 
 pub loop-conn-preserved : goal.loop-conn-preserved
@@ -32,9 +32,10 @@ loop-conn-preserved c =
     let parts = rest_more deref_pair c.loop-conn.conn-iterator c.next.new.self c.next.result
     (c.in-Some.conn, c.in-Some.watched) c.in-Some.is c.next.ensures.steps in
     let put : IsPut conn (Some watched) copy new = subst (λ (w : Watcher). IsPut conn (Some w) copy new) c.in_ok-copy.ensures c.in_ok-put.ensures in
+    let so_far = subst (IsCopied all copy) parts c.loop-conn.invariant.copied in
     record {
-      copied = copied_more all copy new conn watched c.next.new.self (subst (IsCopied all copy) parts c.loop-conn.invariant.copied) put;
-      indexed = copy_indexed copy new before after conn watched c.loop-conn.invariant.indexed put
+      copied = copied_more all copy new conn watched c.next.new.self so_far put;
+      indexed = copy_indexed copy new before after conn watched c.loop-conn.invariant.indexed (not_yet all copy conn watched c.next.new.self so_far) put
           (subst (λ (watches : List Watch). IsAdded (λ name. names_one name watches) conn before after) c.watches.ensures c.in_ok-add_each.ensures);
     }
 

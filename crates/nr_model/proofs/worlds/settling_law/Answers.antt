@@ -1,5 +1,0 @@
-use Rattle.nr_model.proofs.NodesSettling.{nodes_settle}
-use Rattle.nr_model.proofs.worlds.settling_law.Goals as goal
-
-pub returns : goal.returns
-returns c = nodes_settle
