@@ -3,10 +3,8 @@
 #![tactic(auto)]
 
 use nr_config::{Task, WordsError, words};
-use nr_fault::Fault;
-use nr_server::{listen_on, serve_on, settings_on};
-use nr_service_ends::{MachineClock, Open};
-use nr_serving::{run_on, script_on};
+use nr_server::{Fault, listen_on, play_on, run_on, serve_on, settings_on};
+use nr_service::{MachineClock, Open};
 use std::hash::RandomState;
 use std::io::{self, ErrorKind};
 use std::process::ExitCode;
@@ -31,7 +29,7 @@ fn read_file(rt: &HostRuntime, file: &str, fault: Fault) -> io::Result<Result<Ve
 fn play_script(rt: &HostRuntime, file: &str) -> io::Result<Result<(), Fault>> {
     let keys = RandomState::new(rt)?;
     match read_file(rt, file, Fault::Script)? {
-        Ok(text) => Ok(script_on(rt.alloc(), keys, &text, &mut rt.stdout())),
+        Ok(text) => Ok(play_on(rt.alloc(), keys, &text, &mut rt.stdout())),
         Err(fault) => Ok(Err(fault)),
     }
 }

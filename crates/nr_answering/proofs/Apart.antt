@@ -10,7 +10,7 @@ use Rattle.nr_model.specs.Connections.{Setup, Handed, Feeding, Closing, handed_t
 use Rattle.nr_model.specs.Nodes.{Client, fresh_client, Node, World, no_node, node_at, client_of, with_node, log_of, tail_of}
 use Rattle.nr_model.specs.Nodes.Steps.{Step, Open, Feed, Post, Lift, Reserve, Fill, Fetch, Apply, Look, Answer, Collect, Close, Refuse, Reason, NoSuch, Ended, TooMany, Down, Outcome, Refused, idle_where, is_worker, is_client, in_use, collected, opened, outcome, advanced_by, effect, effect_by, after_step}
 use Rattle.nr_model.specs.Nodes.Pasts.{handed_by}
-use Rattle.nr_service_ends.specs.Stories.{Occurrence, opened_in, fed_in, handed_in, closed_in, is_among}
+use Rattle.nr_service.specs.Stories.{Occurrence, opened_in, fed_in, handed_in, closed_in, is_among}
 use Rattle.nr_answering.proofs.Names.{name_of, names, AreAlike, by_outcome, is_open, step_alike}
 
 abbrev pub connection_at : ℕ → ℕ → Connection

@@ -4,7 +4,7 @@ use Rattle.nr_model.specs.Connections.{handed_to}
 use Rattle.nr_model.specs.Nodes.Pasts.{handed_in}
 use Rattle.nr_model.specs.Nodes.Explained.{waiting_for}
 use Rattle.nr_model.proofs.NodesExplained.{nodes_are_explained}
-use Rattle.nr_service_ends.specs.Stories.{Occurrence, handed_in as pieces_in}
+use Rattle.nr_service.specs.Stories.{Occurrence, handed_in as pieces_in}
 use Rattle.nr_answering.specs.Led.{StoryLaw}
 use Rattle.nr_answering.proofs.Occurred.{told_handed}
 

@@ -9,9 +9,9 @@ use Rattle.nr_model.specs.Connections.{Setup, Feeding, Closing}
 use Rattle.nr_model.specs.Nodes.{World, node_at}
 use Rattle.nr_model.specs.Nodes.Steps.{Step, Open, Feed, Post, Lift, Reserve, Fill, Fetch, Apply, Look, Answer, Collect, Close, Refuse, NoSuch, TooMany, Down, Outcome, Opened, Done, Idle, Refused, idle_where, is_worker, is_client, in_use, outcome, opened, effect_by, after_step}
 use Rattle.nr_model.specs.Nodes.Pasts.{Event, is_done, handed_in}
-use Rattle.nr_service_ends.specs.Stories as stories
-use Rattle.nr_service_ends.specs.Stories.{Occurrence, HandedOut, opened_in, fed_in, closed_in}
-use Rattle.nr_service_ends.proofs.Occurrences.{opened_both, fed_both, handed_both, closed_both, pieces_opened, pieces_fed, pieces_handed, pieces_closed}
+use Rattle.nr_service.specs.Stories as stories
+use Rattle.nr_service.specs.Stories.{Occurrence, HandedOut, opened_in, fed_in, closed_in}
+use Rattle.nr_service.proofs.Occurrences.{opened_both, fed_both, handed_both, closed_both, pieces_opened, pieces_fed, pieces_handed, pieces_closed}
 use Rattle.nr_answering.specs.Told.{told_by, told_of, told_in}
 use Rattle.nr_answering.proofs.Names.{by_outcome}
 use Rattle.nr_answering.proofs.Apart.{connection_at, is_there, is_feed, effect_fed, is_close, effect_closed, opened_count, other_client}

@@ -15,8 +15,8 @@ use Rattle.nr_model.specs.Nodes.Steps.{Step, Open, Feed, Post, Lift, Reserve, Fi
 use Rattle.nr_model.specs.Nodes.Pasts.{Event, AreEvents, IsEvent, IsPast, is_done, handed_by, after_event, handed_in}
 use Rattle.nr_model.specs.Nodes.Settling.{IsRound, AreRounds, after_events, for_workers, lifting, reserving, in_turn, applying, answering, round_of}
 use Rattle.nr_nodes.specs.Settles.{events_of}
-use Rattle.nr_service_ends.specs.Stories.{Occurrence, HandedOut, opened_in, fed_in, handed_in as pieces_in, closed_in, is_among}
-use Rattle.nr_service_ends.proofs.Occurrences.{opened_both, fed_both, handed_both as pieces_both, closed_both}
+use Rattle.nr_service.specs.Stories.{Occurrence, HandedOut, opened_in, fed_in, handed_in as pieces_in, closed_in, is_among}
+use Rattle.nr_service.proofs.Occurrences.{opened_both, fed_both, handed_both as pieces_both, closed_both}
 use Rattle.nr_answering.specs.Told.{told_of, told_in}
 use Rattle.nr_answering.proofs.Names.{names, is_open, step_alike}
 use Rattle.nr_answering.proofs.Apart.{AreOwn, IsApart, Grows, alike_grows, grows_absent, other_client, fed_more, handed_more, handed_apart, by_hand, step_own, is_feed, step_fed, feed_by, open_by, opened_own, opened_grows}

@@ -12,10 +12,10 @@ use Rattle.nr_model.specs.Nodes.{Client, fresh_client, Node, no_node, World, nod
 use Rattle.nr_model.specs.Nodes.Steps.{Step, Open, Feed, Close, NoSuch, Ended, TooMany, Down, Outcome, Opened, Done, Idle, Refused, idle_where, is_worker, is_client, in_use, outcome, closed_client, closed_node, closed, effect_by, after_step}
 use Rattle.nr_model.specs.Nodes.Pasts.{Event, IsPast}
 use Rattle.nr_model.specs.Nodes.Settling.{after_events}
-use Rattle.nr_service_ends.specs.Stories as stories
-use Rattle.nr_service_ends.specs.Stories.{Occurrence, opened_in}
-use Rattle.nr_service_ends.proofs.Occurrences.{pieces_opened}
-use Rattle.nr_service_ends.specs.declared.answers.Standing.TheVariants as standings
+use Rattle.nr_service.specs.Stories as stories
+use Rattle.nr_service.specs.Stories.{Occurrence, opened_in}
+use Rattle.nr_service.proofs.Occurrences.{pieces_opened}
+use Rattle.nr_service.specs.declared.answers.Standing.TheVariants as standings
 use Rattle.nr_nodes.specs.Standing.{has_ended}
 use Rattle.nr_nodes.specs.WorldState.{WorldState, Shows}
 use Rattle.nr_nodes.specs.Taken.{Steps}

@@ -18,8 +18,8 @@ use Rattle.nr_entry.specs.Jobs.{connection_of}
 use Rattle.nr_nodes.specs.Served.{node_seen}
 use Rattle.nr_nodes.specs.WorldState.{WorldState, Shows}
 use Rattle.nr_nodes.specs.Settles.{Settles, events_of}
-use Rattle.nr_service_ends.specs.Stories.{Occurrence, Opened, Fed, HandedOut, Closed, Story, IsOpened, IsFed, HasWorked, IsShut, IsClosed, Keeps, opened_in, fed_in, handed_in, is_among, going_on}
-use Rattle.nr_service_ends.proofs.Occurrences.{going_none}
+use Rattle.nr_service.specs.Stories.{Occurrence, Opened, Fed, HandedOut, Closed, Story, IsOpened, IsFed, HasWorked, IsShut, IsClosed, Keeps, opened_in, fed_in, handed_in, is_among, going_on}
+use Rattle.nr_service.proofs.Occurrences.{going_none}
 use Rattle.nr_answering.specs.Kept.{Taps, is_conn, kept_at, IsPut, AreKept, IsTapped}
 use Rattle.nr_answering.specs.State.{AnsweringState, IsSound}
 use Rattle.nr_answering.specs.Told.{told_of, told_in, opening}

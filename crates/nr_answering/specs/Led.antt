@@ -9,7 +9,7 @@ use Rattle.nr_model.specs.Nodes.Pasts.{Event, IsPast}
 use Rattle.nr_model.specs.Nodes.Explained.{Explains}
 use Rattle.nr_model.specs.Nodes.Settling.{IsSettled}
 use Rattle.nr_nodes.specs.WorldState.{Shows}
-use Rattle.nr_service_ends.specs.Stories.{Story, bytes_handed}
+use Rattle.nr_service.specs.Stories.{Story, bytes_handed}
 use Rattle.nr_answering.specs.Kept.{kept_at}
 use Rattle.nr_answering.specs.State.{AnsweringState}
 use Rattle.nr_answering.specs.Told.{told_in}

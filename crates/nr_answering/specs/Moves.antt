@@ -8,7 +8,7 @@ use Rattle.nr_model.specs.Nodes.Pasts.{Event, AreEvents, IsPast}
 use Rattle.nr_model.specs.Nodes.Settling.{after_events}
 use Rattle.nr_nodes.specs.Settles.{Settles}
 use Rattle.nr_nodes.specs.WorldState.{WorldState, Shows}
-use Rattle.nr_service_ends.specs.Stories.{Occurrence, HandedOut, Closed, opened_in}
+use Rattle.nr_service.specs.Stories.{Occurrence, HandedOut, Closed, opened_in}
 use Rattle.nr_answering.specs.Stands.{is_gone, takes_none, IsGone, IsFull}
 use Rattle.nr_answering.specs.Told.{told_in}
 

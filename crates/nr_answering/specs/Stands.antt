@@ -7,8 +7,8 @@ use Rattle.nr_model.specs.Nodes.{Node, World, node_at, client_of}
 use Rattle.nr_model.specs.Nodes.Steps.{is_client, in_use}
 use Rattle.nr_nodes.specs.Standing.{has_ended}
 use Rattle.nr_nodes.specs.WorldState.{WorldState, Shows}
-use Rattle.nr_service_ends.specs.declared.answers.Standing.{Standing}
-use Rattle.nr_service_ends.specs.declared.answers.Standing.TheVariants as standings
+use Rattle.nr_service.specs.declared.answers.Standing.{Standing}
+use Rattle.nr_service.specs.declared.answers.Standing.TheVariants as standings
 use Rattle.nr_answering.specs.State.{AnsweringState}
 
 -- in a world: its node is down, or it takes no more bytes, or it takes them
@@ -19,8 +19,10 @@ standing_in world c = cond (node_at c.node world).down standings.Down (cond (has
 abbrev pub StandsIn : WorldState → Connection → Standing → Type 0
 StandsIn v c standing = (world : World) → Shows v world → standing ≡ standing_in world c
 
-abbrev pub Stands : AnsweringState → Connection → Standing → Type 0
-Stands a c standing = a.failed ≡ false → StandsIn a.world c standing
+-- where memory ran out each is down
+pub record Stands (a : AnsweringState) (c : Connection) (standing : Standing) : Type 0 where
+  pub failed : a.failed ≡ true → standing ≡ standings.Down
+  pub works : a.failed ≡ false → StandsIn a.world c standing
 
 -- In a world a connection takes no room: it was never opened there, its node is down, or it was closed.
 abbrev pub is_gone : World → Connection → Bool
@@ -38,5 +40,10 @@ abbrev pub IsFull : WorldState → Type 0
 IsFull v = (world : World) → Shows v world → list_all (takes_none v.setup) world.nodes ≡ true
 
 -- whether every node is down, in each world that is shown
-abbrev pub AreDown : AnsweringState → Bool → Type 0
-AreDown a down = a.failed ≡ false → (world : World) → Shows a.world world → down ≡ list_all (λ node. node.down) world.nodes
+abbrev pub AreDownIn : WorldState → Bool → Type 0
+AreDownIn v down = (world : World) → Shows v world → down ≡ list_all (λ node. node.down) world.nodes
+
+-- where memory ran out they are
+pub record AreDown (a : AnsweringState) (down : Bool) : Type 0 where
+  pub failed : a.failed ≡ true → down ≡ true
+  pub works : a.failed ≡ false → AreDownIn a.world down

@@ -4,7 +4,7 @@ use Rattle.nr_model.specs.Items.{Connection}
 use Rattle.nr_model.specs.Keyspace.{moment}
 use Rattle.nr_model.specs.Nodes.Steps.{Step, Open, Feed, Close, Outcome, Opened, Done, Idle}
 use Rattle.nr_model.specs.Nodes.Pasts.{Event, is_done}
-use Rattle.nr_service_ends.specs.Stories as stories
+use Rattle.nr_service.specs.Stories as stories
 
 -- an open that was done
 abbrev pub opened_by : Outcome → List stories.Occurrence

@@ -8,14 +8,14 @@ ghost use Rattle.nr_answering.specs.Moves.{Moves, FindsFull};
 ghost use Rattle.nr_answering.specs.Placing.{Places};
 ghost use Rattle.nr_answering.specs.Led.{HasLedTo};
 ghost use Rattle.nr_answering.specs.Told.{opening};
-ghost use Rattle.nr_service_ends.specs.Stories.{beginning};
+ghost use Rattle.nr_service.specs.Stories.{beginning};
 
 use crate::moving;
 use crate::taps::Taps;
 use nr_blob::Memory;
 use nr_entry::ConnId;
 use nr_nodes::{Setup, World};
-use nr_service_ends::{Answers, Standing};
+use nr_service::{Answers, Standing};
 use std::alloc::Global;
 use std::hash::RandomState;
 use std::marker::Model;

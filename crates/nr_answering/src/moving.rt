@@ -1,24 +1,21 @@
 // What a service asks of the nodes, as steps of their world.
 ghost use Rattle.std.specs.Prelude.{◌≡◌, ◌<◌, ◌%◌, ◌/◌, true, [], ◌∷◌, IfOk, IfSome, IfNone, OnOk, length, map};
-ghost use Rattle.std.specs.List.{list_all};
 ghost use Rattle.std.specs.Option.{option_map};
 ghost use Rattle.nr_model.specs.Keyspace.{moment as moment_of};
-ghost use Rattle.nr_model.specs.Nodes as nodes;
 ghost use Rattle.nr_model.specs.Nodes.Steps.{is_worker};
 ghost use Rattle.nr_entry.specs.Jobs.{connection_of};
 ghost use Rattle.nr_nodes.specs.Seen.{handed_seen};
-ghost use Rattle.nr_nodes.specs.WorldState.{Shows};
-ghost use Rattle.nr_service_ends.specs.declared.answers.Standing.TheVariants as standings;
+ghost use Rattle.nr_service.specs.declared.answers.Standing.TheVariants as standings;
 ghost use Rattle.nr_answering.specs.Placing.{Places, StandsAt};
 ghost use Rattle.nr_answering.specs.Moves.{Closes, FindsFull, Moves, Refuses, Rests};
-ghost use Rattle.nr_answering.specs.Stands.{StandsIn};
+ghost use Rattle.nr_answering.specs.Stands.{StandsIn, AreDownIn};
 ghost use Rattle.nr_answering.specs.Told.{opening};
-ghost use Rattle.nr_service_ends.specs.Stories.{Fed};
+ghost use Rattle.nr_service.specs.Stories.{Fed};
 
 use nr_blob::Memory;
 use nr_entry::ConnId;
 use nr_nodes::{Handed, Outcome, Setup, World};
-use nr_service_ends::Standing;
+use nr_service::Standing;
 
 // A worker of a node.
 #[derive(Clone, Copy)]
@@ -113,7 +110,7 @@ pub(crate) fn standing(world: &World, conn: ConnId) -> Standing
 /// Whether every node is down.
 pub(crate) fn is_down(world: &World) -> bool
     requires { length world.now.nodes ≡ world.now.setup.nodes }
-    ensures { (shown : nodes.World) → Shows world.now shown → result ≡ list_all (λ node. node.down) shown.nodes }
+    ensures { AreDownIn world.now result }
 {
     for node in 0..world.setup().nodes() {
         if !world.is_down(node) {

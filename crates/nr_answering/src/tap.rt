@@ -1,5 +1,5 @@
 // What was handed out for one connection and not yet written.
-ghost use Rattle.std.specs.Prelude.{◌≡◌, ◌≤◌, ◌++◌, [], drop, length, OnOk};
+ghost use Rattle.std.specs.Prelude.{◌≡◌, ◌≤◌, ◌+◌, ◌++◌, [], drop, length, OnOk};
 
 use nr_blob::Memory;
 use std::alloc::Global;
@@ -14,14 +14,15 @@ pub(crate) struct Tap {
 }
 
 impl Model for Tap {
-    ghost use Rattle.std.specs.Prelude.{◌≤◌, drop, length};
+    ghost use Rattle.std.specs.Prelude.{◌≤◌, ◌+◌, drop, length};
     ghost use Rattle.nr_model.specs.Bytes.{Bytes};
 
     ghost Value = { Bytes };
 
     ghost view = { λ t. drop t.start t.buffer.items };
 
-    ghost invariant = { λ t. t.start ≤ length t.buffer.items };
+    // At most half of the buffer was written, so it is never more than twice what is kept.
+    ghost invariant = { λ t. t.start + t.start ≤ length t.buffer.items };
 }
 
 impl Tap {
@@ -39,7 +40,7 @@ impl Tap {
     pub(crate) fn put(&mut self, piece: Vec<u8>) -> Result<(), Memory>
         ensures { OnOk result (self.new ≡ self.old ++ piece.items) }
     {
-        if self.start == self.buffer.len() {
+        if self.buffer.is_empty() {
             self.buffer = piece;
             self.start = 0;
             return Ok(());
@@ -67,7 +68,7 @@ impl Tap {
 fn drop_front(buffer: &mut Vec<u8>, start: usize) -> usize
     requires { start ≤ length buffer.old.items }
     ensures left { drop result buffer.new.items ≡ drop start buffer.old.items }
-    ensures bound { result ≤ length buffer.new.items }
+    ensures half { result + result ≤ length buffer.new.items }
 {
     if start < buffer.len() - start {
         return start;

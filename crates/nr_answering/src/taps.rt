@@ -5,7 +5,7 @@ ghost use Rattle.nr_model.specs.Bytes.{Bytes};
 ghost use Rattle.nr_model.specs.Items.{Connection};
 ghost use Rattle.nr_entry.specs.Jobs.{connection_of};
 ghost use Rattle.nr_nodes.specs.Seen.{handed_seen};
-ghost use Rattle.nr_service_ends.specs.Stories.{kept_bytes};
+ghost use Rattle.nr_service.specs.Stories.{kept_bytes};
 ghost use Rattle.nr_answering.specs.Kept.{kept_at, IsPut, AreKept};
 
 use crate::tap::Tap;

@@ -6,7 +6,7 @@ use Rattle.nr_model.specs.declared.command.Operation.TheVariants as operations
 use Rattle.nr_model.specs.declared.command.Session.TheVariants as sessions
 use Rattle.nr_model.specs.Items.{Call, Deed, Say, Act, Run, Abort, End}
 use Rattle.nr_resp.specs.Seen.{reply_of}
-use Rattle.nr_command.specs.Check.{call}
+use Rattle.nr_resp.specs.Check.{call}
 use Rattle.nr_entry.specs.declared.job.JobKind.{JobKind}
 use Rattle.nr_entry.specs.declared.job.JobKind.TheVariants as kinds
 use Rattle.nr_entry.specs.declared.job.Queueable.{Queueable}

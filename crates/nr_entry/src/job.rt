@@ -4,9 +4,8 @@ ghost use Rattle.nr_model.specs.Keyspace.{last_moment};
 
 use crate::conn::ConnId;
 use nr_blob::{Blob, Memory};
-use nr_command::copy_words;
 use nr_model::command::{Change, Kind, Look, Operation};
-use nr_resp::Reply;
+use nr_resp::{Reply, copy_words};
 
 /// A command that a transaction may hold.
 #[derive(Clone, Copy, Debug, PartialEq, Eq)]

@@ -1,10 +1,11 @@
 -- A key that is given what it has.
-use Rattle.std.proofs.Common.{◌≡◌, ℕ, Bool, true, false, cond, refl, ap, sym, ◌∙◌}
+use Rattle.std.proofs.Common.{◌≡◌, ℕ, Bool, true, false, cond, refl, ap, sym, ◌∙◌, subst}
 use Rattle.std.specs.Prelude.{Option, Some, None, Result, Ok, Err}
 use Rattle.std.specs.Result.{IsErr, IsErrAnd}
 use Rattle.std.specs.FinMap as map
 use Rattle.std.specs.Ordering.{eq_by_cmp}
-use Rattle.nr_model.specs.Keyspace.{Key, key_cmp, Stored, Keyspace, Value}
+use Rattle.nr_model.specs.Bytes.{Bytes}
+use Rattle.nr_model.specs.Keyspace.{Key, key_cmp, key_of, Stored, Keyspace, Value}
 use Rattle.nr_model.specs.Commands.Shape.{Done, Effect, refused, refusal, staying}
 use Rattle.nr_model.specs.declared.refused.Refused.{Refused}
 use Rattle.nr_keyspace.specs.Edited.{IsEdited}
@@ -44,6 +45,16 @@ ended_by : {T : Type 0} (after : T → Key → T) (r : Result code.Reply Failure
     → IsErr r × IsErrAnd r (λ failure. failure ≡ failures.Refused why) → IsDone after (refusal why) new database told told done → Performs after r new database told told done
 ended_by after (Ok reply) new database told why done is holds = absurd (cc is.0)
 ended_by after (Err failure) new database told why done is holds = rw is.1 holds
+
+-- what an edit did to a key by its name, in a keyspace whose keys are all live
+pub edited_here : {Given : Type 0} (edits : Value → Value → Given → Type 0) (old new seen : Keyspace) (database : ℕ) (name bytes : Bytes) (found given : Option Given)
+    → bytes ≡ name → seen ≡ old → found ≡ given
+    → IsEdited edits old new (key_of database bytes) (map.get seen (key_of database bytes)) found
+    → IsEdited edits old new (key_of database name) (map.get old (key_of database name)) given
+edited_here {Given} edits old new seen database name bytes found given named swept is edited =
+    subst (λ (g : Option Given). IsEdited edits old new (key_of database name) (map.get old (key_of database name)) g) is
+    (subst (λ (m : Keyspace). IsEdited edits old new (key_of database name) (map.get m (key_of database name)) found) swept
+    (subst (λ (b : Bytes). IsEdited edits old new (key_of database b) (map.get seen (key_of database b)) found) named edited))
 
 -- an edit that is refused, and leaves the value: the refusal ends the body
 pub refused_edit : {T Given : Type 0} (after : T → Key → T) (edits : Value → Value → Given → Type 0) (old new : Keyspace) (key : Key) (database : ℕ) (told : T) (r : Result code.Reply Failure) (why : Refused) (given : Given) (effect : Effect)

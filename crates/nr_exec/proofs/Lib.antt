@@ -8,6 +8,7 @@ pub mod Looking
 pub mod Missing
 pub mod Options
 pub mod Overlong
+pub mod Redated
 pub mod Refusals
 pub mod Removals
 pub mod Swapped

@@ -1,4 +1,4 @@
--- The options of the code, and the words that say them.
+-- The words that say options.
 use Rattle.std.specs.Prelude.{ℕ, ℤ, suc, true, false, List, [], ◌∷◌, Option, Some, None, Ok, codes, if◌then◌else◌}
 use Rattle.nr_model.specs.Bytes.{Bytes}
 use Rattle.nr_model.specs.Commands.Reading.{Read, fault, read_then, positive_expiry, is_word}
@@ -6,17 +6,6 @@ use Rattle.nr_model.specs.Commands.Strings as strings
 use Rattle.nr_model.specs.declared.command.Timing.{Timing}
 use Rattle.nr_model.specs.declared.refused.Refused.TheVariants.{Syntax}
 use Rattle.nr_model.specs.declared.refused.Expiring.{Expiring}
-use Rattle.nr_exec.specs.declared.strings.options.SetOptions.{SetOptions}
-use Rattle.nr_exec.specs.declared.strings.options.GetExOptions.{GetExOptions}
-
--- the options of SET that the code's stand for
-abbrev pub set_options_of : SetOptions → strings.SetOptions
-set_options_of options =
-    record { nx = options.nx; xx = options.xx; get = options.get; keep = options.keep; times = options.times; deadline = options.deadline }
-
--- and those of GETEX
-abbrev pub get_ex_options_of : GetExOptions → strings.GetExOptions
-get_ex_options_of options = record { persist = options.persist; times = options.times; deadline = options.deadline }
 
 -- no options of GETEX
 abbrev pub no_get_ex_options : strings.GetExOptions

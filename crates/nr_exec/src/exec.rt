@@ -10,10 +10,9 @@ use crate::failure::Failure;
 use crate::touched::Touched;
 use crate::{keys, server, strings};
 use nr_blob::{Blob, Memory};
-use nr_command::arguments;
 use nr_keyspace::{Db, Keyspace};
 use nr_model::command::{Change, Look};
-use nr_resp::{Reply, Shown};
+use nr_resp::{Reply, Shown, arguments};
 use std::alloc::Global;
 
 /// The reply of a command that only looks, at a moment in milliseconds, for a connection whose database this is. The words are

@@ -19,6 +19,8 @@ use std::alloc::Global;
 use std::hash::RandomState;
 use std::marker::Model;
 
+pub(crate) mod sweeps;
+
 /// Keys with their values and deadlines, in sixteen databases, as they are stored.
 #[derive(Drop)]
 pub(crate) struct Databases {
@@ -212,15 +214,15 @@ impl Databases {
         clear_each(alloc, &mut self.databases);
     }
 
-    /// Takes each key out that is gone at the moment. It looks at those alone, found by their deadlines.
-    pub(crate) fn sweep(&mut self, now: u64)
+    // Takes each key out that is gone at the moment. It looks at those alone, found by their deadlines.
+    fn sweep(&mut self, now: u64)
         ensures { self.new ≡ model.live self.old now }
     {
         sweep_each(&mut self.databases, now);
     }
 
-    /// Takes a few of the keys of one database out that are gone at the moment. Says whether there may be more.
-    pub(crate) fn sweep_some(&mut self, now: u64, database: Db) -> bool
+    // Takes a few of the keys of one database out that are gone at the moment. Says whether there may be more.
+    fn sweep_some(&mut self, now: u64, database: Db) -> bool
         ensures same_live { model.live self.new now ≡ model.live self.old now }
         ensures swept { IsSweptAt now database result self.old self.new }
     {

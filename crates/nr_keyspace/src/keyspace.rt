@@ -1,5 +1,5 @@
 // The databases as commands see them: what was gone at the latest sweep is out of the view, whenever its memory is given back.
-ghost use Rattle.std.specs.Prelude.{◌≡◌, ◌<◌, ◌^◌, not, ◌==◌, cond, true, length, None, IfOk, OnOk, OnErr, IfSome, OnSome, IfNone, is_some};
+ghost use Rattle.std.specs.Prelude.{◌≡◌, ◌<◌, ◌^◌, not, ◌==◌, cond, length, None, IfOk, OnOk, OnErr, IfSome, OnSome, IfNone, is_some};
 ghost use Rattle.std.specs.Option.{option_map};
 ghost use Rattle.std.specs.FinMap as map;
 ghost use Rattle.nr_model.specs.Keyspace as model;
@@ -8,17 +8,14 @@ ghost use Rattle.nr_keyspace.specs.Values.{value_of};
 ghost use Rattle.nr_keyspace.specs.Edited.{IsEdited};
 ghost use Rattle.nr_keyspace.specs.Stores.{is_undated, redated};
 ghost use Rattle.nr_keyspace.specs.Joined.{key_of, exchanged};
-ghost use Rattle.nr_keyspace.specs.Seen.{seen_after, is_seen_after};
-ghost use Rattle.nr_keyspace.specs.Swept.{IsSweptInTurn};
 
 use crate::databases::Databases;
+use crate::databases::sweeps::Sweeps;
 use crate::db::Db;
 use crate::edit::Edit;
-use crate::moment::is_live;
 use crate::value::Value;
 use nr_blob::{Blob, Memory};
 use std::alloc::Global;
-use std::cmp;
 use std::hash::RandomState;
 use std::marker::Model;
 
@@ -27,10 +24,7 @@ use std::marker::Model;
 #[derive(Drop)]
 pub struct Keyspace {
     databases: Databases,
-    // The latest moment of a sweep.
-    latest: Option<u64>,
-    // The database that the next sweep looks at.
-    turn: Db,
+    sweeps: Sweeps,
 }
 
 impl Model for Keyspace {
@@ -41,42 +35,7 @@ impl Model for Keyspace {
 
     ghost coded = { model.coded_keyspace };
 
-    ghost view = { λ k. seen_after k.latest k.databases };
-}
-
-// The moment at which what is stored and live is what is seen and live now.
-fn later(latest: Option<u64>, now: u64) -> u64
-    ensures { (keyspace : model.Keyspace) → model.live (seen_after latest keyspace) now ≡ model.live keyspace result }
-{
-    match latest {
-        Some(latest) => cmp::max(latest, now),
-        None => now,
-    }
-}
-
-// The latest sweep, where a key with this deadline is seen after it. Else each key that is gone is taken out for good, and nothing is hidden.
-fn settle(databases: &mut Databases, latest: Option<u64>, deadline: Option<i64>) -> Option<u64>
-    ensures same { seen_after result databases.new ≡ seen_after latest databases.old }
-    ensures seen { is_seen_after result deadline ≡ true }
-{
-    let moment = latest?;
-    if is_live(moment, deadline) {
-        return latest;
-    }
-    databases.sweep(moment);
-    None
-}
-
-// Takes a few of the keys out that are gone at the moment, of the database whose turn it is. The turn passes on exactly where none of
-// them is left there.
-fn sweep_in_turn(databases: &mut Databases, turn: &mut Db, now: u64)
-    ensures same_live { model.live databases.new now ≡ model.live databases.old now }
-    ensures swept { IsSweptInTurn now turn.old turn.new databases.old databases.new }
-{
-    if databases.sweep_some(now, *turn) {
-        return;
-    }
-    *turn = turn.next();
+    ghost view = { λ k. seen_after k.sweeps.latest k.databases };
 }
 
 impl Keyspace {
@@ -86,8 +45,7 @@ impl Keyspace {
     {
         Ok(Keyspace {
             databases: Databases::new(alloc, keys)?,
-            latest: None,
-            turn: Db::FIRST,
+            sweeps: Sweeps::none(),
         })
     }
 
@@ -97,8 +55,7 @@ impl Keyspace {
     {
         Ok(Keyspace {
             databases: self.databases.copy()?,
-            latest: self.latest,
-            turn: self.turn,
+            sweeps: self.sweeps,
         })
     }
 
@@ -107,7 +64,7 @@ impl Keyspace {
         ensures { option_map (λ value. value_of value.now) result
             ≡ option_map (λ stored. stored.value) (map.get (model.live self.now now) (key_of database name.now)) }
     {
-        self.databases.get(later(self.latest, now), database, name)
+        self.databases.get(self.sweeps.later(now), database, name)
     }
 
     /// The deadline of a live key, if it has one.
@@ -115,7 +72,7 @@ impl Keyspace {
         ensures { result ≡ option_map (λ stored. stored.deadline) (map.get (model.live self.now now) (key_of database name.now)) }
     {
         self.databases
-            .deadline(later(self.latest, now), database, name)
+            .deadline(self.sweeps.later(now), database, name)
     }
 
     /// How many keys are live in a database. Looks at each deadline that has passed and whose key was not yet taken out.
@@ -123,15 +80,14 @@ impl Keyspace {
         ensures count { result ≡ length (names_in (model.live self.now now) database) }
         ensures small { result < 2 ^ 63 }
     {
-        self.databases.len(later(self.latest, now), database)
+        self.databases.len(self.sweeps.later(now), database)
     }
 
     /// The names of a database's live keys, in byte order. Looks at every key of the database.
     pub fn keys(&self, alloc: Global, now: u64, database: Db) -> Result<Vec<Blob>, Memory>
         ensures { IfOk result (λ names. names.items ≡ names_in (model.live self.now now) database) }
     {
-        self.databases
-            .keys(alloc, later(self.latest, now), database)
+        self.databases.keys(alloc, self.sweeps.later(now), database)
     }
 
     /// Stores a value and its deadline in the place of whatever the key had. Where memory runs out nothing changes. With a deadline
@@ -146,7 +102,7 @@ impl Keyspace {
         ensures ok { OnOk result (self.new ≡ map.insert self.old (key_of database name) (record { value = value_of value; deadline = deadline })) }
         ensures err { OnErr result (self.new ≡ self.old) }
     {
-        self.latest = settle(&mut self.databases, self.latest, deadline);
+        self.sweeps.settle(&mut self.databases, deadline);
         self.databases.put(database, name, value, deadline)
     }
 
@@ -175,7 +131,7 @@ impl Keyspace {
         ensures err { OnErr result (self.new ≡ self.old) }
     {
         self.databases
-            .edit(later(self.latest, now), database, name, edit)
+            .edit(self.sweeps.later(now), database, name, edit)
     }
 
     /// Takes a live key out, and gives its value.
@@ -185,7 +141,7 @@ impl Keyspace {
         ensures unchanged { IfNone result (self.new ≡ self.old) }
     {
         self.databases
-            .remove(later(self.latest, now), database, name)
+            .remove(self.sweeps.later(now), database, name)
     }
 
     /// Gives a live key another deadline, or none, and says whether there was one. Where memory runs out nothing changes. With a
@@ -201,8 +157,8 @@ impl Keyspace {
         ensures ok { let key = key_of database name.now in OnOk result (self.new ≡ redated self.old key (map.get (model.live self.old now) key) deadline) }
         ensures err { OnErr result (self.new ≡ self.old) }
     {
-        self.latest = settle(&mut self.databases, self.latest, deadline);
-        let now = later(self.latest, now);
+        self.sweeps.settle(&mut self.databases, deadline);
+        let now = self.sweeps.later(now);
         self.databases.set_deadline(now, database, name, deadline)
     }
 
@@ -232,8 +188,6 @@ impl Keyspace {
     pub fn sweep(&mut self, now: u64)
         ensures { self.new ≡ model.live self.old now }
     {
-        let now = later(self.latest, now);
-        sweep_in_turn(&mut self.databases, &mut self.turn, now);
-        self.latest = Some(now);
+        self.sweeps.sweep(&mut self.databases, now);
     }
 }

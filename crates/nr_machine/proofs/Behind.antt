@@ -19,7 +19,7 @@ use Rattle.nr_model.specs.Items.{Connection, connection_cmp, Deed, Act, Run, End
 use Rattle.nr_model.specs.Sequential.{Found, Progress, start, acted, acted_all, published, run_calls, one_reply, emissions_of, for_node}
 use Rattle.nr_model.specs.Sequential.Events.{Emission}
 use Rattle.nr_model.specs.Servers.{Server, database_in, is_spoiled_in, found_in, with_database, touched_by}
-use Rattle.nr_command.specs.Check.{call}
+use Rattle.nr_resp.specs.Check.{call}
 use Rattle.nr_entry.specs.declared.job.Queueable.{Queueable}
 use Rattle.nr_entry.specs.declared.job.Queueable.TheVariants as queueable
 use Rattle.nr_entry.specs.declared.job.Queued.{Queued}

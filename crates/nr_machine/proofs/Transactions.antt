@@ -11,7 +11,7 @@ use Rattle.nr_model.specs.declared.command.Operation.TheVariants.{Look, Change}
 use Rattle.nr_model.specs.Sequential.{Found, Progress, acted, acted_all, published, for_node}
 use Rattle.nr_model.specs.Sequential.Events.{Emission}
 use Rattle.nr_model.specs.Sequential.Messages.{Subscriptions}
-use Rattle.nr_command.specs.Check.{call}
+use Rattle.nr_resp.specs.Check.{call}
 use Rattle.nr_entry.specs.declared.job.Queueable.{Queueable}
 use Rattle.nr_entry.specs.declared.job.Queueable.TheVariants as queueable
 use Rattle.nr_entry.specs.declared.job.Queued.{Queued}

@@ -9,14 +9,13 @@ ghost use Rattle.nr_emission.specs.Messages.{subscriptions_of};
 ghost use Rattle.nr_machine.specs.Ran.{among, begun, Runs};
 
 use nr_blob::Memory;
-use nr_command::arguments;
 use nr_emission::{Sink, publish, pubsub};
 use nr_entry::{Queueable, Queued};
 use nr_exec::{change, look};
 use nr_keyspace::{Db, Keyspace};
 use nr_model::command::Operation;
 use nr_pubsub::Subs;
-use nr_resp::Reply;
+use nr_resp::{Reply, arguments};
 use nr_watch::Watches;
 use std::alloc::Global;
 

@@ -17,6 +17,7 @@ pub mod Logged
 pub mod Paired
 pub mod Connects
 pub mod Rounds
+pub mod TurnsLeft
 pub mod Joined
 pub mod Kept
 pub mod Listed

@@ -1,11 +1,13 @@
 -- Steps that were taken one behind another, as far as a round and as all rounds, whatever past the world has.
-use Rattle.std.specs.Prelude.{◌≡◌, ℕ, Bool, true, false, List, [], ◌∷◌, ◌++◌, length, map}
+use Rattle.std.specs.Prelude.{◌≡◌, ℕ, ◌+◌, ◌-◌, ◌*◌, Bool, true, false, cond, List, [], ◌∷◌, ◌++◌, length, map, slice_index_or}
 use Rattle.nr_model.specs.Connections as traffic
 use Rattle.nr_model.specs.Nodes as nodes
 use Rattle.nr_model.specs.Nodes.Steps as steps
 use Rattle.nr_model.specs.Nodes.Pasts.{Event, AreEvents, IsPast, handed_in}
 use Rattle.nr_model.specs.Nodes.Settling.{in_turn, applying, is_idle, does, after_events, IsRound}
 use Rattle.nr_nodes.specs.WorldState.{WorldState, Shows}
+use Rattle.nr_nodes.specs.Served.{node_seen}
+use Rattle.nr_nodes.specs.Logs.{log_seen}
 use Rattle.nr_nodes.specs.Settles.{events_of}
 
 -- the last of these events are an apply and a fetch of a node, both idle
@@ -41,6 +43,13 @@ pub record Runs (old new : WorldState) (made : List steps.Step) (before after : 
 -- steps that hand out nothing
 abbrev pub RunsBy : WorldState → WorldState → List steps.Step → Bool → Type 0
 RunsBy old new made done = Runs old new made [] [] done
+
+-- what a node has still to do with a log of so many entries: to fetch each that it hasn't passed, and to apply it
+abbrev pub left_to_pass : ℕ → nodes.Node → ℕ
+left_to_pass tail node = 2 * (tail - node.passed) + cond node.fetched 0 1
+
+abbrev pub turns_left : ℕ → WorldState → ℕ
+turns_left n v = left_to_pass (v.log.base + length (log_seen v.log)) (slice_index_or (map node_seen v.nodes) n nodes.no_node)
 
 -- a node took turns, the last of them idle
 pub record TakesTurns (n : ℕ) (old new : WorldState) (done : Bool) : Type 0 where

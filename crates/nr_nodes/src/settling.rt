@@ -1,5 +1,5 @@
 // Rounds of steps, until nothing is left to do.
-ghost use Rattle.std.specs.Prelude.{◌≡◌, ◌-◌, ◌^◌, [], ◌∷◌, true, IfOk, OnOk, OnErr, IsErr, flat_map, map};
+ghost use Rattle.std.specs.Prelude.{◌≡◌, ◌<◌, ◌-◌, ◌^◌, [], ◌∷◌, true, IfOk, OnOk, OnErr, IsErr, flat_map, map};
 ghost use Rattle.std.specs.List.{range_with_len};
 ghost use Rattle.std.specs.Bool.{OnTrue, OnFalse};
 ghost use Rattle.nr_model.specs.Nodes.Steps as steps;
@@ -7,7 +7,7 @@ ghost use Rattle.nr_model.specs.Nodes.Settling.{lifting, reserving, answering};
 ghost use Rattle.nr_nodes.specs.Setups.{IsAllowed};
 ghost use Rattle.nr_nodes.specs.Seen.{handed_seen};
 ghost use Rattle.nr_nodes.specs.Settles.{Settles};
-ghost use Rattle.nr_nodes.specs.Rounds.{Runs, RunsBy, TakesTurns, Replays, ReplayEach, TakesRound, TakesRounds};
+ghost use Rattle.nr_nodes.specs.Rounds.{Runs, RunsBy, turns_left, TakesTurns, Replays, ReplayEach, TakesRound, TakesRounds};
 
 use crate::setup::Setup;
 use crate::step::Handed;
@@ -169,26 +169,29 @@ impl World {
         Ok(applied | looked.is_done())
     }
 
+    // Turns up to one in which nothing was done, and whether something was done before it.
     fn take_turns(&mut self, node: usize) -> Result<bool, Memory>
         ensures turns { IfOk result (λ done. TakesTurns node self.old self.new done) }
         ensures failed { OnErr result (self.new.failed ≡ true) }
         ensures setup { self.new.setup ≡ self.old.setup }
     {
         let mut done = false;
-        for _ in 0..u64::MAX {
-            if !self.take_turn(node)? {
-                return Ok(done);
-            }
+        while self.take_turn(node)? {
             done = true;
         }
-        Err(self.fail())
+        Ok(done)
     }
 
+    // A node applies and fetches. Where something was done less of the log is left to be passed.
     fn take_turn(&mut self, node: usize) -> Result<bool, Memory>
         ensures runs { IfOk result (λ done. RunsBy self.old self.new (steps.Apply node ∷ steps.Fetch node ∷ []) done) }
+        ensures less { IfOk result (λ done. OnTrue done (turns_left node self.new < turns_left node self.old)) }
         ensures failed { OnErr result (self.new.failed ≡ true) }
         ensures setup { self.new.setup ≡ self.old.setup }
     {
+        if self.has_failed {
+            return Err(Memory);
+        }
         let applied = self.apply(node)?;
         let fetched = self.fetch(node)?;
         Ok(applied.is_done() | fetched.is_done())

@@ -13,8 +13,8 @@ use Rattle.nr_model.specs.Nodes.Steps.{texts_for}
 use Rattle.nr_model.specs.Sequential.{for_node}
 use Rattle.nr_model.specs.Sequential.Events.{Emission}
 use Rattle.nr_emission.specs.Emitted.{Written, written_after, all_after}
-use Rattle.nr_outbox.specs.declared.outbox.Put.{Put}
-use Rattle.nr_outbox.specs.declared.outbox.Put.TheVariants as outcomes
+use Rattle.nr_replica.specs.declared.outbox.Put.{Put}
+use Rattle.nr_replica.specs.declared.outbox.Put.TheVariants as outcomes
 use Rattle.nr_replica.specs.Members.{Member, Queues, queue_at, members_of, AreNumbered, AreReceived, AreDelivered, AreGiven, texts_of}
 use Rattle.nr_replica.proofs.Listed.{IsPut}
 use Rattle.nr_replica.proofs.Reached.{reached_open, reached_closed, reached_elsewhere}

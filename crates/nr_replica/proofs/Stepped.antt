@@ -6,7 +6,7 @@ use Rattle.nr_model.specs.Items.{Connection}
 use Rattle.nr_model.specs.Queues.{Queue, handing, closed_queue}
 use Rattle.nr_blob.specs.declared.memory.Memory.{Memory}
 use Rattle.nr_entry.specs.Jobs.{connection_of}
-use Rattle.nr_outbox.specs.declared.outbox.Piece.{Piece}
+use Rattle.nr_replica.specs.declared.outbox.Piece.{Piece}
 use Rattle.nr_replica.specs.Members.{Member, Queues, queue_at, member_with, members_of, AreNumbered, fresh_queue, fresh_member, closed_member, handed_member}
 use Rattle.nr_replica.proofs.Kept.{numbered_at}
 use Rattle.nr_replica.proofs.Listed.{IsPut, members_length, members_put, members_unseen, members_more, open_at, closed_at, worker_at}

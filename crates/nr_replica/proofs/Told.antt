@@ -10,7 +10,7 @@ use Rattle.nr_blob.specs.declared.memory.Memory.{Memory}
 use Rattle.nr_entry.specs.declared.entry.Entry.{Entry}
 use Rattle.nr_entry.specs.declared.job.Job.{Job}
 use Rattle.nr_entry.specs.Jobs.{connection_of, items_of}
-use Rattle.nr_outbox.specs.declared.outbox.Piece.{Piece}
+use Rattle.nr_replica.specs.declared.outbox.Piece.{Piece}
 use Rattle.nr_replica.specs.Members.{Member, AreNumbered, AreGiven, AreDelivered}
 use Rattle.nr_replica.specs.Replicas.{ReplicaState, IsApplied, owed_from}
 use Rattle.nr_replica.proofs.Giving.{given_delivered}

@@ -1,10 +1,12 @@
 //! A node's replica of the server: it takes in jobs, applies entries, runs reads, and keeps what waits for its node's connections.
 #![tactic(auto)]
 
+pub use outbox::Piece;
 pub use replica::Replica;
 
 mod delivering;
 mod members;
+mod outbox;
 mod reading;
 mod replica;
 mod settling;

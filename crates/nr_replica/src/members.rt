@@ -4,9 +4,9 @@ ghost use Rattle.std.specs.Option.{option_copied};
 ghost use Rattle.nr_entry.specs.Jobs.{connection_of};
 ghost use Rattle.nr_replica.specs.Members.{Member, AreNumbered, fresh_member, closed_member, handed_member, queue_at, members_seen};
 
+use crate::outbox::{Outbox, Piece};
 use nr_blob::Memory;
 use nr_entry::ConnId;
-use nr_outbox::{Outbox, Piece};
 use std::alloc::Global;
 use std::collections::BTreeMap;
 

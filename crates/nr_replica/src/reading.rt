@@ -9,10 +9,10 @@ ghost use Rattle.nr_entry.specs.Kinds.{deed_of};
 ghost use Rattle.nr_replica.specs.Members.{AreNumbered, AreDelivered, AreReads, members_seen};
 
 use crate::members::Members;
+use crate::outbox::Outbox;
 use nr_blob::Memory;
 use nr_entry::{Job, JobKind};
 use nr_machine::Machine;
-use nr_outbox::Outbox;
 
 /// Runs reads one after the other. One for which memory is refused cuts its connection's queue.
 pub(crate) fn run_reads<'k>(

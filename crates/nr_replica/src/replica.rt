@@ -10,6 +10,7 @@ ghost use Rattle.nr_replica.specs.Replicas.{IsApplied, HasRead, fallen};
 
 use crate::delivering::deliver;
 use crate::members::Members;
+use crate::outbox::Piece;
 use crate::reading::run_reads;
 use crate::settling::{settle, settle_own};
 use crate::steps::{forget, stage, take_updates};
@@ -17,7 +18,6 @@ use nr_blob::Memory;
 use nr_emission::Staging;
 use nr_entry::{ConnId, Entry, Job, Waiting};
 use nr_machine::Machine;
-use nr_outbox::Piece;
 use std::alloc::Global;
 use std::hash::RandomState;
 use std::marker::Model;

@@ -1,3 +1,4 @@
+pub mod Names
 pub mod Arrays
 pub mod Heads
 pub mod Lines

@@ -1,3 +1,4 @@
+pub mod Check
 pub mod Frames
 pub mod Lines
 pub mod Seen

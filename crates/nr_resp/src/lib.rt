@@ -1,12 +1,18 @@
-//! RESP2: requests are read from bytes in any pieces, and replies written.
+//! RESP2: requests are read from bytes in any pieces, and by the one table of commands, its names and counts of words; and replies are written.
 #![tactic(auto)]
 
+pub use command::{Cmd, arguments, copy_words};
 pub use frame::Frame;
 pub use reader::{FeedError, Reader};
+pub use reading::{CmdError, check};
 pub use reply::Reply;
 pub use shown::Shown;
+pub use table::{arity_ok, lookup, name};
 
+mod command;
 mod frame;
 mod reader;
+mod reading;
 mod reply;
 mod shown;
+mod table;

@@ -5,3 +5,6 @@ pub mod Said
 pub mod Spelled
 pub mod Texts
 pub mod Played
+pub mod Receivers
+pub mod Acted
+pub mod Printed

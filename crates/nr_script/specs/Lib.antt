@@ -4,4 +4,7 @@ pub mod Said
 pub mod Spellings
 pub mod Texts
 pub mod Endings
+pub mod Receivers
+pub mod Acts
 pub mod Playing
+pub mod Scripts

@@ -1,7 +1,8 @@
 // The connections of a script, by the order in which they were opened, with what each was handed.
-ghost use Rattle.std.specs.Prelude.{◌≡◌, ◌<◌, ◌≤◌, ◌++◌, ◌∷◌, [], length, slice_index_or, slice_set, IfOk, OnOk, MatchOption};
+ghost use Rattle.std.specs.Prelude.{◌≡◌, ◌<◌, ◌≤◌, ◌++◌, ◌∷◌, [], length, map, slice_index_or, slice_set, IfOk, OnOk, MatchOption};
 ghost use Rattle.nr_entry.specs.Jobs.{connection_of};
-ghost use Rattle.nr_script.specs.Playing.{Received};
+ghost use Rattle.nr_nodes.specs.Seen.{handed_seen};
+ghost use Rattle.nr_script.specs.Receivers.{Received, with_handed};
 
 use nr_blob::Memory;
 use nr_entry::ConnId;
@@ -19,7 +20,7 @@ struct Receiver {
 
 impl Model for Receiver {
     ghost use Rattle.nr_entry.specs.Jobs.{connection_of};
-    ghost use Rattle.nr_script.specs.Playing.{Received};
+    ghost use Rattle.nr_script.specs.Receivers.{Received};
 
     ghost Value = { Received };
 
@@ -35,11 +36,23 @@ pub(crate) struct Opened {
 
 impl Model for Opened {
     ghost use Rattle.std.specs.Prelude.{List};
-    ghost use Rattle.nr_script.specs.Playing.{Received};
+    ghost use Rattle.nr_script.specs.Receivers.{Received};
 
     ghost Value = { List Received };
 
     ghost view = { λ o. o.list.items };
+}
+
+impl Receiver {
+    // Takes a part, where it is its own.
+    fn receive(&mut self, part: &Handed) -> Result<(), Memory>
+        ensures { OnOk result (self.new ≡ with_handed (handed_seen part.now ∷ []) self.old) }
+    {
+        if part.conn == self.conn {
+            self.received.extend_from_slice(&part.bytes)?;
+        }
+        Ok(())
+    }
 }
 
 impl Opened {
@@ -84,19 +97,10 @@ impl Opened {
     }
 
     /// Gives to each what it was handed. Linear in the connections for each part.
-    pub(crate) fn receive(&mut self, handed: &[Handed]) -> Result<(), Memory> {
-        for part in handed {
-            self.receive_part(part)?;
-        }
-        Ok(())
-    }
-
-    fn receive_part(&mut self, part: &Handed) -> Result<(), Memory> {
-        for receiver in self.list.iter_mut() {
-            if receiver.conn == part.conn {
-                receiver.received.extend_from_slice(&part.bytes)?;
-            }
-        }
+    pub(crate) fn receive(&mut self, handed: &[Handed]) -> Result<(), Memory>
+        ensures { OnOk result (self.new ≡ map (with_handed (map handed_seen handed.now)) self.old) }
+    {
+        receive_each(&mut self.list, handed)?;
         Ok(())
     }
 
@@ -112,4 +116,22 @@ impl Opened {
             None => empty,
         }
     }
+}
+
+fn receive_each(receivers: &mut [Receiver], handed: &[Handed]) -> Result<(), Memory>
+    ensures { OnOk result (receivers.new ≡ map (with_handed (map handed_seen handed.now)) receivers.old) }
+{
+    for part in handed {
+        receive_part(receivers, part)?;
+    }
+    Ok(())
+}
+
+fn receive_part(receivers: &mut [Receiver], part: &Handed) -> Result<(), Memory>
+    ensures { OnOk result (receivers.new ≡ map (with_handed (handed_seen part.now ∷ [])) receivers.old) }
+{
+    for receiver in receivers.iter_mut() {
+        receiver.receive(part)?;
+    }
+    Ok(())
 }

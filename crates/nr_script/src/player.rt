@@ -1,13 +1,16 @@
 // A script that is played: each line is taken by a server of several nodes, and what comes of it is printed.
-ghost use Rattle.std.specs.Prelude.{◌≡◌, ◌↔◌, ◌++◌, [], length, IfOk, OnOk, Err, None, codes};
+ghost use Rattle.std.specs.Prelude.{◌≡◌, ◌↔◌, ◌++◌, [], length, map, IfOk, OnOk, Err, None};
+ghost use Rattle.nr_nodes.specs.Seen.{handed_seen};
 ghost use Rattle.nr_script.specs.declared.player.PlayError.TheVariants as errors;
-ghost use Rattle.nr_script.specs.Playing.{IsSetUp, SaysNone, StandsAs, IsPlayed, outcome_line, opened_by};
+ghost use Rattle.nr_script.specs.Receivers.{emptied, received_line, received_lines, handed_lines};
+ghost use Rattle.nr_script.specs.Acts.{Setup as AsksSetup, asked_by, collected_line, outcome_line, opened_by, HasCollected, HasSettled, IsDone};
+ghost use Rattle.nr_script.specs.Playing.{IsSetUp, SaysNone, StandsAs, IsPlayed, IsBad, IsOutOfPlace, begun};
 
 use crate::line::{Line, LineError, read_line};
 use crate::opened::Opened;
 use crate::written::{write_done, write_handed, write_idle, write_ok, write_opened, write_settled};
 use nr_blob::Memory;
-use nr_nodes::{Happened, Outcome, Reason, Setup, World};
+use nr_nodes::{Handed, Outcome, Reason, Setup, World};
 use std::alloc::Global;
 use std::hash::RandomState;
 use std::marker::Model;
@@ -71,7 +74,7 @@ impl Model for Player {
 impl Player {
     /// A script that begins. Strangers choose the keys of the servers, so their hashers take a seed of their own.
     pub fn new(alloc: Global, keys: RandomState) -> Player
-        ensures { result ≡ record { world = None; opened = [] } }
+        ensures { result ≡ begun }
     {
         Player {
             alloc,
@@ -82,9 +85,14 @@ impl Player {
     }
 
     /// Takes a line, which is given without its LF, and appends what comes of it.
+    ///
+    /// # Errors
+    ///
+    /// `BadStep` where it says no step, or none that can be taken there.
     #[tactic(auto, using(crate::proofs::Played::says_nothing, crate::proofs::Played::says_step))]
     pub fn play(&mut self, line: &[u8], out: &mut Vec<u8>) -> Result<(), PlayError>
-        ensures { OnOk result (IsPlayed line.now self.old self.new out.old.items out.new.items) }
+        ensures played { OnOk result (IsPlayed line.now self.old self.new out.old.items out.new.items) }
+        ensures bad { result ≡ Err errors.BadStep → IsBad line.now self.old }
     {
         match read_line(self.alloc, line)? {
             None => Ok(()),
@@ -93,7 +101,8 @@ impl Player {
     }
 
     fn take(&mut self, step: &Line, out: &mut Vec<u8>) -> Result<(), PlayError>
-        ensures { OnOk result (StandsAs step.now self.old.world self.new.world out.old.items out.new.items) }
+        ensures stands { OnOk result (StandsAs step.now self.old.world self.old.opened self.new out.old.items out.new.items) }
+        ensures bad { result ≡ Err errors.BadStep → IsOutOfPlace step.now self.old.world self.old.opened }
     {
         match &mut self.world {
             None => {
@@ -141,39 +150,93 @@ fn act(
     step: &Line,
     out: &mut Vec<u8>,
 ) -> Result<(), PlayError>
+    ensures acted { OnOk result (IsDone (asked_by opened.old step.now) world.old world.new opened.old opened.new out.old.items out.new.items) }
+    ensures bad { result ≡ Err errors.BadStep → asked_by opened.old step.now ≡ AsksSetup }
     ensures setup { world.new.setup ≡ world.old.setup }
 {
-    let outcome = match step {
-        Line::Setup { .. } => return Err(PlayError::BadStep),
-        Line::Settle => return settle(world, opened, out),
-        Line::Collect { node, worker } => {
-            let happened = world.collect(*node as usize, *worker as usize)?;
-            return show_collected(opened, &happened, out);
+    match step {
+        Line::Setup { .. } => Err(PlayError::BadStep),
+        Line::Settle => {
+            settle(world, opened, out)?;
+            Ok(())
         }
-        Line::Open { node, worker } => world.open(*node as usize, *worker as usize)?,
+        Line::Collect { node, worker } => {
+            collect(world, opened, *node as usize, *worker as usize, out)?;
+            Ok(())
+        }
+        Line::Open { node, worker } => {
+            let outcome = world.open(*node as usize, *worker as usize)?;
+            show(alloc, opened, outcome, out)?;
+            Ok(())
+        }
         Line::Feed {
             connection,
             moment,
             bytes,
-        } => match opened.conn_of(*connection) {
-            Some(conn) => world.feed(conn, *moment, bytes.bytes())?,
-            None => Outcome::Idle(Reason::NoSuch),
-        },
-        Line::Close { connection, moment } => match opened.conn_of(*connection) {
-            Some(conn) => world.close(conn, *moment)?,
-            None => Outcome::Idle(Reason::NoSuch),
-        },
-        Line::Fill { node, to } => world.fill(*node as usize, *to as usize)?,
-        Line::Post { node, worker } => world.post(*node as usize, *worker as usize)?,
-        Line::Lift { node, worker } => world.lift(*node as usize, *worker as usize)?,
-        Line::Answer { node, worker } => world.answer(*node as usize, *worker as usize)?,
-        Line::Reserve { node } => world.reserve(*node as usize)?,
-        Line::Fetch { node } => world.fetch(*node as usize)?,
-        Line::Apply { node } => world.apply(*node as usize)?,
-        Line::Look { node } => world.look(*node as usize)?,
-        Line::Refuse { node } => world.refuse(*node as usize)?,
-    };
-    show(alloc, opened, outcome, out)
+        } => {
+            let Some(conn) = opened.conn_of(*connection) else {
+                show(alloc, opened, Outcome::Idle(Reason::NoSuch), out)?;
+                return Ok(());
+            };
+            let outcome = world.feed(conn, *moment, bytes.bytes())?;
+            show(alloc, opened, outcome, out)?;
+            Ok(())
+        }
+        Line::Close { connection, moment } => {
+            let Some(conn) = opened.conn_of(*connection) else {
+                show(alloc, opened, Outcome::Idle(Reason::NoSuch), out)?;
+                return Ok(());
+            };
+            let outcome = world.close(conn, *moment)?;
+            show(alloc, opened, outcome, out)?;
+            Ok(())
+        }
+        Line::Fill { node, to } => {
+            let outcome = world.fill(*node as usize, *to as usize)?;
+            show(alloc, opened, outcome, out)?;
+            Ok(())
+        }
+        Line::Post { node, worker } => {
+            let outcome = world.post(*node as usize, *worker as usize)?;
+            show(alloc, opened, outcome, out)?;
+            Ok(())
+        }
+        Line::Lift { node, worker } => {
+            let outcome = world.lift(*node as usize, *worker as usize)?;
+            show(alloc, opened, outcome, out)?;
+            Ok(())
+        }
+        Line::Answer { node, worker } => {
+            let outcome = world.answer(*node as usize, *worker as usize)?;
+            show(alloc, opened, outcome, out)?;
+            Ok(())
+        }
+        Line::Reserve { node } => {
+            let outcome = world.reserve(*node as usize)?;
+            show(alloc, opened, outcome, out)?;
+            Ok(())
+        }
+        Line::Fetch { node } => {
+            let outcome = world.fetch(*node as usize)?;
+            show(alloc, opened, outcome, out)?;
+            Ok(())
+        }
+        Line::Apply { node } => {
+            let outcome = world.apply(*node as usize)?;
+            show(alloc, opened, outcome, out)?;
+            Ok(())
+        }
+        Line::Look { node } => {
+            let outcome = world.look(*node as usize)?;
+            show(alloc, opened, outcome, out)?;
+            Ok(())
+        }
+        Line::Refuse { node } => {
+            let outcome = world.refuse(*node as usize)?;
+            show(alloc, opened, outcome, out)?;
+            Ok(())
+        }
+    }
 }
 
 // Prints an outcome. A connection that was opened gets the next number.
@@ -182,7 +245,7 @@ fn show(
     opened: &mut Opened,
     outcome: Outcome,
     out: &mut Vec<u8>,
-) -> Result<(), PlayError>
+) -> Result<(), Memory>
     ensures opened { OnOk result (opened.new ≡ opened_by outcome opened.old) }
     ensures out { OnOk result (out.new.items ≡ out.old.items ++ outcome_line (length opened.old) outcome) }
 {
@@ -197,35 +260,72 @@ fn show(
     Ok(())
 }
 
-fn show_collected(
+// A worker of a node collects, and what it is handed is printed.
+fn collect(
+    world: &mut World,
     opened: &mut Opened,
-    happened: &Happened,
+    node: usize,
+    worker: usize,
     out: &mut Vec<u8>,
-) -> Result<(), PlayError> {
-    match happened.outcome {
+) -> Result<(), Memory>
+    ensures collected { OnOk result (HasCollected node worker world.old world.new opened.old opened.new out.old.items out.new.items) }
+    ensures setup { world.new.setup ≡ world.old.setup }
+{
+    let happened = world.collect(node, worker)?;
+    write_collected(happened.outcome, out)?;
+    show_handed(opened, &happened.handed, out)?;
+    Ok(())
+}
+
+fn write_collected(outcome: Outcome, out: &mut Vec<u8>) -> Result<(), Memory>
+    ensures { OnOk result (out.new.items ≡ out.old.items ++ collected_line outcome) }
+{
+    match outcome {
         Outcome::Idle(reason) => write_idle(reason.number() as u64, reason.name(), out)?,
         Outcome::Done | Outcome::Opened(_) => write_done(out)?,
     }
-    opened.receive(&happened.handed)?;
-    show_received(opened, out)
+    Ok(())
 }
 
-fn settle(world: &mut World, opened: &mut Opened, out: &mut Vec<u8>) -> Result<(), PlayError>
-    ensures { world.new.setup ≡ world.old.setup }
+// All nodes come to rest, and what was handed out by that is printed.
+fn settle(world: &mut World, opened: &mut Opened, out: &mut Vec<u8>) -> Result<(), Memory>
+    ensures settled { OnOk result (HasSettled world.old world.new opened.old opened.new out.old.items out.new.items) }
+    ensures setup { world.new.setup ≡ world.old.setup }
 {
     let handed = world.settle()?;
     write_settled(out)?;
-    opened.receive(&handed)?;
-    show_received(opened, out)
+    show_handed(opened, &handed, out)?;
+    Ok(())
+}
+
+// Prints what was handed out: a line for each connection that was handed bytes, with all of them.
+fn show_handed(opened: &mut Opened, handed: &[Handed], out: &mut Vec<u8>) -> Result<(), Memory>
+    ensures taken { OnOk result (opened.new ≡ map emptied opened.old) }
+    ensures printed { OnOk result (out.new.items ≡ out.old.items ++ handed_lines (map handed_seen handed.now) opened.old) }
+{
+    opened.receive(handed)?;
+    show_received(opened, out)?;
+    Ok(())
 }
 
 // A line for each connection that was handed bytes, with all of them.
-fn show_received(opened: &mut Opened, out: &mut Vec<u8>) -> Result<(), PlayError> {
+fn show_received(opened: &mut Opened, out: &mut Vec<u8>) -> Result<(), Memory>
+    ensures taken { OnOk result (opened.new ≡ map emptied opened.old) }
+    ensures printed { OnOk result (out.new.items ≡ out.old.items ++ received_lines 0 opened.old) }
+{
     for number in 0..opened.count() {
         let received = opened.take_received(number);
-        if !received.is_empty() {
-            write_handed(number as u64, &received, out)?;
-        }
+        write_received(number as u64, &received, out)?;
     }
+    Ok(())
+}
+
+fn write_received(number: u64, bytes: &[u8], out: &mut Vec<u8>) -> Result<(), Memory>
+    ensures { OnOk result (out.new.items ≡ out.old.items ++ received_line number bytes.now) }
+{
+    if bytes.is_empty() {
+        return Ok(());
+    }
+    write_handed(number, bytes, out)?;
     Ok(())
 }

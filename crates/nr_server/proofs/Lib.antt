@@ -1,0 +1,6 @@
+pub mod Pasts
+pub mod Going
+pub mod Begun
+pub mod Whole
+pub mod Ended
+pub mod Explained

@@ -8,8 +8,8 @@ use Rattle.nr_config.specs.declared.error.ConfigError.TheVariants as errors
 use Rattle.nr_config.specs.declared.settings.Settings.{Settings}
 use Rattle.nr_config.specs.Faults.{Refuses, Sets}
 use Rattle.nr_config.specs.Keys.{HasNoFault}
-use Rattle.nr_fault.specs.declared.fault.Fault.{Fault}
-use Rattle.nr_fault.specs.declared.fault.Fault.TheVariants as faults
+use Rattle.nr_server.specs.declared.fault.Fault.{Fault}
+use Rattle.nr_server.specs.declared.fault.Fault.TheVariants as faults
 
 -- the fault of the program that tells this error
 abbrev pub IsOf : ConfigError → Fault → Type 0

@@ -2,8 +2,8 @@
 ghost use Rattle.std.specs.Prelude.{IfOk, IfErr};
 ghost use Rattle.nr_server.specs.Files.{AreSet, IsToldOf, IsOf};
 
+use crate::fault::Fault;
 use nr_config::{ConfigError, Settings};
-use nr_fault::Fault;
 use std::alloc::Global;
 use std::str;
 

@@ -6,19 +6,20 @@ use Rattle.std.specs.List.{swap_remove}
 use Rattle.std.specs.List.Sorted.{IsPermutation}
 use Rattle.std.proofs.lemmas.List.{map-append}
 use Rattle.std.proofs.lemmas.List.Elements.{All-nil, All-cons, All-append, All-tail}
-use Rattle.std.proofs.lemmas.List.Sorted.{IsPermutation-refl, IsPermutation-trans, IsPermutation-map, IsPermutation-append_right, IsPermutation-swap_remove}
+use Rattle.std.proofs.lemmas.List.Sorted.{IsPermutation-refl, IsPermutation-trans, IsPermutation-append_right, IsPermutation-swap_remove}
 use Rattle.std.proofs.lemmas.Map.Keys.{IsDistinct-tail}
 use Rattle.nr_model.specs.Bytes.{Bytes}
 use Rattle.nr_model.specs.Items.{Connection, same_connection}
 use Rattle.nr_service.specs.Serving.{connection, IsServed, AreServed}
 use Rattle.nr_service.specs.Leaving.{Gone, shut_by, parting, parting_of, client_of, LetsGo, LetsGoOne, TurnsAway}
 use Rattle.nr_service.specs.declared.client.Ending.{Ending}
-use Rattle.nr_service_ends.specs.Devices.{Parting, Abandoned, PartsWith}
+use Rattle.nr_service.specs.Devices.{Parting, Abandoned, PartsWith}
 use Rattle.nr_service.specs.declared.client.Client.{Client}
-use Rattle.nr_service_ends.specs.Stories.{Occurrence, Closed, Story, Past, Kept, IsShut, IsClosed, fed_in, handed_in, going_on}
-use Rattle.nr_service_ends.proofs.Occurrences.{fed_still, handed_still, going_none, going_both}
+use Rattle.nr_service.specs.Stories.{Occurrence, Closed, Story, Past, Kept, IsShut, IsClosed, fed_in, handed_in, going_on}
+use Rattle.nr_service.proofs.Occurrences.{fed_still, handed_still, going_none, going_both}
 use Rattle.nr_service.proofs.Served.{others_served, served_moved}
 use Rattle.nr_service.proofs.Working.{get_or_within}
+use Rattle.nr_service.specs.Streams.{Course}
 
 -- more closes behind others
 shut_both : {S : Type 0} (xs ys : List (Gone S)) → shut_by (xs ++ ys) ≡ shut_by xs ++ shut_by ys
@@ -55,28 +56,29 @@ away_one stream old new parts = (stream ∷ [], parts)
 pub away_then : {S : Type 0} (a b c : Option (List (Parting S))) → TurnsAway a b → TurnsAway b c → TurnsAway a c
 away_then {S} a b c p q = (
   p.0 ++ q.0,
-  subst (λ (more : List (Parting S)). PartsWith more a c) (sym (map-append Abandoned p.0 q.0)) (parts_then (map Abandoned p.0) (map Abandoned q.0) a b c p.1 q.1),
+  subst (λ (more : List (Parting S)). PartsWith more a c) (sym (map-append Abandoned p.0 q.0)) (parts_then (map Abandoned p.0)
+      (map Abandoned q.0) a b c p.1 q.1),
 )
 
 -- none was closed
-pub lets_none : {A S D : Type 0} (was_received was_sent : S → Option Bytes) (has_ended : S → Type 0) (is_past : A → Past) (keeps : A → Kept)
+pub lets_none : {A S D : Type 0} (was_received was_sent : S → Option Bytes) (course : S → Option Course) (is_past : A → Past) (keeps : A → Kept)
     (parted : D → Option (List (Parting S))) (state : A) (device : D) (clients : List (Client S))
-    → LetsGo was_received was_sent has_ended is_past keeps parted state state device device clients clients
-lets_none was_received was_sent has_ended is_past keeps parted state device clients = record {
+    → LetsGo was_received was_sent course is_past keeps parted state state device device clients clients
+lets_none was_received was_sent course is_past keeps parted state device clients = record {
   gone = [];
   all = IsPermutation-refl clients;
   over = All-nil (λ (one : Gone _). one.client.ending ≡ Some one.ending);
   parts = parts_none (parted device);
   further = λ story a.
-      subst (λ (s : Story). AreServed was_received was_sent has_ended (is_past state) (keeps state) s clients) (sym (going_none story)) a;
+      subst (λ (s : Story). AreServed was_received was_sent course (is_past state) (keeps state) s clients) (sym (going_none story)) a;
 }
 
 -- one step behind another
-pub lets_then : {A S D : Type 0} (was_received was_sent : S → Option Bytes) (has_ended : S → Type 0) (is_past : A → Past) (keeps : A → Kept)
+pub lets_then : {A S D : Type 0} (was_received was_sent : S → Option Bytes) (course : S → Option Course) (is_past : A → Past) (keeps : A → Kept)
     (parted : D → Option (List (Parting S))) (a b c : A) (d e f : D) (xs ys zs : List (Client S))
-    → LetsGo was_received was_sent has_ended is_past keeps parted a b d e xs ys
-    → LetsGo was_received was_sent has_ended is_past keeps parted b c e f ys zs → LetsGo was_received was_sent has_ended is_past keeps parted a c d f xs zs
-lets_then {A} {S} {D} was_received was_sent has_ended is_past keeps parted a b c d e f xs ys zs p q =
+    → LetsGo was_received was_sent course is_past keeps parted a b d e xs ys
+    → LetsGo was_received was_sent course is_past keeps parted b c e f ys zs → LetsGo was_received was_sent course is_past keeps parted a c d f xs zs
+lets_then {A} {S} {D} was_received was_sent course is_past keeps parted a b c d e f xs ys zs p q =
     let first = map client_of p.gone in
     let second = map client_of q.gone in
     record {
@@ -89,7 +91,7 @@ lets_then {A} {S} {D} was_received was_sent has_ended is_past keeps parted a b c
       parts = subst (λ (more : List (Parting S)). PartsWith more (parted d) (parted f)) (sym (map-append parting_of p.gone q.gone))
           (parts_then (map parting_of p.gone) (map parting_of q.gone) (parted d) (parted e) (parted f) p.parts q.parts);
       further = λ story s.
-          subst (λ (next : Story). AreServed was_received was_sent has_ended (is_past c) (keeps c) next zs)
+          subst (λ (next : Story). AreServed was_received was_sent course (is_past c) (keeps c) next zs)
           (going_both story (shut_by p.gone) (shut_by q.gone) ∙ ap (going_on story) (sym (shut_both p.gone q.gone)))
           (q.further (going_on story (shut_by p.gone)) (p.further story s));
     }
@@ -106,13 +108,13 @@ shut_bytes c was_gone shut (inl is) = (ap fed_in is.0, ap handed_in is.0)
 shut_bytes c was_gone shut (inr is) = (ap fed_in is.0, ap handed_in is.0)
 
 -- one of them is some
-pub lets_one : {A S D : Type 0} (was_received was_sent : S → Option Bytes) (has_ended : S → Type 0) (is_past : A → Past) (keeps : A → Kept)
+pub lets_one : {A S D : Type 0} (was_received was_sent : S → Option Bytes) (course : S → Option Course) (is_past : A → Past) (keeps : A → Kept)
     (is_gone : A → Connection → Type 0) (parted : D → Option (List (Parting S))) (ending : Ending) (index : ℕ) (before after : A)
     (device_before device_after : D) (old new : List (Client S)) (client : Client S) → index < length old → client ≡ get_or old index client
     → client.ending ≡ Some ending
-    → LetsGoOne was_received was_sent has_ended is_past keeps is_gone parted ending index before after device_before device_after old new
-    → LetsGo was_received was_sent has_ended is_past keeps parted before after device_before device_after old new
-lets_one {A} {S} {D} was_received was_sent has_ended is_past keeps is_gone parted ending index before after device_before device_after old new client within is
+    → LetsGoOne was_received was_sent course is_past keeps is_gone parted ending index before after device_before device_after old new
+    → LetsGo was_received was_sent course is_past keeps parted before after device_before device_after old new
+lets_one {A} {S} {D} was_received was_sent course is_past keeps is_gone parted ending index before after device_before device_after old new client within is
     over one =
     let told = shut_as one.client ending (is_gone before (connection one.client)) one.shut one.is in
     let same : one.client ≡ client = one.at ∙ get_or_within old index one.client client within ∙ sym is in
@@ -123,19 +125,19 @@ lets_one {A} {S} {D} was_received was_sent has_ended is_past keeps is_gone parte
           (ap (λ (c : Client S). c.ending) same ∙ over) (All-nil _);
       parts = one.parts;
       further = λ story s.
-          subst (λ (shut : List Occurrence). AreServed was_received was_sent has_ended (is_past after) (keeps after) (going_on story shut) new) told.1
+          subst (λ (shut : List Occurrence). AreServed was_received was_sent course (is_past after) (keeps after) (going_on story shut) new) told.1
           (one.further story s);
     }
 
 -- one was taken from the list and closed
-pub closed_one : {A S D : Type 0} (was_received was_sent : S → Option Bytes) (has_ended : S → Type 0) (is_past : A → Past) (keeps : A → Kept)
+pub closed_one : {A S D : Type 0} (was_received was_sent : S → Option Bytes) (course : S → Option Course) (is_past : A → Past) (keeps : A → Kept)
     (is_gone : A → Connection → Type 0) (parted : D → Option (List (Parting S))) (ending : Ending) (before after : A) (device_before device_after : D)
     (client : Client S) (clients others : List (Client S)) (index : ℕ) → index < length clients
     → client ≡ get_or clients index client → others ≡ swap_remove clients index client
     → PartsWith (parting ending client.stream ∷ []) (parted device_before) (parted device_after)
     → IsClosed (connection client) (is_gone before (connection client)) (is_past before) (is_past after) (keeps before) (keeps after)
-    → LetsGoOne was_received was_sent has_ended is_past keeps is_gone parted ending index before after device_before device_after clients others
-closed_one {A} {S} {D} was_received was_sent has_ended is_past keeps is_gone parted ending before after device_before device_after client clients others index
+    → LetsGoOne was_received was_sent course is_past keeps is_gone parted ending index before after device_before device_after clients others
+closed_one {A} {S} {D} was_received was_sent course is_past keeps is_gone parted ending before after device_before device_after client clients others index
     within is rest parts k =
     let c = connection client in
     let bytes = shut_bytes c (is_gone before c) k.shut k.is in
@@ -150,16 +152,16 @@ closed_one {A} {S} {D} was_received was_sent has_ended is_past keeps is_gone par
       is = k.is;
       further = λ story s.
           let next = going_on story k.shut in
-          let a = served_moved was_received was_sent has_ended (is_past before) (keeps before) story clients (client ∷ others) moved s in
+          let a = served_moved was_received was_sent course (is_past before) (keeps before) story clients (client ∷ others) moved s in
           record {
             past = k.past story a.past;
-            each = others_served was_received was_sent has_ended (keeps before) (keeps after) story next client others
+            each = others_served was_received was_sent course (keeps before) (keeps after) story next client others
                 (record {
                   fed = λ other differs. fed_still other story k.shut bytes.0;
                   handed = λ other differs. handed_still other story k.shut bytes.1;
                   kept = λ other differs. k.others other differs;
                 })
-                a.apart (All-tail (IsServed was_received was_sent has_ended (keeps before) story) client others a.each);
+                a.apart (All-tail (IsServed was_received was_sent course (keeps before) story) client others a.each);
             apart = IsDistinct-tail same_connection c (map connection others) a.apart;
           };
     }

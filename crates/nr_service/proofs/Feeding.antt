@@ -1,5 +1,5 @@
 -- What is read and written for one client.
-use Rattle.std.proofs.Common.{◌≡◌, ℕ, true, [], ◌∷◌, ◌++◌, take, drop, refl, sym, ap, ◌∙◌, subst, append-nil}
+use Rattle.std.proofs.Common.{◌≡◌, ℕ, [], ◌∷◌, ◌++◌, take, drop, refl, sym, ap, ◌∙◌, subst, append-nil}
 use Rattle.std.specs.Prelude.{Option, IfSome}
 use Rattle.std.specs.Option.{option_map}
 use Rattle.std.proofs.lemmas.List.Elements.{All-nil, All-cons}
@@ -9,12 +9,13 @@ use Rattle.nr_model.specs.Keyspace.{moment}
 use Rattle.nr_model.specs.Connections.{Feeding}
 use Rattle.nr_model.proofs.JobLists.{same_self}
 use Rattle.nr_model.proofs.Exchanged.{own_bytes, other_bytes}
+use Rattle.nr_service.specs.Readings.{Feedings, IsFedTo}
 use Rattle.nr_service.specs.Serving.{connection}
 use Rattle.nr_service.specs.Steps.{ServesOne, settled_past}
 use Rattle.nr_service.specs.declared.client.Client.{Client}
-use Rattle.nr_service_ends.specs.Stories.{Fed, Story, Past, Kept, kept_bytes, IsFed, IsWritten, bytes_fed, bytes_handed, going_on}
-use Rattle.nr_service_ends.proofs.Occurrences.{fed_behind, handed_still}
-use Rattle.nr_service_ends.specs.Streams.{GrowsBy}
+use Rattle.nr_service.specs.Stories.{Fed, Story, Past, Kept, kept_bytes, IsFed, IsWritten, bytes_fed, bytes_handed, going_on}
+use Rattle.nr_service.proofs.Occurrences.{fed_behind, handed_still}
+use Rattle.nr_service.specs.Streams.{Course, GrowsBy, IsCourse}
 use Rattle.nr_service.proofs.Apart.{flips}
 use Rattle.nr_service.proofs.Known.{grows_none, fed_more, sent_more}
 use Rattle.nr_service.proofs.Served.{one_served, nothing_done, serves_then}
@@ -26,13 +27,14 @@ abbrev with_feeding : Story → Connection → ℕ → Bytes → Story
 with_feeding story c now bytes = going_on story (Fed (feeding_of c now bytes) ∷ [])
 
 -- bytes were read and fed
-pub fed_one : {A S : Type 0} (was_received was_sent : S → Option Bytes) (has_ended : S → Type 0) (is_past : A → Past) (keeps : A → Kept) (now : ℕ)
+pub fed_one : {A S : Type 0} (was_received was_sent : S → Option Bytes) (course : S → Option Course) (is_past : A → Past) (keeps : A → Kept) (now : ℕ)
     (before after : A) (old new : Client S) (bytes : Bytes) → new.conn ≡ old.conn
     → was_received new.stream ≡ option_map (λ (front : Bytes). front ++ bytes) (was_received old.stream)
-    → was_sent new.stream ≡ was_sent old.stream → (new.is_ending ≡ true → has_ended new.stream)
+    → was_sent new.stream ≡ was_sent old.stream
+    → (IfSome (course old.stream) (IsCourse old.is_ending old.is_broken) → IfSome (course new.stream) (IsCourse new.is_ending new.is_broken))
     → IsFed (connection old) now bytes (is_past before) (is_past after) (keeps before) (keeps after)
-    → ServesOne was_received was_sent has_ended is_past keeps now before after old new
-fed_one {A} {S} was_received was_sent has_ended is_past keeps now before after old new bytes same grows sent ended fed =
+    → ServesOne was_received was_sent course is_past keeps (IsFedTo now (connection old)) before after old new
+fed_one {A} {S} was_received was_sent course is_past keeps now before after old new bytes same grows sent goes fed =
     let c = connection old in
     let one : connection new ≡ c = ap (λ conn. record { node = conn.node; serial = conn.serial }) same in
     let own : (story : Story) → bytes_fed c (with_feeding story c now bytes) ≡ bytes_fed c story ++ bytes = λ story.
@@ -48,8 +50,8 @@ fed_one {A} {S} was_received was_sent has_ended is_past keeps now before after o
               is = refl;
               opens = refl;
               closed = refl;
-              in_time = All-cons (λ (feeding : Feeding). feeding.moment ≡ moment now) (feeding_of c now bytes) [] refl (All-nil _);
-              served = one_served was_received was_sent has_ended (is_past before) (is_past after) (keeps before) (keeps after) story next old new others one
+              feeds = All-cons (IsFedTo now c) (feeding_of c now bytes) [] (refl, refl) (All-nil _);
+              served = one_served was_received was_sent course (is_past before) (is_past after) (keeps before) (keeps after) story next old new others one
                   (fed.past story a.past)
                   (record {
                     fed = λ other differs.
@@ -68,7 +70,7 @@ fed_one {A} {S} was_received was_sent has_ended is_past keeps now before after o
                         (subst (λ (d : Connection). IfSome (was_sent old.stream) (λ front. bytes_handed d next ≡ front ++ s.pending)) (sym one)
                         (subst (λ (b : Bytes). IfSome (was_sent old.stream) (λ front. b ≡ front ++ s.pending))
                         (sym (handed_still c story (Fed (feeding_of c now bytes) ∷ []) refl)) s.sent));
-                    ended = ended;
+                    course_is = goes s.course_is;
                   })
                   a;
             };
@@ -76,17 +78,18 @@ fed_one {A} {S} was_received was_sent has_ended is_past keeps now before after o
     }
 
 -- nothing was done
-pub still_one : {A S : Type 0} (was_received was_sent : S → Option Bytes) (has_ended : S → Type 0) (is_past : A → Past) (keeps : A → Kept) (now : ℕ) (state : A)
+pub still_one : {A S : Type 0} (was_received was_sent : S → Option Bytes) (course : S → Option Course) (is_past : A → Past) (keeps : A → Kept)
+    (allowed : Feedings) (state : A)
     (old new : Client S) → new.conn ≡ old.conn → was_received new.stream ≡ was_received old.stream → was_sent new.stream ≡ was_sent old.stream
-    → ((old.is_ending ≡ true → has_ended old.stream) → new.is_ending ≡ true → has_ended new.stream)
-    → ServesOne was_received was_sent has_ended is_past keeps now state state old new
-still_one was_received was_sent has_ended is_past keeps now state old new same received sent ended =
+    → (IfSome (course old.stream) (IsCourse old.is_ending old.is_broken) → IfSome (course new.stream) (IsCourse new.is_ending new.is_broken))
+    → ServesOne was_received was_sent course is_past keeps allowed state state old new
+still_one was_received was_sent course is_past keeps allowed state old new same received sent goes =
     let one : connection new ≡ connection old = ap (λ conn. record { node = conn.node; serial = conn.serial }) same in
     record {
       beside = λ others. record {
         further = λ story a.
-            nothing_done was_received was_sent has_ended now (is_past state) (keeps state) story (new ∷ others)
-            (one_served was_received was_sent has_ended (is_past state) (is_past state) (keeps state) (keeps state) story story old new others one a.past
+            nothing_done was_received was_sent course allowed (is_past state) (keeps state) story (new ∷ others)
+            (one_served was_received was_sent course (is_past state) (is_past state) (keeps state) (keeps state) story story old new others one a.past
             (record { fed = λ other differs. refl; handed = λ other differs. refl; kept = λ other differs. refl })
             (λ s. record {
               pending = s.pending;
@@ -95,45 +98,47 @@ still_one was_received was_sent has_ended is_past keeps now state old new same r
                   (subst (λ (d : Connection). IfSome (was_received old.stream) (λ bytes. bytes ≡ bytes_fed d story)) (sym one) s.received);
               sent = subst (λ (o : Option Bytes). IfSome o (λ bytes. bytes_handed (connection new) story ≡ bytes ++ s.pending)) (sym sent)
                   (subst (λ (d : Connection). IfSome (was_sent old.stream) (λ bytes. bytes_handed d story ≡ bytes ++ s.pending)) (sym one) s.sent);
-              ended = ended s.ended;
+              course_is = goes s.course_is;
             })
             a);
       };
     }
 
 -- it was tried to read, and no bytes came
-pub nothing_read : {A S : Type 0} (was_received was_sent : S → Option Bytes) (has_ended : S → Type 0) (is_past : A → Past) (keeps : A → Kept) (now : ℕ)
+pub nothing_read : {A S : Type 0} (was_received was_sent : S → Option Bytes) (course : S → Option Course) (is_past : A → Past) (keeps : A → Kept)
+    (allowed : Feedings)
     (state : A) (old new : Client S) (bytes : Bytes)
     → new.conn ≡ old.conn → GrowsBy 0 bytes (was_received old.stream) (was_received new.stream) → was_sent new.stream ≡ was_sent old.stream
-    → (new.is_ending ≡ true → has_ended new.stream)
-    → ServesOne was_received was_sent has_ended is_past keeps now state state old new
-nothing_read was_received was_sent has_ended is_past keeps now state old new bytes same received sent ended =
-    still_one was_received was_sent has_ended is_past keeps now state old new same (grows_none bytes _ _ received) sent (λ _. ended)
+    → (IfSome (course old.stream) (IsCourse old.is_ending old.is_broken) → IfSome (course new.stream) (IsCourse new.is_ending new.is_broken))
+    → ServesOne was_received was_sent course is_past keeps allowed state state old new
+nothing_read was_received was_sent course is_past keeps allowed state old new bytes same received sent goes =
+    still_one was_received was_sent course is_past keeps allowed state old new same (grows_none bytes _ _ received) sent goes
 
 -- it was tried to write, and no bytes were taken
-pub nothing_written : {A S : Type 0} (was_received was_sent : S → Option Bytes) (has_ended : S → Type 0) (is_past : A → Past) (keeps : A → Kept) (now : ℕ)
+pub nothing_written : {A S : Type 0} (was_received was_sent : S → Option Bytes) (course : S → Option Course) (is_past : A → Past) (keeps : A → Kept)
+    (allowed : Feedings)
     (state : A) (old new : Client S) (bytes : Bytes)
     → new.conn ≡ old.conn → was_received new.stream ≡ was_received old.stream → GrowsBy 0 bytes (was_sent old.stream) (was_sent new.stream)
-    → new.is_ending ≡ old.is_ending → (has_ended old.stream → has_ended new.stream)
-    → ServesOne was_received was_sent has_ended is_past keeps now state state old new
-nothing_written was_received was_sent has_ended is_past keeps now state old new bytes same received sent going ended =
-    still_one was_received was_sent has_ended is_past keeps now state old new same received (grows_none bytes _ _ sent)
-    (λ was is. ended (was (sym going ∙ is)))
+    → (IfSome (course old.stream) (IsCourse old.is_ending old.is_broken) → IfSome (course new.stream) (IsCourse new.is_ending new.is_broken))
+    → ServesOne was_received was_sent course is_past keeps allowed state state old new
+nothing_written was_received was_sent course is_past keeps allowed state old new bytes same received sent goes =
+    still_one was_received was_sent course is_past keeps allowed state old new same received (grows_none bytes _ _ sent) goes
 
 -- bytes that are kept were written
-pub written_one : {A S : Type 0} (was_received was_sent : S → Option Bytes) (has_ended : S → Type 0) (is_past is_settled : A → Past) (keeps : A → Kept)
-    (now : ℕ) (before after : A) (old new : Client S) (bytes : Bytes) (count : ℕ) → new.conn ≡ old.conn → bytes ≡ kept_bytes ((keeps before) (connection old))
+pub written_one : {A S : Type 0} (was_received was_sent : S → Option Bytes) (course : S → Option Course) (is_past is_settled : A → Past) (keeps : A → Kept)
+    (allowed : Feedings) (before after : A) (old new : Client S) (bytes : Bytes) (count : ℕ) → new.conn ≡ old.conn
+    → bytes ≡ kept_bytes ((keeps before) (connection old))
     → was_received new.stream ≡ was_received old.stream → GrowsBy count bytes (was_sent old.stream) (was_sent new.stream)
-    → new.is_ending ≡ old.is_ending → (has_ended old.stream → has_ended new.stream)
+    → (IfSome (course old.stream) (IsCourse old.is_ending old.is_broken) → IfSome (course new.stream) (IsCourse new.is_ending new.is_broken))
     → IsWritten (connection old) count (is_past before) (is_past after) (is_settled before) (is_settled after) (keeps before) (keeps after)
-    → ServesOne was_received was_sent has_ended (settled_past is_past is_settled) keeps now before after old new
-written_one was_received was_sent has_ended is_past is_settled keeps now before after old new bytes count same all received grows going ended written =
+    → ServesOne was_received was_sent course (settled_past is_past is_settled) keeps allowed before after old new
+written_one was_received was_sent course is_past is_settled keeps allowed before after old new bytes count same all received grows goes written =
     let one : connection new ≡ connection old = ap (λ conn. record { node = conn.node; serial = conn.serial }) same in
     record {
       beside = λ others. record {
         further = λ story a.
-            nothing_done was_received was_sent has_ended now (settled_past is_past is_settled after) (keeps after) story (new ∷ others)
-            (one_served was_received was_sent has_ended (settled_past is_past is_settled before) (settled_past is_past is_settled after) (keeps before)
+            nothing_done was_received was_sent course allowed (settled_past is_past is_settled after) (keeps after) story (new ∷ others)
+            (one_served was_received was_sent course (settled_past is_past is_settled before) (settled_past is_past is_settled after) (keeps before)
             (keeps after) story story old new others one
             (record { past = written.past story a.past.past; rest = written.rest story a.past.rest })
             (record { fed = λ other differs. refl; handed = λ other differs. refl; kept = λ other differs. written.others other differs })
@@ -147,18 +152,19 @@ written_one was_received was_sent has_ended is_past is_settled keeps now before 
               sent = sent_more (was_sent old.stream) (was_sent new.stream) count s.pending (bytes_handed (connection new) story)
                   (grows ∙ ap (λ (b : Bytes). option_map (λ (front : Bytes). front ++ take count b) (was_sent old.stream)) kept)
                   (subst (λ (d : Connection). IfSome (was_sent old.stream) (λ bytes. bytes_handed d story ≡ bytes ++ s.pending)) (sym one) s.sent);
-              ended = λ is. ended (s.ended (sym going ∙ is));
+              course_is = goes s.course_is;
             })
             a);
       };
     }
 
 -- one step on it behind another
-pub one_then : {A S : Type 0} (was_received was_sent : S → Option Bytes) (has_ended : S → Type 0) (is_past : A → Past) (keeps : A → Kept) (now : ℕ) (a b c : A)
+pub one_then : {A S : Type 0} (was_received was_sent : S → Option Bytes) (course : S → Option Course) (is_past : A → Past) (keeps : A → Kept)
+    (allowed : Feedings) (a b c : A)
     (x y z : Client S)
-    → ServesOne was_received was_sent has_ended is_past keeps now a b x y → ServesOne was_received was_sent has_ended is_past keeps now b c y z
-    → ServesOne was_received was_sent has_ended is_past keeps now a c x z
-one_then was_received was_sent has_ended is_past keeps now a b c x y z p q = record {
-  beside = λ others. serves_then was_received was_sent has_ended is_past keeps now a b c (x ∷ others) (y ∷ others) (z ∷ others) (p.beside others)
+    → ServesOne was_received was_sent course is_past keeps allowed a b x y → ServesOne was_received was_sent course is_past keeps allowed b c y z
+    → ServesOne was_received was_sent course is_past keeps allowed a c x z
+one_then was_received was_sent course is_past keeps allowed a b c x y z p q = record {
+  beside = λ others. serves_then was_received was_sent course is_past keeps allowed a b c (x ∷ others) (y ∷ others) (z ∷ others) (p.beside others)
       (q.beside others);
 }

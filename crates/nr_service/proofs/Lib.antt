@@ -1,3 +1,4 @@
+pub mod Occurrences
 pub mod Apart
 pub mod Counted
 pub mod Known
@@ -5,6 +6,9 @@ pub mod Served
 pub mod Feeding
 pub mod Working
 pub mod Closing
-pub mod Left
+pub mod Timed
 pub mod Turns
+pub mod Left
+pub mod Broken
+pub mod Chained
 pub mod Within

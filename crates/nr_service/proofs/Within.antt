@@ -1,18 +1,17 @@
 -- Which clients go on, from the back on, and what is kept for them.
-use Rattle.std.proofs.Common.{◌≡◌, ℕ, suc, ◌+◌, ◌-◌, ◌<◌, ◌≤◌, ◌≢◌, false, ◌⊎◌, inl, inr, List, ◌∷◌, length, get_or, refl, sym, ap, ◌∙◌, subst, arith, ltb}
-use Rattle.std.specs.Prelude.{Option, None, All, map}
+use Rattle.std.proofs.Common.{◌≡◌, ℕ, ◌+◌, ◌-◌, ◌<◌, ◌≤◌, ◌≢◌, ◌⊎◌, inl, inr, List, ◌∷◌, length, get_or, refl, sym, ap, ◌∙◌, subst, arith, ltb}
+use Rattle.std.specs.Prelude.{None, All, map}
 use Rattle.std.specs.List.{AllWithin, IsDistinct, swap_remove}
 use Rattle.std.specs.List.Sorted.{IsPermutation}
 use Rattle.std.proofs.lemmas.Bool.{cases_Bool, ltb-true, ltb-false}
 use Rattle.std.proofs.lemmas.List.Elements.{All-tail}
 use Rattle.std.proofs.lemmas.List.Sorted.{All-permutation, IsPermutation-map, IsPermutation-swap_remove}
 use Rattle.std.proofs.lemmas.Map.Keys.{IsDistinct-head, IsDistinct-tail, IsDistinct-IsPermutation}
-use Rattle.nr_model.specs.Bytes.{Bytes}
 use Rattle.nr_model.specs.Items.{Connection, same_connection}
 use Rattle.nr_service.specs.Leaving.{Removes, KeepsEach}
 use Rattle.nr_service.specs.Serving.{connection}
 use Rattle.nr_service.specs.declared.client.Client.{Client}
-use Rattle.nr_service_ends.specs.Stories.{Kept, KeepsOthers}
+use Rattle.nr_service.specs.Stories.{Kept, KeepsOthers}
 use Rattle.nr_service.proofs.Apart.{flips, of_others}
 use Rattle.nr_service.proofs.Working.{get_or_within}
 
@@ -48,7 +47,8 @@ one_stays from clients client more is here stay = λ k d low high.
     ]
 
 -- what a list is from which one was taken, whose length is this
-pub removes_one : {A S : Type 0} (keeps : A → Kept) (is_gone : A → Connection → Type 0) (index : ℕ) (before after : A) (old new : List (Client S)) (client : Client S) (len : ℕ)
+pub removes_one : {A S : Type 0} (keeps : A → Kept) (is_gone : A → Connection → Type 0) (index : ℕ) (before after : A) (old new : List (Client S))
+    (client : Client S) (len : ℕ)
     → len ≡ length old → index < length old → client ≡ get_or old index client → new ≡ swap_remove old index client
     → ((d : Client S) → index + 1 < len → get_or new index d ≡ get_or old (len - 1) d)
     → ((k : ℕ) (d : Client S) → k ≢ index → k + 1 < len → get_or new k d ≡ get_or old k d)

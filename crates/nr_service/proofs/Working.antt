@@ -2,42 +2,44 @@
 use Rattle.std.proofs.Common.{◌≡◌, ℕ, zero, suc, ◌<◌, false, inl, inr, List, [], ◌∷◌, ◌++◌, length, get_or, refl, sym, ap, ◌∙◌, subst, arith, append-nil, get_or-set_same}
 use Rattle.std.proofs.Math.ListN.{set, length-set}
 use Rattle.std.specs.Prelude.{Option, Some, None, IfSome, map}
-use Rattle.std.specs.List.{remove}
+use Rattle.std.specs.List.{Contains, remove}
 use Rattle.std.specs.List.Sorted.{IsPermutation}
 use Rattle.std.specs.Option.{option_map}
 use Rattle.std.proofs.lemmas.Bool.{cases_Bool}
-use Rattle.std.proofs.lemmas.List.{take-set, drop-set-lt}
-use Rattle.std.proofs.lemmas.List.Elements.{All-cons, All-weaker}
+use Rattle.std.proofs.lemmas.List.{take-set, drop-set-lt, get_or-map, length-map}
+use Rattle.std.proofs.lemmas.List.Elements.{All-cons, All-weaker, Contains-get_or}
 use Rattle.std.proofs.lemmas.List.Sorted.{IsPermutation-remove, IsPermutation-sym, IsPermutation-to_front}
 use Rattle.std.proofs.lemmas.Map.Keys.{IsDistinct-cons}
 use Rattle.nr_entry.specs.Jobs.{connection_of}
 use Rattle.nr_entry.specs.declared.conn.ConnId.{ConnId}
 use Rattle.nr_model.specs.Bytes.{Bytes}
 use Rattle.nr_model.specs.Items.{Connection, same_connection}
-use Rattle.nr_model.specs.Connections.{handed_to}
+use Rattle.nr_model.specs.Connections.{Feeding, handed_to}
 use Rattle.nr_model.proofs.JobLists.{same_is}
+use Rattle.nr_service.specs.Readings.{Feedings, IsFedAmong, IsFedTo, IsNeverFed}
 use Rattle.nr_service.specs.Serving.{connection, IsServed, AreServed}
 use Rattle.nr_service.specs.Steps.{Serves, ServesOne, Accepts, IsSettledPast, settled_past, HasServed, HasSettled, Exchanges}
 use Rattle.nr_service.specs.declared.client.Client.{Client}
-use Rattle.nr_service_ends.specs.Stories.{Opened, HandedOut, Story, Past, Kept, Keeps, IsOpened, HasWorked, bytes_fed, bytes_handed, going_on}
-use Rattle.nr_service_ends.proofs.Occurrences.{pieces_opened, pieces_fed, pieces_handed, pieces_closed, fed_still, handed_still, handed_behind}
+use Rattle.nr_service.specs.Stories.{Opened, HandedOut, Story, Past, Kept, Keeps, IsOpened, HasWorked, bytes_fed, bytes_handed, going_on}
+use Rattle.nr_service.proofs.Occurrences.{pieces_opened, pieces_fed, pieces_handed, pieces_closed, fed_still, handed_still, handed_behind}
 use Rattle.nr_service.proofs.Apart.{from_others}
-use Rattle.nr_service.proofs.Known.{handed_more, none_known}
-use Rattle.nr_service.proofs.Served.{served_still, others_served, served_moved, has_moved, has_then, nothing_fed, nothing_done}
+use Rattle.nr_service.proofs.Known.{course_fresh, handed_more, none_known}
+use Rattle.nr_service.proofs.Served.{served_still, others_served, served_moved, has_moved, has_then, has_weaker, nothing_fed, nothing_done}
+use Rattle.nr_service.specs.Streams.{Course, fresh_course}
 
 -- bytes were handed out, and nothing is left to be done
-pub worked_all : {S : Type 0} (was_received was_sent : S → Option Bytes) (has_ended : S → Type 0) (now : ℕ) (before after settled : Past)
+pub worked_all : {S : Type 0} (was_received was_sent : S → Option Bytes) (course : S → Option Course) (allowed : Feedings) (before after settled : Past)
     (old_kept new_kept : Kept) (clients : List (Client S)) → HasWorked before after settled old_kept new_kept
-    → (story : Story) → AreServed was_received was_sent has_ended before old_kept story clients
-    → HasServed was_received was_sent has_ended now [] (IsSettledPast after settled) new_kept story clients
-worked_all was_received was_sent has_ended now before after settled old_kept new_kept clients w story a =
+    → (story : Story) → AreServed was_received was_sent course before old_kept story clients
+    → HasServed was_received was_sent course allowed [] (IsSettledPast after settled) new_kept story clients
+worked_all was_received was_sent course allowed before after settled old_kept new_kept clients w story a =
     let more = map HandedOut w.handed in
     let next = going_on story more in
-    nothing_fed was_received was_sent has_ended now [] (IsSettledPast after settled) new_kept story more clients (pieces_opened w.handed)
+    nothing_fed was_received was_sent course allowed [] (IsSettledPast after settled) new_kept story more clients (pieces_opened w.handed)
     (pieces_fed w.handed) (pieces_closed w.handed)
     (record {
       past = record { past = w.past story a.past; rest = w.rest story a.past };
-      each = All-weaker (IsServed was_received was_sent has_ended old_kept story) (IsServed was_received was_sent has_ended new_kept next)
+      each = All-weaker (IsServed was_received was_sent course old_kept story) (IsServed was_received was_sent course new_kept next)
           (λ client s. record {
             pending = s.pending ++ handed_to (connection client) w.handed;
             kept = w.kept (connection client)
@@ -48,66 +50,75 @@ worked_all was_received was_sent has_ended now before after settled old_kept new
                 (bytes_handed (connection client) next)
                 (handed_behind (connection client) story more
                 ∙ ap (λ l. bytes_handed (connection client) story ++ handed_to (connection client) l) (pieces_handed w.handed)) s.sent;
-            ended = s.ended;
+            course_is = s.course_is;
           })
           clients a.each;
       apart = a.apart;
     })
 
 -- a past that is settled is one
-has_settled : {S : Type 0} (was_received was_sent : S → Option Bytes) (has_ended : S → Type 0) (now : ℕ) (is_past is_settled : Past) (kept : Kept)
-    (story : Story) (clients : List (Client S)) → HasServed was_received was_sent has_ended now [] (IsSettledPast is_past is_settled) kept story clients
-    → HasSettled was_received was_sent has_ended now is_past is_settled kept story clients
-has_settled was_received was_sent has_ended now is_past is_settled kept story clients h = record {
+has_settled : {S : Type 0} (was_received was_sent : S → Option Bytes) (course : S → Option Course) (allowed : Feedings) (is_past is_settled : Past)
+    (kept : Kept)
+    (story : Story) (clients : List (Client S)) → HasServed was_received was_sent course allowed [] (IsSettledPast is_past is_settled) kept story clients
+    → HasSettled was_received was_sent course allowed is_past is_settled kept story clients
+has_settled was_received was_sent course allowed is_past is_settled kept story clients h = record {
   has = record {
     next = h.next;
     more = h.more;
     is = h.is;
     opens = h.opens;
     closed = h.closed;
-    in_time = h.in_time;
+    feeds = h.feeds;
     served = record { past = h.served.past.past; each = h.served.each; apart = h.served.apart };
   };
   rest = h.served.past.rest;
 }
 
-pub worked : {A S : Type 0} (was_received was_sent : S → Option Bytes) (has_ended : S → Type 0) (is_past is_settled : A → Past) (keeps : A → Kept) (now : ℕ)
+pub worked : {A S : Type 0} (was_received was_sent : S → Option Bytes) (course : S → Option Course) (is_past is_settled : A → Past) (keeps : A → Kept)
+    (allowed : Feedings)
     (before after : A) (clients : List (Client S)) → HasWorked (is_past before) (is_past after) (is_settled after) (keeps before) (keeps after)
-    → Serves was_received was_sent has_ended is_past keeps now [] before after clients clients
-worked was_received was_sent has_ended is_past is_settled keeps now before after clients w = record {
+    → Serves was_received was_sent course is_past keeps allowed [] before after clients clients
+worked was_received was_sent course is_past is_settled keeps allowed before after clients w = record {
   further = λ story a.
-      (has_settled was_received was_sent has_ended now (is_past after) (is_settled after) (keeps after) story clients
-      (worked_all was_received was_sent has_ended now (is_past before) (is_past after) (is_settled after) (keeps before) (keeps after) clients w story a)).has;
+      (has_settled was_received was_sent course allowed (is_past after) (is_settled after) (keeps after) story clients
+      (worked_all was_received was_sent course allowed (is_past before) (is_past after) (is_settled after) (keeps before) (keeps after) clients w story a)).has;
 }
 
 -- the clients were served, all work was done, and what is kept was written
-pub exchanged : {A S : Type 0} (was_received was_sent : S → Option Bytes) (has_ended : S → Type 0) (is_past is_settled : A → Past) (keeps : A → Kept)
-    (now : ℕ) (a b c d : A) (xs ys zs : List (Client S)) → Serves was_received was_sent has_ended is_past keeps now [] a b xs ys
+pub exchanged : {A S : Type 0} (was_received was_sent : S → Option Bytes) (course : S → Option Course) (is_past is_settled : A → Past) (keeps : A → Kept)
+    (now : ℕ) (a b c d : A) (xs ys zs : List (Client S))
+    → Serves was_received was_sent course is_past keeps (IsFedAmong now (map connection xs)) [] a b xs ys
     → HasWorked (is_past b) (is_past c) (is_settled c) (keeps b) (keeps c)
-    → Serves was_received was_sent has_ended (settled_past is_past is_settled) keeps now [] c d ys zs
-    → Exchanges was_received was_sent has_ended is_past is_settled keeps now a d xs zs
-exchanged was_received was_sent has_ended is_past is_settled keeps now a b c d xs ys zs p w q = record {
-  further = λ story s.
-      let first = p.further story s in
-      let second = worked_all was_received was_sent has_ended now (is_past b) (is_past c) (is_settled c) (keeps b) (keeps c) ys w first.next first.served in
-      let third = q.further second.next second.served in
-      has_settled was_received was_sent has_ended now (is_past d) (is_settled d) (keeps d) story zs
-      (has_then was_received was_sent has_ended now (is_past b) (settled_past is_past is_settled d) (keeps b) (keeps d) story ys zs first
-      (has_then was_received was_sent has_ended now (settled_past is_past is_settled c) (settled_past is_past is_settled d) (keeps c) (keeps d) first.next ys zs
-      second third));
-}
+    → Serves was_received was_sent course (settled_past is_past is_settled) keeps IsNeverFed [] c d ys zs
+    → Exchanges was_received was_sent course is_past is_settled keeps now a d xs zs
+exchanged was_received was_sent course is_past is_settled keeps now a b c d xs ys zs p w q =
+    let allowed = IsFedAmong now (map connection xs) in
+    let none : (feeding : Feeding) → IsNeverFed feeding → allowed feeding = λ feeding never. absurd never in
+    record {
+      further = λ story s.
+          let first = p.further story s in
+          let second = worked_all was_received was_sent course allowed (is_past b) (is_past c) (is_settled c) (keeps b) (keeps c) ys w first.next
+          first.served in
+          let third = has_weaker was_received was_sent course IsNeverFed allowed [] (settled_past is_past is_settled d) (keeps d) second.next zs none
+          (q.further second.next second.served) in
+          has_settled was_received was_sent course allowed (is_past d) (is_settled d) (keeps d) story zs
+          (has_then was_received was_sent course allowed (is_past b) (settled_past is_past is_settled d) (keeps b) (keeps d) story ys zs first
+          (has_then was_received was_sent course allowed (settled_past is_past is_settled c) (settled_past is_past is_settled d) (keeps c) (keeps d)
+          first.next ys zs second third));
+    }
 
 -- nothing was fed or handed out
-pub kept_all : {A S : Type 0} (was_received was_sent : S → Option Bytes) (has_ended : S → Type 0) (is_past : A → Past) (keeps : A → Kept) (now : ℕ)
+pub kept_all : {A S : Type 0} (was_received was_sent : S → Option Bytes) (course : S → Option Course) (is_past : A → Past) (keeps : A → Kept)
+    (allowed : Feedings)
     (before after : A) (clients : List (Client S)) → Keeps (is_past before) (is_past after) (keeps before) (keeps after)
-    → Serves was_received was_sent has_ended is_past keeps now [] before after clients clients
-kept_all was_received was_sent has_ended is_past keeps now before after clients k = record {
+    → Serves was_received was_sent course is_past keeps allowed [] before after clients clients
+kept_all was_received was_sent course is_past keeps allowed before after clients k = record {
   further = λ story a.
-      nothing_done was_received was_sent has_ended now (is_past after) (keeps after) story clients
+      nothing_done was_received was_sent course allowed (is_past after) (keeps after) story clients
       (record {
         past = k.past story a.past;
-        each = All-weaker (IsServed was_received was_sent has_ended (keeps before) story) (IsServed was_received was_sent has_ended (keeps after) story)
-            (λ client s. served_still was_received was_sent has_ended (keeps before) (keeps after) story story client refl refl (k.kept (connection client)) s)
+        each = All-weaker (IsServed was_received was_sent course (keeps before) story) (IsServed was_received was_sent course (keeps after) story)
+            (λ client s. served_still was_received was_sent course (keeps before) (keeps after) story story client refl refl (k.kept (connection client)) s)
             clients a.each;
         apart = a.apart;
       });
@@ -122,34 +133,36 @@ kept_apart keeps c d bytes closed kept =
     ]
 
 -- a client more, of a connection that was opened
-pub opened_one : {A S : Type 0} (was_received was_sent : S → Option Bytes) (has_ended : S → Type 0) (is_past : A → Past) (keeps : A → Kept) (now : ℕ)
+pub opened_one : {A S : Type 0} (was_received was_sent : S → Option Bytes) (course : S → Option Course) (is_past : A → Past) (keeps : A → Kept)
+    (allowed : Feedings)
     (before after : A) (clients : List (Client S)) (client : Client S)
-    → client.is_ending ≡ false → IfSome (was_received client.stream) (λ bytes. bytes ≡ []) → IfSome (was_sent client.stream) (λ bytes. bytes ≡ [])
+    → client.is_ending ≡ false → client.is_broken ≡ false → IfSome (was_received client.stream) (λ bytes. bytes ≡ [])
+    → IfSome (was_sent client.stream) (λ bytes. bytes ≡ []) → IfSome (course client.stream) (λ at. at ≡ fresh_course)
     → IsOpened (connection client) (is_past before) (is_past after) (keeps before) (keeps after)
-    → Serves was_received was_sent has_ended is_past keeps now (connection client ∷ []) before after clients (clients ++ client ∷ [])
-opened_one was_received was_sent has_ended is_past keeps now before after clients client going received sent o = record {
+    → Serves was_received was_sent course is_past keeps allowed (connection client ∷ []) before after clients (clients ++ client ∷ [])
+opened_one was_received was_sent course is_past keeps allowed before after clients client going sound received sent fresh o = record {
   further = λ story a.
       let c = connection client in
-      let apart = from_others (IsServed was_received was_sent has_ended (keeps before) story) c
+      let apart = from_others (IsServed was_received was_sent course (keeps before) story) c
       (λ other s. kept_apart (keeps before) c (connection other) s.pending o.closed s.kept) clients
       a.each in
       let distinct = IsDistinct-cons same_connection c (map connection clients) apart a.apart in
       let more = Opened c ∷ [] in
       let next = going_on story more in
-      nothing_fed was_received was_sent has_ended now (c ∷ []) (is_past after) (keeps after) story more (clients ++ client ∷ []) refl refl refl
-      (served_moved was_received was_sent has_ended (is_past after) (keeps after) next (client ∷ clients) (clients ++ client ∷ [])
+      nothing_fed was_received was_sent course allowed (c ∷ []) (is_past after) (keeps after) story more (clients ++ client ∷ []) refl refl refl
+      (served_moved was_received was_sent course (is_past after) (keeps after) next (client ∷ clients) (clients ++ client ∷ [])
       (IsPermutation-sym _ _ (IsPermutation-to_front clients client))
       (record {
         past = o.past story a.past;
-        each = All-cons (IsServed was_received was_sent has_ended (keeps after) next) client clients
+        each = All-cons (IsServed was_received was_sent course (keeps after) next) client clients
             (record {
               pending = [];
               kept = o.kept;
               received = none_known (was_received client.stream) [] received (bytes_fed c next) (sym (fed_still c story more refl ∙ o.fed story a.past));
               sent = handed_none (was_sent client.stream) (bytes_handed c next) (handed_still c story more refl ∙ o.handed story a.past) sent;
-              ended = λ is. absurd (cc (is, going));
+              course_is = course_fresh (course client.stream) client.is_ending client.is_broken going sound fresh;
             })
-            (others_served was_received was_sent has_ended (keeps before) (keeps after) story next client clients
+            (others_served was_received was_sent course (keeps before) (keeps after) story next client clients
             (record {
               fed = λ other differs. fed_still other story more refl;
               handed = λ other differs. handed_still other story more refl;
@@ -165,33 +178,36 @@ opened_one was_received was_sent has_ended is_past keeps now before after client
     handed_none (Some bytes) handed e none = e ∙ sym (ap (λ (b : Bytes). b ++ []) none)
 
 -- it stands behind the others
-pub opened_behind : {A S : Type 0} (was_received was_sent : S → Option Bytes) (has_ended : S → Type 0) (is_past : A → Past) (keeps : A → Kept)
+pub opened_behind : {A S : Type 0} (was_received was_sent : S → Option Bytes) (course : S → Option Course) (is_past : A → Past) (keeps : A → Kept)
     (before after : A)
     (clients all : List (Client S)) (client : Client S) (conn : ConnId) (stream : S) → client.conn ≡ conn → client.stream ≡ stream → client.is_ending ≡ false
+    → client.is_broken ≡ false
     → all ≡ clients ++ client ∷ []
     → IfSome (was_received stream) (λ bytes. bytes ≡ []) → IfSome (was_sent stream) (λ bytes. bytes ≡ [])
-    → IsOpened (connection_of conn) (is_past before) (is_past after) (keeps before) (keeps after)
-    → Accepts was_received was_sent has_ended is_past keeps before after clients all
-opened_behind {A} {S} was_received was_sent has_ended is_past keeps before after clients all client conn stream same_conn same_stream going is received sent o =
+    → IfSome (course stream) (λ at. at ≡ fresh_course) → IsOpened (connection_of conn) (is_past before) (is_past after) (keeps before) (keeps after)
+    → Accepts was_received was_sent course is_past keeps before after clients all
+opened_behind {A} {S} was_received was_sent course is_past keeps before after clients all client conn stream same_conn same_stream going sound is received sent
+    fresh o =
     record {
       accepted = client ∷ [];
       items = is;
-      serves = λ now.
-          subst (λ (ys : List (Client S)). Serves was_received was_sent has_ended is_past keeps now (connection client ∷ []) before after clients ys) (sym is)
-          (opened_one was_received was_sent has_ended is_past keeps now before after clients client going
+      serves = subst (λ (ys : List (Client S)). Serves was_received was_sent course is_past keeps IsNeverFed (connection client ∷ []) before after clients ys)
+          (sym is)
+          (opened_one was_received was_sent course is_past keeps IsNeverFed before after clients client going sound
           (subst (λ (t : S). IfSome (was_received t) (λ bytes. bytes ≡ [])) (sym same_stream) received)
           (subst (λ (t : S). IfSome (was_sent t) (λ bytes. bytes ≡ [])) (sym same_stream) sent)
+          (subst (λ (t : S). IfSome (course t) (λ at. at ≡ fresh_course)) (sym same_stream) fresh)
           (subst (λ (d : ConnId). IsOpened (connection_of d) (is_past before) (is_past after) (keeps before) (keeps after)) (sym same_conn) o));
     }
 
 -- or there was no room for one
-pub opened_none : {A S : Type 0} (was_received was_sent : S → Option Bytes) (has_ended : S → Type 0) (is_past : A → Past) (keeps : A → Kept)
+pub opened_none : {A S : Type 0} (was_received was_sent : S → Option Bytes) (course : S → Option Course) (is_past : A → Past) (keeps : A → Kept)
     (before after : A) (clients : List (Client S)) → Keeps (is_past before) (is_past after) (keeps before) (keeps after)
-    → Accepts was_received was_sent has_ended is_past keeps before after clients clients
-opened_none was_received was_sent has_ended is_past keeps before after clients k = record {
+    → Accepts was_received was_sent course is_past keeps before after clients clients
+opened_none was_received was_sent course is_past keeps before after clients k = record {
   accepted = [];
   items = sym (append-nil clients);
-  serves = λ now. kept_all was_received was_sent has_ended is_past keeps now before after clients k;
+  serves = kept_all was_received was_sent course is_past keeps IsNeverFed before after clients k;
 }
 
 -- another element in its place
@@ -215,18 +231,32 @@ map_set_same f (x ∷ xs) zero item new within same = ap (λ y. y ∷ map f xs) 
 map_set_same f (x ∷ xs) (suc i) item new within same = ap (λ ys. f x ∷ ys) (map_set_same f xs i item new (omega arith) same)
 
 -- one of them was served
-pub served_at : {A S : Type 0} (was_received was_sent : S → Option Bytes) (has_ended : S → Type 0) (is_past : A → Past) (keeps : A → Kept) (now : ℕ)
+pub served_at : {A S : Type 0} (was_received was_sent : S → Option Bytes) (course : S → Option Course) (is_past : A → Past) (keeps : A → Kept)
+    (allowed : Feedings)
     (before after : A) (clients : List (Client S)) (index : ℕ) (item new : Client S) → index < length clients
-    → ServesOne was_received was_sent has_ended is_past keeps now before after (get_or clients index item) new
-    → Serves was_received was_sent has_ended is_past keeps now [] before after clients (set clients index new)
-served_at was_received was_sent has_ended is_past keeps now before after clients index item new within one =
+    → ServesOne was_received was_sent course is_past keeps allowed before after (get_or clients index item) new
+    → Serves was_received was_sent course is_past keeps allowed [] before after clients (set clients index new)
+served_at was_received was_sent course is_past keeps allowed before after clients index item new within one =
     let old = get_or clients index item in
     let is : old ≡ get_or clients index old = get_or_within clients index item old within in
     record {
       further = λ story a.
-          has_moved was_received was_sent has_ended now [] (is_past after) (keeps after) story (new ∷ remove clients index) (set clients index new)
+          has_moved was_received was_sent course allowed [] (is_past after) (keeps after) story (new ∷ remove clients index) (set clients index new)
           (IsPermutation-sym _ _ (set_moved clients index new within))
           ((one.beside (remove clients index)).further story
-          (served_moved was_received was_sent has_ended (is_past before) (keeps before) story clients (old ∷ remove clients index)
+          (served_moved was_received was_sent course (is_past before) (keeps before) story clients (old ∷ remove clients index)
           (IsPermutation-remove clients index old within is) a));
     }
+
+-- bytes that are fed to one of them are fed to one of those at first
+pub to_one : {S : Type 0} (now : ℕ) (clients old : List (Client S)) (index : ℕ) (item : Client S) → index < length clients
+    → map connection clients ≡ map connection old
+    → (feeding : Feeding) → IsFedTo now (connection (get_or clients index item)) feeding → IsFedAmong now (map connection old) feeding
+to_one {S} now clients old index item within same feeding is =
+    let here : get_or (map connection clients) index (connection item) ≡ feeding.connection =
+    get_or-map (connection {S = S}) clients index item (connection item) within ∙ sym is.1 in
+    let inside : index < length (map connection clients) = subst (λ (n : ℕ). index < n) (sym (length-map clients (connection {S = S}))) within in (
+      is.0,
+      subst (λ (cs : List Connection). Contains cs feeding.connection) same
+          (subst (Contains (map connection clients)) here (Contains-get_or (map connection clients) index (connection item) inside)),
+    )

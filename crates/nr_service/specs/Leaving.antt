@@ -6,10 +6,11 @@ use Rattle.nr_service.specs.Serving.{connection, IsWithin, AreServed}
 use Rattle.nr_service.specs.declared.client.Client.{Client}
 use Rattle.nr_service.specs.declared.client.Ending.{Ending}
 use Rattle.nr_service.specs.declared.client.Ending.TheVariants as endings
-use Rattle.nr_service_ends.specs.Devices.{Parting, Finished, Abandoned, PartsWith}
-use Rattle.nr_service_ends.specs.Stories.{Occurrence, Closed, Story, Past, Kept, KeepsOthers, IsShut, going_on, kept_bytes}
-use Rattle.nr_service_ends.specs.declared.answers.Standing.{Standing}
-use Rattle.nr_service_ends.specs.declared.answers.Standing.TheVariants as standings
+use Rattle.nr_service.specs.Devices.{Parting, Finished, Abandoned, PartsWith}
+use Rattle.nr_service.specs.Stories.{Occurrence, Closed, Story, Past, Kept, KeepsOthers, IsShut, going_on, kept_bytes}
+use Rattle.nr_service.specs.declared.answers.Standing.{Standing}
+use Rattle.nr_service.specs.declared.answers.Standing.TheVariants as standings
+use Rattle.nr_service.specs.Streams.{Course}
 
 -- the bytes that are kept for a client
 abbrev pub kept_for : {S : Type 0} → Kept → Client S → Bytes
@@ -61,8 +62,9 @@ client_of one = one.client
 
 -- The client at this place was let go so: the others are served by each story by which all were before, going on by the close of its connection alone,
 -- unless that took no room before.
-pub record LetsGoOne {A S D : Type 0} (was_received was_sent : S → Option Bytes) (has_ended : S → Type 0) (is_past : A → Past) (keeps : A → Kept)
-    (is_gone : A → Connection → Type 0) (parted : D → Option (List (Parting S))) (ending : Ending) (index : ℕ) (before after : A) (device_before device_after : D)
+pub record LetsGoOne {A S D : Type 0} (was_received was_sent : S → Option Bytes) (course : S → Option Course) (is_past : A → Past) (keeps : A → Kept)
+    (is_gone : A → Connection → Type 0) (parted : D → Option (List (Parting S))) (ending : Ending) (index : ℕ) (before after : A)
+    (device_before device_after : D)
     (old new : List (Client S)) : Type 0 where
   pub client : Client S
   pub shut : List Occurrence
@@ -70,22 +72,23 @@ pub record LetsGoOne {A S D : Type 0} (was_received was_sent : S → Option Byte
   pub moved : IsPermutation old (client ∷ new)
   pub parts : PartsWith (parting ending client.stream ∷ []) (parted device_before) (parted device_after)
   pub is : IsShut (connection client) (is_gone before (connection client)) shut
-  pub further : (story : Story) → AreServed was_received was_sent has_ended (is_past before) (keeps before) story old
-      → AreServed was_received was_sent has_ended (is_past after) (keeps after) (going_on story shut) new
+  pub further : (story : Story) → AreServed was_received was_sent course (is_past before) (keeps before) story old
+      → AreServed was_received was_sent course (is_past after) (keeps after) (going_on story shut) new
 
 -- Those that are over were let go, each as it ended: the others are served by each story by which all were before, going on by the closes of the
 -- connections of those that are gone, in order.
-pub record LetsGo {A S D : Type 0} (was_received was_sent : S → Option Bytes) (has_ended : S → Type 0) (is_past : A → Past) (keeps : A → Kept)
+pub record LetsGo {A S D : Type 0} (was_received was_sent : S → Option Bytes) (course : S → Option Course) (is_past : A → Past) (keeps : A → Kept)
     (parted : D → Option (List (Parting S))) (before after : A) (device_before device_after : D) (old new : List (Client S)) : Type 0 where
   pub gone : List (Gone S)
   pub all : IsPermutation old (map client_of gone ++ new)
   pub over : All (λ one. one.client.ending ≡ Some one.ending) gone
   pub parts : PartsWith (map parting_of gone) (parted device_before) (parted device_after)
-  pub further : (story : Story) → AreServed was_received was_sent has_ended (is_past before) (keeps before) story old
-      → AreServed was_received was_sent has_ended (is_past after) (keeps after) (going_on story (shut_by gone)) new
+  pub further : (story : Story) → AreServed was_received was_sent course (is_past before) (keeps before) story old
+      → AreServed was_received was_sent course (is_past after) (keeps after) (going_on story (shut_by gone)) new
 
 -- The client at this place was taken from the list, the last one stands there, its connection takes no room any more, and the same is kept for the others.
-pub record Removes {A S : Type 0} (keeps : A → Kept) (is_gone : A → Connection → Type 0) (index : ℕ) (before after : A) (old new : List (Client S)) : Type 0 where
+pub record Removes {A S : Type 0} (keeps : A → Kept) (is_gone : A → Connection → Type 0) (index : ℕ) (before after : A)
+    (old new : List (Client S)) : Type 0 where
   pub client : Client S
   pub moved : IsPermutation old (client ∷ new)
   pub last : (d : Client S) → index + 1 < length old → slice_index_or new index d ≡ slice_index_or old (length old - 1) d

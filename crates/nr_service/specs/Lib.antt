@@ -1,3 +1,7 @@
+pub mod Streams
+pub mod Stories
+pub mod Readings
+pub mod Devices
 pub mod Serving
 pub mod Steps
 pub mod Leaving

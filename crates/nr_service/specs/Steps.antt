@@ -1,41 +1,44 @@
 -- What the parts of a turn do, whatever led to it.
-use Rattle.std.specs.Prelude.{◌≡◌, ◌≢◌, ℕ, zero, suc, ◌+◌, ◌-◌, ◌%◌, ◌^◌, ◌<◌, ◌≤◌, Bool, true, false, cond, List, [], ◌∷◌, ◌++◌, length, map, slice_index_or, Option, IfSome, All, IsPermutation}
+use Rattle.std.specs.Prelude.{◌≡◌, ℕ, zero, suc, ◌+◌, ◌%◌, ◌^◌, ◌≤◌, Bool, true, false, List, [], ◌∷◌, ◌++◌, map, Option, IfSome, All}
 use Rattle.nr_model.specs.Bytes.{Bytes, IsBeginningOf}
 use Rattle.nr_model.specs.Items.{Connection}
-use Rattle.nr_model.specs.Keyspace.{moment}
+use Rattle.nr_service.specs.Readings.{Feedings, IsNeverFed, IsFedAmong}
 use Rattle.nr_service.specs.Serving.{connection, AreServed}
 use Rattle.nr_service.specs.declared.client.Client.{Client}
-use Rattle.nr_service_ends.specs.Stories.{Occurrence, Closed, Story, Past, Kept, KeepsOthers, IsShut, opened_in, fed_in, closed_in, bytes_fed, bytes_handed, going_on}
+use Rattle.nr_service.specs.Stories.{Occurrence, Story, Past, Kept, opened_in, fed_in, closed_in, bytes_fed, bytes_handed, going_on}
+use Rattle.nr_service.specs.Streams.{Course}
 
--- The clients are served by a story that goes on from this one: these connections were opened in it, none was closed, and what was fed was fed at this
--- moment.
-pub record HasServed {S : Type 0} (was_received was_sent : S → Option Bytes) (has_ended : S → Type 0) (now : ℕ) (opened : List Connection) (is_past : Past)
+-- The clients are served by a story that goes on from this one: these connections were opened in it, none was closed, and such bytes were fed alone.
+pub record HasServed {S : Type 0} (was_received was_sent : S → Option Bytes) (course : S → Option Course) (allowed : Feedings) (opened : List Connection)
+    (is_past : Past)
     (keeps : Kept) (story : Story) (clients : List (Client S)) : Type 0 where
   pub next : Story
   pub more : List Occurrence
   pub is : next ≡ going_on story more
   pub opens : opened_in more ≡ opened
   pub closed : closed_in more ≡ []
-  pub in_time : All (λ feeding. feeding.moment ≡ moment now) (fed_in more)
-  pub served : AreServed was_received was_sent has_ended is_past keeps next clients
+  pub feeds : All allowed (fed_in more)
+  pub served : AreServed was_received was_sent course is_past keeps next clients
 
 -- so it is by each story by which the clients were served before
-pub record Serves {A S : Type 0} (was_received was_sent : S → Option Bytes) (has_ended : S → Type 0) (is_past : A → Past) (keeps : A → Kept) (now : ℕ)
+pub record Serves {A S : Type 0} (was_received was_sent : S → Option Bytes) (course : S → Option Course) (is_past : A → Past) (keeps : A → Kept)
+    (allowed : Feedings)
     (opened : List Connection) (before after : A) (old new : List (Client S)) : Type 0 where
-  pub further : (story : Story) → AreServed was_received was_sent has_ended (is_past before) (keeps before) story old
-      → HasServed was_received was_sent has_ended now opened (is_past after) (keeps after) story new
+  pub further : (story : Story) → AreServed was_received was_sent course (is_past before) (keeps before) story old
+      → HasServed was_received was_sent course allowed opened (is_past after) (keeps after) story new
 
 -- so it is of one client beside any others, and nothing was opened
-pub record ServesOne {A S : Type 0} (was_received was_sent : S → Option Bytes) (has_ended : S → Type 0) (is_past : A → Past) (keeps : A → Kept) (now : ℕ)
+pub record ServesOne {A S : Type 0} (was_received was_sent : S → Option Bytes) (course : S → Option Course) (is_past : A → Past) (keeps : A → Kept)
+    (allowed : Feedings)
     (before after : A) (old new : Client S) : Type 0 where
-  pub beside : (others : List (Client S)) → Serves was_received was_sent has_ended is_past keeps now [] before after (old ∷ others) (new ∷ others)
+  pub beside : (others : List (Client S)) → Serves was_received was_sent course is_past keeps allowed [] before after (old ∷ others) (new ∷ others)
 
 -- Clients were taken on behind the others, in the order in which their connections were opened, and nothing else was.
-pub record Accepts {A S : Type 0} (was_received was_sent : S → Option Bytes) (has_ended : S → Type 0) (is_past : A → Past) (keeps : A → Kept)
+pub record Accepts {A S : Type 0} (was_received was_sent : S → Option Bytes) (course : S → Option Course) (is_past : A → Past) (keeps : A → Kept)
     (before after : A) (old new : List (Client S)) : Type 0 where
   pub accepted : List (Client S)
   pub items : new ≡ old ++ accepted
-  pub serves : (now : ℕ) → Serves was_received was_sent has_ended is_past keeps now (map connection accepted) before after old new
+  pub serves : Serves was_received was_sent course is_past keeps IsNeverFed (map connection accepted) before after old new
 
 -- the number behind this one: behind the last that there is comes the first
 abbrev pub next_number : ℕ → ℕ
@@ -75,16 +78,17 @@ abbrev pub settled_past : {A : Type 0} → (A → Past) → (A → Past) → A �
 settled_past is_past is_settled answers = IsSettledPast (is_past answers) (is_settled answers)
 
 -- the clients are served further, nothing was opened, and nothing is left to be done
-pub record HasSettled {S : Type 0} (was_received was_sent : S → Option Bytes) (has_ended : S → Type 0) (now : ℕ) (is_past is_settled : Past) (keeps : Kept)
+pub record HasSettled {S : Type 0} (was_received was_sent : S → Option Bytes) (course : S → Option Course) (allowed : Feedings) (is_past is_settled : Past)
+    (keeps : Kept)
     (story : Story) (clients : List (Client S)) : Type 0 where
-  pub has : HasServed was_received was_sent has_ended now [] is_past keeps story clients
+  pub has : HasServed was_received was_sent course allowed [] is_past keeps story clients
   pub rest : is_settled has.next
 
--- so it is by each story by which the clients were served before
-pub record Exchanges {A S : Type 0} (was_received was_sent : S → Option Bytes) (has_ended : S → Type 0) (is_past is_settled : A → Past)
+-- so it is by each story by which the clients were served before, and bytes were fed to these clients alone, at this moment
+pub record Exchanges {A S : Type 0} (was_received was_sent : S → Option Bytes) (course : S → Option Course) (is_past is_settled : A → Past)
     (keeps : A → Kept) (now : ℕ) (before after : A) (old new : List (Client S)) : Type 0 where
-  pub further : (story : Story) → AreServed was_received was_sent has_ended (is_past before) (keeps before) story old
-      → HasSettled was_received was_sent has_ended now (is_past after) (is_settled after) (keeps after) story new
+  pub further : (story : Story) → AreServed was_received was_sent course (is_past before) (keeps before) story old
+      → HasSettled was_received was_sent course (IsFedAmong now (map connection old)) (is_past after) (is_settled after) (keeps after) story new
 
 -- What holds of a client where memory ran out: it was fed a beginning of what its stream received, and its stream sent a beginning of what was handed out
 -- for it.
@@ -92,35 +96,38 @@ pub record IsLeft {S : Type 0} (was_received was_sent : S → Option Bytes) (sto
   pub received : IfSome (was_received client.stream) (λ bytes. IsBeginningOf (bytes_fed (connection client) story) bytes)
   pub sent : IfSome (was_sent client.stream) (λ bytes. IsBeginningOf bytes (bytes_handed (connection client) story))
 
--- So it is of these clients, by a story that may have led to what answered them at last, and in which these connections were closed since this one.
-pub record AreLeft {A S : Type 0} (was_received was_sent : S → Option Bytes) (is_past : A → Past) (story : Story) (shut : List Connection)
+-- So it is of these clients, by a story that may have led to what answered them at last, and in which these connections were closed since this one, and
+-- such bytes fed alone.
+pub record AreLeft {A S : Type 0} (was_received was_sent : S → Option Bytes) (is_past : A → Past) (allowed : Feedings) (story : Story) (shut : List Connection)
     (clients : List (Client S)) : Type 0 where
   pub next : Story
   pub more : List Occurrence
   pub answers : A
   pub is : next ≡ going_on story more
   pub closed : closed_in more ≡ shut
+  pub feeds : All allowed (fed_in more)
   pub past : is_past answers next
   pub each : All (IsLeft was_received was_sent next) clients
 
 -- so it is by each story by which the clients were served before, and nothing was closed
-pub record Leaves {A S : Type 0} (was_received was_sent : S → Option Bytes) (has_ended : S → Type 0) (is_past : A → Past) (keeps : A → Kept)
-    (before : A) (old new : List (Client S)) : Type 0 where
-  pub further : (story : Story) → AreServed was_received was_sent has_ended (is_past before) (keeps before) story old
-      → AreLeft was_received was_sent is_past story [] new
+pub record Leaves {A S : Type 0} (was_received was_sent : S → Option Bytes) (course : S → Option Course) (is_past : A → Past) (keeps : A → Kept)
+    (allowed : Feedings) (before : A) (old new : List (Client S)) : Type 0 where
+  pub further : (story : Story) → AreServed was_received was_sent course (is_past before) (keeps before) story old
+      → AreLeft was_received was_sent is_past allowed story [] new
 
 -- so it is of one client beside any others
-pub record LeavesOne {A S : Type 0} (was_received was_sent : S → Option Bytes) (has_ended : S → Type 0) (is_past : A → Past) (keeps : A → Kept)
-    (before : A) (old new : Client S) : Type 0 where
-  pub beside : (others : List (Client S)) → Leaves was_received was_sent has_ended is_past keeps before (old ∷ others) (new ∷ others)
+pub record LeavesOne {A S : Type 0} (was_received was_sent : S → Option Bytes) (course : S → Option Course) (is_past : A → Past) (keeps : A → Kept)
+    (allowed : Feedings) (before : A) (old new : Client S) : Type 0 where
+  pub beside : (others : List (Client S)) → Leaves was_received was_sent course is_past keeps allowed before (old ∷ others) (new ∷ others)
 
 -- the clients are left, and some connections may have been closed
-pub record HasLeft {A S : Type 0} (was_received was_sent : S → Option Bytes) (is_past : A → Past) (story : Story) (clients : List (Client S)) : Type 0 where
+pub record HasLeft {A S : Type 0} (was_received was_sent : S → Option Bytes) (is_past : A → Past) (allowed : Feedings) (story : Story)
+    (clients : List (Client S)) : Type 0 where
   pub shut : List Connection
-  pub left : AreLeft was_received was_sent is_past story shut clients
+  pub left : AreLeft was_received was_sent is_past allowed story shut clients
 
 -- so it is by each story by which the clients were served before
-pub record LeavesSome {A S : Type 0} (was_received was_sent : S → Option Bytes) (has_ended : S → Type 0) (is_past : A → Past) (keeps : A → Kept)
-    (before : A) (old new : List (Client S)) : Type 0 where
-  pub further : (story : Story) → AreServed was_received was_sent has_ended (is_past before) (keeps before) story old
-      → HasLeft was_received was_sent is_past story new
+pub record LeavesSome {A S : Type 0} (was_received was_sent : S → Option Bytes) (course : S → Option Course) (is_past : A → Past) (keeps : A → Kept)
+    (allowed : Feedings) (before : A) (old new : List (Client S)) : Type 0 where
+  pub further : (story : Story) → AreServed was_received was_sent course (is_past before) (keeps before) story old
+      → HasLeft was_received was_sent is_past allowed story new

@@ -1,12 +1,16 @@
 // Taking the connections that wait.
 ghost use Rattle.std.specs.Prelude.{◌≡◌, ◌+◌, ◌≤◌, false, [], if◌then◌else◌, length, IfOk, IfSome, OnOk, OnErr};
 ghost use Rattle.nr_service.specs.Leaving.{TurnsAway};
+ghost use Rattle.nr_service.specs.Readings.{IsNeverFed};
+ghost use Rattle.nr_service.specs.Streams.{fresh_course};
 ghost use Rattle.nr_service.specs.Steps.{Accepts, HasCounted, IsTakenOn, Leaves, next_number};
 
+use crate::answers::Answers;
 use crate::client::Client;
+use crate::device::Device;
 use crate::signs::Signs;
+use crate::stream::Stream;
 use nr_blob::Memory;
-use nr_service_ends::{Answers, Device, Stream};
 
 // How many connections are accepted at most in a turn.
 const MOST_ACCEPTED: u32 = 64;
@@ -22,8 +26,9 @@ pub(crate) fn take_on<A: Answers, S: Stream + Drop, D: Device<S>>(
 ) -> Result<bool, Memory>
     requires received { IfSome (S.received stream) (λ bytes. bytes ≡ []) }
     requires sent { IfSome (S.sent stream) (λ bytes. bytes ≡ []) }
-    ensures ok { OnOk result (Accepts S.received S.sent S.has_ended A.is_past A.kept answers.old answers.new clients.old.items clients.new.items) }
-    ensures err { OnErr result (Leaves S.received S.sent S.has_ended A.is_past A.kept answers.old clients.old.items clients.new.items) }
+    requires course { IfSome (S.course stream) (λ course. course ≡ fresh_course) }
+    ensures ok { OnOk result (Accepts S.received S.sent S.course A.is_past A.kept answers.old answers.new clients.old.items clients.new.items) }
+    ensures err { OnErr result (Leaves S.received S.sent S.course A.is_past A.kept IsNeverFed answers.old clients.old.items clients.new.items) }
     ensures taken { IfOk result (λ is_taken. IsTakenOn (A.is_placed answers.old answers.new accepted.old) is_taken stream clients.old.items
         clients.new.items) }
     ensures counted { accepted.new ≡ next_number accepted.old }
@@ -50,8 +55,8 @@ fn accept_one<A: Answers, S: Stream + Drop, D: Device<S>>(
     accepted: &mut u64,
     signs: &mut Signs,
 ) -> Result<bool, Memory>
-    ensures ok { OnOk result (Accepts S.received S.sent S.has_ended A.is_past A.kept answers.old answers.new clients.old.items clients.new.items) }
-    ensures err { OnErr result (Leaves S.received S.sent S.has_ended A.is_past A.kept answers.old clients.old.items clients.new.items) }
+    ensures ok { OnOk result (Accepts S.received S.sent S.course A.is_past A.kept answers.old answers.new clients.old.items clients.new.items) }
+    ensures err { OnErr result (Leaves S.received S.sent S.course A.is_past A.kept IsNeverFed answers.old clients.old.items clients.new.items) }
     ensures away { OnOk result (TurnsAway (D.parted device.old) (D.parted device.new)) }
     ensures counted { IfOk result (λ more. accepted.new ≡ (if more then next_number accepted.old else accepted.old)) }
     ensures few { IfOk result (λ more. length clients.new.items ≤ length clients.old.items + (if more then 1 else 0)) }
@@ -71,8 +76,8 @@ pub(crate) fn accept_each<A: Answers, S: Stream + Drop, D: Device<S>>(
     accepted: &mut u64,
     signs: &mut Signs,
 ) -> Result<(), Memory>
-    ensures ok { OnOk result (Accepts S.received S.sent S.has_ended A.is_past A.kept answers.old answers.new clients.old.items clients.new.items) }
-    ensures err { OnErr result (Leaves S.received S.sent S.has_ended A.is_past A.kept answers.old clients.old.items clients.new.items) }
+    ensures ok { OnOk result (Accepts S.received S.sent S.course A.is_past A.kept answers.old answers.new clients.old.items clients.new.items) }
+    ensures err { OnErr result (Leaves S.received S.sent S.course A.is_past A.kept IsNeverFed answers.old clients.old.items clients.new.items) }
     ensures away { OnOk result (TurnsAway (D.parted device.old) (D.parted device.new)) }
     ensures counted { OnOk result (HasCounted accepted.old accepted.new (length clients.old.items) (length clients.new.items)) }
 {

@@ -3,15 +3,18 @@ ghost use Rattle.std.specs.Prelude.{◌≡◌, ◌+◌, ◌<◌, [], ◌∷◌, 
 ghost use Rattle.std.specs.List.{IsDistinct};
 ghost use Rattle.nr_model.specs.Items.{same_connection};
 ghost use Rattle.nr_service.specs.Leaving.{AreMarked, IsEnding, KeepsEach, LetsGo, LetsGoOne, Removes, parting, unmarked};
+ghost use Rattle.nr_service.specs.Readings.{IsNeverFed};
 ghost use Rattle.nr_service.specs.Serving.{connection};
 ghost use Rattle.nr_service.specs.Steps.{Leaves, LeavesSome};
-ghost use Rattle.nr_service_ends.specs.Devices.{PartsWith};
+ghost use Rattle.nr_service.specs.Devices.{PartsWith};
 
+use crate::answers::Answers;
 use crate::client::{Client, Ending};
+use crate::device::Device;
 use crate::reading::is_open;
 use crate::signs::Signs;
+use crate::stream::Stream;
 use nr_blob::Memory;
-use nr_service_ends::{Answers, Device, Stream};
 
 // How a client ends that is over, `None` where it is served further.
 fn ending_of<A: Answers, S>(answers: &A, client: &Client<S>, limit: usize) -> Option<Ending>
@@ -74,9 +77,9 @@ fn let_go<A: Answers, S: Stream, D: Device<S>>(
 ) -> Result<(), Memory>
     requires { index < length clients.old.items }
     ensures len { length clients.new.items + 1 ≡ length clients.old.items }
-    ensures gone { OnOk result (LetsGoOne S.received S.sent S.has_ended A.is_past A.kept A.is_gone D.parted ending index answers.old answers.new
+    ensures gone { OnOk result (LetsGoOne S.received S.sent S.course A.is_past A.kept A.is_gone D.parted ending index answers.old answers.new
         device.old device.new clients.old.items clients.new.items) }
-    ensures left { OnErr result (Leaves S.received S.sent S.has_ended A.is_past A.kept answers.old clients.old.items clients.new.items) }
+    ensures left { OnErr result (Leaves S.received S.sent S.course A.is_past A.kept IsNeverFed answers.old clients.old.items clients.new.items) }
     ensures removed { OnOk result (Removes A.kept A.is_gone index answers.old answers.new clients.old.items clients.new.items) }
 {
     let Client { conn, stream, .. } = clients.swap_remove(index);
@@ -93,9 +96,9 @@ pub(crate) fn let_go_each<A: Answers, S: Stream, D: Device<S>>(
     moment: u64,
     signs: &mut Signs,
 ) -> Result<(), Memory>
-    ensures gone { OnOk result (LetsGo S.received S.sent S.has_ended A.is_past A.kept D.parted answers.old answers.new device.old device.new
+    ensures gone { OnOk result (LetsGo S.received S.sent S.course A.is_past A.kept D.parted answers.old answers.new device.old device.new
         clients.old.items clients.new.items) }
-    ensures left { OnErr result (LeavesSome S.received S.sent S.has_ended A.is_past A.kept answers.old clients.old.items clients.new.items) }
+    ensures left { OnErr result (LeavesSome S.received S.sent S.course A.is_past A.kept IsNeverFed answers.old clients.old.items clients.new.items) }
     ensures stay { OnOk result (All (λ client. client.ending ≡ None) clients.new.items) }
     ensures kept { OnOk result (IsDistinct same_connection (map connection clients.old.items)
         → KeepsEach (A.kept answers.old) (A.kept answers.new) clients.new.items) }

@@ -1,16 +1,26 @@
 //! One thread serves connections: it accepts, reads what is there, feeds it, has the work done, writes, and waits. What it does is proved over
-//! any device, clock and gate, and whatever answers.
+//! what it stands between: the streams of its connections and where they come from, what answers them, the clock, and the gate.
 #![tactic(auto)]
 
+pub use answers::{Answers, Standing};
 pub use client::{Client, Ending};
+pub use device::{Device, Nowhere};
 pub use ended::Ended;
+pub use gate::{Gate, Go, Open};
+pub use moments::{MachineClock, Moments};
 pub use service::Service;
+pub use stream::{Received, Sent, Stream};
 
 mod accepting;
+mod answers;
 mod client;
+mod device;
 mod ended;
+mod gate;
 mod leaving;
+mod moments;
 mod reading;
 mod service;
 mod signs;
+mod stream;
 mod writing;

@@ -3,15 +3,17 @@ ghost use Rattle.std.specs.Prelude.{◌≡◌, false, [], OnOk, OnErr, map};
 ghost use Rattle.std.specs.Bool.{OnTrue, OnFalse};
 ghost use Rattle.nr_entry.specs.Jobs.{connection_of};
 ghost use Rattle.nr_service.specs.Leaving.{TakesNone};
+ghost use Rattle.nr_service.specs.Readings.{IsFedAmong, IsFedTo, IsNeverFed};
 ghost use Rattle.nr_service.specs.Serving.{connection};
 ghost use Rattle.nr_service.specs.Steps.{Leaves, LeavesOne, Serves, ServesOne};
-ghost use Rattle.nr_service_ends.specs.declared.answers.Standing.TheVariants as standings;
+ghost use Rattle.nr_service.specs.declared.answers.Standing.TheVariants as standings;
 
+use crate::answers::{Answers, Standing};
 use crate::client::Client;
 use crate::signs::Signs;
+use crate::stream::{Received, Stream};
 use nr_blob::Memory;
 use nr_entry::ConnId;
-use nr_service_ends::{Answers, Received, Standing, Stream};
 
 // A client isn't read while more than this part of the limit waits for it.
 pub(crate) const HELD_PART: usize = 16;
@@ -37,8 +39,9 @@ fn take_in<A: Answers, S: Stream>(
 ) -> Result<(), Memory>
     requires standing { A.stands answers.old (connection_of client.old.conn) standings.Open }
     requires going { client.old.is_ending ≡ false }
-    ensures ok { OnOk result (ServesOne S.received S.sent S.has_ended A.is_past A.kept moment answers.old answers.new client.old client.new) }
-    ensures err { OnErr result (LeavesOne S.received S.sent S.has_ended A.is_past A.kept answers.old client.old client.new) }
+    ensures ok { OnOk result (ServesOne S.received S.sent S.course A.is_past A.kept (IsFedTo moment
+        (connection client.old)) answers.old answers.new client.old client.new) }
+    ensures err { OnErr result (LeavesOne S.received S.sent S.course A.is_past A.kept IsNeverFed answers.old client.old client.new) }
     ensures conn { client.new.conn ≡ client.old.conn }
 {
     match client.stream.receive(buffer) {
@@ -62,8 +65,9 @@ fn read_one<A: Answers, S: Stream>(
     buffer: &mut [u8],
     signs: &mut Signs,
 ) -> Result<(), Memory>
-    ensures ok { OnOk result (ServesOne S.received S.sent S.has_ended A.is_past A.kept moment answers.old answers.new client.old client.new) }
-    ensures err { OnErr result (LeavesOne S.received S.sent S.has_ended A.is_past A.kept answers.old client.old client.new) }
+    ensures ok { OnOk result (ServesOne S.received S.sent S.course A.is_past A.kept (IsFedTo moment
+        (connection client.old)) answers.old answers.new client.old client.new) }
+    ensures err { OnErr result (LeavesOne S.received S.sent S.course A.is_past A.kept IsNeverFed answers.old client.old client.new) }
     ensures conn { client.new.conn ≡ client.old.conn }
 {
     client.is_held = false;
@@ -90,8 +94,10 @@ pub(crate) fn read_each<A: Answers, S: Stream>(
     buffer: &mut [u8],
     signs: &mut Signs,
 ) -> Result<(), Memory>
-    ensures ok { OnOk result (Serves S.received S.sent S.has_ended A.is_past A.kept moment [] answers.old answers.new clients.old clients.new) }
-    ensures err { OnErr result (Leaves S.received S.sent S.has_ended A.is_past A.kept answers.old clients.old clients.new) }
+    ensures ok { OnOk result (Serves S.received S.sent S.course A.is_past A.kept (IsFedAmong moment
+        (map connection clients.old)) [] answers.old answers.new clients.old clients.new) }
+    ensures err { OnErr result (Leaves S.received S.sent S.course A.is_past A.kept (IsFedAmong moment
+        (map connection clients.old)) answers.old clients.old clients.new) }
     ensures same { map connection clients.new ≡ map connection clients.old }
 {
     for client in clients.iter_mut() {

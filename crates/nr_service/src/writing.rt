@@ -1,12 +1,14 @@
 // Writing what is kept for clients.
-ghost use Rattle.std.specs.Prelude.{ℕ, ◌≡◌, [], map};
+ghost use Rattle.std.specs.Prelude.{◌≡◌, [], map};
+ghost use Rattle.nr_service.specs.Readings.{IsNeverFed};
 ghost use Rattle.nr_service.specs.Serving.{connection};
 ghost use Rattle.nr_service.specs.Steps.{Serves, ServesOne, settled_past};
 
+use crate::answers::Answers;
 use crate::client::Client;
 use crate::reading::HELD_PART;
 use crate::signs::Signs;
-use nr_service_ends::{Answers, Sent, Stream};
+use crate::stream::{Sent, Stream};
 
 // Writes once what is kept for one, where anything is. What isn't taken stays.
 fn write_one<A: Answers, S: Stream>(
@@ -15,7 +17,7 @@ fn write_one<A: Answers, S: Stream>(
     limit: usize,
     signs: &mut Signs,
 )
-    ensures served { (now : ℕ) → ServesOne S.received S.sent S.has_ended (settled_past A.is_past A.is_settled) A.kept now answers.old answers.new
+    ensures served { ServesOne S.received S.sent S.course (settled_past A.is_past A.is_settled) A.kept IsNeverFed answers.old answers.new
         client.old client.new }
     ensures conn { client.new.conn ≡ client.old.conn }
 {
@@ -43,7 +45,7 @@ pub(crate) fn write_each<A: Answers, S: Stream>(
     limit: usize,
     signs: &mut Signs,
 )
-    ensures served { (now : ℕ) → Serves S.received S.sent S.has_ended (settled_past A.is_past A.is_settled) A.kept now [] answers.old answers.new
+    ensures served { Serves S.received S.sent S.course (settled_past A.is_past A.is_settled) A.kept IsNeverFed [] answers.old answers.new
         clients.old clients.new }
     ensures same { map connection clients.new ≡ map connection clients.old }
 {

@@ -9,7 +9,7 @@ ghost use Rattle.nr_model.specs.Commands.{served, row_of};
 ghost use Rattle.nr_model.specs.Commands.Texts.{ok};
 ghost use Rattle.nr_model.specs.declared.command.Command.TheVariants as commands;
 ghost use Rattle.nr_model.specs.declared.command.Session.TheVariants as sessions;
-ghost use Rattle.nr_command.specs.Check.{call, call_of};
+ghost use Rattle.nr_resp.specs.Check.{call, call_of};
 ghost use Rattle.nr_entry.specs.Kinds.{deed_of, queued_command, session_command};
 ghost use Rattle.nr_resp.specs.Seen.{reply_of};
 
@@ -17,11 +17,10 @@ use crate::texts::{
     not_in_transaction, not_while_subscribed, subscribed_ping, unknown, wrong_count,
 };
 use nr_blob::{Blob, Memory};
-use nr_command::{Cmd, CmdError, arguments, check};
 use nr_entry::{JobKind, Queueable, Queued, Read, SessionUpdate, Transaction, Update};
 use nr_model::command::{Command, Kind, Look, Operation, ServerLook, Session};
 use nr_pubsub::Holding;
-use nr_resp::{Frame, Reply};
+use nr_resp::{Cmd, CmdError, Frame, Reply, arguments, check};
 use std::alloc::Global;
 use std::marker::Model;
 

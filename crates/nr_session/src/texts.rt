@@ -10,10 +10,9 @@ ghost use Rattle.nr_model.specs.Commands.{row_of};
 ghost use Rattle.nr_resp.specs.Seen.{reply_of};
 
 use nr_blob::{Blob, Memory, on_one_line, push_quoted};
-use nr_command::name;
 use nr_model::command::Command;
 use nr_model::fault::Fault;
-use nr_resp::{Frame, Reply};
+use nr_resp::{Frame, Reply, name};
 use std::alloc::Global;
 
 /// The error of a name that is no command's.

@@ -1,7 +1,7 @@
 // Sockets of which all was sent: what their peers still send is read and dropped for a while, since a socket that is closed over bytes
 // that nobody read takes back those that were sent.
 use crate::socket::Socket;
-use nr_service_ends::{Received, Stream};
+use nr_service::{Received, Stream};
 use std::time::Instant;
 
 /// How many bytes are dropped at most.

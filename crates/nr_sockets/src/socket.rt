@@ -1,10 +1,10 @@
 // A connection's socket.
 ghost use Rattle.std.specs.Prelude.{◌≤◌, length};
-ghost use Rattle.nr_service_ends.specs.Streams.{received_count, sent_count, IsSomeReceived, IsSomeSent};
+ghost use Rattle.nr_service.specs.Streams.{received_count, sent_count, IsSomeReceived, IsSomeSent};
 
 use crate::readiness::Shared;
 use mio::net::TcpStream;
-use nr_service_ends::{Received, Sent, Stream};
+use nr_service::{Received, Sent, Stream};
 use std::io::{Error, ErrorKind, Read, Write};
 
 /// A connection's socket. No call waits, and a call of which the system told nothing new asks it nothing.

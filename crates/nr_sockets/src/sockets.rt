@@ -6,7 +6,7 @@ use mio::event::Event;
 use mio::net::{TcpListener, TcpStream};
 use mio::{Events, Interest, Poll, Token};
 use nr_blob::Memory;
-use nr_service_ends::Device;
+use nr_service::Device;
 use slab::Slab;
 use std::alloc::Global;
 use std::io::{self, Error, ErrorKind};

@@ -1,6 +1,6 @@
-// A machine's copy, and what it emits as a list, which no row reaches: that each call succeeds is tried here.
+// A machine's copy, what it emits as a list, and a message to many connections, which no row reaches: that each call succeeds is tried here.
 use nr_blob::{Blob, Memory};
-use nr_emission::Emissions;
+use nr_emission::{Emissions, Nowhere};
 use nr_entry::{ConnId, Entry, Job, JobKind, SessionUpdate, Update};
 use nr_machine::Machine;
 use nr_model::command::Kind;
@@ -17,36 +17,40 @@ fn words(alloc: Global, count: usize) -> Result<Vec<Blob>, Memory> {
     Ok(words)
 }
 
-// An entry in which one connection subscribes to a channel, and another publishes there.
-fn publishing(alloc: Global) -> Result<Entry, Memory> {
-    let subscribe = Job {
-        conn: ConnId { node: 3, serial: 1 },
+// An entry in which a connection of node 3 asks for this, by so many words.
+fn entry(
+    alloc: Global,
+    serial: u64,
+    command: SessionUpdate,
+    count: usize,
+) -> Result<Entry, Memory> {
+    let job = Job {
+        conn: ConnId { node: 3, serial },
         number: 0,
         moment: 7,
         kind: JobKind::Update(Update::Session {
-            command: SessionUpdate::Subscribe(Kind::Channels),
-            words: words(alloc, 2)?,
+            command,
+            words: words(alloc, count)?,
         }),
     };
-    let publish = Job {
-        conn: ConnId { node: 3, serial: 2 },
-        number: 0,
-        moment: 7,
-        kind: JobKind::Update(Update::Session {
-            command: SessionUpdate::Publish,
-            words: words(alloc, 3)?,
-        }),
-    };
-    Ok(Entry::new(3, vec![in alloc; subscribe, publish]?))
+    Ok(Entry::new(3, vec![in alloc; job]?))
+}
+
+fn subscribing(alloc: Global, serial: u64) -> Result<Entry, Memory> {
+    entry(alloc, serial, SessionUpdate::Subscribe(Kind::Channels), 2)
+}
+
+fn publishing(alloc: Global, serial: u64) -> Result<Entry, Memory> {
+    entry(alloc, serial, SessionUpdate::Publish, 3)
 }
 
 #[test]
 fn a_copy_sends_messages(rt: HostRuntime) -> Result<(), Fail> {
     let alloc = rt.alloc();
-    let entry = publishing(alloc)?;
     let mut machine = Machine::new(alloc, RandomState::new(&rt)?)?.copy()?;
     let mut emissions = Emissions::new(alloc);
-    machine.apply(&entry, entry.node, &mut emissions)?;
+    machine.apply(&subscribing(alloc, 1)?, 3, &mut emissions)?;
+    machine.apply(&publishing(alloc, 2)?, 3, &mut emissions)?;
     let mut bytes = Vec::new(alloc);
     for emission in emissions.list() {
         bytes.extend_from_slice(&emission.bytes)?;
@@ -54,5 +58,25 @@ fn a_copy_sends_messages(rt: HostRuntime) -> Result<(), Fail> {
     let expected =
         b"*3\r\n$9\r\nsubscribe\r\n$1\r\nk\r\n:1\r\n*3\r\n$7\r\nmessage\r\n$1\r\nk\r\n$1\r\nk\r\n:1\r\n";
     assert!(rt; bytes.as_slice() == expected.as_slice());
+    Ok(())
+}
+
+// A message goes to more connections than a count of 16 bits holds, and its reply counts them.
+#[test]
+fn many_get_a_message(rt: HostRuntime) -> Result<(), Fail> {
+    let alloc = rt.alloc();
+    let mut machine = Machine::new(alloc, RandomState::new(&rt)?)?;
+    for serial in 0..70_000 {
+        machine.apply(&subscribing(alloc, serial)?, 3, &mut Nowhere)?;
+    }
+    let mut emissions = Emissions::new(alloc);
+    machine.apply(&publishing(alloc, 70_000)?, 3, &mut emissions)?;
+    assert!(rt; emissions.list().len() == 70_001);
+    let mut last = Vec::new(alloc);
+    for emission in emissions.list() {
+        last.clear();
+        last.extend_from_slice(&emission.bytes)?;
+    }
+    assert!(rt; last.as_slice() == b":70000\r\n".as_slice());
     Ok(())
 }

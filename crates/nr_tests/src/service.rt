@@ -2,8 +2,7 @@
 use nr_answering::Answering;
 use nr_blob::Memory;
 use nr_nodes::Setup;
-use nr_service::{Ended, Service};
-use nr_service_ends::{Device, MachineClock, Moments, Open, Received, Sent, Stream};
+use nr_service::{Device, Ended, MachineClock, Moments, Open, Received, Sent, Service, Stream};
 use std::alloc::Global;
 use std::hash::RandomState;
 use std::test::Fail;
@@ -112,6 +111,27 @@ impl Device<Line> for Desk {
     }
 }
 
+// Gives these readings, one after the other, and fails behind the last.
+#[derive(Drop)]
+struct Readings {
+    left: &'static [Option<u64>],
+}
+
+impl Moments for Readings {
+    ghost use Rattle.std.specs.Prelude.{◌≡◌, ◌⊎◌, [], ◌∷◌, None};
+
+    // The next of those that are left, or none.
+    ghost gives = { λ old new reading. (old.left.now ≡ reading ∷ new.left.now) ⊎ ((old.left.now ≡ []) × (new.left.now ≡ []) × (reading ≡ None)) };
+
+    fn now(&mut self) -> Option<u64> {
+        let Some((reading, left)) = self.left.split_first() else {
+            return None;
+        };
+        self.left = left;
+        *reading
+    }
+}
+
 // What a connection was sent by a server of two nodes, up to its end.
 fn output_of<M: Moments + Drop>(
     alloc: Global,
@@ -181,5 +201,28 @@ fn serves_one_that_waits_for_its_answer(rt: HostRuntime) -> Result<(), Fail> {
     let output = output_of(rt.alloc(), keys, clock, asking)?;
     let expected = b"+PONG\r\n$5\r\nagain\r\n".as_slice();
     assert!(&rt; output.is_some_and(|bytes| bytes.as_slice() == expected));
+    Ok(())
+}
+
+// Time goes on by the clock's readings alone: a reading that fails leaves it where it was, and a key goes at its deadline.
+#[test]
+fn serves_by_the_clock(rt: HostRuntime) -> Result<(), Fail> {
+    let keys = RandomState::new(&rt)?;
+    let set = b"SET k v PX 10\r\n".as_slice();
+    let all = b"SET k v PX 10\r\nGET k\r\n".as_slice();
+    let rows: [(&'static [Option<u64>], &[u8]); 4] = [
+        (&[Some(100), Some(109)], b"+OK\r\n$1\r\nv\r\n"),
+        (&[Some(100), None], b"+OK\r\n$1\r\nv\r\n"),
+        (&[Some(100), Some(110)], b"+OK\r\n$-1\r\n"),
+        (&[None, Some(10)], b"+OK\r\n$-1\r\n"),
+    ];
+    for (readings, expected) in rows {
+        let clock = Readings { left: readings };
+        let mut asking = connection(rt.alloc(), all, 4_096, usize::MAX);
+        asking.first = set.len();
+        asking.needed = 5;
+        let output = output_of(rt.alloc(), keys, clock, asking)?;
+        assert!(&rt; output.is_some_and(|bytes| bytes.as_slice() == expected));
+    }
     Ok(())
 }

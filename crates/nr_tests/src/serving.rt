@@ -1,7 +1,6 @@
 // Readers and writers that fail: no clause says when one does.
-use nr_fault::Fault;
-use nr_service_ends::MachineClock;
-use nr_serving::run_on;
+use nr_server::{Fault, run_on};
+use nr_service::MachineClock;
 use std::hash::RandomState;
 use std::io::{self, ErrorKind, Read, Write};
 use std::test::Fail;
@@ -51,5 +50,29 @@ fn says_what_failed(rt: HostRuntime) -> Result<(), Fail> {
         };
         assert!(&rt; written == expected);
     }
+    Ok(())
+}
+
+// Takes no byte.
+#[derive(Drop)]
+struct Full;
+
+impl Write for Full {
+    fn write(&mut self, _: &[u8]) -> io::Result<usize> {
+        Ok(0)
+    }
+
+    fn flush(&mut self) -> io::Result<()> {
+        Ok(())
+    }
+}
+
+// A writer that takes no byte is not tried again.
+#[test]
+fn says_that_none_was_taken(rt: HostRuntime) -> Result<(), Fail> {
+    let keys = RandomState::new(&rt)?;
+    let clock = MachineClock { runtime: &rt };
+    let written = run_on(rt.alloc(), keys, b"PING\n".as_slice(), Full, clock);
+    assert!(&rt; written == Err(Fault::Write));
     Ok(())
 }

@@ -1,7 +1,7 @@
 // The server by TCP, over loopback.
 use nr_config::Settings;
 use nr_server::{listen_on, serve_on};
-use nr_service_ends::{Gate, Go, MachineClock};
+use nr_service::{Gate, Go, MachineClock};
 use std::alloc::Global;
 use std::hash::RandomState;
 use std::io::{BufRead, BufReader, Read, Write};

@@ -1,6 +1,6 @@
-// A run of a world whose steps are chosen one by one. What each step gives stands in the contract of `run`.
+// Worlds whose steps are chosen one by one. What each step gives stands in its contract.
 use nr_entry::ConnId;
-use nr_nodes::{Outcome, Setup, Step, run};
+use nr_nodes::{Outcome, Setup, Step, World, run};
 use std::hash::RandomState;
 use std::test::Fail;
 
@@ -34,5 +34,22 @@ fn steps_are_run(rt: HostRuntime) -> Result<(), Fail> {
         handed = handed.saturating_add(happened.handed.len());
     }
     assert!(rt; handed == 1);
+    Ok(())
+}
+
+// A connection takes 64 MiB in many pieces, which ask for nothing, and what it asks for behind them is answered.
+#[test]
+fn many_pieces_are_taken(rt: HostRuntime) -> Result<(), Fail> {
+    let alloc = rt.alloc();
+    let setup = Setup::new(2, 2, 1, 2, 1_024).unwrap();
+    let mut world = World::new(alloc, RandomState::new(&rt)?, setup)?;
+    world.open(1, 0)?;
+    let piece = vec![in alloc; b'\n'; 4_096]?;
+    for _ in 0..16_384 {
+        world.feed(FIRST, 7, &piece)?;
+    }
+    world.feed(FIRST, 7, b"PING\n")?;
+    let handed = world.settle()?;
+    assert!(rt; handed.len() == 1);
     Ok(())
 }

@@ -1,5 +1,5 @@
 -- Who stands at a name after a change there.
-use Rattle.std.proofs.Common.{◌≡◌, ℕ, Vec, Global, Bool, true, false, cond, not, Option, Some, None, List, [], ◌∷◌, ◌++◌, refl, ap, sym, ◌∙◌, Result, Ok, Err, OnErr, length, arith}
+use Rattle.std.proofs.Common.{◌≡◌, ℕ, Vec, Global, Bool, true, false, cond, not, Option, Some, None, List, [], ◌∷◌, ◌++◌, refl, ap, sym, ◌∙◌, Result, Ok, Err, OnOk, OnErr, length, arith}
 use Rattle.std.specs.Prelude.{◌&&◌, ◌||◌, bytes_eq}
 use Rattle.std.specs.List.{list_any}
 use Rattle.std.specs.Ordering.{eq_by_cmp}
@@ -17,7 +17,7 @@ use Rattle.std.proofs.lemmas.List.Folds.{list_any-append}
 use Rattle.nr_model.proofs.Ordered.{or_false}
 use Rattle.nr_entry.specs.declared.conn.ConnId.{ConnId}
 use Rattle.nr_entry.specs.Jobs.{connection_of}
-use Rattle.nr_watch.specs.Kept.{Index, is_conn, is_among, is_name, stands, names_one, IsAdded, IsTakenOut, IsAsBefore}
+use Rattle.nr_watch.specs.Kept.{Index, is_conn, is_among, is_name, has_one, has_somebody, stands, names_one, IsAdded, IsTakenOut, IsAsBefore, IsHeld}
 use Rattle.nr_watch.proofs.Found.{changed, is_the_name}
 
 abbrev pub same_name : Vec ℕ Global → Vec ℕ Global → Bool
@@ -68,6 +68,11 @@ fewer_conns old new conn updates c =
 pub on_err : {A E P : Type 0} (result : Result A E) → P → OnErr result P
 on_err (Ok x) holds = tt
 on_err (Err e) holds = holds
+
+-- what follows from success and from failure
+pub either : {A E P Q G : Type 0} (result : Result A E) → OnOk result P → OnErr result Q → (P → G) → (Q → G) → G
+either (Ok x) ok err then failed = then ok
+either (Err e) ok err then failed = failed err
 
 module _ (old new : Index) (name : Bytes) (conn : ConnId) (found w : Option (BTreeSet ConnId)) (was : found ≡ lookup (is_name name) old)
     (at_name : lookup (is_name name) new ≡ w) (others : KeepsOthers same_name (is_name name) old new) where
@@ -136,6 +141,41 @@ emptied old less new name conn taken left none had gone others = record {
       ] refl
       ∙ taken.at other c;
 }
+
+-- somebody still stands at each name, after a change at one of them
+has_one-any : (test : ConnId → Bool) (conns : List ConnId) → list_any test conns ≡ true → has_one conns ≡ true
+has_one-any test [] any = absurd (cc any)
+has_one-any test (conn ∷ conns) any = refl
+
+pub has_one-more : (old new : BTreeSet ConnId) (conn : ConnId) → ((c : Connection) → list_any (is_conn c) new.keys ≡ (is_conn c conn || list_any (is_conn c) old.keys))
+    → has_one new.keys ≡ true
+has_one-more old new conn more =
+    let c = connection_of conn in
+    has_one-any (is_conn c) new.keys (more c ∙ ap (λ b. b || list_any (is_conn c) old.keys) (is_conn_itself conn))
+
+pub has_one-left : (conns : List ConnId) → (length conns ≡ 0 → ⊥) → has_one conns ≡ true
+has_one-left [] left = absurd (left refl)
+has_one-left (conn ∷ conns) left = refl
+
+found_in : (old new : Index) (name : Bytes) (w : Option (BTreeSet ConnId)) → lookup (is_name name) new ≡ w
+    → KeepsOthers same_name (is_name name) old new
+    → (n : Bytes) → lookup (is_name n) new ≡ cond (eq_by_cmp byte_cmp n name) w (lookup (is_name n) old)
+found_in old new name w at_name others n =
+    changed byte_cmp nat_list_cmp_total exact_bytes (λ (k : Vec ℕ Global). k.items) old new name w at_name others n
+
+pub still_held : (old new : Index) (name : Bytes) (w : Option (BTreeSet ConnId)) → IsHeld old → lookup (is_name name) new ≡ w
+    → KeepsOthers same_name (is_name name) old new → has_somebody w ≡ true → IsHeld new
+still_held old new name w held at_name others some n =
+    ap has_somebody (found_in old new name w at_name others n)
+    ∙ elim (eq_by_cmp byte_cmp n name) as (λ b. has_somebody (cond b w (lookup (is_name n) old)) ≡ true) [ true ↦ some | false ↦ held n ]
+
+-- where the last one went, and then the name
+pub emptied_held : (old less new : Index) (name : Bytes) (left : Option (BTreeSet ConnId)) → IsHeld old → lookup (is_name name) less ≡ left
+    → KeepsOthers same_name (is_name name) old less → lookup (is_name name) new ≡ None → KeepsOthers same_name (is_name name) less new → IsHeld new
+emptied_held old less new name left held had others gone others' n =
+    ap has_somebody (found_in less new name None gone others' n
+    ∙ ap (cond (eq_by_cmp byte_cmp n name) None) (found_in old less name left had others n))
+    ∙ elim (eq_by_cmp byte_cmp n name) as (λ b. has_somebody (cond b None (cond b left (lookup (is_name n) old))) ≡ true) [ true ↦ refl | false ↦ held n ]
 
 -- one name more
 names-push : (name : Bytes) (done more : List Watch) (watch : Watch) → more ≡ done ++ watch ∷ []

@@ -100,6 +100,19 @@ is_name name stored = eq_by_cmp byte_cmp name stored.items
 abbrev pub stands : Index → Bytes → Connection → Bool
 stands index name c = is_among c (lookup (is_name name) index)
 
+-- there is one at least
+abbrev pub has_one : List ConnId → Bool
+has_one [] = false
+has_one (conn ∷ conns) = true
+
+abbrev pub has_somebody : Option (BTreeSet ConnId) → Bool
+has_somebody None = true
+has_somebody (Some conns) = has_one conns.keys
+
+-- somebody stands at each of the names
+abbrev pub IsHeld : Index → Type 0
+IsHeld index = (name : Bytes) → has_somebody (lookup (is_name name) index) ≡ true
+
 -- a key of this name is watched, in any database
 abbrev pub names_one : Bytes → List Watch → Bool
 names_one name watches = list_any (λ w. bytes_eq w.key.name name) watches

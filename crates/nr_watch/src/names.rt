@@ -6,7 +6,7 @@ ghost use Rattle.nr_model.specs.Bytes.{Bytes};
 ghost use Rattle.nr_model.specs.Keyspace.{byte_cmp};
 ghost use Rattle.nr_model.specs.Items.{Connection};
 ghost use Rattle.nr_entry.specs.Jobs.{connection_of};
-ghost use Rattle.nr_watch.specs.Kept.{stands, is_among, names_one, IsAdded, IsTakenOut, IsAsBefore};
+ghost use Rattle.nr_watch.specs.Kept.{stands, is_among, names_one, IsAdded, IsTakenOut, IsAsBefore, IsHeld};
 
 use crate::watch::Watch;
 use nr_blob::Memory;
@@ -19,6 +19,8 @@ use std::collections::{BTreeMap, BTreeSet};
 pub(crate) struct Names {
     alloc: Global,
     conns: BTreeMap<Vec<u8>, BTreeSet<ConnId>>,
+    // Somebody stands at each of the names.
+    ghost held: { IsHeld conns.entries },
 }
 
 impl Names {

@@ -1,17 +1,16 @@
 // The options of SET and GETEX: words in any order, read to the last before any is weighed.
 ghost use Rattle.std.specs.Prelude.{◌≡◌, ◌+◌, ◌<◌, ◌≤◌, ◌^◌, ◌∷◌, ◌&&◌, ◌||◌, cond, Ok, length, is_some, is_none, IfOk, IfErr, IfSome};
-ghost use Rattle.std.specs.Option.{option_map};
 ghost use Rattle.nr_model.specs.Commands.Reading as reading;
 ghost use Rattle.nr_model.specs.Commands.Reading.{fault, read_options, read_then};
 ghost use Rattle.nr_model.specs.Commands.Strings as strings;
 ghost use Rattle.nr_exec.specs.Expired as expired;
 ghost use Rattle.nr_exec.specs.Options as options;
-ghost use Rattle.nr_exec.specs.Options.{set_options_of, get_ex_options_of};
 
 use crate::reading::{is_word, positive_expiry};
 use nr_blob::Blob;
 use nr_model::command::Timing;
 use nr_model::refused::{Expiring, Refused};
+use std::marker::Model;
 
 /// The options of SET.
 #[derive(Clone, Copy)]
@@ -30,6 +29,16 @@ pub(super) struct SetOptions {
     pub(super) deadline: Option<i64>,
 }
 
+impl Model for SetOptions {
+    ghost use Rattle.nr_model.specs.Commands.Strings as strings;
+
+    ghost Value = { strings.SetOptions };
+
+    ghost view = { λ options. record { nx = options.nx; xx = options.xx; get = options.get; keep = options.keep; times = options.times; deadline = options.deadline } };
+
+    ghost inverse = { λ options. record { nx = options.nx; xx = options.xx; get = options.get; keep = options.keep; times = options.times; deadline = options.deadline } };
+}
+
 /// The options of GETEX.
 #[derive(Clone, Copy)]
 pub(super) struct GetExOptions {
@@ -41,10 +50,20 @@ pub(super) struct GetExOptions {
     pub(super) deadline: Option<i64>,
 }
 
+impl Model for GetExOptions {
+    ghost use Rattle.nr_model.specs.Commands.Strings as strings;
+
+    ghost Value = { strings.GetExOptions };
+
+    ghost view = { λ options. record { persist = options.persist; times = options.times; deadline = options.deadline } };
+
+    ghost inverse = { λ options. record { persist = options.persist; times = options.times; deadline = options.deadline } };
+}
+
 /// The options of SET that words say.
 pub(super) fn set_options(now: u64, words: &[Blob]) -> Result<SetOptions, Refused>
     ensures options { IfOk result
-        (λ read. read_then (read_options (strings.set_option now) strings.no_options words.now) strings.settable ≡ Ok (set_options_of read)) }
+        (λ read. read_then (read_options (strings.set_option now) strings.no_options words.now) strings.settable ≡ Ok read) }
     ensures refused { IfErr result
         (λ why. read_then (read_options (strings.set_option now) strings.no_options words.now) strings.settable ≡ fault why) }
 {
@@ -56,7 +75,7 @@ pub(super) fn set_options(now: u64, words: &[Blob]) -> Result<SetOptions, Refuse
 }
 
 fn every_set_option(now: u64, words: &[Blob]) -> Result<SetOptions, Refused>
-    ensures options { IfOk result (λ read. read_options (strings.set_option now) strings.no_options words.now ≡ Ok (set_options_of read)) }
+    ensures options { IfOk result (λ read. read_options (strings.set_option now) strings.no_options words.now ≡ Ok read) }
     ensures refused { IfErr result (λ why. read_options (strings.set_option now) strings.no_options words.now ≡ fault why) }
 {
     let mut options = SetOptions {
@@ -69,9 +88,7 @@ fn every_set_option(now: u64, words: &[Blob]) -> Result<SetOptions, Refused>
     };
     let mut left = words;
     while let Some((word, others)) = left.split_first() {
-        let (next, behind) = options.read(now, word, others)?;
-        options = next;
-        left = behind;
+        left = options.read(now, word, others)?;
     }
     Ok(options)
 }
@@ -97,27 +114,26 @@ impl SetOptions {
         }
     }
 
-    // With the option that a word begins, and the words behind it.
-    fn read<'k>(
-        self,
-        now: u64,
-        word: &Blob,
-        others: &'k [Blob],
-    ) -> Result<(SetOptions, &'k [Blob]), Refused>
-        requires { self.times < 2 ^ 63 }
-        ensures read { IfOk result (λ read. read_options (strings.set_option now) (set_options_of self) (word.now ∷ others.now)
-            ≡ read_options (strings.set_option now) (set_options_of read.0) read.1.now) }
+    // Reads the option that a word begins, and gives the words behind it.
+    fn read<'k>(&mut self, now: u64, word: &Blob, others: &'k [Blob]) -> Result<&'k [Blob], Refused>
+        requires { self.old.times < 2 ^ 63 }
+        ensures read { IfOk result (λ left. read_options (strings.set_option now) self.old (word.now ∷ others.now)
+            ≡ read_options (strings.set_option now) self.new left.now) }
         ensures refused { IfErr result
-            (λ why. read_options (strings.set_option now) (set_options_of self) (word.now ∷ others.now) ≡ fault why) }
-        ensures shorter { IfOk result (λ read. length read.1.now ≤ length others.now) }
-        ensures few { IfOk result (λ read. read.0.times ≤ self.times + 1) }
+            (λ why. read_options (strings.set_option now) self.old (word.now ∷ others.now) ≡ fault why) }
+        ensures shorter { IfOk result (λ left. length left.now ≤ length others.now) }
+        ensures few { IfOk result (λ left. self.new.times ≤ self.old.times + 1) }
     {
         match self.with_flag(word) {
-            Some(options) => Ok((options, others)),
+            Some(options) => {
+                *self = options;
+                Ok(others)
+            }
             None => {
                 let timing = timing_of(word);
                 let (deadline, behind) = deadline_behind(Expiring::Set, now, timing, others)?;
-                Ok((self.with_deadline(deadline), behind))
+                *self = self.with_deadline(deadline);
+                Ok(behind)
             }
         }
     }
@@ -125,7 +141,7 @@ impl SetOptions {
     // With an option of one word, if the word is one.
     fn with_flag(self, word: &Blob) -> Option<SetOptions>
         requires { self.times < 2 ^ 63 }
-        ensures flag { option_map set_options_of result ≡ options.set_flag (set_options_of self) word.now }
+        ensures flag { result ≡ options.set_flag self word.now }
         ensures few { IfSome result (λ options. options.times ≤ self.times + 1) }
     {
         if is_word("nx", word) {
@@ -149,7 +165,7 @@ impl SetOptions {
 
     fn with_deadline(self, deadline: i64) -> SetOptions
         requires { self.times < 2 ^ 63 }
-        ensures options { set_options_of result ≡ strings.with_deadline (set_options_of self) deadline }
+        ensures options { result ≡ strings.with_deadline self deadline }
         ensures few { result.times ≤ self.times + 1 }
     {
         SetOptions {
@@ -163,7 +179,7 @@ impl SetOptions {
 /// The options of GETEX that words say.
 pub(super) fn get_ex_options(now: u64, words: &[Blob]) -> Result<GetExOptions, Refused>
     ensures options { IfOk result
-        (λ read. read_then (read_options (strings.get_ex_option now) options.no_get_ex_options words.now) strings.one_time ≡ Ok (get_ex_options_of read)) }
+        (λ read. read_then (read_options (strings.get_ex_option now) options.no_get_ex_options words.now) strings.one_time ≡ Ok read) }
     ensures refused { IfErr result
         (λ why. read_then (read_options (strings.get_ex_option now) options.no_get_ex_options words.now) strings.one_time ≡ fault why) }
 {
@@ -176,7 +192,7 @@ pub(super) fn get_ex_options(now: u64, words: &[Blob]) -> Result<GetExOptions, R
 
 fn every_get_ex_option(now: u64, words: &[Blob]) -> Result<GetExOptions, Refused>
     ensures options { IfOk result
-        (λ read. read_options (strings.get_ex_option now) options.no_get_ex_options words.now ≡ Ok (get_ex_options_of read)) }
+        (λ read. read_options (strings.get_ex_option now) options.no_get_ex_options words.now ≡ Ok read) }
     ensures refused { IfErr result (λ why. read_options (strings.get_ex_option now) options.no_get_ex_options words.now ≡ fault why) }
 {
     let mut options = GetExOptions {
@@ -186,9 +202,7 @@ fn every_get_ex_option(now: u64, words: &[Blob]) -> Result<GetExOptions, Refused
     };
     let mut left = words;
     while let Some((word, others)) = left.split_first() {
-        let (next, behind) = options.read(now, word, others)?;
-        options = next;
-        left = behind;
+        left = options.read(now, word, others)?;
     }
     Ok(options)
 }
@@ -196,7 +210,7 @@ fn every_get_ex_option(now: u64, words: &[Blob]) -> Result<GetExOptions, Refused
 impl GetExOptions {
     /// The deadline, or none, that a key with this one is given, if it is given any.
     pub(super) fn deadline_given(self, held: Option<i64>) -> Option<Option<i64>>
-        ensures { result ≡ expired.deadline_given (get_ex_options_of self) held }
+        ensures { result ≡ expired.deadline_given self held }
     {
         if let Some(deadline) = self.deadline {
             return Some(Some(deadline));
@@ -207,27 +221,26 @@ impl GetExOptions {
         None
     }
 
-    // With the option that a word begins, and the words behind it.
-    fn read<'k>(
-        self,
-        now: u64,
-        word: &Blob,
-        others: &'k [Blob],
-    ) -> Result<(GetExOptions, &'k [Blob]), Refused>
-        requires { self.times < 2 ^ 63 }
-        ensures read { IfOk result (λ read. read_options (strings.get_ex_option now) (get_ex_options_of self) (word.now ∷ others.now)
-            ≡ read_options (strings.get_ex_option now) (get_ex_options_of read.0) read.1.now) }
+    // Reads the option that a word begins, and gives the words behind it.
+    fn read<'k>(&mut self, now: u64, word: &Blob, others: &'k [Blob]) -> Result<&'k [Blob], Refused>
+        requires { self.old.times < 2 ^ 63 }
+        ensures read { IfOk result (λ left. read_options (strings.get_ex_option now) self.old (word.now ∷ others.now)
+            ≡ read_options (strings.get_ex_option now) self.new left.now) }
         ensures refused { IfErr result
-            (λ why. read_options (strings.get_ex_option now) (get_ex_options_of self) (word.now ∷ others.now) ≡ fault why) }
-        ensures shorter { IfOk result (λ read. length read.1.now ≤ length others.now) }
-        ensures few { IfOk result (λ read. read.0.times ≤ self.times + 1) }
+            (λ why. read_options (strings.get_ex_option now) self.old (word.now ∷ others.now) ≡ fault why) }
+        ensures shorter { IfOk result (λ left. length left.now ≤ length others.now) }
+        ensures few { IfOk result (λ left. self.new.times ≤ self.old.times + 1) }
     {
         match self.with_flag(word) {
-            Some(options) => Ok((options, others)),
+            Some(options) => {
+                *self = options;
+                Ok(others)
+            }
             None => {
                 let timing = timing_of(word);
                 let (deadline, behind) = deadline_behind(Expiring::GetEx, now, timing, others)?;
-                Ok((self.with_deadline(deadline), behind))
+                *self = self.with_deadline(deadline);
+                Ok(behind)
             }
         }
     }
@@ -235,7 +248,7 @@ impl GetExOptions {
     // With an option of one word, if the word is one.
     fn with_flag(self, word: &Blob) -> Option<GetExOptions>
         requires { self.times < 2 ^ 63 }
-        ensures flag { option_map get_ex_options_of result ≡ options.get_ex_flag (get_ex_options_of self) word.now }
+        ensures flag { result ≡ options.get_ex_flag self word.now }
         ensures few { IfSome result (λ options. options.times ≤ self.times + 1) }
     {
         if is_word("persist", word) {
@@ -250,7 +263,7 @@ impl GetExOptions {
 
     fn with_deadline(self, deadline: i64) -> GetExOptions
         requires { self.times < 2 ^ 63 }
-        ensures options { get_ex_options_of result ≡ options.with_get_ex_deadline (get_ex_options_of self) deadline }
+        ensures options { result ≡ options.with_get_ex_deadline self deadline }
         ensures few { result.times ≤ self.times + 1 }
     {
         GetExOptions {

@@ -9,7 +9,6 @@ ghost use Rattle.nr_model.specs.Commands.Keys.{held_until};
 ghost use Rattle.nr_model.specs.Commands.Strings as strings;
 ghost use Rattle.nr_resp.specs.Seen.{reply_of};
 ghost use Rattle.nr_exec.specs.Done.{Performs};
-ghost use Rattle.nr_exec.specs.Options.{set_options_of};
 ghost use Rattle.nr_exec.specs.Touched.{Touches};
 
 use crate::deadline::remove;
@@ -42,20 +41,11 @@ pub(super) fn set<T: Touched>(
         store(keyspace, database, name, owned(text)?, touched)?;
         return Ok(Reply::Simple("OK"));
     }
-    let (name, text, options) = set_request(now, words)?;
-    set_with(keyspace, now, database, name, text, options, touched)
-}
-
-// The key, its text and the options.
-fn set_request<'k>(now: u64, words: &'k [Blob]) -> Result<(&'k Blob, &'k Blob, SetOptions), Refused>
-    ensures request { IfOk result
-        (λ read. strings.set_request now words.now ≡ Ok (record { name = read.0.now; text = read.1.now; options = set_options_of read.2 })) }
-    ensures refused { IfErr result (λ why. strings.set_request now words.now ≡ fault why) }
-{
     let [name, text, others @ ..] = words else {
-        return Err(Refused::Syntax);
+        return Err(Failure::Refused(Refused::Syntax));
     };
-    Ok((name, text, set_options(now, others)?))
+    let options = set_options(now, others)?;
+    set_with(keyspace, now, database, name, text, options, touched)
 }
 
 fn set_with<T: Touched>(
@@ -69,7 +59,7 @@ fn set_with<T: Touched>(
 ) -> Result<Reply, Failure>
     requires { live keyspace.old now ≡ keyspace.old }
     ensures { let key = key_of database name.now in Performs T.after result keyspace.new database touched.old touched.new
-        (staying database (strings.set_at now keyspace.old key text.now (set_options_of options) (map.get keyspace.old key))) }
+        (staying database (strings.set_at now keyspace.old key text.now options (map.get keyspace.old key))) }
 {
     let old = owned_bulk(asked(keyspace, now, database, name, options.get)?)?;
     let held = keyspace.deadline(now, database, name.bytes());

@@ -7,7 +7,6 @@ ghost use Rattle.nr_model.specs.Commands.Reading.{fault};
 ghost use Rattle.nr_model.specs.Commands.Strings as strings;
 ghost use Rattle.nr_exec.specs.Done.{Performs};
 ghost use Rattle.nr_exec.specs.Expired.{given_to, re_expired_at, touched_by};
-ghost use Rattle.nr_exec.specs.Options.{get_ex_options_of};
 ghost use Rattle.nr_exec.specs.Touched.{Touches};
 
 use crate::deadline::hold_until;
@@ -67,19 +66,11 @@ pub(super) fn get_ex<T: Touched>(
     ensures { Performs T.after result keyspace.new database touched.old touched.new
         (staying database (strings.get_ex now keyspace.old database words.now)) }
 {
-    let (name, options) = get_ex_request(now, words)?;
-    get_ex_with(keyspace, now, database, name, options, touched)
-}
-
-// The key and the options.
-fn get_ex_request<'k>(now: u64, words: &'k [Blob]) -> Result<(&'k Blob, GetExOptions), Refused>
-    ensures request { IfOk result (λ read. strings.get_ex_request now words.now ≡ Ok (read.0.now, get_ex_options_of read.1)) }
-    ensures refused { IfErr result (λ why. strings.get_ex_request now words.now ≡ fault why) }
-{
     let Some((name, others)) = words.split_first() else {
-        return Err(Refused::Syntax);
+        return Err(Failure::Refused(Refused::Syntax));
     };
-    Ok((name, get_ex_options(now, others)?))
+    let options = get_ex_options(now, others)?;
+    get_ex_with(keyspace, now, database, name, options, touched)
 }
 
 #[tactic(auto, using(crate::proofs::Expired::get_ex_given))]
@@ -93,7 +84,7 @@ fn get_ex_with<T: Touched>(
 ) -> Result<Reply, Failure>
     requires { live keyspace.old now ≡ keyspace.old }
     ensures { let key = key_of database name.now in Performs T.after result keyspace.new database touched.old touched.new
-        (staying database (strings.get_ex_at now keyspace.old key (get_ex_options_of options) (map.get keyspace.old key))) }
+        (staying database (strings.get_ex_at now keyspace.old key options (map.get keyspace.old key))) }
 {
     let text = owned_bulk(text_at(keyspace, now, database, name)?)?;
     re_expire(keyspace, now, database, name, options, touched)?;
@@ -111,9 +102,9 @@ fn re_expire<T: Touched>(
 ) -> Result<(), Memory>
     requires { live keyspace.old now ≡ keyspace.old }
     ensures keyspace { let key = key_of database name.now in let held = map.get keyspace.old key in OnOk result
-        (keyspace.new ≡ re_expired_at now keyspace.old key held (given_to (get_ex_options_of options) held)) }
+        (keyspace.new ≡ re_expired_at now keyspace.old key held (given_to options held)) }
     ensures touched { let key = key_of database name.now in OnOk result
-        (Touches T.after touched.old touched.new (touched_by key (given_to (get_ex_options_of options) (map.get keyspace.old key)))) }
+        (Touches T.after touched.old touched.new (touched_by key (given_to options (map.get keyspace.old key)))) }
 {
     let Some(held) = keyspace.deadline(now, database, name.bytes()) else {
         return Ok(());

@@ -28,4 +28,4 @@ returns-then-not-more-clause-away g c = away_then _ _ _ c.loop.invariant.away c.
 
 pub returns-in_err-more-clause-err : goal.returns-in_err-more-clause-err
 returns-in_err-more-clause-err g c =
-    on_err c.from_residual.result _ (leaves_then _ _ _ _ _ _ _ _ _ _ _ (c.loop.invariant.accepts.serves 0) c.in_err-more.ensures.err)
+    on_err c.from_residual.result _ (leaves_then _ _ _ _ _ _ _ _ _ _ _ c.loop.invariant.accepts.serves c.in_err-more.ensures.err)

@@ -8,7 +8,7 @@ pub returns-in_default-clause-ok : goal.returns-in_default-clause-ok
 returns-in_default-clause-ok g c = accepts_none _ _ _ _ _ _ _
 
 pub returns-in_err-stream-clause-err : goal.returns-in_err-stream-clause-err
-returns-in_err-stream-clause-err g c = on_err c.from_residual.result _ (leaves_all _ _ _ _ _ _ _)
+returns-in_err-stream-clause-err g c = on_err c.from_residual.result _ (leaves_all _ _ _ _ _ _ _ _)
 
 pub returns-in_default-clause-away : goal.returns-in_default-clause-away
 returns-in_default-clause-away g c = away_none _ _ c.accept.ensures.parted

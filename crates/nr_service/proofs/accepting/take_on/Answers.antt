@@ -12,7 +12,7 @@ returns-in_default-clause-ok g c = opened_none _ _ _ _ _ _ _ _ (rw c.in_default.
 pub returns-clause-ok : goal.returns-clause-ok
 returns-clause-ok g c =
     opened_behind _ _ _ _ _ _ _ _ _ c.new.result c.in-Some.conn c.args.stream c.new.ensures.conn c.new.ensures.stream c.new.ensures.going
-    c.in_ok-push.ensures.items c.requires.received c.requires.sent (rw c.in-Some.is at c.in_ok-conn.ensures.opened)
+    c.new.ensures.sound c.in_ok-push.ensures.items c.requires.received c.requires.sent c.requires.course (rw c.in-Some.is at c.in_ok-conn.ensures.opened)
 
 pub returns-clause-taken : goal.returns-clause-taken
 returns-clause-taken g c = record {
@@ -28,10 +28,10 @@ pub returns-clause-few : goal.returns-clause-few
 returns-clause-few g c = one_more _ _ c.new.result c.in_ok-push.ensures.items
 
 pub returns-in_err-conn-clause-err : goal.returns-in_err-conn-clause-err
-returns-in_err-conn-clause-err g c = on_err c.from_residual.result _ (leaves_all _ _ _ _ _ _ _)
+returns-in_err-conn-clause-err g c = on_err c.from_residual.result _ (leaves_all _ _ _ _ _ _ _ _)
 
 pub returns-in_err-push-clause-err : goal.returns-in_err-push-clause-err
-returns-in_err-push-clause-err g c = on_err c.from_residual-in_err-push.result _ (leaves_same _ _ _ _ _ _ _ _ c.in_err-push.ensures.items)
+returns-in_err-push-clause-err g c = on_err c.from_residual-in_err-push.result _ (leaves_same _ _ _ _ _ _ _ _ _ c.in_err-push.ensures.items)
 
 pub returns-in_default-clause-full : goal.returns-in_default-clause-full
 returns-in_default-clause-full g c = λ none. rw c.in_default.is at c.in_ok-conn.ensures.full

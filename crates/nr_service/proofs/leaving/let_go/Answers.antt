@@ -19,5 +19,5 @@ returns-clause-removed g c =
 pub returns-in_err-close-clause-left : goal.returns-in_err-close-clause-left
 returns-in_err-close-clause-left g c =
     on_err c.from_residual.result _
-    (leaves_others _ _ _ _ _ _ c.swap_remove-stream.result _ _ c.args.index c.requires c.swap_remove-stream.ensures.value
+    (leaves_others _ _ _ _ _ _ _ c.swap_remove-stream.result _ _ c.args.index c.requires c.swap_remove-stream.ensures.value
     c.swap_remove-stream.ensures.items)

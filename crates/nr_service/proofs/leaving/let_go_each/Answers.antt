@@ -33,7 +33,7 @@ loop-left-preserved g c = record {
 
 pub returns-in_err-let_go-clause-left : goal.returns-in_err-let_go-clause-left
 returns-in_err-let_go-clause-left g c =
-    on_err c.from_residual.result _ (leaves_behind _ _ _ _ _ _ _ _ _ _ _ _ _ c.loop-left.invariant.gone c.in_err-let_go.ensures.left)
+    on_err c.from_residual.result _ (leaves_behind _ _ _ _ _ _ _ _ _ _ _ _ _ _ c.loop-left.invariant.gone c.in_err-let_go.ensures.left)
 
 pub returns-clause-stay : goal.returns-clause-stay
 returns-clause-stay g c = all_stay c.loop-left.left _ (omega arith) c.loop-left.invariant.stay

@@ -1,5 +1,8 @@
 -- What came was fed; else nothing was done.
-use Rattle.std.proofs.Common.{take, refl}
+use Rattle.std.proofs.Common.{take, refl, ◌∙◌}
+use Rattle.nr_service.specs.Streams.{course_received}
+use Rattle.nr_service.specs.declared.stream.Received.TheVariants as received
+use Rattle.nr_service.proofs.Known.{course_still, course_then, same_course}
 use Rattle.nr_service.proofs.Left.{leaves_fed, on_err}
 use Rattle.nr_service.proofs.Feeding.{fed_one, nothing_read}
 use Rattle.nr_service.proofs.reading.take_in.Goals as goal
@@ -7,23 +10,24 @@ use Rattle.nr_service.proofs.reading.take_in.Goals as goal
 pub returns-in_ok-feed-in-Bytes-clause-ok : goal.returns-in_ok-feed-in-Bytes-clause-ok
 returns-in_ok-feed-in-Bytes-clause-ok g c =
     fed_one _ _ _ _ _ _ _ _ _ _ (take c.in-Bytes.count c.receive.new.buffer) refl c.in-Bytes.ensures.received c.in-Bytes.ensures.sent
-    (λ is. absurd (cc (is, c.requires.going))) c.in_ok-feed-in-Bytes.ensures
+    (course_still _ _ _ _ _ _ (c.in-Bytes.ensures.course ∙ same_course _) refl refl) c.in_ok-feed-in-Bytes.ensures
 
 pub returns-in-Nothing-clause-ok : goal.returns-in-Nothing-clause-ok
 returns-in-Nothing-clause-ok g c =
     nothing_read _ _ _ _ _ _ _ _ _ c.receive.new.buffer refl c.in-Nothing.ensures.received c.in-Nothing.ensures.sent
-    (λ is. absurd (cc (is, c.requires.going)))
+    (course_still _ _ _ _ _ _ (c.in-Nothing.ensures.course ∙ same_course _) refl refl)
 
 pub returns-in-End-clause-ok : goal.returns-in-End-clause-ok
 returns-in-End-clause-ok g c =
-    nothing_read _ _ _ _ _ _ _ _ _ c.receive.new.buffer refl c.in-End.ensures.received c.in-End.ensures.sent (λ _. c.in-End.ensures.ended refl)
+    nothing_read _ _ _ _ _ _ _ _ _ c.receive.new.buffer refl c.in-End.ensures.received c.in-End.ensures.sent
+    (course_then _ _ (course_received received.End) _ _ _ _ c.in-End.ensures.course (λ course was. (refl, was.1)))
 
 pub returns-in-Failed-clause-ok : goal.returns-in-Failed-clause-ok
 returns-in-Failed-clause-ok g c =
     nothing_read _ _ _ _ _ _ _ _ _ c.receive.new.buffer refl c.in-Failed.ensures.received c.in-Failed.ensures.sent
-    (λ is. absurd (cc (is, c.requires.going)))
+    (course_then _ _ (course_received received.Failed) _ _ _ _ c.in-Failed.ensures.course (λ course was. (was.0, refl)))
 
 pub returns-in_err-feed-in-Bytes-clause-err : goal.returns-in_err-feed-in-Bytes-clause-err
 returns-in_err-feed-in-Bytes-clause-err g c =
     on_err c.from_residual.result _
-    (leaves_fed _ _ _ _ _ _ _ _ (take c.in-Bytes.count c.receive.new.buffer) refl c.in-Bytes.ensures.received c.in-Bytes.ensures.sent)
+    (leaves_fed _ _ _ _ _ _ _ _ _ (take c.in-Bytes.count c.receive.new.buffer) refl c.in-Bytes.ensures.received c.in-Bytes.ensures.sent)

@@ -1,24 +1,27 @@
 -- One part behind another.
 use Rattle.nr_service.proofs.Left.{leaves_all, leaves_then, on_err}
-use Rattle.nr_service.proofs.Served.{serves_then}
+use Rattle.nr_service.proofs.Served.{serves_then, serves_weaker}
 use Rattle.nr_service.proofs.Working.{exchanged}
 use Rattle.nr_service.proofs.service.exchange_each.Goals as goal
 
 pub returns-in_err-work_left-clause-err : goal.returns-in_err-work_left-clause-err
-returns-in_err-work_left-clause-err g c = on_err c.from_residual.result _ (leaves_all _ _ _ _ _ _ _)
+returns-in_err-work_left-clause-err g c = on_err c.from_residual.result _ (leaves_all _ _ _ _ _ _ _ _)
 
 pub returns-in_err-read_each-clause-err : goal.returns-in_err-read_each-clause-err
 returns-in_err-read_each-clause-err g c =
     on_err c.from_residual-in_err-read_each.result _
-    (leaves_then _ _ _ _ _ _ _ _ _ _ _ (c.in_ok-work_left.ensures c.args.moment) c.in_err-read_each.ensures.err)
+    (leaves_then _ _ _ _ _ _ _ _ _ _ _ (serves_weaker _ _ _ _ _ _ _ _ _ _ _
+    (λ feeding never. absurd never) c.in_ok-work_left.ensures) c.in_err-read_each.ensures.err)
 
 pub returns-in_err-work-clause-err : goal.returns-in_err-work-clause-err
 returns-in_err-work-clause-err g c =
     on_err c.from_residual-in_err-work.result _
     (leaves_then _ _ _ _ _ _ _ _ _ _ _
-    (serves_then _ _ _ _ _ _ _ _ _ _ _ _ (c.in_ok-work_left.ensures c.args.moment) c.in_ok-read_each.ensures.ok) (leaves_all _ _ _ _ _ _ _))
+    (serves_then _ _ _ _ _ _ _ _ _ _ _ _ (serves_weaker _ _ _ _ _ _ _ _ _ _ _
+    (λ feeding never. absurd never) c.in_ok-work_left.ensures) c.in_ok-read_each.ensures.ok) (leaves_all _ _ _ _ _ _ _ _))
 
 pub returns-clause-ok : goal.returns-clause-ok
 returns-clause-ok g c =
-    exchanged _ _ _ _ _ _ _ _ _ _ _ _ _ _ (serves_then _ _ _ _ _ _ _ _ _ _ _ _ (c.in_ok-work_left.ensures c.args.moment) c.in_ok-read_each.ensures.ok)
-    c.in_ok-work.ensures (c.write_each.ensures.served c.args.moment)
+    exchanged _ _ _ _ _ _ _ _ _ _ _ _ _ _ (serves_then _ _ _ _ _ _ _ _ _ _ _ _ (serves_weaker _ _ _ _ _ _ _ _ _ _ _
+    (λ feeding never. absurd never) c.in_ok-work_left.ensures) c.in_ok-read_each.ensures.ok)
+    c.in_ok-work.ensures c.write_each.ensures.served

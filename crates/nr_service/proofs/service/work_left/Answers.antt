@@ -3,4 +3,4 @@ use Rattle.nr_service.proofs.Working.{worked}
 use Rattle.nr_service.proofs.service.work_left.Goals as goal
 
 pub returns-in_ok-work : goal.returns-in_ok-work
-returns-in_ok-work g c = λ now. worked _ _ _ _ g.A.Answers.is_settled _ _ _ _ _ c.in_ok-work.ensures
+returns-in_ok-work g c = worked _ _ _ _ g.A.Answers.is_settled _ _ _ _ _ c.in_ok-work.ensures

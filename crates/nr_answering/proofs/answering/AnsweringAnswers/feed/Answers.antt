@@ -2,7 +2,7 @@ use Rattle.std.proofs.Common.{[], ◌∷◌, false, refl, subst}
 use Rattle.nr_model.specs.Keyspace.{moment}
 use Rattle.nr_model.specs.Connections.{Feeding}
 use Rattle.nr_entry.specs.Jobs.{connection_of}
-use Rattle.nr_service_ends.specs.Stories.{Fed, IsFed}
+use Rattle.nr_service.specs.Stories.{Fed, IsFed}
 use Rattle.nr_answering.specs.State.{AnsweringState}
 use Rattle.nr_answering.specs.Led.{HasLedTo}
 use Rattle.nr_answering.proofs.Told.{Kept, sound_kept, is_fed}

@@ -1,6 +1,6 @@
 use Rattle.std.proofs.Common.{false, subst}
 use Rattle.nr_entry.specs.Jobs.{connection_of}
-use Rattle.nr_service_ends.specs.Stories.{IsOpened, Keeps}
+use Rattle.nr_service.specs.Stories.{IsOpened, Keeps}
 use Rattle.nr_answering.specs.State.{AnsweringState}
 use Rattle.nr_answering.specs.Led.{HasLedTo}
 use Rattle.nr_answering.specs.Stands.{IsFull}

@@ -1,6 +1,6 @@
 use Rattle.std.proofs.Common.{false, map, refl, subst}
 use Rattle.nr_nodes.specs.Seen.{handed_seen}
-use Rattle.nr_service_ends.specs.Stories.{HandedOut, HasWorked}
+use Rattle.nr_service.specs.Stories.{HandedOut, HasWorked}
 use Rattle.nr_answering.specs.State.{AnsweringState}
 use Rattle.nr_answering.specs.Led.{HasLedTo, IsAtRest}
 use Rattle.nr_answering.proofs.Told.{Kept, sound_kept, added_absent, has_worked}

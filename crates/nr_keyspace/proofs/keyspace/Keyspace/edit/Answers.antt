@@ -9,7 +9,7 @@ use Rattle.nr_keyspace.proofs.keyspace.Keyspace.edit.Goals as goal
 pub returns-clause-ok : goal.returns-clause-ok
 returns-clause-ok g c =
     let key = key_of c.args.database c.args.name.now in
-    let latest = c.self.inside.latest in
+    let latest = c.self.inside.sweeps.latest in
     let old = c.self.inside.databases in
     let edits = g.E.Edit.edits c.args.edit in
     let found = map.get (model.live old c.later.result) key in

@@ -10,9 +10,9 @@ use Rattle.nr_keyspace.proofs.keyspace.Keyspace.put.Goals as goal
 
 pub returns-clause-ok : goal.returns-clause-ok
 returns-clause-ok c =
-    let settle = c.settle-self-inside in
+    let settle = c.settle in
     let key = key_of c.args.database c.args.name in
     let stored : model.Stored = record { value = value_of c.args.value; deadline = c.args.deadline } in
     ok_then c.put.result c.put.ensures.ok (λ is.
-    ap (seen_after settle.result) is ∙ seen_insert settle.result settle.new.databases key stored settle.ensures.seen
+    ap (seen_after settle.new.self.latest) is ∙ seen_insert settle.new.self.latest settle.new.databases key stored settle.ensures.seen
     ∙ ap (λ keyspace. map.insert keyspace key stored) (settle.ensures.same ∙ c.self.view_is))

@@ -10,5 +10,5 @@ pub returns-clause-removed : goal.returns-clause-removed
 returns-clause-removed c =
     let key = key_of c.args.database c.args.name.now in
     some_then c.remove.result c.remove.ensures.removed (λ is.
-    ap (seen_after c.self.inside.latest) is ∙ seen_remove c.self.inside.latest c.self.inside.databases key
+    ap (seen_after c.self.inside.sweeps.latest) is ∙ seen_remove c.self.inside.sweeps.latest c.self.inside.databases key
     ∙ ap (λ keyspace. map.remove keyspace key) c.self.view_is)

@@ -13,7 +13,7 @@ pub returns-clause-written : goal.returns-clause-written
 returns-clause-written c =
     let key = key_of c.args.database c.args.name.now in
     let stored : model.Stored = record { value = value_of c.args.value; deadline = None } in
-    let latest = c.self.inside.latest in
+    let latest = c.self.inside.sweeps.latest in
     none_then c.rewrite.result c.rewrite.ensures.written (λ is.
     ap (seen_after latest) is ∙ seen_insert latest c.self.inside.databases key stored (undated_seen latest)
     ∙ ap (λ keyspace. map.insert keyspace key stored) c.self.view_is)
@@ -22,5 +22,5 @@ pub returns-clause-exact : goal.returns-clause-exact
 returns-clause-exact c =
     let key = key_of c.args.database c.args.name.now in
     c.rewrite.ensures.exact
-    ∙ ap not (sym (seen_undated c.self.inside.latest c.self.inside.databases key)
+    ∙ ap not (sym (seen_undated c.self.inside.sweeps.latest c.self.inside.databases key)
     ∙ ap (λ keyspace. is_undated (map.get keyspace key)) c.self.view_is)

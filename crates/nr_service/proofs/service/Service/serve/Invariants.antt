@@ -1,12 +1,19 @@
--- All are served where they were at first, and no more turns were taken than were asked for.
-use Rattle.std.proofs.Common.{◌≤◌}
+-- All are served where they were at first, by whole turns, of which no more were taken than were asked for.
+use Rattle.std.proofs.Common.{◌≤◌, true}
 use Rattle.nr_model.specs.Connections.{Setup}
 use Rattle.nr_service.specs.Serving.{IsServing}
+use Rattle.nr_service.specs.Turns.{Turns}
+use Rattle.nr_service.specs.Endings.{IsGoing}
+use Rattle.nr_service.proofs.Chained.{HasTaken}
 use Rattle.nr_service.proofs.service.Service.serve.Given as goal
 
 abbrev pub invariant-loop-asked : goal.invariant-loop-asked
 invariant-loop-asked g l = record {
   turns : l.turn ≤ l.asked;
-  serving : (setup : Setup) → IsServing g.S.Stream.received g.S.Stream.sent g.S.Stream.has_ended g.M.Moments.shows g.A.Answers.is_past g.A.Answers.kept setup
-      l.fn.self → IsServing g.S.Stream.received g.S.Stream.sent g.S.Stream.has_ended g.M.Moments.shows g.A.Answers.is_past g.A.Answers.kept setup l.self;
+  taken : HasTaken (g.G.Gate.says l.fn.gate 0 0) (IsGoing g.A.Answers.falls)
+      (Turns g.S.Stream.received g.S.Stream.sent g.S.Stream.course g.A.Answers.is_past g.A.Answers.is_settled g.A.Answers.kept g.A.Answers.stands
+      g.D.Device.parted g.D.Device.waits g.M.Moments.gives true) l.left l.turn l.asked l.fn.self l.self;
+  serving : (first : _) (setup : Setup)
+      → IsServing g.S.Stream.received g.S.Stream.sent g.S.Stream.course g.M.Moments.gives g.A.Answers.is_past g.A.Answers.kept first setup l.fn.self
+      → IsServing g.S.Stream.received g.S.Stream.sent g.S.Stream.course g.M.Moments.gives g.A.Answers.is_past g.A.Answers.kept first setup l.self;
 }

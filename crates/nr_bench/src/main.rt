@@ -1,0 +1,73 @@
+//! What the figures of the first page come from. Without an argument it does each thing once and says how often: entries through the operation
+//! log, a message to a thousand connections, keys with a deadline. With one it measures: `log` how many entries a second go through the log,
+//! `messages` how long a PUBLISH takes beside as many replies of its size, `expiry` how long a SET takes before a million keys are gone, and after.
+//! `memory BYTES KEYS` stores so many keys with values of so many bytes, a million where no number is given, and waits for a line.
+#![tactic(auto)]
+
+mod bench;
+mod expiry;
+mod held;
+mod jobs;
+mod keys;
+mod log;
+mod messages;
+mod queue;
+
+use nr_blob::Memory;
+use std::env;
+use std::hash::RandomState;
+use std::io::{self, ErrorKind};
+use std::rt::Runtime;
+use std::thread::Threads;
+
+/// How many keys are stored where no argument says it and their size is read.
+const MANY_KEYS: u32 = 1_000_000;
+
+/// The millisecond from which keys with a deadline are gone.
+pub(crate) const DEADLINE: u64 = 1000;
+
+/// How many bytes a value has where no argument says it.
+pub(crate) const TEXT_BYTES: usize = 3;
+
+pub(crate) fn no_memory(_memory: Memory) -> io::Error {
+    io::Error::from(ErrorKind::OutOfMemory)
+}
+
+// Each thing once.
+fn say_counts(rt: &HostRuntime, threads: &(impl Runtime + Threads + Sync)) -> io::Result<()> {
+    let alloc = rt.alloc();
+    log::say_entries(threads, alloc, false)?;
+    messages::say_count(rt, alloc, RandomState::new(rt)?)?;
+    held::say_counts(rt, alloc, RandomState::new(rt)?)
+}
+
+// The runtime lends its threads to `main` alone, which hands them on.
+fn perform(rt: &HostRuntime, threads: &(impl Runtime + Threads + Sync)) -> io::Result<()> {
+    let alloc = rt.alloc();
+    let mut words = env::args(rt)?.skip(1);
+    let task = words.next();
+    let bytes = words.next().and_then(|word| word.as_str().parse().ok());
+    let keys = words.next().and_then(|word| word.as_str().parse().ok());
+    let hasher = RandomState::new(rt)?;
+    match task {
+        Some(word) if word.as_str() == "log" => log::say_entries(threads, alloc, true),
+        Some(word) if word.as_str() == "messages" => messages::say_times(rt, alloc, hasher),
+        Some(word) if word.as_str() == "expiry" => expiry::say_times(rt, alloc, hasher),
+        Some(word) if word.as_str() == "memory" => held::hold(
+            rt,
+            hasher,
+            bytes.unwrap_or(TEXT_BYTES),
+            keys.unwrap_or(MANY_KEYS),
+        ),
+        _ => say_counts(rt, threads),
+    }
+}
+
+fn main(rt: HostRuntime) -> io::Result<()> {
+    match perform(&rt, &rt) {
+        Err(error) if error.kind() == ErrorKind::OutOfMemory => {
+            rt.eprintln("nr_bench: out of memory")
+        }
+        done => done,
+    }
+}

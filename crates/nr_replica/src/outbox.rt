@@ -1,0 +1,265 @@
+// A connection's queue: replies and messages are written behind one another into one buffer, and handed out from its front.
+ghost use Rattle.std.specs.Prelude.{◌≡◌, ◌<◌, ◌≤◌, ◌+◌, true, false, [], take, drop, length, IfOk, OnErr, IfSome, IfNone, OnOk, IsErr, nat_le, ◌&&◌};
+ghost use Rattle.std.specs.Arc.{arc_value};
+ghost use Rattle.nr_model.specs.Replies.{reply_text};
+ghost use Rattle.nr_resp.specs.Shown.{shown_reply};
+ghost use Rattle.nr_entry.specs.Jobs.{connection_of};
+ghost use Rattle.nr_replica.specs.declared.outbox.Put.TheVariants as outcomes;
+ghost use Rattle.nr_model.specs.Queues.{Queue, put, takes, with_bytes, cut_off, handing, most_bytes};
+
+use nr_blob::Memory;
+use nr_emission::Sink;
+use nr_entry::ConnId;
+use nr_resp::Shown;
+use std::alloc::Global;
+use std::marker::Model;
+use std::sync::Arc;
+use std::{cmp, mem};
+
+/// What became of a reply or a message.
+#[derive(Clone, Copy, Debug, PartialEq, Eq)]
+pub enum Put {
+    /// It waits behind the others.
+    In,
+    /// It would have passed the limit, or the queue was cut before. The queue is cut, and none of it waits.
+    Full,
+    /// Memory was refused. The queue is cut, and none of it waits.
+    Memory,
+}
+
+/// Bytes for a connection, and how many were handed out to it before them.
+#[derive(Debug, Drop)]
+pub struct Piece {
+    pub conn: ConnId,
+    pub from: u64,
+    pub bytes: Vec<u8>,
+}
+
+/// What waits for a connection. A queue that was cut takes nothing more, and what waits in it can still be handed out.
+#[derive(Drop)]
+pub struct Outbox {
+    conn: ConnId,
+    buffer: Vec<u8>,
+    // Where the bytes that wait begin.
+    start: usize,
+    handed: u64,
+    limit: usize,
+    is_cut: bool,
+}
+
+impl Model for Outbox {
+    ghost use Rattle.std.specs.Prelude.{◌≤◌, ◌+◌, drop, length};
+    ghost use Rattle.nr_entry.specs.Jobs.{connection_of};
+    ghost use Rattle.nr_replica.specs.declared.outbox.Put.TheVariants as outcomes;
+    ghost use Rattle.nr_model.specs.Queues.{Queue, coded_queue, most_bytes};
+
+    ghost Value = { Queue };
+
+    ghost coded = { coded_queue };
+
+    ghost view = { λ o. record { connection = connection_of o.conn; waiting = drop o.start o.buffer.items; handed = o.handed; limit = o.limit; cut = o.is_cut } };
+
+    // At most half of the buffer was handed out, so it is never more than twice what waits.
+    ghost invariant = { λ o. (o.start + o.start ≤ length o.buffer.items) × (o.handed + (length (drop o.start o.buffer.items)) ≤ most_bytes) };
+}
+
+/// The most bytes that ever come to a queue, 2^63.
+const MOST_BYTES: u64 = 9_223_372_036_854_775_808;
+
+/// The most bytes that are copied out where all that waits is handed out: then the buffer stays for those that come next.
+const MOST_COPIED: usize = 1024;
+
+impl Outbox {
+    /// Nothing waits. At most `limit` bytes ever wait. It takes no memory.
+    pub fn new(alloc: Global, conn: ConnId, limit: usize) -> Outbox
+        ensures { result ≡ record { connection = connection_of conn; waiting = []; handed = 0; limit = limit; cut = false } }
+    {
+        Outbox {
+            conn,
+            buffer: Vec::new(alloc),
+            start: 0,
+            handed: 0,
+            limit,
+            is_cut: false,
+        }
+    }
+
+    /// Takes a reply, which is written once, behind what waits. Where memory is refused nothing changes.
+    pub fn offer(&mut self, shown: &Shown<'_>) -> Result<(), Memory>
+        ensures put { OnOk result (self.new ≡ put self.old (reply_text (shown_reply shown.now))) }
+        ensures refused { OnErr result (self.old.cut ≡ false) }
+        ensures unchanged { OnErr result (self.new ≡ self.old) }
+    {
+        if self.is_cut {
+            return Ok(());
+        }
+        let end = self.buffer.len();
+        shown.write(&mut self.buffer)?;
+        if !fits(self.buffer.len() - self.start, self.limit, self.handed) {
+            self.buffer.truncate(end);
+            self.cut();
+        }
+        Ok(())
+    }
+
+    /// Takes a reply, which is written once, behind what waits.
+    pub fn put(&mut self, shown: &Shown<'_>) -> Put
+        ensures taken { result ≡ outcomes.In → (takes self.old (reply_text (shown_reply shown.now)) ≡ true) × (self.new ≡ with_bytes self.old (reply_text (shown_reply shown.now))) }
+        ensures full { result ≡ outcomes.Full → (takes self.old (reply_text (shown_reply shown.now)) ≡ false) × (self.new ≡ cut_off self.old) }
+        ensures memory { result ≡ outcomes.Memory → (self.old.cut ≡ false) × (self.new ≡ cut_off self.old) }
+    {
+        let offered = self.offer(shown);
+        self.outcome(offered)
+    }
+
+    /// Takes a message, the bytes of which all its receivers share: they are copied once, behind what waits.
+    pub fn put_shared(&mut self, message: &Arc<Vec<u8>>) -> Put
+        ensures taken { result ≡ outcomes.In → (takes self.old (arc_value message.now).items ≡ true) × (self.new ≡ with_bytes self.old (arc_value message.now).items) }
+        ensures full { result ≡ outcomes.Full → (takes self.old (arc_value message.now).items ≡ false) × (self.new ≡ cut_off self.old) }
+        ensures memory { result ≡ outcomes.Memory → (takes self.old (arc_value message.now).items ≡ true) × (self.new ≡ cut_off self.old) }
+    {
+        self.put_bytes(message)
+    }
+
+    /// Takes the bytes of a reply or a message, which are copied once, behind what waits.
+    pub fn put_bytes(&mut self, bytes: &[u8]) -> Put
+        ensures taken { result ≡ outcomes.In → (takes self.old bytes.now ≡ true) × (self.new ≡ with_bytes self.old bytes.now) }
+        ensures full { result ≡ outcomes.Full → (takes self.old bytes.now ≡ false) × (self.new ≡ cut_off self.old) }
+        ensures memory { result ≡ outcomes.Memory → (takes self.old bytes.now ≡ true) × (self.new ≡ cut_off self.old) }
+    {
+        let offered = self.offer_bytes(bytes);
+        self.outcome(offered)
+    }
+
+    // What became of what was offered. Where memory was refused the queue is cut.
+    fn outcome(&mut self, offered: Result<(), Memory>) -> Put
+        ensures taken { result ≡ outcomes.In → (offered ≡ Ok tt) × (self.old.cut ≡ false) × (self.new ≡ self.old) }
+        ensures full { result ≡ outcomes.Full → (offered ≡ Ok tt) × (self.old.cut ≡ true) × (self.new ≡ self.old) }
+        ensures memory { result ≡ outcomes.Memory → IsErr offered × (self.new ≡ cut_off self.old) }
+    {
+        match offered {
+            Ok(()) if self.is_cut => Put::Full,
+            Ok(()) => Put::In,
+            Err(Memory) => {
+                self.cut();
+                Put::Memory
+            }
+        }
+    }
+
+    /// Takes the bytes of a reply or a message, which are copied once, behind what waits. Where memory is refused nothing changes.
+    pub fn offer_bytes(&mut self, bytes: &[u8]) -> Result<(), Memory>
+        ensures put { OnOk result (self.new ≡ put self.old bytes.now) }
+        ensures refused { OnErr result (takes self.old bytes.now ≡ true) }
+        ensures unchanged { OnErr result (self.new ≡ self.old) }
+    {
+        let waiting = self.buffer.len() - self.start;
+        if self.is_cut || !has_room(waiting, bytes.len(), self.limit, self.handed) {
+            self.cut();
+            return Ok(());
+        }
+        self.buffer.extend_from_slice(bytes)?;
+        Ok(())
+    }
+
+    /// Takes no more from now on.
+    pub fn cut(&mut self)
+        ensures { self.new ≡ cut_off self.old }
+    {
+        self.is_cut = true;
+    }
+
+    /// Hands out at most so many of the first bytes that wait, and at least one, or `None` where nothing waits. Linear in them: they are
+    /// copied into a piece of their own size, and the buffer keeps its room for those that come next. More than 1,024 bytes that are all
+    /// that waits are moved out with the buffer, and not copied. Where memory runs out nothing is changed.
+    pub fn take_piece(&mut self, alloc: Global, most: usize) -> Result<Option<Piece>, Memory>
+        requires { 0 < most }
+        ensures piece { IfOk result (λ piece. IfSome piece (λ piece. (connection_of piece.conn ≡ self.old.connection) × (piece.from ≡ self.old.handed) × (piece.bytes.items ≡ take most self.old.waiting))) }
+        ensures some { IfOk result (λ piece. IfSome piece (λ piece. 0 < length piece.bytes.items)) }
+        ensures none { IfOk result (λ piece. IfNone piece (self.old.waiting ≡ [])) }
+        ensures left { OnOk result (self.new ≡ handing most self.old) }
+        ensures err { OnErr result (self.new ≡ self.old) }
+    {
+        let waiting = self.buffer.len() - self.start;
+        if waiting == 0 {
+            return Ok(None);
+        }
+        let from = self.handed;
+        let bytes = if self.start == 0 && waiting <= most && waiting > MOST_COPIED {
+            mem::replace(&mut self.buffer, Vec::new(alloc))
+        } else {
+            let count = cmp::min(most, waiting);
+            let copied = Vec::from_slice(alloc, &self.buffer[self.start..self.start + count])?;
+            self.start = drop_front(&mut self.buffer, self.start + count);
+            copied
+        };
+        self.handed += bytes.len() as u64;
+        Ok(Some(Piece {
+            conn: self.conn,
+            from,
+            bytes,
+        }))
+    }
+
+    /// How many bytes wait.
+    pub fn len(&self) -> usize
+        ensures { result ≡ length self.now.waiting }
+    {
+        self.buffer.len() - self.start
+    }
+
+    /// Whether it takes no more.
+    pub fn is_cut(&self) -> bool
+        ensures { result ≡ self.now.cut }
+    {
+        self.is_cut
+    }
+}
+
+// Lets go of bytes that were handed out, once they are half of the buffer, so that each is moved at most once for one that is handed
+// out. Answers where the bytes that wait begin now.
+fn drop_front(buffer: &mut Vec<u8>, start: usize) -> usize
+    requires { start ≤ length buffer.old.items }
+    ensures waiting { drop result buffer.new.items ≡ drop start buffer.old.items }
+    ensures half { result + result ≤ length buffer.new.items }
+{
+    if start < buffer.len() - start {
+        return start;
+    }
+    buffer.drain(..start);
+    0
+}
+
+// Whether so many more bytes may come behind those that wait.
+fn has_room(waiting: usize, more: usize, limit: usize, handed: u64) -> bool
+    requires { handed + waiting ≤ most_bytes }
+    ensures { result ≡ (nat_le (waiting + more) limit && nat_le (handed + (waiting + more)) most_bytes) }
+{
+    waiting <= limit
+        && more <= limit - waiting
+        && more as u64 <= MOST_BYTES - handed - waiting as u64
+}
+
+// Whether so many bytes may wait.
+fn fits(waiting: usize, limit: usize, handed: u64) -> bool
+    requires { handed ≤ most_bytes }
+    ensures { result ≡ (nat_le waiting limit && nat_le (handed + waiting) most_bytes) }
+{
+    waiting <= limit && waiting as u64 <= MOST_BYTES - handed
+}
+
+/// All that is emitted into it is for its own connection.
+impl Sink for Outbox {
+    ghost use Rattle.nr_model.specs.Replies.{reply_text};
+    ghost use Rattle.nr_model.specs.Queues.{put};
+
+    ghost after = { λ queue emission. put queue (reply_text emission.reply) };
+
+    fn put(&mut self, _: ConnId, shown: Shown<'_>) -> Result<(), Memory> {
+        self.offer(&shown)
+    }
+
+    fn share(&mut self, _: ConnId, message: &Arc<Vec<u8>>) -> Result<(), Memory> {
+        self.offer_bytes(message)
+    }
+}

@@ -1,0 +1,104 @@
+// Why the program failed, with the line that it prints and its exit status.
+ghost use Rattle.std.specs.Prelude.{◌≡◌};
+ghost use Rattle.nr_server.specs.Faults.{status_of};
+
+use nr_blob::Memory;
+use nr_script::ScriptError;
+use std::alloc::AllocError;
+use std::fmt;
+
+/// Why the program failed.
+#[derive(Debug, Drop, PartialEq, Eq)]
+pub enum Fault {
+    /// The input could not be read.
+    Read,
+    /// The output could not be written.
+    Write,
+    /// There was no memory left.
+    Memory,
+    /// The line of a script with this number, from 1, says no step that can be taken.
+    BadStep(u64),
+    /// The script could not be read.
+    Script,
+    /// The settings could not be read.
+    Settings,
+    /// The settings aren't TOML.
+    NotToml,
+    /// No setting has this name.
+    UnknownKey(String),
+    /// The value of the setting of this name is of another type, or out of its range.
+    BadValue(String),
+    /// The server could not listen at this address.
+    CannotListen(String),
+    /// No connection can come any more.
+    Listener,
+}
+
+impl Fault {
+    /// The program's exit status.
+    pub fn status(&self) -> u8
+        ensures { result ≡ status_of self.now }
+    {
+        1
+    }
+}
+
+// What the program says of it, on one line.
+impl fmt::Display for Fault {
+    ghost use Rattle.std.specs.Prelude.{Some};
+    ghost use Rattle.nr_server.specs.Faults.{line_of};
+
+    ghost output = { λ fault. Some (line_of fault) };
+
+    fn fmt<W: fmt::Write>(&self, f: &mut fmt::Formatter<W>) -> fmt::Result {
+        match self {
+            Fault::Read => f.write_str("noderedis: read failed"),
+            Fault::Write => f.write_str("noderedis: write failed"),
+            Fault::Memory => f.write_str("noderedis: out of memory"),
+            Fault::BadStep(line) => write!(f, "noderedis: line {line}: bad step"),
+            Fault::Script => f.write_str("noderedis: cannot read the script"),
+            Fault::Settings => f.write_str("noderedis: cannot read the settings"),
+            Fault::NotToml => f.write_str("noderedis: settings: not toml"),
+            Fault::UnknownKey(key) => write!(f, "noderedis: settings: unknown key {key}"),
+            Fault::BadValue(key) => write!(f, "noderedis: settings: bad value {key}"),
+            Fault::CannotListen(address) => write!(f, "noderedis: cannot listen on {address}"),
+            Fault::Listener => f.write_str("noderedis: listener failed"),
+        }
+    }
+}
+
+impl From<Memory> for Fault {
+    ghost use Rattle.std.specs.Prelude.{◌≡◌};
+    ghost use Rattle.nr_server.specs.declared.fault.Fault.TheVariants.{Memory as OfMemory};
+
+    ghost from_gives = { λ _ fault. fault ≡ OfMemory };
+
+    fn from(_: Memory) -> Fault {
+        Fault::Memory
+    }
+}
+
+impl From<AllocError> for Fault {
+    ghost use Rattle.std.specs.Prelude.{◌≡◌};
+    ghost use Rattle.nr_server.specs.declared.fault.Fault.TheVariants.{Memory as OfMemory};
+
+    ghost from_gives = { λ _ fault. fault ≡ OfMemory };
+
+    fn from(_: AllocError) -> Fault {
+        Fault::Memory
+    }
+}
+
+impl From<ScriptError> for Fault {
+    ghost use Rattle.nr_server.specs.Faults.{IsOfScript};
+
+    ghost from_gives = { IsOfScript };
+
+    fn from(error: ScriptError) -> Fault {
+        match error {
+            ScriptError::BadStep(line) => Fault::BadStep(line),
+            ScriptError::Write => Fault::Write,
+            ScriptError::Memory => Fault::Memory,
+        }
+    }
+}

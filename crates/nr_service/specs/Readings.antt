@@ -1,0 +1,84 @@
+-- What a clock gave, and at which moments bytes were fed by it, to whom.
+use Rattle.std.specs.Prelude.{◌≡◌, ℕ, List, [], ◌∷◌, ◌++◌, map, Option, All}
+use Rattle.std.specs.List.{Contains}
+use Rattle.std.specs.Option.{unwrap_or}
+use Rattle.nr_model.specs.Items.{Connection}
+use Rattle.nr_model.specs.Keyspace.{moment}
+use Rattle.nr_model.specs.Connections.{Feeding}
+
+-- which bytes may be fed
+abbrev pub Feedings : Type 1
+Feedings = Feeding → Type 0
+
+-- the moment behind a reading: what the clock gave, or the one before where it failed
+abbrev pub moment_behind : ℕ → Option ℕ → ℕ
+moment_behind before reading = unwrap_or reading before
+
+-- The clock was read once, and the moment is the one behind that.
+pub record Reads {M : Type 0} (gives : M → M → Option ℕ → Type 0) (old new : M) (before after : ℕ) : Type 0 where
+  pub reading : Option ℕ
+  pub given : gives old new reading
+  pub moment_is : after ≡ moment_behind before reading
+
+-- it wasn't read
+pub record IsUnread {M : Type 0} (old new : M) (before after : ℕ) : Type 0 where
+  pub clock_is : new ≡ old
+  pub moment_is : after ≡ before
+
+-- what the clock gave in an exchange, and the bytes that were fed in it, in order
+pub record Round : Type 0 where
+  pub reading : Option ℕ
+  pub feeds : List Feeding
+
+abbrev pub readings_of : List Round → List (Option ℕ)
+readings_of rounds = map (λ (round : Round). round.reading) rounds
+
+abbrev pub feeds_of : List Round → List Feeding
+feeds_of [] = []
+feeds_of (round ∷ rounds) = round.feeds ++ feeds_of rounds
+
+-- these readings, each by the clock that the one before left, lead from one clock to another
+abbrev pub AreReadings : {M : Type 0} → (M → M → Option ℕ → Type 0) → M → List (Option ℕ) → M → Type 0
+AreReadings gives old [] new = new ≡ old
+AreReadings {M} gives old (reading ∷ readings) new = (middle : M) × gives old middle reading × AreReadings gives middle readings new
+
+-- the moment behind the last of these rounds, where this was the one before the first
+abbrev pub moment_after : ℕ → List Round → ℕ
+moment_after before [] = before
+moment_after before (round ∷ rounds) = moment_after (moment_behind before round.reading) rounds
+
+abbrev pub IsFedAt : ℕ → Feedings
+IsFedAt now feeding = feeding.moment ≡ moment now
+
+-- all that was fed in a round was fed at the moment behind its reading
+abbrev pub AreTimed : ℕ → List Round → Type 0
+AreTimed before [] = Unit {0}
+AreTimed before (round ∷ rounds) =
+    All (IsFedAt (moment_behind before round.reading)) round.feeds × AreTimed (moment_behind before round.reading) rounds
+
+-- From the first clock to this one there were such rounds: these bytes were fed in them, in this order, and this is the moment behind the last of them, 0
+-- where there was none.
+pub record AreFedByClock {M : Type 0} (gives : M → M → Option ℕ → Type 0) (first last : M) (now : ℕ) (feeds : List Feeding) : Type 0 where
+  pub rounds : List Round
+  pub readings : AreReadings gives first (readings_of rounds) last
+  pub fed : feeds_of rounds ≡ feeds
+  pub timed : AreTimed 0 rounds
+  pub moment_is : moment_after 0 rounds ≡ now
+
+-- so it is of them up to some clock
+pub record AreFedFrom {M : Type 0} (gives : M → M → Option ℕ → Type 0) (first : M) (feeds : List Feeding) : Type 0 where
+  pub last : M
+  pub now : ℕ
+  pub by_clock : AreFedByClock gives first last now feeds
+
+-- no bytes are fed
+abbrev pub IsNeverFed : Feedings
+IsNeverFed feeding = ⊥
+
+-- bytes are fed at this moment to this connection
+abbrev pub IsFedTo : ℕ → Connection → Feedings
+IsFedTo now c feeding = IsFedAt now feeding × (feeding.connection ≡ c)
+
+-- bytes are fed at this moment to one of these
+abbrev pub IsFedAmong : ℕ → List Connection → Feedings
+IsFedAmong now connections feeding = IsFedAt now feeding × Contains connections feeding.connection

@@ -1,5 +1,0 @@
-pub mod Pasts
-pub mod Going
-pub mod Begun
-pub mod Whole
-pub mod Ended
