@@ -8,7 +8,9 @@ use Rattle.nr_model.specs.Bytes.{Bytes}
 use Rattle.nr_model.specs.Items.{Connection, same_connection}
 use Rattle.nr_model.specs.Connections.{Setup, Handed, Feeding, Closing, handed_to, fed_to, is_some_bytes}
 use Rattle.nr_model.specs.Nodes.{Client, fresh_client, Node, World, no_node, node_at, client_of, with_node, log_of, tail_of}
-use Rattle.nr_model.specs.Nodes.Steps.{Step, Open, Feed, Post, Lift, Reserve, Fill, Fetch, Apply, Look, Answer, Collect, Close, Refuse, Reason, NoSuch, Ended, TooMany, Down, Outcome, Refused, idle_where, is_worker, is_client, in_use, collected, opened, outcome, advanced_by, effect, effect_by, after_step}
+use Rattle.nr_model.specs.Nodes.Steps.{Step, Open, Feed, Post, Lift, Reserve, Fill, Fetch, Apply, Look, Answer, Collect, Close, Refuse, Outcome, Refused, idle_where, is_worker, is_client, in_use, collected, opened, outcome, advanced_by, effect, effect_by, after_step}
+use Rattle.nr_model.specs.declared.reason.Reason.{Reason}
+use Rattle.nr_model.specs.declared.reason.Reason.TheVariants.{NoSuch, Ended, TooMany, Down}
 use Rattle.nr_model.specs.Nodes.Pasts.{handed_by}
 use Rattle.nr_service.specs.Stories.{Occurrence, opened_in, fed_in, handed_in, closed_in, is_among}
 use Rattle.nr_answering.proofs.Names.{name_of, names, AreAlike, by_outcome, is_open, step_alike}

@@ -7,7 +7,8 @@ use Rattle.nr_model.specs.Keyspace.{moment}
 use Rattle.nr_model.specs.Items.{Connection}
 use Rattle.nr_model.specs.Connections.{Setup, Feeding, Closing}
 use Rattle.nr_model.specs.Nodes.{World, node_at}
-use Rattle.nr_model.specs.Nodes.Steps.{Step, Open, Feed, Post, Lift, Reserve, Fill, Fetch, Apply, Look, Answer, Collect, Close, Refuse, NoSuch, TooMany, Down, Outcome, Opened, Done, Idle, Refused, idle_where, is_worker, is_client, in_use, outcome, opened, effect_by, after_step}
+use Rattle.nr_model.specs.Nodes.Steps.{Step, Open, Feed, Post, Lift, Reserve, Fill, Fetch, Apply, Look, Answer, Collect, Close, Refuse, Outcome, Opened, Done, Idle, Refused, idle_where, is_worker, is_client, in_use, outcome, opened, effect_by, after_step}
+use Rattle.nr_model.specs.declared.reason.Reason.TheVariants.{NoSuch, TooMany, Down}
 use Rattle.nr_model.specs.Nodes.Pasts.{Event, is_done, handed_in}
 use Rattle.nr_service.specs.Stories as stories
 use Rattle.nr_service.specs.Stories.{Occurrence, HandedOut, opened_in, fed_in, closed_in}

@@ -9,7 +9,8 @@ use Rattle.nr_model.specs.Keyspace.{moment}
 use Rattle.nr_model.specs.Items.{Connection}
 use Rattle.nr_model.specs.Connections.{Setup, Handed}
 use Rattle.nr_model.specs.Nodes.{Client, fresh_client, Node, no_node, World, node_at, client_at, client_of}
-use Rattle.nr_model.specs.Nodes.Steps.{Step, Open, Feed, Close, NoSuch, Ended, TooMany, Down, Outcome, Opened, Done, Idle, Refused, idle_where, is_worker, is_client, in_use, outcome, closed_client, closed_node, closed, effect_by, after_step}
+use Rattle.nr_model.specs.Nodes.Steps.{Step, Open, Feed, Close, Outcome, Opened, Done, Idle, Refused, idle_where, is_worker, is_client, in_use, outcome, closed_client, closed_node, closed, effect_by, after_step}
+use Rattle.nr_model.specs.declared.reason.Reason.TheVariants.{NoSuch, Ended, TooMany, Down}
 use Rattle.nr_model.specs.Nodes.Pasts.{Event, IsPast}
 use Rattle.nr_model.specs.Nodes.Settling.{after_events}
 use Rattle.nr_service.specs.Stories as stories

@@ -41,7 +41,7 @@ pub(crate) fn set(keyspace: &mut Keyspace, now: u64, name: &Blob, text: &Blob) -
 {
     keyspace.sweep(now);
     let value = Value::String(Str::from(text.copy()?));
-    if let Some(value) = keyspace.rewrite(Db::FIRST, name.bytes(), value) {
+    if let Some(value) = keyspace.rewrite(Db::FIRST, name, value) {
         keyspace.put(Db::FIRST, name.copy()?, value, None)?;
     }
     Ok(())

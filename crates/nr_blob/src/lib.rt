@@ -1,7 +1,7 @@
 //! Bytes and numbers: owned bytes, integers as texts, and the refusal for want of memory.
 #![tactic(auto)]
 
-pub use blob::Blob;
+pub use blob::{Blob, Bytes, MOST_IN_PLACE};
 pub use integer::{int_text, read_int};
 pub use memory::Memory;
 pub use quoted::{on_one_line, push_quoted};

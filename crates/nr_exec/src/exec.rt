@@ -4,16 +4,17 @@ ghost use Rattle.nr_model.specs.Commands as commands;
 ghost use Rattle.nr_model.specs.Keyspace.{live};
 ghost use Rattle.nr_resp.specs.Seen.{reply_of};
 ghost use Rattle.nr_resp.specs.Shown.{shown_reply};
-ghost use Rattle.nr_exec.specs.Done.{IsDone, Answers, Performs};
+ghost use Rattle.nr_resp.specs.Done.{IsDone, Answers, Performs};
 
-use crate::failure::Failure;
-use crate::touched::Touched;
-use crate::{keys, server, strings};
 use nr_blob::{Blob, Memory};
-use nr_keyspace::{Db, Keyspace};
+use nr_keyspace::{Db, Keyspace, Touched};
 use nr_model::command::{Change, Look};
-use nr_resp::{Reply, Shown, arguments};
+use nr_resp::{Failure, Reply, Shown, arguments};
 use std::alloc::Global;
+
+mod keys;
+mod server;
+mod strings;
 
 /// The reply of a command that only looks, at a moment in milliseconds, for a connection whose database this is. The words are
 /// those of the request, its name first. What the reply shows of a value or a word is lent.

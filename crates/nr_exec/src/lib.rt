@@ -1,14 +1,6 @@
-//! Commands on the keyspace.
+//! Commands on the keyspace: each goes to its body, in the crate of its kind.
 #![tactic(auto)]
 
 pub use exec::{change, look};
-pub use touched::{Nobody, Touched};
 
-mod deadline;
 mod exec;
-mod failure;
-mod keys;
-mod reading;
-mod server;
-mod strings;
-mod touched;

@@ -1,5 +1,5 @@
 -- The changes of a database, on its entries and its ordered deadlines at once.
-use Rattle.std.proofs.Common.{◌≡◌, ℕ, ℤ, Vec, Global, Bool, true, false, cond, Option, Some, None, List, refl, ap, sym, ◌∙◌, subst, true≢false, is_some, Result, Ok, Err, OnOk, OnErr, OnSome, IfNone}
+use Rattle.std.proofs.Common.{◌≡◌, ℕ, ℤ, Bool, true, false, cond, Option, Some, None, List, refl, ap, sym, ◌∙◌, subst, true≢false, is_some, Result, Ok, Err, OnOk, OnErr, OnSome, IfNone}
 use Rattle.std.specs.Option.{option_map}
 use Rattle.std.specs.Map.{lookup, KeepsOthers}
 use Rattle.std.specs.FinMap as map
@@ -21,10 +21,10 @@ use Rattle.nr_keyspace.proofs.Replaced.{kept}
 use Rattle.nr_keyspace.proofs.Indexed.{insert_indexed, remove_indexed}
 
 abbrev pub Entries : Type 0
-Entries = List (Vec ℕ Global × Entry)
+Entries = List (Bytes × Entry)
 
 abbrev pub IsReordered : Entries → Entries → Type 0
-IsReordered old new = (k : Vec ℕ Global) → lookup (same_name bytes_of k) new ≡ lookup (same_name bytes_of k) old
+IsReordered old new = (k : Bytes) → lookup (same_name bytes_of k) new ≡ lookup (same_name bytes_of k) old
 
 pub put_store : (old room new : Entries) (name : Bytes) (entry : Entry) → IsReordered old room → lookup (is_name bytes_of name) new ≡ Some entry
     → KeepsOthers (same_name bytes_of) (is_name bytes_of name) room new
@@ -107,6 +107,24 @@ redated_indexed old new dues after name stored deadline was at is replaced =
     let s : Stored = record { value = stored.value; deadline = deadline } in
     subst (λ store. IsIndexed store after) (sym (is ∙ ap (λ (o : Option Stored). redated (store_of bytes_of old) name o deadline) at))
     (insert_indexed (store_of bytes_of old) dues after name s was replaced)
+
+stored_here : (stored : Option Stored) → is_some stored ≡ true → (found : Stored) × (stored ≡ Some found)
+stored_here (Some found) some = (found, refl)
+stored_here None some = absurd (true≢false (sym some))
+
+live_is_stored : (now : ℕ) (stored : Option Stored) → is_some (only_live now stored) ≡ true → is_some stored ≡ true
+live_is_stored now (Some found) some = refl
+live_is_stored now None some = some
+
+-- the same where the name was seen to be live
+pub redated_live : {A : Type 0} (now : ℕ) (f : A → Stored) (seen : Option A) (old new : Entries) (dues after : set.FinSet due_cmp) (name : Bytes) (deadline : Option ℤ)
+    → IsIndexed (store_of bytes_of old) dues → option_map f seen ≡ only_live now (map.get (store_of bytes_of old) name) → is_some seen ≡ true
+    → store_of bytes_of new ≡ redated (store_of bytes_of old) name (map.get (store_of bytes_of old) name) deadline → IsReplaced dues after deadline name
+    → IsIndexed (store_of bytes_of new) after
+redated_live now f seen old new dues after name deadline was live some is replaced =
+    let stored = map.get (store_of bytes_of old) name in
+    let here = stored_here stored (live_is_stored now stored (ap is_some (sym live) ∙ is_some-map f seen ∙ some)) in
+    redated_indexed old new dues after name here.0 deadline was here.1 is replaced
 
 pub none_then : {A P Q : Type 0} (result : Option A) → IfNone result P → (P → Q) → IfNone result Q
 none_then (Some x) holds then = tt

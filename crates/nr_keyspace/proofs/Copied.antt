@@ -1,5 +1,5 @@
 -- A copy by one insertion after another.
-use Rattle.std.proofs.Common.{◌≡◌, ℕ, Vec, Global, true, false, cond, Option, Some, None, [], ◌∷◌, refl, ap, sym, ◌∙◌}
+use Rattle.std.proofs.Common.{◌≡◌, true, false, cond, Option, Some, None, [], ◌∷◌, refl, ap, sym, ◌∙◌}
 use Rattle.std.specs.List.{IsDistinct}
 use Rattle.std.specs.Map.{lookup, keys_of}
 use Rattle.std.specs.Option.{option_map, option_or}
@@ -34,7 +34,7 @@ copied_none all entries seen distinct = record {
       ∙ ap (λ m. map.get m q) seen;
 }
 
-pub only_once : (e : Vec ℕ Global × Entry) (left : Entries) → IsDistinct (same_name bytes_of) (keys_of (e ∷ left)) → (q : Bytes) → q ≡ bytes_of e.0
+pub only_once : (e : Bytes × Entry) (left : Entries) → IsDistinct (same_name bytes_of) (keys_of (e ∷ left)) → (q : Bytes) → q ≡ bytes_of e.0
     → map.get (store_of bytes_of left) q ≡ None
 only_once e left distinct q named =
     get-store bytes_of left q
@@ -42,7 +42,7 @@ only_once e left distinct q named =
     ∙ ap (option_map stored_of) (lookup-none (same_name bytes_of e.0) left
     (none_past_head (on_texts_equal bytes_of) e.0 e left distinct (nat_list_eq_equiv.refl (bytes_of e.0))))
 
-pub copied_more : (all copy : Store) (e : Vec ℕ Global × Entry) (left : Entries) → IsCopied all copy (e ∷ left)
+pub copied_more : (all copy : Store) (e : Bytes × Entry) (left : Entries) → IsCopied all copy (e ∷ left)
     → IsCopied all (map.insert copy (bytes_of e.0) (stored_of e.1)) left
 copied_more all copy e left so_far = record {
   distinct = IsDistinct-tail (same_name bytes_of) e.0 (keys_of left) so_far.distinct;

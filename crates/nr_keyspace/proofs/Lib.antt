@@ -12,3 +12,8 @@ pub mod Counted
 pub mod Seen
 pub mod Edited
 pub mod Swept
+pub mod Live
+pub mod Missing
+pub mod Redated
+pub mod Touching
+pub mod Kept

@@ -1,5 +1,5 @@
 -- The names that a walk over the entries lists.
-use Rattle.std.proofs.Common.{◌≡◌, ℕ, Vec, Global, Bool, true, false, cond, ◌||◌, Option, Some, None, List, [], ◌∷◌, is_some, refl, ap, sym, ◌∙◌}
+use Rattle.std.proofs.Common.{◌≡◌, ℕ, Bool, true, false, cond, ◌||◌, Option, Some, None, List, [], ◌∷◌, is_some, refl, ap, sym, ◌∙◌}
 use Rattle.std.specs.List.{IsDistinct}
 use Rattle.std.specs.Map.{keys_of}
 use Rattle.std.specs.Ordering.{eq_by_cmp}
@@ -46,7 +46,7 @@ or_false true = refl
 or_false false = refl
 
 -- an entry is listed if it is live, and else passed over
-pub listed_more : (now : ℕ) (all : Store) (old new : BTreeSet Bytes) (e : Vec ℕ Global × Entry) (left : Entries) (live : Bool)
+pub listed_more : (now : ℕ) (all : Store) (old new : BTreeSet Bytes) (e : Bytes × Entry) (left : Entries) (live : Bool)
     → IsListed now all old (e ∷ left) → live ≡ is_live_at now e.1.deadline
     → ((q : Bytes) → sorted.contains byte_cmp new q
     ≡ cond live (cond (eq_by_cmp byte_cmp q (bytes_of e.0)) true (sorted.contains byte_cmp old q)) (sorted.contains byte_cmp old q))

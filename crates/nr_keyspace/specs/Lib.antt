@@ -6,3 +6,5 @@ pub mod Seen
 pub mod Stores
 pub mod Values
 pub mod Swept
+pub mod Touched
+pub mod Redated

@@ -1,6 +1,5 @@
 -- The keys of one database as a finite map.
-use Rattle.std.specs.declared.alloc.Global.{Global}
-use Rattle.std.specs.Prelude.{◌≡◌, ℕ, ℤ, Bool, false, not, Option, Some, None, is_some, List, Vec}
+use Rattle.std.specs.Prelude.{◌≡◌, ℕ, ℤ, Bool, false, not, Option, Some, None, is_some, List}
 use Rattle.std.specs.Prelude as prelude
 use Rattle.std.specs.declared.cmp.Ordering.{Ordering}
 use Rattle.std.specs.FinMap as map
@@ -22,9 +21,9 @@ Store = map.FinMap byte_cmp Stored
 abbrev pub coded_store : Coded Store
 coded_store = map.code coded_bytes coded_stored
 
--- a name, without where it lies in memory
-abbrev pub bytes_of : Vec ℕ Global → Bytes
-bytes_of name = name.items
+-- a name is seen as its bytes
+abbrev pub bytes_of : Bytes → Bytes
+bytes_of name = name
 
 -- each as the bytes of a name and what is stored there
 abbrev pub stored_entries : {Name : Type 0} → (Name → Bytes) → List (Name × Entry) → List (Bytes × Stored)

@@ -31,7 +31,7 @@ pub(crate) struct Entry {
 
 #[derive(Drop)]
 pub(crate) struct Database {
-    by_name: HashMap<Vec<u8>, Entry, RandomState>,
+    by_name: HashMap<Blob, Entry, RandomState>,
     deadlines: Deadlines,
 }
 
@@ -48,7 +48,7 @@ impl Model for Database {
 }
 
 // Writes another deadline to the entry at a name, if there is one.
-fn redate(by_name: &mut HashMap<Vec<u8>, Entry, RandomState>, name: &[u8], deadline: Option<i64>)
+fn redate(by_name: &mut HashMap<Blob, Entry, RandomState>, name: &Blob, deadline: Option<i64>)
     ensures { let old = store_of bytes_of by_name.old.entries in store_of bytes_of by_name.new.entries ≡ redated old name.now (map.get old name.now) deadline }
 {
     if let Some(entry) = by_name.get_mut(name) {
@@ -58,8 +58,8 @@ fn redate(by_name: &mut HashMap<Vec<u8>, Entry, RandomState>, name: &[u8], deadl
 
 // Writes another value to the entry at a name, if there is one and it has no deadline. Else the value comes back.
 fn rewrite(
-    by_name: &mut HashMap<Vec<u8>, Entry, RandomState>,
-    name: &[u8],
+    by_name: &mut HashMap<Blob, Entry, RandomState>,
+    name: &Blob,
     value: Value,
 ) -> Option<Value>
     ensures written { IfNone result (store_of bytes_of by_name.new.entries
@@ -81,9 +81,9 @@ fn rewrite(
 
 // Has the value at a live name edited, if there is one.
 fn edit_at<E: Edit>(
-    by_name: &mut HashMap<Vec<u8>, Entry, RandomState>,
+    by_name: &mut HashMap<Blob, Entry, RandomState>,
     now: u64,
-    name: &[u8],
+    name: &Blob,
     edit: E,
 ) -> Result<Option<E::Given>, Memory>
     ensures ok { let old = store_of bytes_of by_name.old.entries in IfOk result
@@ -122,17 +122,14 @@ impl Database {
     {
         let mut copy = Database::new(alloc, *self.by_name.hasher());
         for (name, entry) in self.by_name.iter() {
-            copy.put(
-                Vec::from_slice(alloc, name)?,
-                entry.value.copy()?,
-                entry.deadline,
-            )?;
+            let name = name.copy()?;
+            copy.put(name, entry.value.copy()?, entry.deadline)?;
         }
         Ok(copy)
     }
 
     // What is stored at a live name.
-    fn live(&self, now: u64, name: &[u8]) -> Option<&Entry>
+    fn live(&self, now: u64, name: &Blob) -> Option<&Entry>
         ensures { option_map (λ entry. stored_of entry.now) result ≡ only_live now (map.get self.now name.now) }
     {
         let entry = self.by_name.get(name)?;
@@ -144,7 +141,7 @@ impl Database {
     }
 
     // The deadline at a name, live or not.
-    fn deadline_at(&self, name: &[u8]) -> Option<i64>
+    fn deadline_at(&self, name: &Blob) -> Option<i64>
         ensures { result ≡ deadline_of (map.get self.now name.now) }
     {
         let entry = self.by_name.get(name)?;
@@ -152,7 +149,7 @@ impl Database {
     }
 
     /// The value at a live name.
-    pub(crate) fn get(&self, now: u64, name: &[u8]) -> Option<&Value>
+    pub(crate) fn get(&self, now: u64, name: &Blob) -> Option<&Value>
         ensures { option_map (λ value. value_of value.now) result ≡ option_map (λ stored. stored.value) (only_live now (map.get self.now name.now)) }
     {
         let entry = self.live(now, name)?;
@@ -160,7 +157,7 @@ impl Database {
     }
 
     /// The deadline at a live name.
-    pub(crate) fn deadline(&self, now: u64, name: &[u8]) -> Option<Option<i64>>
+    pub(crate) fn deadline(&self, now: u64, name: &Blob) -> Option<Option<i64>>
         ensures { result ≡ option_map (λ stored. stored.deadline) (only_live now (map.get self.now name.now)) }
     {
         let entry = self.live(now, name)?;
@@ -182,7 +179,7 @@ impl Database {
         let mut names = BTreeSet::new(alloc);
         for (name, entry) in self.by_name.iter() {
             if is_live(now, entry.deadline) {
-                names.insert(Blob::from_slice(alloc, name)?)?;
+                names.insert(name.copy()?)?;
             }
         }
         Ok(in_order(alloc, names)?)
@@ -191,11 +188,11 @@ impl Database {
     /// Stores a value and its deadline in the place of what was at the name.
     pub(crate) fn put(
         &mut self,
-        name: Vec<u8>,
+        name: Blob,
         value: Value,
         deadline: Option<i64>,
     ) -> Result<(), Memory>
-        ensures ok { OnOk result (self.new ≡ map.insert self.old name.items (record { value = value_of value; deadline = deadline })) }
+        ensures ok { OnOk result (self.new ≡ map.insert self.old name (record { value = value_of value; deadline = deadline })) }
         ensures err { OnErr result (self.new ≡ self.old) }
     {
         let before = self.deadline_at(&name);
@@ -206,7 +203,7 @@ impl Database {
     }
 
     /// Stores a value, in place, at a name that is there and has no deadline. Else the value comes back.
-    pub(crate) fn rewrite(&mut self, name: &[u8], value: Value) -> Option<Value>
+    pub(crate) fn rewrite(&mut self, name: &Blob, value: Value) -> Option<Value>
         ensures written { IfNone result (self.new ≡ map.insert self.old name.now (record { value = value_of value; deadline = None })) }
         ensures exact { is_some result ≡ not (is_undated (map.get self.old name.now)) }
         ensures back { IfSome result (λ back. back ≡ value) }
@@ -219,7 +216,7 @@ impl Database {
     pub(crate) fn edit<E: Edit>(
         &mut self,
         now: u64,
-        name: &[u8],
+        name: &Blob,
         edit: E,
     ) -> Result<Option<E::Given>, Memory>
         ensures ok { IfOk result (λ given. IsEdited (E.edits edit) self.old self.new name.now (only_live now (map.get self.old name.now)) given) }
@@ -229,7 +226,7 @@ impl Database {
     }
 
     /// Takes a live name out, and gives its value.
-    pub(crate) fn remove(&mut self, now: u64, name: &[u8]) -> Option<Value>
+    pub(crate) fn remove(&mut self, now: u64, name: &Blob) -> Option<Value>
         ensures value { option_map value_of result ≡ option_map (λ stored. stored.value) (only_live now (map.get self.old name.now)) }
         ensures removed { OnSome result (self.new ≡ map.remove self.old name.now) }
         ensures unchanged { IfNone result (self.new ≡ self.old) }
@@ -246,7 +243,7 @@ impl Database {
     pub(crate) fn set_deadline(
         &mut self,
         now: u64,
-        name: &[u8],
+        name: &Blob,
         deadline: Option<i64>,
     ) -> Result<bool, Memory>
         ensures live { IfOk result (λ was_live. was_live ≡ is_some (only_live now (map.get self.old name.now))) }
@@ -257,10 +254,7 @@ impl Database {
             return Ok(false);
         }
         let before = self.deadline_at(name);
-        let Some((stored_name, _)) = self.by_name.get_key_value(name) else {
-            return Ok(false);
-        };
-        let name_copy = Vec::from_slice(*stored_name.allocator(), name)?;
+        let name_copy = name.copy()?;
         self.deadlines.replace(before, deadline, name_copy)?;
         redate(&mut self.by_name, name, deadline);
         Ok(true)

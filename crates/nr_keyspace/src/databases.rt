@@ -99,7 +99,7 @@ impl Databases {
     }
 
     /// The value of a live key.
-    pub(crate) fn get(&self, now: u64, database: Db, name: &[u8]) -> Option<&Value>
+    pub(crate) fn get(&self, now: u64, database: Db, name: &Blob) -> Option<&Value>
         ensures { option_map (λ value. value_of value.now) result
             ≡ option_map (λ stored. stored.value) (map.get (model.live self.now now) (key_of database name.now)) }
     {
@@ -107,7 +107,7 @@ impl Databases {
     }
 
     /// The deadline of a live key, if it has one.
-    pub(crate) fn deadline(&self, now: u64, database: Db, name: &[u8]) -> Option<Option<i64>>
+    pub(crate) fn deadline(&self, now: u64, database: Db, name: &Blob) -> Option<Option<i64>>
         ensures { result ≡ option_map (λ stored. stored.deadline) (map.get (model.live self.now now) (key_of database name.now)) }
     {
         self.databases[database.index()].deadline(now, name)
@@ -139,11 +139,11 @@ impl Databases {
         ensures ok { OnOk result (self.new ≡ map.insert self.old (key_of database name) (record { value = value_of value; deadline = deadline })) }
         ensures err { OnErr result (self.new ≡ self.old) }
     {
-        self.databases[database.index()].put(name.into_vec(), value, deadline)
+        self.databases[database.index()].put(name, value, deadline)
     }
 
     /// Stores a value, in place, at a key that is there and has no deadline. Else the value comes back.
-    pub(crate) fn rewrite(&mut self, database: Db, name: &[u8], value: Value) -> Option<Value>
+    pub(crate) fn rewrite(&mut self, database: Db, name: &Blob, value: Value) -> Option<Value>
         ensures written { IfNone result (self.new ≡ map.insert self.old (key_of database name.now) (record { value = value_of value; deadline = None })) }
         ensures exact { is_some result ≡ not (is_undated (map.get self.old (key_of database name.now))) }
         ensures back { IfSome result (λ back. back ≡ value) }
@@ -157,7 +157,7 @@ impl Databases {
         &mut self,
         now: u64,
         database: Db,
-        name: &[u8],
+        name: &Blob,
         edit: E,
     ) -> Result<Option<E::Given>, Memory>
         ensures ok { let key = key_of database name.now in IfOk result
@@ -168,7 +168,7 @@ impl Databases {
     }
 
     /// Takes a live key out, and gives its value.
-    pub(crate) fn remove(&mut self, now: u64, database: Db, name: &[u8]) -> Option<Value>
+    pub(crate) fn remove(&mut self, now: u64, database: Db, name: &Blob) -> Option<Value>
         ensures value { option_map value_of result ≡ option_map (λ stored. stored.value) (map.get (model.live self.old now) (key_of database name.now)) }
         ensures removed { OnSome result (self.new ≡ map.remove self.old (key_of database name.now)) }
         ensures unchanged { IfNone result (self.new ≡ self.old) }
@@ -181,7 +181,7 @@ impl Databases {
         &mut self,
         now: u64,
         database: Db,
-        name: &[u8],
+        name: &Blob,
         deadline: Option<i64>,
     ) -> Result<bool, Memory>
         ensures live { IfOk result (λ was_live. was_live ≡ is_some (map.get (model.live self.old now) (key_of database name.now))) }

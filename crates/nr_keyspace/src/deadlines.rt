@@ -8,7 +8,7 @@ ghost use Rattle.nr_keyspace.specs.Names.{live_store};
 ghost use Rattle.nr_keyspace.specs.Stores.{Store, IsIndexed};
 
 use crate::moment::is_live;
-use nr_blob::Memory;
+use nr_blob::{Blob, Memory};
 use std::alloc::Global;
 use std::collections::BTreeSet;
 use std::marker::Model;
@@ -16,7 +16,7 @@ use std::marker::Model;
 /// Deadlines in milliseconds, with the names of their keys.
 #[derive(Drop)]
 pub(crate) struct Deadlines {
-    ordered: BTreeSet<(i64, Vec<u8>)>,
+    ordered: BTreeSet<(i64, Blob)>,
 }
 
 impl Model for Deadlines {
@@ -27,7 +27,7 @@ impl Model for Deadlines {
 
     ghost coded = { coded_dues };
 
-    ghost view = { λ d. set.from_list (dues_of (λ name. name.items) d.ordered.keys) };
+    ghost view = { λ d. set.from_list (dues_of (λ name. name) d.ordered.keys) };
 }
 
 impl Deadlines {
@@ -39,8 +39,8 @@ impl Deadlines {
         }
     }
 
-    pub(crate) fn insert(&mut self, deadline: i64, name: Vec<u8>) -> Result<(), Memory>
-        ensures ok { OnOk result (self.new ≡ set.insert self.old (deadline, name.items)) }
+    pub(crate) fn insert(&mut self, deadline: i64, name: Blob) -> Result<(), Memory>
+        ensures ok { OnOk result (self.new ≡ set.insert self.old (deadline, name)) }
         ensures err { OnErr result (self.new ≡ self.old) }
     {
         self.ordered.insert((deadline, name))?;
@@ -48,9 +48,9 @@ impl Deadlines {
     }
 
     /// Gives the name back.
-    pub(crate) fn remove(&mut self, deadline: i64, name: Vec<u8>) -> Vec<u8>
+    pub(crate) fn remove(&mut self, deadline: i64, name: Blob) -> Blob
         ensures same { result ≡ name }
-        ensures removed { self.new ≡ set.remove self.old (deadline, name.items) }
+        ensures removed { self.new ≡ set.remove self.old (deadline, name) }
     {
         let due = (deadline, name);
         self.ordered.remove(&due);
@@ -58,20 +58,20 @@ impl Deadlines {
     }
 
     // The name is copied where there is a deadline.
-    fn add(&mut self, deadline: Option<i64>, name: &Vec<u8>) -> Result<(), Memory>
-        ensures ok { OnOk result (self.new ≡ with_deadline self.old deadline name.now.items) }
+    fn add(&mut self, deadline: Option<i64>, name: &Blob) -> Result<(), Memory>
+        ensures ok { OnOk result (self.new ≡ with_deadline self.old deadline name.now) }
         ensures err { OnErr result (self.new ≡ self.old) }
     {
         match deadline {
-            Some(deadline) => self.insert(deadline, name.clone()?),
+            Some(deadline) => self.insert(deadline, name.copy()?),
             None => Ok(()),
         }
     }
 
     /// Takes a name out at its deadline, if it has one, and gives the name back.
-    pub(crate) fn take(&mut self, deadline: Option<i64>, name: Vec<u8>) -> Vec<u8>
+    pub(crate) fn take(&mut self, deadline: Option<i64>, name: Blob) -> Blob
         ensures same { result ≡ name }
-        ensures taken { self.new ≡ without_deadline self.old deadline name.items }
+        ensures taken { self.new ≡ without_deadline self.old deadline name }
     {
         match deadline {
             Some(deadline) => self.remove(deadline, name),
@@ -84,11 +84,11 @@ impl Deadlines {
         &mut self,
         before: Option<i64>,
         after: Option<i64>,
-        name: Vec<u8>,
-    ) -> Result<Vec<u8>, Memory>
-        requires { (deadline : ℤ) → set.contains self.old (deadline, name.items) ≡ has_deadline deadline before }
+        name: Blob,
+    ) -> Result<Blob, Memory>
+        requires { (deadline : ℤ) → set.contains self.old (deadline, name) ≡ has_deadline deadline before }
         ensures same { IfOk result (λ back. back ≡ name) }
-        ensures ok { OnOk result (IsReplaced self.old self.new after name.items) }
+        ensures ok { OnOk result (IsReplaced self.old self.new after name) }
         ensures err { OnErr result (self.new ≡ self.old) }
     {
         if before == after {
@@ -99,9 +99,9 @@ impl Deadlines {
     }
 
     /// Takes out the earliest deadline, if it is not after the moment.
-    pub(crate) fn pop_expired(&mut self, now: u64) -> Option<Vec<u8>>
+    pub(crate) fn pop_expired(&mut self, now: u64) -> Option<Blob>
         ensures expired { IfSome result (λ name. (deadline : ℤ) × (int_lt (pos now) deadline ≡ false)
-            × (set.contains self.old (deadline, name.items) ≡ true) × (self.new ≡ set.remove self.old (deadline, name.items))) }
+            × (set.contains self.old (deadline, name) ≡ true) × (self.new ≡ set.remove self.old (deadline, name))) }
         ensures live { IfNone result ((deadline : ℤ) (name : Bytes) → set.contains self.old (deadline, name) ≡ true → int_lt (pos now) deadline ≡ true) }
         ensures unchanged { IfNone result (self.new ≡ self.old) }
     {

@@ -60,7 +60,7 @@ impl Keyspace {
     }
 
     /// The value of a live key.
-    pub fn get(&self, now: u64, database: Db, name: &[u8]) -> Option<&Value>
+    pub fn get(&self, now: u64, database: Db, name: &Blob) -> Option<&Value>
         ensures { option_map (λ value. value_of value.now) result
             ≡ option_map (λ stored. stored.value) (map.get (model.live self.now now) (key_of database name.now)) }
     {
@@ -68,7 +68,7 @@ impl Keyspace {
     }
 
     /// The deadline of a live key, if it has one.
-    pub fn deadline(&self, now: u64, database: Db, name: &[u8]) -> Option<Option<i64>>
+    pub fn deadline(&self, now: u64, database: Db, name: &Blob) -> Option<Option<i64>>
         ensures { result ≡ option_map (λ stored. stored.deadline) (map.get (model.live self.now now) (key_of database name.now)) }
     {
         self.databases
@@ -108,7 +108,7 @@ impl Keyspace {
 
     /// Stores a value, in place, at a key that is there and has no deadline: with one hash of its name, no copy and no allocation. Where
     /// the key isn't so, the value comes back, and nothing changed.
-    pub fn rewrite(&mut self, database: Db, name: &[u8], value: Value) -> Option<Value>
+    pub fn rewrite(&mut self, database: Db, name: &Blob, value: Value) -> Option<Value>
         ensures written { IfNone result (self.new ≡ map.insert self.old (key_of database name.now) (record { value = value_of value; deadline = None })) }
         ensures exact { is_some result ≡ not (is_undated (map.get self.old (key_of database name.now))) }
         ensures back { IfSome result (λ back. back ≡ value) }
@@ -123,7 +123,7 @@ impl Keyspace {
         &mut self,
         now: u64,
         database: Db,
-        name: &[u8],
+        name: &Blob,
         edit: E,
     ) -> Result<Option<E::Given>, Memory>
         ensures ok { let key = key_of database name.now in IfOk result
@@ -135,7 +135,7 @@ impl Keyspace {
     }
 
     /// Takes a live key out, and gives its value.
-    pub fn remove(&mut self, now: u64, database: Db, name: &[u8]) -> Option<Value>
+    pub fn remove(&mut self, now: u64, database: Db, name: &Blob) -> Option<Value>
         ensures value { option_map value_of result ≡ option_map (λ stored. stored.value) (map.get (model.live self.old now) (key_of database name.now)) }
         ensures removed { OnSome result (self.new ≡ map.remove self.old (key_of database name.now)) }
         ensures unchanged { IfNone result (self.new ≡ self.old) }
@@ -150,7 +150,7 @@ impl Keyspace {
         &mut self,
         now: u64,
         database: Db,
-        name: &[u8],
+        name: &Blob,
         deadline: Option<i64>,
     ) -> Result<bool, Memory>
         ensures live { IfOk result (λ was_live. was_live ≡ is_some (map.get (model.live self.old now) (key_of database name.now))) }

@@ -3,9 +3,10 @@
 #![tactic(auto)]
 
 pub use db::Db;
-pub use edit::Edit;
+pub use edit::{Edit, OnString, StringEdit};
 pub use keyspace::Keyspace;
 pub use moment::is_live;
+pub use touched::{Nobody, Touched};
 pub use value::Value;
 
 mod database;
@@ -15,4 +16,8 @@ mod deadlines;
 mod edit;
 mod keyspace;
 mod moment;
+mod touched;
 mod value;
+
+/// What becomes of a key with another deadline.
+pub mod deadline;

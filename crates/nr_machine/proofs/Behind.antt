@@ -30,7 +30,7 @@ use Rattle.nr_entry.specs.declared.job.Update.TheVariants as updates
 use Rattle.nr_entry.specs.Kinds.{queued_command, queued_call, session_command, update_deed}
 use Rattle.nr_resp.specs.Seen.{reply_of}
 use Rattle.nr_resp.specs.declared.reply.Reply as code
-use Rattle.nr_exec.specs.Done.{IsDone}
+use Rattle.nr_resp.specs.Done.{IsDone}
 use Rattle.nr_emission.specs.Emitted.{all_after, replies_to}
 use Rattle.nr_emission.specs.Messages.{subscriptions_of, publish_messages, publish_reply}
 use Rattle.nr_emission.proofs.Nodes.{for_node-append, other_replies}

@@ -23,7 +23,7 @@ pub(crate) fn watch_all(
     }) }
 {
     for name in names {
-        let deadline = keyspace.deadline(now, database, name.bytes()).flatten();
+        let deadline = keyspace.deadline(now, database, name).flatten();
         watches.watch(conn, database, name.copy()?, deadline)?;
     }
     Ok(())

@@ -8,7 +8,8 @@ use Rattle.std.proofs.Math.Bool.{and-false}
 use Rattle.nr_model.specs.Entries.{Jobs, read_jobs}
 use Rattle.nr_model.specs.Connections.{Setup}
 use Rattle.nr_model.specs.Nodes.{Client, Slot, Empty, Posted, Lifted, Answered, Worker, Node, no_node, Logged, World, Reads, node_at, worker_at, logged_at, with_node, log_of, tail_of}
-use Rattle.nr_model.specs.Nodes.Steps.{Step, Fetch, Apply, Look, Done, NoSuch, Down, Busy, Nothing, NotYet, Refused, is_node, is_posted, is_filled, outcome, owing_less, executed_from, jobs_of_worker, with_executed, with_reads, advanced, advanced_by, after_step}
+use Rattle.nr_model.specs.Nodes.Steps.{Step, Fetch, Apply, Look, Done, Refused, is_node, is_posted, is_filled, outcome, owing_less, executed_from, jobs_of_worker, with_executed, with_reads, advanced, advanced_by, after_step}
+use Rattle.nr_model.specs.declared.reason.Reason.TheVariants.{NoSuch, Down, Busy, Nothing, NotYet}
 use Rattle.nr_model.specs.Nodes.Pasts.{Event, is_done, IsEvent, AreEvents, after_event}
 use Rattle.nr_model.specs.Nodes.Settling.{in_turn, applying, is_idle, after_events}
 use Rattle.nr_model.proofs.NodesSteps.{by_look, are_last, world_after-append}

@@ -8,7 +8,8 @@ use Rattle.nr_model.specs.Items.{Item, is_update}
 use Rattle.nr_model.specs.Entries.{Jobs, leading, leads_as_update, leads_as_read, most_entry_jobs, entry_jobs, read_jobs}
 use Rattle.nr_model.specs.Connections.{Setup}
 use Rattle.nr_model.specs.Nodes.{Node, no_node, World, node_at, tail_of}
-use Rattle.nr_model.specs.Nodes.Steps.{Step, Reserve, Fill, Fetch, Apply, Look, Done, NoSuch, Down, Busy, Nothing, Full, NotYet, Refused, is_node, is_empty, is_true, has_place, are_filled, next_fetch, outcome, after_step}
+use Rattle.nr_model.specs.Nodes.Steps.{Step, Reserve, Fill, Fetch, Apply, Look, Done, Refused, is_node, is_empty, is_true, has_place, are_filled, next_fetch, outcome, after_step}
+use Rattle.nr_model.specs.declared.reason.Reason.TheVariants.{NoSuch, Down, Busy, Nothing, Full, NotYet}
 use Rattle.nr_model.specs.Nodes.Pasts.{is_done}
 use Rattle.nr_model.specs.Nodes.Settling.{reserving, in_turn, applying, left_in}
 use Rattle.nr_model.proofs.NodesSteps.{AreSized}

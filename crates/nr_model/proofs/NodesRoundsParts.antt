@@ -9,7 +9,8 @@ use Rattle.std.proofs.lemmas.List.{get_or_past}
 use Rattle.nr_model.specs.Entries.{left_by_entry}
 use Rattle.nr_model.specs.Connections.{Setup, Handed, is_some_bytes}
 use Rattle.nr_model.specs.Nodes.{Client, Slot, Empty, Posted, Lifted, Answered, Worker, fresh_worker, Node, no_node, World, node_at, worker_at, with_worker, tail_of}
-use Rattle.nr_model.specs.Nodes.Steps.{Step, Post, Lift, Reserve, Fill, Answer, Collect, Done, NoSuch, Down, Nothing, NotYet, Refused, idle_where, is_node, is_worker, is_posted, is_lifted, is_answered, owed_in, collected, outcome, posted_jobs, posted_worker, lifted_node, emptied, cleared, collected_node, after_step}
+use Rattle.nr_model.specs.Nodes.Steps.{Step, Post, Lift, Reserve, Fill, Answer, Collect, Done, Refused, idle_where, is_node, is_worker, is_posted, is_lifted, is_answered, owed_in, collected, outcome, posted_jobs, posted_worker, lifted_node, emptied, cleared, collected_node, after_step}
+use Rattle.nr_model.specs.declared.reason.Reason.TheVariants.{NoSuch, Down, Nothing, NotYet}
 use Rattle.nr_model.specs.Nodes.Pasts.{is_done}
 use Rattle.nr_model.specs.Nodes.Settling.{for_workers, lifting, reserving, answering}
 use Rattle.nr_model.proofs.NodesSteps.{AreSized}

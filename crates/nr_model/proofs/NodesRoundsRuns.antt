@@ -4,7 +4,8 @@ use Rattle.std.specs.Prelude.{flat_map}
 use Rattle.std.specs.List.{range_with_len}
 use Rattle.nr_model.specs.Connections.{Setup}
 use Rattle.nr_model.specs.Nodes.{World}
-use Rattle.nr_model.specs.Nodes.Steps.{Step, Reason, Outcome, Refused, idle_where, after_step}
+use Rattle.nr_model.specs.Nodes.Steps.{Step, Outcome, Refused, idle_where, after_step}
+use Rattle.nr_model.specs.declared.reason.Reason.{Reason}
 use Rattle.nr_model.specs.Nodes.Pasts.{Event, is_done, after_event, AreEvents}
 use Rattle.nr_model.specs.Nodes.Settling.{after_events}
 use Rattle.nr_model.proofs.NodesSteps.{AreSized, step_sized, world_after-append}

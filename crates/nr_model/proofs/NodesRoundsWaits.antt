@@ -6,7 +6,8 @@ use Rattle.std.proofs.Math.Bool.{and-false}
 use Rattle.nr_model.specs.Entries.{Jobs}
 use Rattle.nr_model.specs.Connections.{Setup}
 use Rattle.nr_model.specs.Nodes.{Slot, Empty, Lifted, Worker, Node, no_node, World, node_at, worker_at, with_worker, tail_of}
-use Rattle.nr_model.specs.Nodes.Steps.{Post, Lift, Answer, Collect, Done, NoSuch, Down, Busy, Nothing, Refused, is_worker, is_empty, is_free, is_posted, is_lifted, is_answered, collected, outcome, posted_jobs, posted_worker, most_batch_jobs, lifted_node, effect, after_step}
+use Rattle.nr_model.specs.Nodes.Steps.{Post, Lift, Answer, Collect, Done, Refused, is_worker, is_empty, is_free, is_posted, is_lifted, is_answered, collected, outcome, posted_jobs, posted_worker, most_batch_jobs, lifted_node, effect, after_step}
+use Rattle.nr_model.specs.declared.reason.Reason.TheVariants.{NoSuch, Down, Busy, Nothing}
 use Rattle.nr_model.specs.Nodes.Pasts.{is_done}
 use Rattle.nr_model.specs.Nodes.Settling.{lifting, answering}
 use Rattle.nr_model.proofs.NodesSteps.{AreSized, node_here, node_other}

@@ -8,7 +8,9 @@ use Rattle.nr_model.specs.Items.{Item, is_update}
 use Rattle.nr_model.specs.Entries.{Jobs, leading, leads_as_update, leads_as_read, entry_jobs, read_jobs}
 use Rattle.nr_model.specs.Connections.{Setup}
 use Rattle.nr_model.specs.Nodes.{Node, World, no_node, node_at, logged_at, tail_of}
-use Rattle.nr_model.specs.Nodes.Steps.{Outcome, Done, Reason, NoSuch, Busy, Nothing, Full, NotYet, Down, idle_where, is_node, is_worker, is_empty, has_place, is_filled, are_filled, next_fetch}
+use Rattle.nr_model.specs.Nodes.Steps.{Outcome, Done, idle_where, is_node, is_worker, is_empty, has_place, is_filled, are_filled, next_fetch}
+use Rattle.nr_model.specs.declared.reason.Reason.{Reason}
+use Rattle.nr_model.specs.declared.reason.Reason.TheVariants.{NoSuch, Busy, Nothing, Full, NotYet, Down}
 use Rattle.nr_model.specs.Nodes.Pasts.{is_done}
 use Rattle.nr_model.proofs.NodesSteps.{AreSized}
 use Rattle.nr_model.proofs.NodesExecutedLists.{lt_or_le}

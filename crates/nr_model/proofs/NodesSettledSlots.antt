@@ -8,7 +8,8 @@ use Rattle.nr_model.specs.Items.{Connection}
 use Rattle.nr_model.specs.Entries.{Jobs}
 use Rattle.nr_model.specs.Connections.{Setup, Handed, is_some_bytes}
 use Rattle.nr_model.specs.Nodes.{Client, fresh_client, Slot, Empty, Posted, Lifted, Answered, Logged, Node, World, node_at, worker_at, client_of, log_of, tail_of}
-use Rattle.nr_model.specs.Nodes.Steps.{Done, NoSuch, Down, Busy, Nothing, NotYet, idle_where, is_worker, is_client, is_empty, is_free, is_posted, is_lifted, is_answered, owed_in, collected}
+use Rattle.nr_model.specs.Nodes.Steps.{Done, idle_where, is_worker, is_client, is_empty, is_free, is_posted, is_lifted, is_answered, owed_in, collected}
+use Rattle.nr_model.specs.declared.reason.Reason.TheVariants.{NoSuch, Down, Busy, Nothing, NotYet}
 use Rattle.nr_model.specs.Nodes.Pasts.{is_done}
 use Rattle.nr_model.specs.Nodes.Explained.{jobs_executed, waiting_for}
 use Rattle.nr_model.proofs.NodesSteps.{AreSized, a_client}

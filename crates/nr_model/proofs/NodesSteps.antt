@@ -11,7 +11,9 @@ use Rattle.nr_model.specs.Entries.{Jobs, entry_items, entry_jobs, left_by_entry,
 use Rattle.nr_model.specs.Servers.{after_all, emitted_all}
 use Rattle.nr_model.specs.Connections.{Setup}
 use Rattle.nr_model.specs.Nodes.{Client, Worker, Logged, Slot, Empty, Posted, Lifted, Answered, Node, World, fresh, fresh_node, no_node, fresh_worker, Reads, node_at, worker_at, client_of, with_node, with_worker, log_of, tail_of}
-use Rattle.nr_model.specs.Nodes.Steps.{Step, Open, Feed, Post, Lift, Reserve, Fill, Fetch, Apply, Look, Answer, Collect, Close, Refuse, Reason, NoSuch, Ended, TooMany, Down, Busy, Nothing, Full, NotYet, Outcome, Opened, Done, Idle, Refused, idle_where, is_node, is_worker, is_client, in_use, is_empty, is_free, is_posted, is_lifted, is_answered, owed_in, is_true, has_place, is_filled, are_filled, next_fetch, collected, outcome, posted_jobs, executed_from, advanced, advanced_by, passing, falls_at, opened, fed_node, posted_worker, reserved, looked, with_reads, closed_node, closed, nothing_refused, delivered_to, effect, effect_by, after_step}
+use Rattle.nr_model.specs.Nodes.Steps.{Step, Open, Feed, Post, Lift, Reserve, Fill, Fetch, Apply, Look, Answer, Collect, Close, Refuse, Outcome, Opened, Done, Idle, Refused, idle_where, is_node, is_worker, is_client, in_use, is_empty, is_free, is_posted, is_lifted, is_answered, owed_in, is_true, has_place, is_filled, are_filled, next_fetch, collected, outcome, posted_jobs, executed_from, advanced, advanced_by, passing, falls_at, opened, fed_node, posted_worker, reserved, looked, with_reads, closed_node, closed, nothing_refused, delivered_to, effect, effect_by, after_step}
+use Rattle.nr_model.specs.declared.reason.Reason.{Reason}
+use Rattle.nr_model.specs.declared.reason.Reason.TheVariants.{NoSuch, Ended, TooMany, Down, Busy, Nothing, Full, NotYet}
 use Rattle.nr_model.specs.Nodes.Pasts.{Event, is_done, handed_by, answer_by, after_event, world_after, AreEvents}
 
 -- how large a node is: its workers, and its cells of an entry

@@ -8,6 +8,9 @@ pub mod Commands
 pub mod Items
 pub mod Names
 pub mod Strings
+pub mod Lists
+pub mod Hashes
+pub mod Sets
 pub mod Modes
 pub mod Sequential
 pub mod Servers

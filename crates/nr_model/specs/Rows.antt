@@ -5,6 +5,9 @@ pub mod Replies
 pub mod Patterns
 pub mod Commands
 pub mod Strings
+pub mod Lists
+pub mod Hashes
+pub mod Sets
 pub mod Modes
 pub mod Sequential
 pub mod Nodes

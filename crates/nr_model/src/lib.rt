@@ -9,6 +9,7 @@ mod machines;
 mod nodes;
 mod numbers;
 mod patterns;
+pub mod reason;
 pub mod refused;
 mod replies;
 mod requests;

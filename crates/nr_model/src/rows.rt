@@ -3,6 +3,9 @@
 ghost use Rattle.nr_model.specs.Rows.Modes.{ModeRows};
 ghost use Rattle.nr_model.specs.Rows.Sequential.{MessageRows, SequentialRows};
 ghost use Rattle.nr_model.specs.Rows.Strings.{StringRows};
+ghost use Rattle.nr_model.specs.Rows.Lists.{ListRows};
+ghost use Rattle.nr_model.specs.Rows.Hashes.{HashRows};
+ghost use Rattle.nr_model.specs.Rows.Sets.{SetRows};
 ghost use Rattle.nr_model.specs.Rows.Nodes.{NodesRows};
 
 /// What the bytes of a connection ask for: transactions, subscriptions, unknown names and ends.
@@ -28,4 +31,19 @@ fn nodes_rows()
 /// Strings: ranges, bits and their counts, and strings joined bit by bit.
 fn string_rows()
     ensures { StringRows }
+{}
+
+/// Lists: ends, indexes, pivots, what is removed by a count, and where an item stands.
+fn list_rows()
+    ensures { ListRows }
+{}
+
+/// Hashes: their fields and values in byte order.
+fn hash_rows()
+    ensures { HashRows }
+{}
+
+/// Sets: what all of them have, one of them, and the first alone.
+fn set_rows()
+    ensures { SetRows }
 {}

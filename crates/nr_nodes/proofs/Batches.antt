@@ -16,7 +16,7 @@ use Rattle.nr_entry.specs.declared.job.Job.{Job}
 use Rattle.nr_session.specs.SessionState.{SessionState}
 use Rattle.nr_replica.specs.Members.{Member}
 use Rattle.nr_replica.specs.Replicas.{ReplicaState}
-use Rattle.nr_nodes.specs.declared.step.Reason.TheVariants as reasons
+use Rattle.nr_model.specs.declared.reason.Reason.TheVariants as reasons
 use Rattle.nr_nodes.specs.declared.worker.Worker.{Worker}
 use Rattle.nr_nodes.specs.declared.node.Node.{Node}
 use Rattle.nr_nodes.specs.declared.log.Log.{Log}
@@ -183,12 +183,12 @@ no_answer n w worker h = by_slot n w worker.pending worker.batches worker.slot h
 idle_collect : (n w : ℕ) (node new : nodes.Node) (outcome : steps.Outcome) (handed : List traffic.Handed) (answer : Option Answering)
     → IsCollected n w node new outcome handed answer
     → (not (steps.is_answered (nodes.worker_at w node).slot) && length (steps.collected w node.clients) == 0) ≡ true
-    → (outcome ≡ steps.Idle steps.Nothing) × (handed ≡ []) × (answer ≡ None) × (new ≡ node)
+    → (outcome ≡ steps.Idle reasons.Nothing) × (handed ≡ []) × (answer ≡ None) × (new ≡ node)
 idle_collect n w node new outcome handed answer c e =
     let both = and_parts (not (steps.is_answered (nodes.worker_at w node).slot)) (length (steps.collected w node.clients) == 0) e in
     let unanswered = not-true (steps.is_answered (nodes.worker_at w node).slot) both.0 in
     let none = empty_list (steps.collected w node.clients) both.1 in (
-      c.comes_to ∙ ap (λ (b : Bool). steps.idle_where b steps.Nothing steps.Done) e,
+      c.comes_to ∙ ap (λ (b : Bool). steps.idle_where b reasons.Nothing steps.Done) e,
       c.handed_out ∙ none,
       c.taken ∙ no_answer n w (nodes.worker_at w node) unanswered,
       c.node ∙ collected_nothing w node unanswered none,
@@ -221,7 +221,7 @@ collect_takes v n w x old outcome handed answer e there at collected = record {
       let c = subst (λ (m : nodes.Node). IsCollected n w m (node_seen x) outcome handed answer) (sym is) collected in
       let none = not (steps.is_answered (nodes.worker_at w node).slot) && length (steps.collected w node.clients) == 0 in
       let comes : outcome ≡ steps.outcome v.setup world (steps.Collect n w) =
-      c.comes_to ∙ sym (ap (λ (b : Bool). steps.idle_where (not b) steps.NoSuch (may_collect w node)) e) in
+      c.comes_to ∙ sym (ap (λ (b : Bool). steps.idle_where (not b) reasons.NoSuch (may_collect w node)) e) in
       elim (cases_Bool none) [
         | inl nothing ↦
             let idle = idle_collect n w node (node_seen x) outcome handed answer c nothing in
@@ -233,7 +233,7 @@ collect_takes v n w x old outcome handed answer e there at collected = record {
             (subst (λ (o : steps.Outcome). Shows new (steps.effect_by o v.setup world (steps.Collect n w) steps.nothing_refused)) (sym idle.0)
             (shows_changed v world world n x node s there idle.3 (sym (set-get_or world.nodes n nodes.no_node)) refl passed))
         | inr some ↦
-            let done : outcome ≡ steps.Done = c.comes_to ∙ ap (λ (b : Bool). steps.idle_where b steps.Nothing steps.Done) some in
+            let done : outcome ≡ steps.Done = c.comes_to ∙ ap (λ (b : Bool). steps.idle_where b reasons.Nothing steps.Done) some in
             is_taken v new world n w outcome handed answer comes
             (c.handed_out ∙ sym (ap (λ (o : steps.Outcome). cond (is_done o) (steps.collected w node.clients) []) done))
             (c.taken ∙ sym (ap (λ (o : steps.Outcome). cond (is_done o) (answer_in n w (nodes.worker_at w node)) None) done))
@@ -246,9 +246,9 @@ collect_takes v n w x old outcome handed answer e there at collected = record {
 pub by_worker : (node : Node) (w : ℕ) (worker : Worker) (f : nodes.Worker → steps.Outcome) (outcome : steps.Outcome) → w < length node.workers.items
     → length node.replica.owed ≡ length node.workers.items → worker ≡ get_or node.workers.items w worker → node.replica.down ≡ false
     → outcome ≡ f (worker_seen worker (get_or node.replica.owed w None))
-    → outcome ≡ steps.idle_where node.replica.down steps.Down (f (nodes.worker_at w (node_seen node)))
+    → outcome ≡ steps.idle_where node.replica.down reasons.Down (f (nodes.worker_at w (node_seen node)))
 by_worker node w worker f outcome h k at up is =
-    is ∙ ap f (worker_is node w worker h k at) ∙ sym (ap (λ (b : Bool). steps.idle_where b steps.Down (f (nodes.worker_at w (node_seen node)))) up)
+    is ∙ ap f (worker_is node w worker h k at) ∙ sym (ap (λ (b : Bool). steps.idle_where b reasons.Down (f (nodes.worker_at w (node_seen node)))) up)
 
 -- a node of whose batches more or fewer jobs are owed
 pub whole_owing : (n w : ℕ) (owed : Option ℕ) (waiting : List Job) (old new : Node)
@@ -288,13 +288,13 @@ makes_answer setup n w = record { nodes_are = λ world. refl; taken_is = λ worl
 -- a collect at a worker that there isn't
 pub collect_idle : (v : WorldState) (n w : ℕ) (outcome : steps.Outcome) (handed : List traffic.Handed) (answer : Option Answering)
     → steps.is_worker v.setup n w ≡ false
-    → outcome ≡ steps.Idle steps.NoSuch → handed ≡ [] → answer ≡ None → Takes v v (steps.Collect n w) outcome handed answer
+    → outcome ≡ steps.Idle reasons.NoSuch → handed ≡ [] → answer ≡ None → Takes v v (steps.Collect n w) outcome handed answer
 collect_idle v n w outcome handed answer e is none unanswered =
     let step = steps.Collect n w in
     let comes = comes_to_no_such v step n w (may_collect w) (λ world. refl) e in
     subst (λ (o : steps.Outcome). Takes v v step o handed answer) (sym is)
-    (subst (λ (hs : List traffic.Handed). Takes v v step (steps.Idle steps.NoSuch) hs answer) (sym none)
-    (subst (λ (a : Option Answering). Takes v v step (steps.Idle steps.NoSuch) [] a) (sym unanswered) (takes_nothing v step reasons.NoSuch comes.is)))
+    (subst (λ (hs : List traffic.Handed). Takes v v step (steps.Idle reasons.NoSuch) hs answer) (sym none)
+    (subst (λ (a : Option Answering). Takes v v step (steps.Idle reasons.NoSuch) [] a) (sym unanswered) (takes_nothing v step reasons.NoSuch comes.is)))
 
 -- one that took an answer, or handed something out
 none_executed : (slot : nodes.Slot) → steps.is_answered slot ≡ false → executed_in slot ≡ None
@@ -311,7 +311,7 @@ collect_done w node executed handed is out some =
       | inl e ↦
           let both = and_parts (not (steps.is_answered slot)) (length (steps.collected w node.clients) == 0) e in
           absurd (some (is ∙ none_executed slot (not-true (steps.is_answered slot) both.0)) (out ∙ empty_list (steps.collected w node.clients) both.1))
-      | inr e ↦ sym (ap (λ (b : Bool). steps.idle_where b steps.Nothing steps.Done) e)
+      | inr e ↦ sym (ap (λ (b : Bool). steps.idle_where b reasons.Nothing steps.Done) e)
     ]
 
 -- where the answer isn't none, or something was handed out

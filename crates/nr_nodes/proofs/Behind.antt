@@ -3,6 +3,7 @@ use Rattle.std.proofs.Common.{◌≡◌, ℕ, false, List, [], ◌++◌, length,
 use Rattle.std.proofs.lemmas.List.{length-map}
 use Rattle.nr_model.specs.Connections as traffic
 use Rattle.nr_model.specs.Nodes.Steps as steps
+use Rattle.nr_model.specs.declared.reason.Reason.TheVariants as reasons
 use Rattle.nr_model.specs.Nodes.Pasts.{Answering}
 use Rattle.nr_nodes.specs.WorldState.{WorldState}
 use Rattle.nr_nodes.specs.Taken.{Takes}
@@ -18,9 +19,9 @@ all_behind old new n w outcome before after answer c none =
 
 -- at a worker that there isn't, it is nothing
 pub none_behind : (v : WorldState) (n w : ℕ) (before : List traffic.Handed) → steps.is_worker v.setup n w ≡ false
-    → CollectsBehind v v n w (steps.Idle steps.NoSuch) before before None
+    → CollectsBehind v v n w (steps.Idle reasons.NoSuch) before before None
 none_behind v n w before e =
-    record { more = []; behind = sym (append-nil before); taken = collect_idle v n w (steps.Idle steps.NoSuch) [] None e refl refl refl }
+    record { more = []; behind = sym (append-nil before); taken = collect_idle v n w (steps.Idle reasons.NoSuch) [] None e refl refl refl }
 
 -- where it is nothing, there are as many as before
 pub as_long : {A B : Type 0} (f : A → B) (olds news : List A) (more : List B) → map f news ≡ map f olds ++ more → more ≡ [] → length news ≡ length olds

@@ -8,6 +8,7 @@ use Rattle.nr_model.specs.Items.{Connection}
 use Rattle.nr_model.specs.Connections as traffic
 use Rattle.nr_model.specs.Nodes as nodes
 use Rattle.nr_model.specs.Nodes.Steps as steps
+use Rattle.nr_model.specs.declared.reason.Reason.TheVariants as reasons
 use Rattle.nr_model.specs.Nodes.Steps.{Opened, Done, Idle}
 use Rattle.nr_model.specs.Nodes.Pasts.{Event, IsPast, is_done, may_refuse, handed_by, answer_by}
 use Rattle.nr_model.specs.Modes.{plain}
@@ -17,8 +18,7 @@ use Rattle.nr_entry.specs.Jobs.{connection_of}
 use Rattle.nr_entry.specs.declared.conn.ConnId.{ConnId}
 use Rattle.nr_session.specs.SessionState.{SessionState}
 use Rattle.nr_nodes.specs.declared.node.Node.{Node}
-use Rattle.nr_nodes.specs.declared.step.Reason.{Reason}
-use Rattle.nr_nodes.specs.Seen.{reason_seen}
+use Rattle.nr_model.specs.declared.reason.Reason.{Reason}
 use Rattle.nr_nodes.specs.Served.{client_seen, node_seen, opened_node}
 use Rattle.nr_nodes.specs.Workers.{worker_seen}
 use Rattle.nr_replica.specs.Members.{Member, fresh_member}
@@ -166,52 +166,52 @@ going_there node serial n s m pairs h e = (or_parts _ _ (ended_is node serial n 
 
 -- the outcomes by what was found
 pub open_none : (setup : traffic.Setup) (xs : List Node) (n w : ℕ) → steps.is_worker setup n w ≡ false → steps.outcome setup (seen_world xs)
-    (steps.Open n w) ≡ steps.Idle steps.NoSuch
+    (steps.Open n w) ≡ steps.Idle reasons.NoSuch
 open_none setup xs n w e = cond-true (not (steps.is_worker setup n w)) _ _ (not_from_false _ e)
 
 pub open_some : (setup : traffic.Setup) (xs : List Node) (n w : ℕ) (d : Node) (many down : Bool) → steps.is_worker setup n w ≡ true
     → n < length xs → d ≡ get_or xs n d → IsWhole n d → nat_le setup.connections d.in_use ≡ many → d.replica.down ≡ down
     → steps.outcome setup (seen_world xs) (steps.Open n w)
-    ≡ steps.idle_where many steps.TooMany (steps.idle_where down steps.Down
+    ≡ steps.idle_where many reasons.TooMany (steps.idle_where down reasons.Down
     (steps.Opened (record { node = n; serial = length (nodes.node_at n (seen_world xs)).clients })))
 open_some setup xs n w d many down is h at whole m p =
     let seen = seen_in xs n d h at in
     let opened = steps.Opened (record { node = n; serial = length (nodes.node_at n (seen_world xs)).clients }) in
     cond-false (not (steps.is_worker setup n w)) _ _ (not_from_true _ is)
-    ∙ (λ i. steps.idle_where (nat_le setup.connections (steps.in_use (seen i))) steps.TooMany (steps.idle_where (seen i).down steps.Down opened))
-    ∙ (λ i. steps.idle_where (nat_le setup.connections (sym whole.counted i)) steps.TooMany (steps.idle_where (p i) steps.Down opened))
-    ∙ (λ i. steps.idle_where (m i) steps.TooMany (steps.idle_where down steps.Down opened))
+    ∙ (λ i. steps.idle_where (nat_le setup.connections (steps.in_use (seen i))) reasons.TooMany (steps.idle_where (seen i).down reasons.Down opened))
+    ∙ (λ i. steps.idle_where (nat_le setup.connections (sym whole.counted i)) reasons.TooMany (steps.idle_where (p i) reasons.Down opened))
+    ∙ (λ i. steps.idle_where (m i) reasons.TooMany (steps.idle_where down reasons.Down opened))
 
 pub feed_none : (setup : traffic.Setup) (xs : List Node) (c : Connection) (time : ℕ) (bytes : Bytes) → steps.is_client (seen_world xs) c ≡ false
-    → steps.outcome setup (seen_world xs) (steps.Feed c time bytes) ≡ steps.Idle steps.NoSuch
+    → steps.outcome setup (seen_world xs) (steps.Feed c time bytes) ≡ steps.Idle reasons.NoSuch
 feed_none setup xs c time bytes e = cond-true (not (steps.is_client (seen_world xs) c)) _ _ (not_from_false _ e)
 
 pub feed_some : (setup : traffic.Setup) (xs : List Node) (c : Connection) (time : ℕ) (bytes : Bytes) (d : Node) (ended down : Bool) → steps.is_client
     (seen_world xs) c ≡ true
     → d ≡ get_or xs c.node d → takes_none (nodes.client_at c.serial (node_seen d)) ≡ ended → d.replica.down ≡ down
-    → steps.outcome setup (seen_world xs) (steps.Feed c time bytes) ≡ steps.idle_where ended steps.Ended (steps.idle_where down steps.Down steps.Done)
+    → steps.outcome setup (seen_world xs) (steps.Feed c time bytes) ≡ steps.idle_where ended reasons.Ended (steps.idle_where down reasons.Down steps.Done)
 feed_some setup xs c time bytes d ended down is at e p =
     let seen = seen_in xs c.node d (there_node xs c is) at in
     cond-false (not (steps.is_client (seen_world xs) c)) _ _ (not_from_true _ is)
-    ∙ (λ i. steps.idle_where (takes_none (nodes.client_at c.serial (seen i))) steps.Ended (steps.idle_where (seen i).down steps.Down steps.Done))
-    ∙ (λ i. steps.idle_where (e i) steps.Ended (steps.idle_where (p i) steps.Down steps.Done))
+    ∙ (λ i. steps.idle_where (takes_none (nodes.client_at c.serial (seen i))) reasons.Ended (steps.idle_where (seen i).down reasons.Down steps.Done))
+    ∙ (λ i. steps.idle_where (e i) reasons.Ended (steps.idle_where (p i) reasons.Down steps.Done))
 
 pub close_none : (setup : traffic.Setup) (xs : List Node) (c : Connection) (time : ℕ) → steps.is_client (seen_world xs) c ≡ false
-    → steps.outcome setup (seen_world xs) (steps.Close c time) ≡ steps.Idle steps.NoSuch
+    → steps.outcome setup (seen_world xs) (steps.Close c time) ≡ steps.Idle reasons.NoSuch
 close_none setup xs c time e = cond-true (not (steps.is_client (seen_world xs) c)) _ _ (not_from_false _ e)
 
 pub close_some : (setup : traffic.Setup) (xs : List Node) (c : Connection) (time : ℕ) (d : Node) (closed down : Bool) → steps.is_client (seen_world xs) c ≡
     true
     → d ≡ get_or xs c.node d → (nodes.client_at c.serial (node_seen d)).closed ≡ closed → d.replica.down ≡ down
-    → steps.outcome setup (seen_world xs) (steps.Close c time) ≡ steps.idle_where closed steps.Ended (steps.idle_where down steps.Down steps.Done)
+    → steps.outcome setup (seen_world xs) (steps.Close c time) ≡ steps.idle_where closed reasons.Ended (steps.idle_where down reasons.Down steps.Done)
 close_some setup xs c time d closed down is at e p =
     let seen = seen_in xs c.node d (there_node xs c is) at in
     cond-false (not (steps.is_client (seen_world xs) c)) _ _ (not_from_true _ is)
-    ∙ (λ i. steps.idle_where (nodes.client_at c.serial (seen i)).closed steps.Ended (steps.idle_where (seen i).down steps.Down steps.Done))
-    ∙ (λ i. steps.idle_where (e i) steps.Ended (steps.idle_where (p i) steps.Down steps.Done))
+    ∙ (λ i. steps.idle_where (nodes.client_at c.serial (seen i)).closed reasons.Ended (steps.idle_where (seen i).down reasons.Down steps.Done))
+    ∙ (λ i. steps.idle_where (e i) reasons.Ended (steps.idle_where (p i) reasons.Down steps.Done))
 
 -- what an outcome tells that isn't idle
-not_idle : (b : Bool) (reason : steps.Reason) (o other : steps.Outcome) → is_done other ≡ true → steps.idle_where b reason o ≡ other → (b ≡ false) ×
+not_idle : (b : Bool) (reason : Reason) (o other : steps.Outcome) → is_done other ≡ true → steps.idle_where b reason o ≡ other → (b ≡ false) ×
     (o ≡ other)
 not_idle true reason o other done e = absurd (let no : false ≡ true = ap is_done e ∙ done in cc)
 not_idle false reason o other done e = (refl, e)
@@ -223,8 +223,8 @@ pub record MayOpen (setup : traffic.Setup) (world : nodes.World) (n w : ℕ) : T
 pub may_open : (setup : traffic.Setup) (xs : List Node) (n w : ℕ) (c : Connection) → steps.outcome setup (seen_world xs) (steps.Open n w) ≡ steps.Opened c
     → MayOpen setup (seen_world xs) n w
 may_open setup xs n w c e =
-    let a = not_idle _ steps.NoSuch _ (steps.Opened c) refl e in
-    let b = not_idle _ steps.TooMany _ (steps.Opened c) refl a.1 in
+    let a = not_idle _ reasons.NoSuch _ (steps.Opened c) refl e in
+    let b = not_idle _ reasons.TooMany _ (steps.Opened c) refl a.1 in
     record { worker = not-false _ a.0; room = b.0 }
 
 pub record MayFeed (world : nodes.World) (c : Connection) : Type 0 where
@@ -235,8 +235,8 @@ pub may_feed : (setup : traffic.Setup) (xs : List Node) (c : Connection) (time :
     (steps.Feed c time bytes) ≡ steps.Done
     → MayFeed (seen_world xs) c
 may_feed setup xs c time bytes e =
-    let a = not_idle _ steps.NoSuch _ steps.Done refl e in
-    let b = not_idle _ steps.Ended _ steps.Done refl a.1 in
+    let a = not_idle _ reasons.NoSuch _ steps.Done refl e in
+    let b = not_idle _ reasons.Ended _ steps.Done refl a.1 in
     record { there = not-false _ a.0; going = b.0 }
 
 pub record MayClose (world : nodes.World) (c : Connection) : Type 0 where
@@ -246,8 +246,8 @@ pub record MayClose (world : nodes.World) (c : Connection) : Type 0 where
 pub may_close : (setup : traffic.Setup) (xs : List Node) (c : Connection) (time : ℕ) → steps.outcome setup (seen_world xs) (steps.Close c time) ≡ steps.Done
     → MayClose (seen_world xs) c
 may_close setup xs c time e =
-    let a = not_idle _ steps.NoSuch _ steps.Done refl e in
-    let b = not_idle _ steps.Ended _ steps.Done refl a.1 in
+    let a = not_idle _ reasons.NoSuch _ steps.Done refl e in
+    let b = not_idle _ reasons.Ended _ steps.Done refl a.1 in
     record { there = not-false _ a.0; unclosed = b.0 }
 
 -- the outcome in each world that is shown
@@ -263,7 +263,7 @@ outcome_in v world step blind s =
 
 -- nothing was done
 pub idles : (v : WorldState) (step : steps.Step) (reason : Reason) → IsBlind step
-    → steps.outcome v.setup (seen_world v.nodes) step ≡ steps.Idle (reason_seen reason) → Steps v v step (steps.Idle (reason_seen reason))
+    → steps.outcome v.setup (seen_world v.nodes) step ≡ steps.Idle reason → Steps v v step (steps.Idle reason)
 idles v step reason blind e = takes_nothing v step reason (λ events world past s. outcome_in v world step blind s ∙ e)
 
 -- what a step that is done does
@@ -323,10 +323,10 @@ none_found None f = refl
 none_found (Some reason) f = absurd (f reason refl)
 
 pub idle_found : (v : WorldState) (step : steps.Step) (xs : List Node) (r : Option Reason) (reason : Reason) (o : steps.Outcome) → IsBlind step → xs ≡ v.nodes
-    → steps.outcome v.setup (seen_world xs) step ≡ idle_or r o → r ≡ Some reason → Steps v v step (steps.Idle (reason_seen reason))
+    → steps.outcome v.setup (seen_world xs) step ≡ idle_or r o → r ≡ Some reason → Steps v v step (steps.Idle reason)
 idle_found v step xs r reason o blind same e is =
     idles v step reason blind
-    (subst (λ (ys : List Node). steps.outcome v.setup (seen_world ys) step ≡ steps.Idle (reason_seen reason)) same
+    (subst (λ (ys : List Node). steps.outcome v.setup (seen_world ys) step ≡ steps.Idle reason) same
     (e ∙ ap (λ (q : Option Reason). idle_or q o) is))
 
 pub done_found : (v : WorldState) (step : steps.Step) (xs : List Node) (r : Option Reason) (o : List Node → steps.Outcome) → xs ≡ v.nodes

@@ -10,6 +10,8 @@ use Rattle.nr_model.specs.Connections as traffic
 use Rattle.nr_model.specs.Entries.{Jobs, entry_jobs}
 use Rattle.nr_model.specs.Nodes as nodes
 use Rattle.nr_model.specs.Nodes.Steps as steps
+use Rattle.nr_model.specs.declared.reason.Reason.{Reason}
+use Rattle.nr_model.specs.declared.reason.Reason.TheVariants as reasons
 use Rattle.nr_model.specs.Nodes.Pasts.{Event, IsPast}
 use Rattle.nr_model.proofs.NodesSteps.{AreSized, each_sized}
 use Rattle.nr_model.proofs.NodesOwnShaped.{IsTakenIn, IsShapedWorld, each_shaped}
@@ -197,10 +199,10 @@ held_changed v n d x log step h there whole fits takes =
     (whole_set v.nodes 0 n x (whole (0 + n) (whole_at v.nodes 0 n d there h.whole)) h.whole) fits
 
 -- the first reason holds, or it doesn't
-pub holds : (b : Bool) (reason : steps.Reason) (otherwise : steps.Outcome) → b ≡ true → steps.idle_where b reason otherwise ≡ steps.Idle reason
+pub holds : (b : Bool) (reason : Reason) (otherwise : steps.Outcome) → b ≡ true → steps.idle_where b reason otherwise ≡ steps.Idle reason
 holds b reason otherwise e = ap (λ (x : Bool). steps.idle_where x reason otherwise) e
 
-pub fails : (b : Bool) (reason : steps.Reason) (otherwise : steps.Outcome) → b ≡ false → steps.idle_where b reason otherwise ≡ otherwise
+pub fails : (b : Bool) (reason : Reason) (otherwise : steps.Outcome) → b ≡ false → steps.idle_where b reason otherwise ≡ otherwise
 fails b reason otherwise e = ap (λ (x : Bool). steps.idle_where x reason otherwise) e
 
 is_node_true : (setup : traffic.Setup) (n : ℕ) → n < setup.nodes → not (steps.is_node setup n) ≡ false
@@ -217,40 +219,40 @@ cell_is cells t cell there at = any_default cells t false cell there ∙ sym at
 pub outcome_of_reserve : (v : WorldState) (world : nodes.World) (n : ℕ) (x : Node) → Shows v world → n < v.setup.nodes → n < length v.nodes
     → x ≡ get_or v.nodes n x
     → steps.outcome v.setup world (steps.Reserve n)
-    ≡ steps.idle_where x.replica.down steps.Down
-    (steps.idle_where (list_any steps.is_true x.unfilled.items) steps.Busy
-    (steps.idle_where (steps.is_empty (entry_jobs (node_seen x).waiting)) steps.Nothing
-    (steps.idle_where (not (steps.has_place v.setup world)) steps.Full steps.Done)))
+    ≡ steps.idle_where x.replica.down reasons.Down
+    (steps.idle_where (list_any steps.is_true x.unfilled.items) reasons.Busy
+    (steps.idle_where (steps.is_empty (entry_jobs (node_seen x).waiting)) reasons.Nothing
+    (steps.idle_where (not (steps.has_place v.setup world)) reasons.Full steps.Done)))
 outcome_of_reserve v world n x s within there at =
     let node : nodes.node_at n world ≡ node_seen x = node_is v world n x s there ∙ ap node_seen (sym at) in
-    fails (not (steps.is_node v.setup n)) steps.NoSuch _ (is_node_true v.setup n within)
-    ∙ ap (λ (y : nodes.Node). steps.idle_where y.down steps.Down
-    (steps.idle_where (list_any steps.is_true y.unfilled) steps.Busy
-    (steps.idle_where (steps.is_empty (entry_jobs y.waiting)) steps.Nothing
-    (steps.idle_where (not (steps.has_place v.setup world)) steps.Full steps.Done)))) node
+    fails (not (steps.is_node v.setup n)) reasons.NoSuch _ (is_node_true v.setup n within)
+    ∙ ap (λ (y : nodes.Node). steps.idle_where y.down reasons.Down
+    (steps.idle_where (list_any steps.is_true y.unfilled) reasons.Busy
+    (steps.idle_where (steps.is_empty (entry_jobs y.waiting)) reasons.Nothing
+    (steps.idle_where (not (steps.has_place v.setup world)) reasons.Full steps.Done)))) node
 
 pub outcome_of_fill : (v : WorldState) (world : nodes.World) (n t : ℕ) (x : Node) → Shows v world → n < v.setup.nodes → t < v.setup.nodes → n < length v.nodes
     → x ≡ get_or v.nodes n x
-    → steps.outcome v.setup world (steps.Fill n t) ≡ steps.idle_where (not (get_or x.unfilled.items t false)) steps.Nothing steps.Done
+    → steps.outcome v.setup world (steps.Fill n t) ≡ steps.idle_where (not (get_or x.unfilled.items t false)) reasons.Nothing steps.Done
 outcome_of_fill v world n t x s within other there at =
     let node : nodes.node_at n world ≡ node_seen x = node_is v world n x s there ∙ ap node_seen (sym at) in
-    fails (not (steps.is_node v.setup n && steps.is_node v.setup t)) steps.NoSuch _
+    fails (not (steps.is_node v.setup n && steps.is_node v.setup t)) reasons.NoSuch _
     (λ i. not (lt-ltb n v.setup.nodes within i && lt-ltb t v.setup.nodes other i))
-    ∙ ap (λ (y : nodes.Node). steps.idle_where (not (get_or y.unfilled t false)) steps.Nothing steps.Done) node
+    ∙ ap (λ (y : nodes.Node). steps.idle_where (not (get_or y.unfilled t false)) reasons.Nothing steps.Done) node
 
 pub outcome_of_fetch : (v : WorldState) (world : nodes.World) (n : ℕ) (x : Node) → Shows v world → n < v.setup.nodes → n < length v.nodes
     → x ≡ get_or v.nodes n x
     → steps.outcome v.setup world (steps.Fetch n)
-    ≡ steps.idle_where x.is_fetched steps.Busy
-    (steps.idle_where (x.passed == (v.log.base + length (log_seen v.log))) steps.Nothing
-    (steps.idle_where (not (steps.is_filled world n x.passed)) steps.NotYet steps.Done))
+    ≡ steps.idle_where x.is_fetched reasons.Busy
+    (steps.idle_where (x.passed == (v.log.base + length (log_seen v.log))) reasons.Nothing
+    (steps.idle_where (not (steps.is_filled world n x.passed)) reasons.NotYet steps.Done))
 outcome_of_fetch v world n x s within there at =
     let node : nodes.node_at n world ≡ node_seen x = node_is v world n x s there ∙ ap node_seen (sym at) in
     let tail : nodes.tail_of world ≡ v.log.base + length (log_seen v.log) = sym (tail_is v world s) in
-    fails (not (steps.is_node v.setup n)) steps.NoSuch _ (is_node_true v.setup n within)
-    ∙ (λ i. steps.idle_where (node i).fetched steps.Busy
-    (steps.idle_where ((node i).passed == tail i) steps.Nothing
-    (steps.idle_where (not (steps.is_filled world n (node i).passed)) steps.NotYet steps.Done)))
+    fails (not (steps.is_node v.setup n)) reasons.NoSuch _ (is_node_true v.setup n within)
+    ∙ (λ i. steps.idle_where (node i).fetched reasons.Busy
+    (steps.idle_where ((node i).passed == tail i) reasons.Nothing
+    (steps.idle_where (not (steps.is_filled world n (node i).passed)) reasons.NotYet steps.Done)))
 
 -- The parts of a world, w, seen through a borrow, and the world v that they are.
 pub record IsOpen (w v : WorldState) : Type 0 where

@@ -9,6 +9,8 @@ use Rattle.nr_entry.specs.Waiting.{has_some}
 use Rattle.nr_model.specs.Connections as traffic
 use Rattle.nr_model.specs.Nodes as nodes
 use Rattle.nr_model.specs.Nodes.Steps as steps
+use Rattle.nr_model.specs.declared.reason.Reason.{Reason}
+use Rattle.nr_model.specs.declared.reason.Reason.TheVariants as reasons
 use Rattle.nr_model.specs.Nodes.Pasts.{Event, IsPast}
 use Rattle.nr_model.proofs.NodesSteps.{AreSized, each_sized, by_look}
 use Rattle.nr_model.proofs.NodesOwnShape.{IsShaped}
@@ -47,34 +49,34 @@ pub as_many_nodes : (v : WorldState) → IsHeld v → length v.nodes ≡ v.setup
 as_many_nodes v held = nodes_many v held.world held.shows ∙ (sized_of v.setup held.events held.world held.past).nodes
 
 -- the first reason that holds
-idle_done : (holds : Bool) (reason : steps.Reason) (otherwise : steps.Outcome) → steps.idle_where holds reason otherwise ≡ steps.Done
+idle_done : (holds : Bool) (reason : Reason) (otherwise : steps.Outcome) → steps.idle_where holds reason otherwise ≡ steps.Done
     → (holds ≡ false) × (otherwise ≡ steps.Done)
 idle_done true reason otherwise e = absurd (cc e)
 idle_done false reason otherwise e = (refl, e)
 
 -- a number of no node, and of a node: what is asked of it is asked of the node there
 pub no_such : (setup : traffic.Setup) (n : ℕ) (otherwise : steps.Outcome) → setup.nodes ≤ n
-    → steps.idle_where (not (steps.is_node setup n)) steps.NoSuch otherwise ≡ steps.Idle steps.NoSuch
-no_such setup n otherwise h = ap (λ (b : Bool). steps.idle_where (not b) steps.NoSuch otherwise) (le-ltb n setup.nodes h)
+    → steps.idle_where (not (steps.is_node setup n)) reasons.NoSuch otherwise ≡ steps.Idle reasons.NoSuch
+no_such setup n otherwise h = ap (λ (b : Bool). steps.idle_where (not b) reasons.NoSuch otherwise) (le-ltb n setup.nodes h)
 
 pub such : (v : WorldState) (world : nodes.World) (n : ℕ) (d : Node) (asked : nodes.Node → steps.Outcome) → Shows v world → n < v.setup.nodes
     → n < length v.nodes
-    → steps.idle_where (not (steps.is_node v.setup n)) steps.NoSuch (asked (nodes.node_at n world)) ≡ asked (node_seen (get_or v.nodes n d))
+    → steps.idle_where (not (steps.is_node v.setup n)) reasons.NoSuch (asked (nodes.node_at n world)) ≡ asked (node_seen (get_or v.nodes n d))
 such v world n d asked s h there =
-    ap (λ (b : Bool). steps.idle_where (not b) steps.NoSuch (asked (nodes.node_at n world))) (lt-ltb n v.setup.nodes h)
+    ap (λ (b : Bool). steps.idle_where (not b) reasons.NoSuch (asked (nodes.node_at n world))) (lt-ltb n v.setup.nodes h)
     ∙ ap asked (node_is v world n d s there)
 
 abbrev pub apply_asked : nodes.Node → steps.Outcome
-apply_asked node = steps.idle_where (not node.fetched) steps.Nothing steps.Done
+apply_asked node = steps.idle_where (not node.fetched) reasons.Nothing steps.Done
 
 abbrev pub look_asked : nodes.World → ℕ → nodes.Node → steps.Outcome
 look_asked world n node =
-    steps.idle_where node.down steps.Down
-    (steps.idle_where (steps.is_empty (read_jobs node.waiting)) steps.Nothing
-    (steps.idle_where (not (steps.are_filled world n (steps.next_fetch node) (nodes.tail_of world - steps.next_fetch node))) steps.NotYet steps.Done))
+    steps.idle_where node.down reasons.Down
+    (steps.idle_where (steps.is_empty (read_jobs node.waiting)) reasons.Nothing
+    (steps.idle_where (not (steps.are_filled world n (steps.next_fetch node) (nodes.tail_of world - steps.next_fetch node))) reasons.NotYet steps.Done))
 
 abbrev pub refuse_asked : nodes.Node → steps.Outcome
-refuse_asked node = steps.idle_where node.down steps.Down steps.Done
+refuse_asked node = steps.idle_where node.down reasons.Down steps.Done
 
 -- a step of a node that may be done: the node is there
 there_is : (v : WorldState) (n : ℕ) → IsHeld v → not (steps.is_node v.setup n) ≡ false → n < length v.nodes
@@ -86,18 +88,18 @@ there_is v n held e =
 pub apply_there : (v : WorldState) (n : ℕ) → IsHeld v → ComesTo v (steps.Apply n) steps.Done → n < length v.nodes
 apply_there v n held asks =
     there_is v n held
-    (idle_done (not (steps.is_node v.setup n)) steps.NoSuch (apply_asked (nodes.node_at n held.world)) (asks.is held.events held.world held.past held.shows)).0
+    (idle_done (not (steps.is_node v.setup n)) reasons.NoSuch (apply_asked (nodes.node_at n held.world)) (asks.is held.events held.world held.past held.shows)).0
 
 pub look_there : (v : WorldState) (n : ℕ) → IsHeld v → ComesTo v (steps.Look n) steps.Done → n < length v.nodes
 look_there v n held asks =
     there_is v n held
-    (idle_done (not (steps.is_node v.setup n)) steps.NoSuch (look_asked held.world n (nodes.node_at n held.world))
+    (idle_done (not (steps.is_node v.setup n)) reasons.NoSuch (look_asked held.world n (nodes.node_at n held.world))
     (asks.is held.events held.world held.past held.shows)).0
 
 pub refuse_there : (v : WorldState) (n : ℕ) → IsHeld v → ComesTo v (steps.Refuse n) steps.Done → n < length v.nodes
 refuse_there v n held asks =
     there_is v n held
-    (idle_done (not (steps.is_node v.setup n)) steps.NoSuch (refuse_asked (nodes.node_at n held.world)) (asks.is held.events held.world held.past held.shows)).0
+    (idle_done (not (steps.is_node v.setup n)) reasons.NoSuch (refuse_asked (nodes.node_at n held.world)) (asks.is held.events held.world held.past held.shows)).0
 
 -- names of connections that are named one by one
 numbered_all : (n serial : ℕ) (sessions : List SessionState) (members : List Member) (c : Connection) → length sessions ≡ length members
@@ -156,9 +158,9 @@ pub apply_within : (v : WorldState) (n : ℕ) (d : Node) → IsHeld v → ComesT
     → (get_or v.nodes n d).passed < v.log.base + length (log_seen v.log)
 apply_within v n d held asks =
     let there = apply_there v n held asks in
-    let first = idle_done (not (steps.is_node v.setup n)) steps.NoSuch (apply_asked (nodes.node_at n held.world))
+    let first = idle_done (not (steps.is_node v.setup n)) reasons.NoSuch (apply_asked (nodes.node_at n held.world))
     (asks.is held.events held.world held.past held.shows) in
-    let free = (idle_done (not (nodes.node_at n held.world).fetched) steps.Nothing steps.Done first.1).0 in
+    let free = (idle_done (not (nodes.node_at n held.world).fetched) reasons.Nothing steps.Done first.1).0 in
     let fetched = ap (λ (x : nodes.Node). x.fetched) (sym (node_is v held.world n d held.shows there)) ∙ not-false (nodes.node_at n held.world).fetched free in
     fetched_within v n d held there fetched
 
@@ -382,15 +384,15 @@ inside_by a n held h = let many = as_many_nodes a held in omega arith
 
 pub such_by : (a v : WorldState) (world : nodes.World) (n : ℕ) (x : Node) (asked : nodes.Node → steps.Outcome) → a ≡ v → IsHeld a → Shows v world
     → n < a.setup.nodes → x ≡ get_or a.nodes n x
-    → steps.idle_where (not (steps.is_node v.setup n)) steps.NoSuch (asked (nodes.node_at n world)) ≡ asked (node_seen x)
+    → steps.idle_where (not (steps.is_node v.setup n)) reasons.NoSuch (asked (nodes.node_at n world)) ≡ asked (node_seen x)
 such_by a v world n x asked is held s h at =
-    subst (λ (b : WorldState). steps.idle_where (not (steps.is_node b.setup n)) steps.NoSuch (asked (nodes.node_at n world)) ≡ asked (node_seen x)) is
+    subst (λ (b : WorldState). steps.idle_where (not (steps.is_node b.setup n)) reasons.NoSuch (asked (nodes.node_at n world)) ≡ asked (node_seen x)) is
     (such a world n x asked (subst (λ (b : WorldState). Shows b world) (sym is) s) h (inside_by a n held h) ∙ ap (λ (y : Node). asked (node_seen y)) (sym at))
 
-pub fails : (b : Bool) (reason : steps.Reason) (otherwise : steps.Outcome) → b ≡ false → steps.idle_where b reason otherwise ≡ otherwise
+pub fails : (b : Bool) (reason : Reason) (otherwise : steps.Outcome) → b ≡ false → steps.idle_where b reason otherwise ≡ otherwise
 fails b reason otherwise e = ap (λ (x : Bool). steps.idle_where x reason otherwise) e
 
-pub holds : (b : Bool) (reason : steps.Reason) (otherwise : steps.Outcome) → b ≡ true → steps.idle_where b reason otherwise ≡ steps.Idle reason
+pub holds : (b : Bool) (reason : Reason) (otherwise : steps.Outcome) → b ≡ true → steps.idle_where b reason otherwise ≡ steps.Idle reason
 holds b reason otherwise e = ap (λ (x : Bool). steps.idle_where x reason otherwise) e
 
 pub empty_is : (jobs : Jobs) → steps.is_empty jobs ≡ not (has_some jobs)
@@ -433,20 +435,20 @@ pub there_by : (a v : WorldState) (n : ℕ) → a ≡ v → n < length a.nodes �
 there_by a v n is there = subst (λ (b : WorldState). n < length b.nodes) is there
 
 -- what a look asks, by what was found
-pub look_down : (world : nodes.World) (n : ℕ) (x : nodes.Node) → x.down ≡ true → look_asked world n x ≡ steps.Idle steps.Down
-look_down world n x e = holds x.down steps.Down _ e
+pub look_down : (world : nodes.World) (n : ℕ) (x : nodes.Node) → x.down ≡ true → look_asked world n x ≡ steps.Idle reasons.Down
+look_down world n x e = holds x.down reasons.Down _ e
 
 pub look_nothing : (world : nodes.World) (n : ℕ) (x : nodes.Node) → x.down ≡ false → has_some (read_jobs x.waiting) ≡ false
-    → look_asked world n x ≡ steps.Idle steps.Nothing
+    → look_asked world n x ≡ steps.Idle reasons.Nothing
 look_nothing world n x up none =
-    fails x.down steps.Down _ up ∙ holds (steps.is_empty (read_jobs x.waiting)) steps.Nothing _ (empty_is (read_jobs x.waiting) ∙ ap not none)
+    fails x.down reasons.Down _ up ∙ holds (steps.is_empty (read_jobs x.waiting)) reasons.Nothing _ (empty_is (read_jobs x.waiting) ∙ ap not none)
 
 pub look_filled : (world : nodes.World) (n : ℕ) (x : nodes.Node) (next : ℕ) (filled : Bool) → x.down ≡ false → has_some (read_jobs x.waiting) ≡ true
     → next ≡ steps.next_fetch x → filled ≡ steps.are_filled world n next (nodes.tail_of world - next)
-    → look_asked world n x ≡ steps.idle_where (not filled) steps.NotYet steps.Done
+    → look_asked world n x ≡ steps.idle_where (not filled) reasons.NotYet steps.Done
 look_filled world n x next filled up some e f =
-    fails x.down steps.Down _ up ∙ fails (steps.is_empty (read_jobs x.waiting)) steps.Nothing _ (empty_is (read_jobs x.waiting) ∙ ap not some)
-    ∙ ap (λ (b : Bool). steps.idle_where (not b) steps.NotYet steps.Done)
+    fails x.down reasons.Down _ up ∙ fails (steps.is_empty (read_jobs x.waiting)) reasons.Nothing _ (empty_is (read_jobs x.waiting) ∙ ap not some)
+    ∙ ap (λ (b : Bool). steps.idle_where (not b) reasons.NotYet steps.Done)
     (ap (λ (k : ℕ). steps.are_filled world n k (nodes.tail_of world - k)) (sym e) ∙ sym f)
 
 -- cells that are filled, from an entry on

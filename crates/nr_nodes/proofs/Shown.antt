@@ -9,8 +9,7 @@ use Rattle.nr_model.specs.Nodes.Steps as steps
 use Rattle.nr_model.specs.Nodes.Pasts.{Answering, Event, IsEvent, IsPast, AreEvents, after_event, handed_by, answer_by, may_refuse}
 use Rattle.nr_model.proofs.NodesSteps.{world_after-append}
 use Rattle.nr_nodes.specs.declared.node.Node.{Node}
-use Rattle.nr_nodes.specs.declared.step.Reason.{Reason}
-use Rattle.nr_nodes.specs.Seen.{reason_seen}
+use Rattle.nr_model.specs.declared.reason.Reason.{Reason}
 use Rattle.nr_nodes.specs.Served.{node_seen}
 use Rattle.nr_nodes.specs.Logs.{log_seen}
 use Rattle.nr_nodes.specs.WorldState.{WorldState, Shows}
@@ -109,8 +108,8 @@ held_on old new step outcome handed answer held takes whole fits =
 
 -- A step that did nothing, for the first reason that holds.
 pub takes_nothing : (v : WorldState) (step : steps.Step) (reason : Reason)
-    → ((events : List Event) (world : nodes.World) → IsPast v.setup events world → Shows v world → steps.outcome v.setup world step ≡ steps.Idle (reason_seen reason))
-    → Steps v v step (steps.Idle (reason_seen reason))
+    → ((events : List Event) (world : nodes.World) → IsPast v.setup events world → Shows v world → steps.outcome v.setup world step ≡ steps.Idle reason)
+    → Steps v v step (steps.Idle reason)
 takes_nothing v step reason is = record {
   setup = refl;
   taken = λ events world past s.

@@ -7,6 +7,7 @@ use Rattle.nr_model.specs.Entries.{Jobs}
 use Rattle.nr_model.specs.Connections as traffic
 use Rattle.nr_model.specs.Nodes as nodes
 use Rattle.nr_model.specs.Nodes.Steps as steps
+use Rattle.nr_model.specs.declared.reason.Reason.TheVariants as reasons
 use Rattle.nr_model.specs.Nodes.Pasts.{Answering, handed_by, answer_by}
 use Rattle.nr_model.proofs.NodesSteps.{IsSized}
 use Rattle.nr_model.proofs.NodesOwnShape.{IsAt, IsShaped}
@@ -102,13 +103,13 @@ has_worker v n w held e =
 -- a step at a worker comes to what its node says
 abbrev pub IsAtWorker : traffic.Setup → steps.Step → ℕ → ℕ → (nodes.Node → steps.Outcome) → Type 0
 IsAtWorker setup step n w f =
-    (world : nodes.World) → steps.outcome setup world step ≡ steps.idle_where (not (steps.is_worker setup n w)) steps.NoSuch (f (nodes.node_at n world))
+    (world : nodes.World) → steps.outcome setup world step ≡ steps.idle_where (not (steps.is_worker setup n w)) reasons.NoSuch (f (nodes.node_at n world))
 
 pub comes_to_no_such : (v : WorldState) (step : steps.Step) (n w : ℕ) (f : nodes.Node → steps.Outcome) → IsAtWorker v.setup step n w f
     → steps.is_worker v.setup n w ≡ false
-    → ComesTo v step (steps.Idle steps.NoSuch)
+    → ComesTo v step (steps.Idle reasons.NoSuch)
 comes_to_no_such v step n w f by e =
-    record { is = λ events world past s. by world ∙ ap (λ (b : Bool). steps.idle_where (not b) steps.NoSuch (f (nodes.node_at n world))) e }
+    record { is = λ events world past s. by world ∙ ap (λ (b : Bool). steps.idle_where (not b) reasons.NoSuch (f (nodes.node_at n world))) e }
 
 pub comes_to : (v : WorldState) (step : steps.Step) (n w : ℕ) (f : nodes.Node → steps.Outcome) (node : Node) (outcome : steps.Outcome)
     → IsAtWorker v.setup step n w f
@@ -117,7 +118,7 @@ comes_to v step n w f node outcome by e there at is =
     record {
       is = λ events world past s.
           by world
-          ∙ ap (λ (b : Bool). steps.idle_where (not b) steps.NoSuch (f (nodes.node_at n world))) e
+          ∙ ap (λ (b : Bool). steps.idle_where (not b) reasons.NoSuch (f (nodes.node_at n world))) e
           ∙ ap f (node_is v world n node s there ∙ ap node_seen (sym at))
           ∙ sym is;
     }

@@ -6,7 +6,8 @@ use Rattle.std.proofs.lemmas.Bool.{not-false, ltb-true}
 use Rattle.std.proofs.lemmas.List.{length-drop}
 use Rattle.nr_model.specs.Connections.{Setup}
 use Rattle.nr_model.specs.Nodes.{Node, World, no_node, node_at, log_of, tail_of}
-use Rattle.nr_model.specs.Nodes.Steps.{Step, Fetch, Apply, Done, NoSuch, Busy, Nothing, Refused, is_node, outcome, advanced, after_step}
+use Rattle.nr_model.specs.Nodes.Steps.{Step, Fetch, Apply, Done, Refused, is_node, outcome, advanced, after_step}
+use Rattle.nr_model.specs.declared.reason.Reason.TheVariants.{NoSuch, Busy, Nothing}
 use Rattle.nr_model.specs.Nodes.Pasts.{Event, IsEvent, AreEvents, is_done, after_event}
 use Rattle.nr_model.specs.Nodes.Settling.{does, after_events}
 use Rattle.nr_model.proofs.NodesSteps.{AreSized, each_sized, node_here, step_sized}

@@ -3,6 +3,7 @@ use Rattle.std.specs.Prelude.{◌≡◌, ◌<◌, ℕ, Bool, not, ◌&&◌, ◌|
 use Rattle.nr_model.specs.Connections as traffic
 use Rattle.nr_model.specs.Nodes as nodes
 use Rattle.nr_model.specs.Nodes.Steps as steps
+use Rattle.nr_model.specs.declared.reason.Reason.TheVariants as reasons
 use Rattle.nr_model.specs.Nodes.Steps.{idle_where, is_free, is_posted, is_lifted, is_answered, is_empty, owed_in, posted_jobs, collected, collected_node}
 use Rattle.nr_model.specs.Nodes.Pasts.{Answering, Event, IsPast, answer_in}
 use Rattle.nr_entry.specs.Entry.{are_of}
@@ -14,29 +15,29 @@ use Rattle.nr_nodes.specs.Whole.{IsWhole}
 
 -- of a worker whose node is up
 abbrev pub post_outcome : nodes.Worker → steps.Outcome
-post_outcome worker = idle_where (not (is_free worker.slot)) steps.Busy (idle_where (is_empty worker.pending) steps.Nothing steps.Done)
+post_outcome worker = idle_where (not (is_free worker.slot)) reasons.Busy (idle_where (is_empty worker.pending) reasons.Nothing steps.Done)
 
 abbrev pub lift_outcome : nodes.Worker → steps.Outcome
-lift_outcome worker = idle_where (not (is_posted worker.slot)) steps.Nothing steps.Done
+lift_outcome worker = idle_where (not (is_posted worker.slot)) reasons.Nothing steps.Done
 
 -- of one whose node is down or not
 abbrev pub answer_outcome : Bool → nodes.Worker → steps.Outcome
 answer_outcome down worker =
-    idle_where (not (is_lifted worker.slot || (down && is_posted worker.slot))) steps.Nothing
-    (idle_where (not down && not (owed_in worker.slot == 0)) steps.NotYet steps.Done)
+    idle_where (not (is_lifted worker.slot || (down && is_posted worker.slot))) reasons.Nothing
+    (idle_where (not down && not (owed_in worker.slot == 0)) reasons.NotYet steps.Done)
 
 -- of a worker of a node
 abbrev pub may_post : ℕ → nodes.Node → steps.Outcome
-may_post w node = idle_where node.down steps.Down (post_outcome (nodes.worker_at w node))
+may_post w node = idle_where node.down reasons.Down (post_outcome (nodes.worker_at w node))
 
 abbrev pub may_lift : ℕ → nodes.Node → steps.Outcome
-may_lift w node = idle_where node.down steps.Down (lift_outcome (nodes.worker_at w node))
+may_lift w node = idle_where node.down reasons.Down (lift_outcome (nodes.worker_at w node))
 
 abbrev pub may_answer : ℕ → nodes.Node → steps.Outcome
 may_answer w node = answer_outcome node.down (nodes.worker_at w node)
 
 abbrev pub may_collect : ℕ → nodes.Node → steps.Outcome
-may_collect w node = idle_where (not (is_answered (nodes.worker_at w node).slot) && length (collected w node.clients) == 0) steps.Nothing steps.Done
+may_collect w node = idle_where (not (is_answered (nodes.worker_at w node).slot) && length (collected w node.clients) == 0) reasons.Nothing steps.Done
 
 -- the answer that a slot holds
 abbrev pub executed_in : nodes.Slot → Option Bool

@@ -4,15 +4,14 @@ use Rattle.nr_model.specs.Connections as traffic
 use Rattle.nr_model.specs.Nodes as nodes
 use Rattle.nr_model.specs.Nodes.Steps as steps
 use Rattle.nr_model.specs.Nodes.Pasts.{Answering, Event, IsEvent, IsPast}
-use Rattle.nr_nodes.specs.declared.step.Reason.{Reason}
-use Rattle.nr_nodes.specs.Seen.{reason_seen}
+use Rattle.nr_model.specs.declared.reason.Reason.{Reason}
 use Rattle.nr_nodes.specs.WorldState.{WorldState, Shows}
 use Rattle.std.specs.Prelude.{Some}
 
 -- the first reason that was found, else this outcome
 abbrev pub idle_or : Option Reason → steps.Outcome → steps.Outcome
 idle_or None outcome = outcome
-idle_or (Some reason) outcome = steps.Idle (reason_seen reason)
+idle_or (Some reason) outcome = steps.Idle reason
 
 -- Whatever past a world has, it shows the world behind it: then the step was an event of this outcome, which handed out these bytes and took this answer, and the
 -- world behind it is shown.

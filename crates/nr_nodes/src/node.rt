@@ -21,14 +21,15 @@ ghost use Rattle.nr_nodes.specs.Connected.{takes_none};
 ghost use Rattle.nr_nodes.specs.Listed.{lists_of, AreListed};
 ghost use Rattle.nr_nodes.specs.Served.{node_seen, entry_seen, opened_node, posted_node, reserved_node, filled_node, fetched_node, answered_node, refused_node, workers_seen};
 
-use crate::collecting::collect;
-use crate::falling::drop_pending;
+use crate::pending_jobs::drop_pending;
 use crate::sessions::Sessions;
 use crate::setup::Setup;
-use crate::step::{Handed, Reason};
+use crate::step::Handed;
+use crate::waiting_bytes::collect;
 use crate::worker::Worker;
 use nr_blob::Memory;
 use nr_entry::{ConnId, Entry};
+use nr_model::reason::Reason;
 use nr_replica::Replica;
 use std::alloc::Global;
 use std::hash::RandomState;

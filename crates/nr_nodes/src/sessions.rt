@@ -10,7 +10,7 @@ ghost use Rattle.nr_nodes.specs.Served.{client_seen};
 ghost use Rattle.nr_nodes.specs.BySerial.{fresh_session, closed_session};
 ghost use Rattle.nr_nodes.specs.Fed.{IsFed};
 
-use crate::conversing::{close_session, feed_session};
+use crate::conversations::{close_session, feed_session};
 use nr_blob::Memory;
 use nr_entry::{ConnId, Job};
 use nr_session::Session;

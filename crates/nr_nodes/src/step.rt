@@ -1,11 +1,11 @@
 // The steps that a server of several nodes can take, and what comes of one.
 ghost use Rattle.std.specs.Prelude.{◌≡◌, map, [], None};
 ghost use Rattle.nr_model.specs.Nodes.Pasts.{is_done};
-ghost use Rattle.nr_nodes.specs.Seen.{reason_number, reason_name, outcome_seen, handed_seen};
+ghost use Rattle.nr_nodes.specs.Seen.{outcome_seen, handed_seen};
 
 use nr_entry::ConnId;
+use nr_model::reason::Reason;
 use std::alloc::Global;
-use std::fmt;
 
 /// A step that a server can take. Nodes and workers are numbered from 0.
 #[derive(Debug, Drop)]
@@ -36,27 +36,6 @@ pub enum Step {
     Close(ConnId, u64),
     /// The next entry that a node applies is refused, as where memory runs out.
     Refuse(usize),
-}
-
-/// Why a step changed nothing.
-#[derive(Clone, Copy, Debug, PartialEq, Eq)]
-pub enum Reason {
-    /// There is no such node, worker or connection.
-    NoSuch,
-    /// The connection has ended.
-    Ended,
-    /// As many connections of the node are open as can be.
-    TooMany,
-    /// The node is down.
-    Down,
-    /// What was begun before isn't done yet.
-    Busy,
-    /// There was nothing to do.
-    Nothing,
-    /// The log has no place left.
-    Full,
-    /// What it waits for hasn't happened yet.
-    NotYet,
 }
 
 /// What came of a step.
@@ -118,52 +97,5 @@ impl Happened {
             handed: Vec::new(alloc),
             answer: None,
         }
-    }
-}
-
-impl Reason {
-    /// Its number: 1 to 8, in the order in which reasons are looked for.
-    pub fn number(self) -> u8
-        ensures { result ≡ reason_number self }
-    {
-        match self {
-            Reason::NoSuch => 1,
-            Reason::Ended => 2,
-            Reason::TooMany => 3,
-            Reason::Down => 4,
-            Reason::Busy => 5,
-            Reason::Nothing => 6,
-            Reason::Full => 7,
-            Reason::NotYet => 8,
-        }
-    }
-}
-
-impl Reason {
-    /// Its name.
-    pub fn name(&self) -> &str
-        ensures { result.now ≡ reason_name self.now }
-    {
-        match self {
-            Reason::NoSuch => "NoSuch",
-            Reason::Ended => "Ended",
-            Reason::TooMany => "TooMany",
-            Reason::Down => "Down",
-            Reason::Busy => "Busy",
-            Reason::Nothing => "Nothing",
-            Reason::Full => "Full",
-            Reason::NotYet => "NotYet",
-        }
-    }
-}
-
-impl fmt::Display for Reason {
-    ghost use Rattle.std.specs.Prelude.{Some};
-    ghost use Rattle.nr_nodes.specs.Seen.{reason_name};
-
-    ghost output = { λ reason. Some (reason_name reason) };
-
-    fn fmt<W: fmt::Write>(&self, f: &mut fmt::Formatter<W>) -> fmt::Result {
-        f.write_str(self.name())
     }
 }

@@ -10,9 +10,9 @@ ghost use Rattle.nr_nodes.specs.Taken.{idle_or};
 ghost use Rattle.nr_nodes.specs.Listed.{without};
 ghost use Rattle.nr_nodes.specs.declared.worker.Slot.TheVariants as slots;
 
-use crate::step::Reason;
 use nr_blob::Memory;
 use nr_entry::Job;
+use nr_model::reason::Reason;
 use std::alloc::Global;
 use std::mem;
 

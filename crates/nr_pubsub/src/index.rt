@@ -81,7 +81,8 @@ fn copy_each(
 {
     let mut copied = BTreeMap::new(alloc);
     for (name, set) in by_name.iter() {
-        copied.insert(name.copy()?, copy_set(set)?)?;
+        let set = copy_set(set)?;
+        copied.insert(name.copy()?, set)?;
     }
     Ok(copied)
 }

@@ -4,3 +4,5 @@ pub mod Heads
 pub mod Lines
 pub mod Stages
 pub mod Writing
+pub mod Refusals
+pub mod Showing

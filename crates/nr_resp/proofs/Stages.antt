@@ -312,10 +312,7 @@ no_lf stage count words part piece e fits some other =
     ∙ faulty_behind count words (bulk_head (length part) ++ (part ++ 13 ∷ piece)) LineEnd h.0
     (bulk_reads (length part) (part ++ 13 ∷ piece) h.1 ∙ word_ends part (13 ∷ piece) ∙ not_ended_by_lf part piece some other)) fits
 
--- one more word, and one more frame, as they are pushed
-pub word_pushed : (words words' : List Bytes) (word pushed : Bytes) → words' ≡ words ++ pushed ∷ [] → pushed ≡ word → words' ≡ words ++ word ∷ []
-word_pushed words words' word pushed more is = more ∙ ap (λ word. words ++ word ∷ []) is
-
+-- one more frame, as it is pushed
 pub frame_seen : (frames frames' : List code.Frame) (frame : code.Frame) (words : List Bytes) → frames' ≡ frames ++ frame ∷ [] → frame.words.items ≡ words → frames_seen frames' ≡ frames_seen frames ++ words ∷ []
 frame_seen frames frames' frame words pushed is = ap frames_seen pushed ∙ map_push _ frames frame ∙ ap (λ words. frames_seen frames ++ words ∷ []) is
 

@@ -5,3 +5,5 @@ pub mod Seen
 pub mod Shown
 pub mod Stream
 pub mod PartialRequest
+pub mod Failures
+pub mod Done

@@ -2,17 +2,22 @@
 #![tactic(auto)]
 
 pub use command::{Cmd, arguments, copy_words};
+pub use failure::Failure;
 pub use frame::Frame;
 pub use reader::{FeedError, Reader};
 pub use reading::{CmdError, check};
 pub use reply::Reply;
-pub use shown::Shown;
+pub use shown::{Item, Shown};
 pub use table::{arity_ok, lookup, name};
 
 mod command;
+mod failure;
 mod frame;
 mod reader;
 mod reading;
 mod reply;
 mod shown;
 mod table;
+
+/// What commands read from the words behind their name.
+pub mod words;

@@ -5,6 +5,7 @@ ghost use Rattle.nr_model.specs.declared.fault.Fault.{Fault};
 ghost use Rattle.nr_resp.specs.Frames.{frames_seen};
 
 use crate::frame::Frame;
+use nr_blob::Memory;
 use nr_model::fault::Fault;
 use partial::PartialRequest;
 use std::alloc::{AllocError, AllocFailed, Global};
@@ -29,6 +30,17 @@ impl From<AllocError> for FeedError {
     ghost from_gives = { λ _ e. e ≡ errors.Memory };
 
     fn from(_: AllocError) -> FeedError {
+        FeedError::Memory
+    }
+}
+
+impl From<Memory> for FeedError {
+    ghost use Rattle.std.specs.Prelude.{◌≡◌};
+    ghost use Rattle.nr_resp.specs.declared.reader.FeedError.TheVariants as errors;
+
+    ghost from_gives = { λ _ e. e ≡ errors.Memory };
+
+    fn from(_: Memory) -> FeedError {
         FeedError::Memory
     }
 }

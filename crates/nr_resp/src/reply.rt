@@ -126,7 +126,7 @@ fn append_text(text: &[u8], out: &mut Vec<u8>) -> Result<(), Memory>
 }
 
 // A line of a mark and a text.
-fn append_line(mark: u8, text: &[u8], out: &mut Vec<u8>) -> Result<(), Memory>
+pub(crate) fn append_line(mark: u8, text: &[u8], out: &mut Vec<u8>) -> Result<(), Memory>
     ensures ok { OnOk result (out.new.items ≡ out.old.items ++ mark ∷ line text.now) }
     ensures front { (rest : List ℕ) × (out.new.items ≡ out.old.items ++ rest) }
 {
@@ -135,7 +135,7 @@ fn append_line(mark: u8, text: &[u8], out: &mut Vec<u8>) -> Result<(), Memory>
 }
 
 // A line of a mark and a number.
-fn append_number(mark: u8, number: i64, out: &mut Vec<u8>) -> Result<(), Memory>
+pub(crate) fn append_number(mark: u8, number: i64, out: &mut Vec<u8>) -> Result<(), Memory>
     ensures ok { OnOk result (out.new.items ≡ out.old.items ++ mark ∷ line (signed_decimal number)) }
     ensures front { (rest : List ℕ) × (out.new.items ≡ out.old.items ++ rest) }
 {
@@ -145,7 +145,7 @@ fn append_number(mark: u8, number: i64, out: &mut Vec<u8>) -> Result<(), Memory>
 }
 
 // A bulk: the line of its length, and the line of its bytes.
-fn append_bulk(text: &[u8], out: &mut Vec<u8>) -> Result<(), Memory>
+pub(crate) fn append_bulk(text: &[u8], out: &mut Vec<u8>) -> Result<(), Memory>
     ensures ok { OnOk result (out.new.items ≡ out.old.items ++ 36 ∷ line (decimal (length text.now)) ++ line text.now) }
     ensures front { (rest : List ℕ) × (out.new.items ≡ out.old.items ++ rest) }
 {

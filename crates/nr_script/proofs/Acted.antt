@@ -6,7 +6,7 @@ use Rattle.nr_model.specs.Items.{Connection}
 use Rattle.nr_model.specs.Nodes.Steps as steps
 use Rattle.nr_nodes.specs.declared.step.Outcome.{Outcome}
 use Rattle.nr_nodes.specs.declared.step.Outcome.TheVariants as outcomes
-use Rattle.nr_nodes.specs.declared.step.Reason.TheVariants as reasons
+use Rattle.nr_model.specs.declared.reason.Reason.TheVariants as reasons
 use Rattle.nr_nodes.specs.Seen.{outcome_seen}
 use Rattle.nr_nodes.specs.WorldState.{WorldState}
 use Rattle.nr_nodes.specs.Taken.{Steps}

@@ -5,14 +5,14 @@ use Rattle.nr_model.specs.Bytes.{Bytes}
 use Rattle.nr_model.specs.Connections.{Handed}
 use Rattle.nr_model.specs.Nodes.Steps as steps
 use Rattle.nr_entry.specs.Jobs.{connection_of}
-use Rattle.nr_nodes.specs.Seen.{reason_number, reason_name, outcome_seen, handed_seen, answer_seen}
+use Rattle.nr_nodes.specs.Seen.{outcome_seen, handed_seen, answer_seen}
 use Rattle.nr_nodes.specs.WorldState.{WorldState}
 use Rattle.nr_nodes.specs.Taken.{Steps, Takes}
 use Rattle.nr_nodes.specs.Settles.{Settles}
 use Rattle.nr_nodes.specs.declared.step.Happened.{Happened}
 use Rattle.nr_nodes.specs.declared.step.Outcome.{Outcome}
 use Rattle.nr_nodes.specs.declared.step.Outcome.TheVariants as outcomes
-use Rattle.nr_nodes.specs.declared.step.Reason.TheVariants as reasons
+use Rattle.nr_model.specs.declared.reason.Reason.TheVariants as reasons
 use Rattle.nr_script.specs.declared.line.Line.{Line}
 use Rattle.nr_script.specs.declared.line.Line.TheVariants as lines
 use Rattle.nr_script.specs.Printed.{opened_line, idle_line}
@@ -51,7 +51,7 @@ asked_by all lines.Settle = Settle
 abbrev pub outcome_line : ℕ → Outcome → Bytes
 outcome_line count (outcomes.Opened conn) = opened_line count
 outcome_line count outcomes.Done = codes "done\n"
-outcome_line count (outcomes.Idle reason) = idle_line (reason_number reason) (reason_name reason)
+outcome_line count (outcomes.Idle reason) = idle_line reason
 
 -- a connection that was opened stands behind the others
 abbrev pub opened_by : Outcome → List Received → List Received
@@ -63,7 +63,7 @@ opened_by (outcomes.Idle reason) all = all
 abbrev pub collected_line : Outcome → Bytes
 collected_line (outcomes.Opened conn) = codes "done\n"
 collected_line outcomes.Done = codes "done\n"
-collected_line (outcomes.Idle reason) = idle_line (reason_number reason) (reason_name reason)
+collected_line (outcomes.Idle reason) = idle_line reason
 
 -- an outcome is shown: by its line, and a connection that was opened gets the next number
 pub record IsShown (outcome : Outcome) (all more : List Received) (before after : Bytes) : Type 0 where

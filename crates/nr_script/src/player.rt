@@ -10,7 +10,8 @@ use crate::line::{Line, LineError, read_line};
 use crate::opened::Opened;
 use crate::written::{write_done, write_handed, write_idle, write_ok, write_opened, write_settled};
 use nr_blob::Memory;
-use nr_nodes::{Handed, Outcome, Reason, Setup, World};
+use nr_model::reason::Reason;
+use nr_nodes::{Handed, Outcome, Setup, World};
 use std::alloc::Global;
 use std::hash::RandomState;
 use std::marker::Model;
@@ -255,7 +256,7 @@ fn show(
             write_opened(number, out)?;
         }
         Outcome::Done => write_done(out)?,
-        Outcome::Idle(reason) => write_idle(reason.number() as u64, reason.name(), out)?,
+        Outcome::Idle(reason) => write_idle(reason, out)?,
     }
     Ok(())
 }
@@ -281,7 +282,7 @@ fn write_collected(outcome: Outcome, out: &mut Vec<u8>) -> Result<(), Memory>
     ensures { OnOk result (out.new.items ≡ out.old.items ++ collected_line outcome) }
 {
     match outcome {
-        Outcome::Idle(reason) => write_idle(reason.number() as u64, reason.name(), out)?,
+        Outcome::Idle(reason) => write_idle(reason, out)?,
         Outcome::Done | Outcome::Opened(_) => write_done(out)?,
     }
     Ok(())

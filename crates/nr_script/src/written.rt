@@ -1,10 +1,11 @@
 // What a script's run prints, a line each.
 ghost use Rattle.std.specs.Prelude.{◌≡◌, ◌++◌, ◌∷◌, ◌<◌, [], length, take, codes, decimal, OnOk, OnErr};
-ghost use Rattle.nr_script.specs.Printed.{opened_line, idle_line, handed_line};
+ghost use Rattle.nr_script.specs.Printed.{opened_line, idle_line, handed_line, reason_name, reason_number};
 ghost use Rattle.nr_script.specs.Texts.{shown, shown_byte, hex_digit};
 
 use itoa::Buffer;
 use nr_blob::Memory;
+use nr_model::reason::Reason;
 
 /// Appends the line of a script that was set up, or nothing where memory runs out.
 pub fn write_ok(out: &mut Vec<u8>) -> Result<(), Memory>
@@ -38,13 +39,13 @@ pub fn write_opened(connection: u64, out: &mut Vec<u8>) -> Result<(), Memory>
     append_number(b"open ", connection, b"\n", out)
 }
 
-/// Appends the line of a step that did nothing, for the reason of this number and name, or nothing where memory runs out.
-pub fn write_idle(number: u64, name: &str, out: &mut Vec<u8>) -> Result<(), Memory>
-    ensures ok { OnOk result (out.new.items ≡ out.old.items ++ idle_line number name.now) }
+/// Appends the line of a step that did nothing, for this reason, or nothing where memory runs out.
+pub fn write_idle(reason: Reason, out: &mut Vec<u8>) -> Result<(), Memory>
+    ensures ok { OnOk result (out.new.items ≡ out.old.items ++ idle_line reason) }
     ensures err { OnErr result (out.new.items ≡ out.old.items) }
 {
     let end = out.len();
-    let written = append_idle(number, name, out);
+    let written = append_idle(reason, out);
     whole_or_none(end, written, out)
 }
 
@@ -70,12 +71,43 @@ fn whole_or_none(end: usize, written: Result<(), Memory>, out: &mut Vec<u8>) -> 
     written
 }
 
-fn append_idle(number: u64, name: &str, out: &mut Vec<u8>) -> Result<(), Memory>
-    ensures ok { OnOk result (out.new.items ≡ out.old.items ++ idle_line number name.now) }
+// Its number: 1 to 8, in the order in which reasons are looked for.
+fn number_of(reason: Reason) -> u64
+    ensures { result ≡ reason_number reason }
+{
+    match reason {
+        Reason::NoSuch => 1,
+        Reason::Ended => 2,
+        Reason::TooMany => 3,
+        Reason::Down => 4,
+        Reason::Busy => 5,
+        Reason::Nothing => 6,
+        Reason::Full => 7,
+        Reason::NotYet => 8,
+    }
+}
+
+fn name_of(reason: Reason) -> &'static [u8]
+    ensures { result.now ≡ reason_name reason }
+{
+    match reason {
+        Reason::NoSuch => b"NoSuch",
+        Reason::Ended => b"Ended",
+        Reason::TooMany => b"TooMany",
+        Reason::Down => b"Down",
+        Reason::Busy => b"Busy",
+        Reason::Nothing => b"Nothing",
+        Reason::Full => b"Full",
+        Reason::NotYet => b"NotYet",
+    }
+}
+
+fn append_idle(reason: Reason, out: &mut Vec<u8>) -> Result<(), Memory>
+    ensures ok { OnOk result (out.new.items ≡ out.old.items ++ idle_line reason) }
     ensures err { OnErr result (take (length out.old.items) out.new.items ≡ out.old.items) }
 {
-    append_number(b"idle ", number, b" ", out)?;
-    append(name.as_bytes(), out)?;
+    append_number(b"idle ", number_of(reason), b" ", out)?;
+    append(name_of(reason), out)?;
     append(b"\n", out)?;
     Ok(())
 }

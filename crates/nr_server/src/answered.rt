@@ -1,12 +1,14 @@
 // Serving, with its theorem from the bytes that streams know to what one sequential Redis emits.
 ghost use Rattle.nr_model.specs.Connections.{Setup};
 ghost use Rattle.nr_server.specs.Answered.{AreAnswered, AreExplained};
+ghost use Rattle.nr_service.specs.Endings.{BreaksOff, IsDone, IsGoing, TakesTurns};
 ghost use Rattle.nr_service.specs.Serving.{IsServing};
+ghost use Rattle.nr_service.specs.Turns.{Turns};
 
 use nr_service::{Answers, Device, Ended, Gate, Moments, Service, Stream};
 
-/// Serves by a service, as [`Service::serve`] does, whatever answers by one sequential Redis: whenever it ends, one sequence of commands explains
-/// what each connection has sent.
+/// Serves by a service, turn by turn as [`Service::serve`] does, whatever answers by one sequential Redis: whenever it ends, one sequence of commands
+/// explains what each connection has sent.
 pub fn serve_answered<A, S, D, M, G>(service: &mut Service<A, S, D, M>, gate: &G) -> Ended
 where
     A: Answers + Drop,
@@ -15,7 +17,10 @@ where
     M: Moments + Drop,
     G: Gate,
     requires { AreExplained A.is_past }
-    ensures { (first : M) (setup : Setup) → IsServing S.received S.sent S.course M.gives A.is_past A.kept first setup service.old
+    ensures turns { TakesTurns (G.says gate.now 0 0) (IsGoing A.falls)
+        (Turns S.received S.sent S.course A.is_past A.is_settled A.kept A.stands D.parted D.waits M.gives)
+        (BreaksOff S.received S.sent S.course M.gives A.is_past A.kept) (IsDone A.falls) result service.old service.new }
+    ensures answered { (first : M) (setup : Setup) → IsServing S.received S.sent S.course M.gives A.is_past A.kept first setup service.old
         → AreAnswered S.received S.sent M.gives first setup service.new.clients.items }
 {
     service.serve(gate)

@@ -1,13 +1,13 @@
 -- Bytes written over others that were padded far enough.
-use Rattle.std.proofs.Common.{◌≡◌, ℕ, ◌+◌, ◌-◌, ◌<◌, ◌≤◌, inl, inr, List, [], ◌∷◌, ◌++◌, length, take, drop, replicate, refl, ap, sym, ◌∙◌, arith, subst, append_assoc, get_or}
+use Rattle.std.proofs.Common.{◌≡◌, ℕ, ◌+◌, ◌-◌, ◌<◌, ◌≤◌, inl, inr, List, [], ◌∷◌, ◌++◌, length, take, drop, replicate, refl, ap, sym, ◌∙◌, arith, subst, append_assoc}
 use Rattle.std.specs.Prelude.{slice_set}
 use Rattle.std.proofs.lemmas.Bool.{cases_lt}
-use Rattle.std.proofs.lemmas.List.{take-append-le, drop-append-le, take-replicate, length-append, length-replicate, length-take, length-drop, take-append-drop, take-set, drop-set, get_or_append_left, get_or_default, get_or-append_right, get_or-replicate, get_or_past}
+use Rattle.std.proofs.lemmas.List.{take-append-le, drop-append-le, take-replicate, length-append, length-replicate, length-take, length-drop, take-append-drop, take-set, drop-set}
 use Rattle.std.proofs.Math.Seq.{take-append-add, take-append_seam}
 use Rattle.std.proofs.Math.ListN.{drop_of_length-le}
 use Rattle.std.proofs.Math.Nat.{min-eq_left}
 use Rattle.nr_model.specs.Bytes.{Bytes}
-use Rattle.nr_model.specs.Strings.{padded, overwritten, byte_at}
+use Rattle.nr_model.specs.Strings.{padded, overwritten}
 
 none : (m n : ℕ) → m < n → m - n ≡ 0
 none m n h = omega (arith, h)
@@ -73,14 +73,3 @@ set_padded index byte text =
     ∙ (λ i. take-set grown index byte i ++ drop-set grown index byte (omega (arith, length_padded (index + 1) text)) i)
     ∙ sym (append_assoc (take index grown) (byte ∷ []) (drop (index + 1) grown))
     ∙ over_padded index (byte ∷ []) text
-
--- the byte that was there, or zero
-pub byte_padded : (index : ℕ) (text : Bytes) (other : ℕ) → get_or (padded (index + 1) text) index other ≡ byte_at text index
-byte_padded index text other =
-    elim (cases_lt index (length text)) [
-      | inl below ↦ get_or_append_left text (replicate (index + 1 - length text) 0) other index below ∙ get_or_default text index other 0 below
-      | inr above ↦
-          get_or-append_right text (replicate (index + 1 - length text) 0) (length text) index other refl above
-          ∙ get_or-replicate (index + 1 - length text) (index - length text) 0 other (omega (arith, above))
-          ∙ sym (get_or_past text index 0 above)
-    ]

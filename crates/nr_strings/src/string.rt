@@ -8,7 +8,8 @@ use crate::bytes::byte_or_zero;
 use crate::counts::{ones_between, ones_of};
 use crate::joins::{self, BitOperation};
 use crate::ranges::{end_of, start_of};
-use nr_blob::{Blob, Memory, int_text};
+use itoa::Buffer;
+use nr_blob::{Blob, Bytes, Memory};
 use std::alloc::Global;
 use std::marker::Model;
 
@@ -23,7 +24,7 @@ fn max_len_law()
 /// A string, as a key holds it. It is seen as a list of bytes.
 #[derive(Debug, Drop)]
 pub struct Str {
-    bytes: Vec<u8>,
+    bytes: Bytes,
 }
 
 impl Model for Str {
@@ -34,18 +35,18 @@ impl Model for Str {
     ghost view = { λ string. string.bytes.items };
 }
 
-/// Takes the bytes over, without a copy.
+/// Takes the bytes over, without a copy of a block.
 impl From<Blob> for Str {
     ghost from_gives = { λ blob string. string ≡ blob };
 
     fn from(blob: Blob) -> Self {
         Str {
-            bytes: blob.into_vec(),
+            bytes: Bytes::from(blob),
         }
     }
 }
 
-/// Gives the bytes back, without a copy.
+/// Gives the bytes back, without a copy of a block.
 impl From<Str> for Blob {
     ghost from_gives = { λ string blob. blob ≡ string };
 
@@ -60,7 +61,7 @@ impl Str {
         ensures { result ≡ [] }
     {
         Str {
-            bytes: Vec::new(alloc),
+            bytes: Bytes::new(alloc),
         }
     }
 
@@ -68,7 +69,7 @@ impl Str {
         ensures { IfOk result (λ string. string ≡ bytes.now) }
     {
         Ok(Str {
-            bytes: Vec::from_slice(alloc, bytes)?,
+            bytes: Bytes::from_slice(alloc, bytes)?,
         })
     }
 
@@ -76,13 +77,13 @@ impl Str {
     pub fn copy(&self) -> Result<Str, Memory>
         ensures { IfOk result (λ string. string ≡ self.now) }
     {
-        Str::from_slice(*self.bytes.allocator(), &self.bytes)
+        Str::from_slice(*self.bytes.allocator(), self.bytes())
     }
 
     pub fn bytes(&self) -> &[u8]
         ensures { result.now ≡ self.now }
     {
-        &self.bytes
+        self.bytes.as_slice()
     }
 
     pub fn len(&self) -> usize
@@ -100,7 +101,7 @@ impl Str {
         if end < start {
             return &[];
         }
-        &self.bytes[start..end]
+        &self.bytes()[start..end]
     }
 
     /// Puts bytes behind these, in place. Where memory runs out nothing is changed.
@@ -120,7 +121,7 @@ impl Str {
         ensures err { OnErr result (self.new ≡ self.old) }
     {
         grow(&mut self.bytes, offset + written.len())?;
-        overwrite(&mut self.bytes, offset, written);
+        overwrite(self.bytes.as_mut_slice(), offset, written);
         Ok(())
     }
 
@@ -128,7 +129,7 @@ impl Str {
     pub fn bit(&self, offset: u64) -> bool
         ensures { result ≡ bit_at self.now offset }
     {
-        let byte = byte_or_zero(&self.bytes, (offset / 8) as usize);
+        let byte = byte_or_zero(self.bytes(), (offset / 8) as usize);
         byte & (0x80 >> (offset % 8)) != 0
     }
 
@@ -141,9 +142,9 @@ impl Str {
         ensures err { OnErr result (self.new ≡ self.old) }
     {
         let index = (offset / 8) as usize;
+        let byte = byte_or_zero(self.bytes(), index);
         grow(&mut self.bytes, index + 1)?;
-        let byte = self.bytes[index];
-        self.bytes[index] = changed(byte, offset % 8, value);
+        self.bytes.as_mut_slice()[index] = changed(byte, offset % 8, value);
         Ok(byte & (0x80 >> (offset % 8)) != 0)
     }
 
@@ -180,7 +181,7 @@ impl Str {
         ensures err { OnErr result (self.new ≡ self.old) }
     {
         grow(&mut self.bytes, other.len())?;
-        joins::join(&mut self.bytes, operation, other);
+        joins::join(self.bytes.as_mut_slice(), operation, other);
         Ok(())
     }
 
@@ -188,17 +189,16 @@ impl Str {
     pub fn invert(&mut self)
         ensures { self.new ≡ inverted self.old }
     {
-        joins::invert(&mut self.bytes);
+        joins::invert(self.bytes.as_mut_slice());
     }
 
-    /// Becomes the text of an integer, in place. Where memory runs out nothing is changed.
+    /// Becomes the text of an integer. Where memory runs out nothing is changed.
     pub fn write_int(&mut self, n: i64) -> Result<(), Memory>
         ensures ok { OnOk result (self.new ≡ signed_decimal n) }
         ensures err { OnErr result (self.new ≡ self.old) }
     {
-        let old = self.bytes.len();
-        int_text(n, &mut self.bytes)?;
-        self.bytes.drain(..old);
+        let mut text = Buffer::new();
+        self.bytes = Bytes::from_slice(*self.bytes.allocator(), text.format(n).as_bytes())?;
         Ok(())
     }
 }
@@ -221,7 +221,7 @@ fn changed(byte: u8, bit: u64, value: bool) -> u8
 }
 
 // Zero bytes behind these, up to a length.
-fn grow(bytes: &mut Vec<u8>, len: usize) -> Result<(), Memory>
+fn grow(bytes: &mut Bytes, len: usize) -> Result<(), Memory>
     requires { len < 2 ^ 63 }
     ensures ok { OnOk result (bytes.new.items ≡ padded len bytes.old.items) }
     ensures err { OnErr result (bytes.new.items ≡ bytes.old.items) }

@@ -23,7 +23,8 @@ fn keys_have_deadlines(rt: HostRuntime) -> Result<(), Fail> {
         let names = keyspace.keys(rt.alloc(), now, Db::FIRST)?;
         assert!(rt; names.len() == count, "at {now}");
     }
-    assert!(rt; keyspace.set_deadline(100, Db::FIRST, b"c", Some(300))?);
+    let name = Blob::from_slice(rt.alloc(), b"c")?;
+    assert!(rt; keyspace.set_deadline(100, Db::FIRST, &name, Some(300))?);
     assert!(rt; keyspace.len(299, Db::FIRST) == 2);
     Ok(())
 }

@@ -1,5 +1,6 @@
 // Scripts: lines with what they say, lines that say no step, and each line that is printed.
 use nr_blob::{Blob, Memory};
+use nr_model::reason::Reason;
 use nr_script::{
     Line, LineError, read_line, write_done, write_handed, write_idle, write_ok, write_opened,
     write_settled,
@@ -37,7 +38,7 @@ fn printed(alloc: Global) -> Result<Vec<u8>, Memory> {
     write_ok(&mut out)?;
     write_opened(0, &mut out)?;
     write_done(&mut out)?;
-    write_idle(1, "NoSuch", &mut out)?;
+    write_idle(Reason::NoSuch, &mut out)?;
     write_settled(&mut out)?;
     write_handed(0, b"+OK\r\n~\\\x7f", &mut out)?;
     Ok(out)

@@ -1,27 +1,65 @@
 // The service over streams in memory: no clause says that it comes to an end, or when a stream fails.
-use nr_answering::Answering;
+ghost use Rattle.std.specs.Prelude.{◌≡◌, ◌≤◌, ◌++◌, [], false, length, take, IfOk, OnErr};
+ghost use Rattle.nr_model.specs.Bytes.{IsBeginningOf};
+ghost use Rattle.nr_model.specs.Items.{Connection, Sequence};
+ghost use Rattle.nr_model.specs.Sequential.{emitted_for};
+
+use nr_answering::{Answering, story_law};
 use nr_blob::Memory;
 use nr_nodes::Setup;
+use nr_server::{serve_answered, serve_stream};
 use nr_service::{Device, Ended, MachineClock, Moments, Open, Received, Sent, Service, Stream};
-use std::alloc::Global;
+use std::alloc::{AllocError, Global};
 use std::hash::RandomState;
+use std::process::Abort;
 use std::test::Fail;
 
-// A connection that gives its input and takes its output so many bytes a call, gives what stands behind `first` only once it has taken so many
-// bytes, and fails once so many calls were made.
-#[derive(Drop)]
-struct Line {
+// Who gives its input and takes its output so many bytes a call, gives what stands behind `first` only once it has taken so many bytes, and fails
+// once so many calls were made.
+#[derive(Clone, Copy, Drop)]
+struct Peer {
     input: &'static [u8],
-    at: usize,
     first: usize,
     needed: usize,
-    output: Vec<u8>,
     piece: usize,
     calls: usize,
 }
 
+// A connection in memory. It knows all bytes that it gave and took, and how it stands.
+#[derive(Drop)]
+struct Line {
+    peer: Peer,
+    given: Vec<u8>,
+    output: Vec<u8>,
+    has_ended: bool,
+    has_failed: bool,
+    calls: usize,
+}
+
 impl Line {
-    fn fails(&mut self) -> bool {
+    fn new(alloc: Global, peer: Peer) -> Line
+        ensures given { result.given.items ≡ [] }
+        ensures output { result.output.items ≡ [] }
+        ensures ended { result.has_ended ≡ false }
+        ensures failed { result.has_failed ≡ false }
+    {
+        Line {
+            peer,
+            given: Vec::new(alloc),
+            output: Vec::new(alloc),
+            has_ended: false,
+            has_failed: false,
+            calls: peer.calls,
+        }
+    }
+
+    // Whether the calls that it takes were made.
+    fn fails(&mut self) -> bool
+        ensures given { self.new.given ≡ self.old.given }
+        ensures output { self.new.output ≡ self.old.output }
+        ensures ended { self.new.has_ended ≡ self.old.has_ended }
+        ensures failed { self.new.has_failed ≡ self.old.has_failed }
+    {
         match self.calls.checked_sub(1) {
             Some(left) => {
                 self.calls = left;
@@ -33,81 +71,116 @@ impl Line {
 
     // What it gives next.
     fn next(&self) -> &'static [u8] {
-        let end = if self.output.len() < self.needed {
-            self.first
+        let peer = self.peer;
+        let end = if self.output.len() < peer.needed {
+            peer.first
         } else {
-            self.input.len()
+            peer.input.len()
         };
-        let end = end.min(self.at.saturating_add(self.piece));
-        self.input.get(self.at..end).unwrap_or(b"")
+        let at = self.given.len();
+        let end = end.min(at.saturating_add(peer.piece));
+        peer.input.get(at..end).unwrap_or(b"")
     }
 }
 
+// Copies as many of these bytes as the buffer takes behind those that were given, and to its front, and says how many.
+fn give(next: &[u8], given: &mut Vec<u8>, buffer: &mut [u8]) -> Result<usize, AllocError>
+    ensures bound { IfOk result (λ count. count ≤ length buffer.new) }
+    ensures ok { IfOk result (λ count. given.new.items ≡ given.old.items ++ take count buffer.new) }
+    ensures err { OnErr result (given.new.items ≡ given.old.items) }
+{
+    let count = next.len().min(buffer.len());
+    given.extend_from_slice(&next[..count])?;
+    buffer[..count].copy_from_slice(&next[..count]);
+    Ok(count)
+}
+
 impl Stream for Line {
-    ghost use Rattle.std.specs.Prelude.{None};
+    ghost use Rattle.std.specs.Prelude.{Some};
 
-    ghost received = { λ _. None };
+    ghost received = { λ line. Some line.given.items };
 
-    ghost sent = { λ _. None };
+    ghost sent = { λ line. Some line.output.items };
+
+    ghost course = { λ line. Some (record { ended = line.has_ended; failed = line.has_failed }) };
 
     fn receive(&mut self, buffer: &mut [u8]) -> Received {
         if self.fails() {
+            self.has_failed = true;
             return Received::Failed;
         }
-        if self.at >= self.input.len() {
+        if self.given.len() >= self.peer.input.len() {
+            self.has_ended = true;
             return Received::End;
         }
-        let next = self.next();
-        let count = next.len().min(buffer.len());
-        if count == 0 {
-            return Received::Nothing;
+        match give(self.next(), &mut self.given, buffer) {
+            Ok(0) | Err(_) => Received::Nothing,
+            Ok(count) => Received::Bytes(count),
         }
-        buffer[..count].copy_from_slice(&next[..count]);
-        self.at = self.at.saturating_add(count);
-        Received::Bytes(count)
     }
 
     fn send(&mut self, bytes: &[u8]) -> Sent {
         if self.fails() {
+            self.has_failed = true;
             return Sent::Failed;
         }
-        let count = bytes.len().min(self.piece);
-        if count == 0 {
-            return Sent::Nothing;
-        }
+        let count = bytes.len().min(self.peer.piece);
         match self.output.extend_from_slice(&bytes[..count]) {
-            Ok(()) => Sent::Bytes(count),
-            Err(_) => Sent::Failed,
+            Ok(()) if count > 0 => Sent::Bytes(count),
+            _ => Sent::Nothing,
         }
     }
 }
 
-// Gives one connection, and takes it back when it is over. It can't wait any more after so many turns.
+// Gives one connection, and keeps what it is given back. It can't wait any more after so many turns.
 #[derive(Drop)]
-struct Desk {
-    line: Option<Line>,
-    gone: Option<Line>,
+struct Desk<'a, R> {
+    runtime: &'a R,
+    alloc: Global,
+    waiting: Option<Peer>,
+    gone: Vec<Gone>,
     turns: usize,
 }
 
-impl Device<Line> for Desk {
-    fn accept(&mut self) -> Result<Option<Line>, Memory>
-        ensures { Unit {0} }
-    {
-        Ok(self.line.take())
+// A connection that was given back, and whether all was sent that waited for it.
+#[derive(Drop)]
+struct Gone {
+    line: Line,
+    is_finished: bool,
+}
+
+impl<'a, R: Abort> Device<Line> for Desk<'a, R> {
+    ghost use Rattle.std.specs.Prelude.{Some, map, if◌then◌else◌};
+    ghost use Rattle.nr_service.specs.Devices.{Finished, Abandoned};
+
+    ghost parted = { λ desk. Some (map (λ gone. if gone.is_finished then Finished gone.line else Abandoned gone.line) desk.gone.items) };
+
+    fn accept(&mut self) -> Result<Option<Line>, Memory> {
+        let Some(peer) = self.waiting.take() else {
+            return Ok(None);
+        };
+        Ok(Some(Line::new(self.alloc, peer)))
     }
 
     fn wait(&mut self, _: bool) -> bool {
         self.turns = self.turns.saturating_sub(1);
-        self.turns != 0 && self.gone.is_none()
+        self.turns != 0 && self.gone.is_empty()
     }
 
     fn finish(&mut self, line: Line) {
-        self.gone = Some(line);
+        let gone = Gone {
+            line,
+            is_finished: true,
+        };
+        self.gone.push(gone).expect(self.runtime, "memory");
     }
 
     fn abandon(&mut self, line: Line) {
-        self.gone = Some(line);
+        let gone = Gone {
+            line,
+            is_finished: false,
+        };
+        self.gone.push(gone).expect(self.runtime, "memory");
     }
 }
 
@@ -132,36 +205,38 @@ impl Moments for Readings {
     }
 }
 
-// What a connection was sent by a server of two nodes, up to its end.
-fn output_of<M: Moments + Drop>(
+// How a connection was served by a server of two nodes, up to its end.
+fn served<R: Abort, M: Moments + Drop>(
+    runtime: &R,
     alloc: Global,
     keys: RandomState,
     clock: M,
-    line: Line,
-) -> Result<Option<Vec<u8>>, Fail> {
+    peer: Peer,
+) -> Result<Option<Gone>, Fail> {
     let Some(setup) = Setup::new(2, 1_024, 2, 256, 67_108_864) else {
         return Ok(None);
     };
     let answering = Answering::new(alloc, keys, setup)?;
     let desk = Desk {
-        line: Some(line),
-        gone: None,
+        runtime,
+        alloc,
+        waiting: Some(peer),
+        gone: Vec::new(alloc),
         turns: 10_000,
     };
     let mut service = Service::new(alloc, answering, desk, clock, 67_108_864)?;
-    if service.serve(&Open) != Ended::Device {
+    story_law();
+    if serve_answered(&mut service, &Open) != Ended::Device {
         return Ok(None);
     }
-    Ok(service.device.gone.take().map(|line| line.output))
+    Ok(service.device.gone.pop())
 }
 
-fn connection(alloc: Global, input: &'static [u8], piece: usize, calls: usize) -> Line {
-    Line {
+fn asking(input: &'static [u8], piece: usize, calls: usize) -> Peer {
+    Peer {
         input,
-        at: 0,
         first: input.len(),
         needed: 0,
-        output: Vec::new(alloc),
         piece,
         calls,
     }
@@ -171,21 +246,28 @@ const INPUT: &[u8] = b"*3\r\n$3\r\nSET\r\n$1\r\nk\r\n$1\r\nv\r\n*2\r\n$3\r\nGET\
 
 const OUTPUT: &[u8] = b"+OK\r\n$1\r\nv\r\n";
 
-// Each call fails once, in pieces of one byte and of more: what was sent is a beginning of the right bytes.
+// Each call fails once, in pieces of one byte and of more: what was sent is a beginning of the right bytes, and the stream that failed is abandoned.
 #[test]
 fn serves_streams_that_fail(rt: HostRuntime) -> Result<(), Fail> {
     let keys = RandomState::new(&rt)?;
     for piece in [1, 7, 4_096] {
         for calls in 0..64 {
             let clock = MachineClock { runtime: &rt };
-            let failing = connection(rt.alloc(), INPUT, piece, calls);
-            let output = output_of(rt.alloc(), keys, clock, failing)?;
-            assert!(&rt; output.is_some_and(|bytes| OUTPUT.starts_with(&bytes)));
+            let gone = served(&rt, rt.alloc(), keys, clock, asking(INPUT, piece, calls))?;
+            let gone = gone.expect(&rt, "an end");
+            assert!(&rt; OUTPUT.starts_with(&gone.line.output));
+            assert!(&rt; gone.is_finished != gone.line.has_failed);
         }
         let clock = MachineClock { runtime: &rt };
-        let whole = connection(rt.alloc(), INPUT, piece, usize::MAX);
-        let output = output_of(rt.alloc(), keys, clock, whole)?;
-        assert!(&rt; output.is_some_and(|bytes| bytes.as_slice() == OUTPUT));
+        let gone = served(
+            &rt,
+            rt.alloc(),
+            keys,
+            clock,
+            asking(INPUT, piece, usize::MAX),
+        )?;
+        let gone = gone.expect(&rt, "an end");
+        assert!(&rt; gone.is_finished && gone.line.output.as_slice() == OUTPUT);
     }
     Ok(())
 }
@@ -195,12 +277,12 @@ fn serves_streams_that_fail(rt: HostRuntime) -> Result<(), Fail> {
 fn serves_one_that_waits_for_its_answer(rt: HostRuntime) -> Result<(), Fail> {
     let keys = RandomState::new(&rt)?;
     let clock = MachineClock { runtime: &rt };
-    let mut asking = connection(rt.alloc(), b"PING\r\nPING again\r\n", 4_096, usize::MAX);
-    asking.first = 6;
-    asking.needed = 7;
-    let output = output_of(rt.alloc(), keys, clock, asking)?;
+    let mut peer = asking(b"PING\r\nPING again\r\n", 4_096, usize::MAX);
+    peer.first = 6;
+    peer.needed = 7;
+    let gone = served(&rt, rt.alloc(), keys, clock, peer)?;
     let expected = b"+PONG\r\n$5\r\nagain\r\n".as_slice();
-    assert!(&rt; output.is_some_and(|bytes| bytes.as_slice() == expected));
+    assert!(&rt; gone.is_some_and(|gone| gone.line.output.as_slice() == expected));
     Ok(())
 }
 
@@ -218,11 +300,36 @@ fn serves_by_the_clock(rt: HostRuntime) -> Result<(), Fail> {
     ];
     for (readings, expected) in rows {
         let clock = Readings { left: readings };
-        let mut asking = connection(rt.alloc(), all, 4_096, usize::MAX);
-        asking.first = set.len();
-        asking.needed = 5;
-        let output = output_of(rt.alloc(), keys, clock, asking)?;
-        assert!(&rt; output.is_some_and(|bytes| bytes.as_slice() == expected));
+        let mut peer = asking(all, 4_096, usize::MAX);
+        peer.first = set.len();
+        peer.needed = 5;
+        let gone = served(&rt, rt.alloc(), keys, clock, peer)?;
+        assert!(&rt; gone.is_some_and(|gone| gone.line.output.as_slice() == expected));
+    }
+    Ok(())
+}
+
+// What one connection was sent in memory: a beginning of what one sequential Redis emits for it, by the theorem of one connection.
+fn sent_alone<M: Moments + Drop>(
+    alloc: Global,
+    keys: RandomState,
+    clock: M,
+    peer: Peer,
+) -> Result<Vec<u8>, Memory>
+    ensures { IfOk result (λ bytes. (c : Connection) × (items : Sequence) × IsBeginningOf bytes.items (emitted_for c items)) }
+{
+    let served = serve_stream(alloc, keys, Line::new(alloc, peer), clock)?;
+    Ok(served.stream.output)
+}
+
+// One connection alone, by the function that has this contract.
+#[test]
+fn serves_one_alone(rt: HostRuntime) -> Result<(), Fail> {
+    let keys = RandomState::new(&rt)?;
+    for piece in [1, 7, 4_096] {
+        let clock = MachineClock { runtime: &rt };
+        let sent = sent_alone(rt.alloc(), keys, clock, asking(INPUT, piece, usize::MAX))?;
+        assert!(&rt; sent.as_slice() == OUTPUT);
     }
     Ok(())
 }

@@ -1,5 +1,5 @@
 -- Who stands at a name after a change there.
-use Rattle.std.proofs.Common.{◌≡◌, ℕ, Vec, Global, Bool, true, false, cond, not, Option, Some, None, List, [], ◌∷◌, ◌++◌, refl, ap, sym, ◌∙◌, Result, Ok, Err, OnOk, OnErr, length, arith}
+use Rattle.std.proofs.Common.{◌≡◌, Bool, true, false, cond, not, Option, Some, None, List, [], ◌∷◌, ◌++◌, refl, ap, sym, ◌∙◌, Result, Ok, Err, OnOk, OnErr, length, arith}
 use Rattle.std.specs.Prelude.{◌&&◌, ◌||◌, bytes_eq}
 use Rattle.std.specs.List.{list_any}
 use Rattle.std.specs.Ordering.{eq_by_cmp}
@@ -20,8 +20,8 @@ use Rattle.nr_entry.specs.Jobs.{connection_of}
 use Rattle.nr_watch.specs.Kept.{Index, is_conn, is_among, is_name, has_one, has_somebody, stands, names_one, IsAdded, IsTakenOut, IsAsBefore, IsHeld}
 use Rattle.nr_watch.proofs.Found.{changed, is_the_name}
 
-abbrev pub same_name : Vec ℕ Global → Vec ℕ Global → Bool
-same_name a b = eq_by_cmp byte_cmp a.items b.items
+abbrev pub same_name : Bytes → Bytes → Bool
+same_name a b = eq_by_cmp byte_cmp a b
 
 -- a connection with the same name as one of the code
 abbrev pub conn_of : Connection → ConnId
@@ -37,7 +37,7 @@ pub put_at : (old new : Index) (name : Bytes) (w : Option (BTreeSet ConnId)) →
     → KeepsOthers same_name (is_name name) old new
     → (other : Bytes) (c : Connection) → stands new other c ≡ cond (eq_by_cmp byte_cmp other name) (is_among c w) (stands old other c)
 put_at old new name w at_name others other c =
-    ap (is_among c) (changed byte_cmp nat_list_cmp_total exact_bytes (λ (k : Vec ℕ Global). k.items) old new name w at_name others other)
+    ap (is_among c) (changed byte_cmp nat_list_cmp_total exact_bytes (λ (k : Bytes). k) old new name w at_name others other)
     ∙ elim (eq_by_cmp byte_cmp other name) as
     (λ b. is_among c (cond b w (lookup (is_name other) old)) ≡ cond b (is_among c w) (stands old other c)) [ true ↦ refl | false ↦ refl ]
 
@@ -161,7 +161,7 @@ found_in : (old new : Index) (name : Bytes) (w : Option (BTreeSet ConnId)) → l
     → KeepsOthers same_name (is_name name) old new
     → (n : Bytes) → lookup (is_name n) new ≡ cond (eq_by_cmp byte_cmp n name) w (lookup (is_name n) old)
 found_in old new name w at_name others n =
-    changed byte_cmp nat_list_cmp_total exact_bytes (λ (k : Vec ℕ Global). k.items) old new name w at_name others n
+    changed byte_cmp nat_list_cmp_total exact_bytes (λ (k : Bytes). k) old new name w at_name others n
 
 pub still_held : (old new : Index) (name : Bytes) (w : Option (BTreeSet ConnId)) → IsHeld old → lookup (is_name name) new ≡ w
     → KeepsOthers same_name (is_name name) old new → has_somebody w ≡ true → IsHeld new

@@ -1,6 +1,5 @@
 -- How what is watched is kept: by connection, and by name beside it.
-use Rattle.std.specs.declared.alloc.Global.{Global}
-use Rattle.std.specs.Prelude.{◌≡◌, ℕ, ◌==◌, Bool, true, false, not, cond, ◌&&◌, ◌||◌, List, [], ◌∷◌, ◌++◌, Option, Some, None, Vec, filter, bytes_eq, refl}
+use Rattle.std.specs.Prelude.{◌≡◌, ℕ, ◌==◌, Bool, true, false, not, cond, ◌&&◌, ◌||◌, List, [], ◌∷◌, ◌++◌, Option, Some, None, filter, bytes_eq, refl}
 use Rattle.std.specs.Prelude as prelude
 use Rattle.std.specs.List.{list_any}
 use Rattle.std.specs.Option.{option_map}
@@ -88,14 +87,14 @@ pub record IsMarkedWhere (hits : Key → Bool) (old new : Kept) : Type 0 where
 
 -- the connections that stand at each name
 abbrev pub Index : Type 0
-Index = List (Vec ℕ Global × BTreeSet ConnId)
+Index = List (Bytes × BTreeSet ConnId)
 
 abbrev pub is_among : Connection → Option (BTreeSet ConnId) → Bool
 is_among c None = false
 is_among c (Some conns) = list_any (is_conn c) conns.keys
 
-abbrev pub is_name : Bytes → Vec ℕ Global → Bool
-is_name name stored = eq_by_cmp byte_cmp name stored.items
+abbrev pub is_name : Bytes → Bytes → Bool
+is_name name stored = eq_by_cmp byte_cmp name stored
 
 abbrev pub stands : Index → Bytes → Connection → Bool
 stands index name c = is_among c (lookup (is_name name) index)

@@ -9,7 +9,7 @@ ghost use Rattle.nr_entry.specs.Jobs.{connection_of};
 ghost use Rattle.nr_watch.specs.Kept.{stands, is_among, names_one, IsAdded, IsTakenOut, IsAsBefore, IsHeld};
 
 use crate::watch::Watch;
-use nr_blob::Memory;
+use nr_blob::{Blob, Memory};
 use nr_entry::ConnId;
 use std::alloc::Global;
 use std::collections::{BTreeMap, BTreeSet};
@@ -18,7 +18,7 @@ use std::collections::{BTreeMap, BTreeSet};
 #[derive(Drop)]
 pub(crate) struct Names {
     alloc: Global,
-    conns: BTreeMap<Vec<u8>, BTreeSet<ConnId>>,
+    conns: BTreeMap<Blob, BTreeSet<ConnId>>,
     // Somebody stands at each of the names.
     ghost held: { IsHeld conns.entries },
 }
@@ -34,7 +34,7 @@ impl Names {
     }
 
     /// Who stands at a name.
-    pub(crate) fn at(&self, name: &[u8]) -> Option<&BTreeSet<ConnId>>
+    pub(crate) fn at(&self, name: &Blob) -> Option<&BTreeSet<ConnId>>
         ensures { (c : Connection) → is_among c (option_map (λ conns. conns.now) result) ≡ stands self.now.conns.entries name.now c }
     {
         self.conns.get(name)
@@ -42,7 +42,7 @@ impl Names {
 
     /// Says whether the connection didn't stand there before. The name is copied where nobody stood there. Where memory runs out
     /// everyone stands as before.
-    pub(crate) fn add(&mut self, name: &[u8], conn: ConnId) -> Result<bool, Memory>
+    pub(crate) fn add(&mut self, name: &Blob, conn: ConnId) -> Result<bool, Memory>
         ensures ok { OnOk result (IsAdded (λ other. eq_by_cmp byte_cmp other name.now) conn self.old.conns.entries self.new.conns.entries) }
         ensures is_new { IfOk result (λ is_new. is_new ≡ not (stands self.old.conns.entries name.now (connection_of conn))) }
         ensures err { OnErr result (IsAsBefore self.old.conns.entries self.new.conns.entries) }
@@ -52,12 +52,11 @@ impl Names {
         }
         let mut conns = BTreeSet::new(self.alloc);
         conns.insert(conn)?;
-        self.conns
-            .insert(Vec::from_slice(self.alloc, name)?, conns)?;
+        self.conns.insert(name.copy()?, conns)?;
         Ok(true)
     }
 
-    pub(crate) fn remove(&mut self, name: &[u8], conn: ConnId)
+    pub(crate) fn remove(&mut self, name: &Blob, conn: ConnId)
         ensures { IsTakenOut (λ other. eq_by_cmp byte_cmp other name.now) conn self.old.conns.entries self.new.conns.entries }
     {
         let Some(conns) = self.conns.get_mut(name) else {

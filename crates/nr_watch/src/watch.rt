@@ -47,16 +47,16 @@ impl Watch {
         Ok(Watch::new(self.database, self.name.copy()?, self.deadline))
     }
 
-    pub(crate) fn name(&self) -> &[u8]
+    pub(crate) fn name(&self) -> &Blob
         ensures { result.now ≡ self.now.key.name }
     {
-        self.name.bytes()
+        &self.name
     }
 
-    pub(crate) fn is_of(&self, database: Db, name: &[u8]) -> bool
+    pub(crate) fn is_of(&self, database: Db, name: &Blob) -> bool
         ensures { result ≡ same_key self.now.key (key_of database name.now) }
     {
-        self.database == database && self.name.bytes() == name
+        self.database == database && self.name == *name
     }
 
     /// Whether its key is of the database `target`, and a key of its name is live in `source`. Looks in the other database only
@@ -64,7 +64,7 @@ impl Watch {
     pub(crate) fn is_named_in(&self, keyspace: &Keyspace, now: u64, source: Db, target: Db) -> bool
         ensures { result ≡ is_named_in (live keyspace.now now) source target self.now.key }
     {
-        self.database == target && keyspace.get(now, source, self.name.bytes()).is_some()
+        self.database == target && keyspace.get(now, source, &self.name).is_some()
     }
 
     /// Whether what was live when it was watched has passed its deadline.

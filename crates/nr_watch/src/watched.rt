@@ -8,7 +8,7 @@ ghost use Rattle.nr_keyspace.specs.Joined.{key_of};
 ghost use Rattle.nr_watch.specs.Kept.{marked_at, is_named_in, marked_where};
 
 use crate::watch::Watch;
-use nr_blob::Memory;
+use nr_blob::{Blob, Memory};
 use nr_keyspace::{Db, Keyspace};
 use std::alloc::Global;
 use std::marker::Model;
@@ -87,7 +87,7 @@ impl Watched {
     }
 
     /// Remembers that a key was touched, if it is watched. Where one was touched before it looks at nothing.
-    pub(crate) fn mark(&mut self, database: Db, name: &[u8])
+    pub(crate) fn mark(&mut self, database: Db, name: &Blob)
         ensures { self.new ≡ marked_at (key_of database name.now) self.old }
     {
         if self.touched {
@@ -126,7 +126,7 @@ fn copy_each(watches: &Vec<Watch>) -> Result<Vec<Watch>, Memory>
 }
 
 // Whether one is of this key.
-fn has_key(watches: &[Watch], database: Db, name: &[u8]) -> bool
+fn has_key(watches: &[Watch], database: Db, name: &Blob) -> bool
     ensures { result ≡ list_any (λ watch. same_key watch.key (key_of database name.now)) watches.now }
 {
     watches.iter().any(|watch| watch.is_of(database, name))

@@ -17,8 +17,7 @@ use crate::watch::Watch;
 use crate::watched::Watched;
 use nr_blob::{Blob, Memory};
 use nr_entry::ConnId;
-use nr_exec::Touched;
-use nr_keyspace::{Db, Keyspace};
+use nr_keyspace::{Db, Keyspace, Touched};
 use std::alloc::Global;
 use std::collections::{BTreeMap, BTreeSet};
 use std::marker::Model;
@@ -45,7 +44,7 @@ impl Model for Watches {
 }
 
 // Marks a connection, if it watches the key.
-fn mark(by_conn: &mut BTreeMap<ConnId, Watched>, conn: ConnId, database: Db, name: &[u8])
+fn mark(by_conn: &mut BTreeMap<ConnId, Watched>, conn: ConnId, database: Db, name: &Blob)
     ensures { IsMarked (key_of database name.now) (λ c. is_conn c conn) by_conn.old.entries by_conn.new.entries }
 {
     if let Some(watched) = by_conn.get_mut(&conn) {
@@ -58,7 +57,7 @@ fn mark_each(
     by_conn: &mut BTreeMap<ConnId, Watched>,
     conns: &BTreeSet<ConnId>,
     database: Db,
-    name: &[u8],
+    name: &Blob,
 )
     ensures { IsMarked (key_of database name.now) (λ c. list_any (is_conn c) conns.now.keys) by_conn.old.entries by_conn.new.entries }
 {
@@ -212,7 +211,7 @@ impl Watches {
 
     /// Marks each connection that watches the key, since what it holds was changed. It takes one look-up where nobody
     /// watches a key of that name, and none where nobody watches anything. A connection that is marked is passed over.
-    pub fn touch(&mut self, database: Db, name: &[u8])
+    pub fn touch(&mut self, database: Db, name: &Blob)
         ensures { self.new ≡ touched_at self.old (key_of database name.now) }
     {
         if self.is_empty() {
@@ -262,7 +261,7 @@ impl Touched for Watches {
 
     ghost after = { touched_at };
 
-    fn touch(&mut self, database: Db, name: &[u8]) -> Result<(), Memory> {
+    fn touch(&mut self, database: Db, name: &Blob) -> Result<(), Memory> {
         Watches::touch(self, database, name);
         Ok(())
     }

@@ -11,6 +11,8 @@ use Rattle.nr_model.specs.Modes.{Conversation, framed_conversation, plain}
 use Rattle.nr_model.specs.Sequential.Events.{Emission}
 use Rattle.nr_model.specs.Servers.{fresh, after_all, emitted_all}
 use Rattle.nr_model.specs.Entries.{Jobs, entry_jobs, left_by_entry, read_jobs, left_by_reads, entry_items}
+use Rattle.nr_model.specs.declared.reason.Reason.{Reason}
+use Rattle.nr_model.specs.declared.reason.Reason.TheVariants.{NoSuch, Ended, TooMany, Down, Busy, Nothing, Full, NotYet}
 use Rattle.nr_model.specs.Queues.{received, closed_queue}
 use Rattle.nr_model.specs.Connections.{Setup, Handed, is_some_bytes}
 use Rattle.nr_model.specs.Asked.{jobs_from, own_jobs, close_number}
@@ -39,17 +41,6 @@ pub data Step : Type 0 where
   Close : Connection → ℕ → Step
   -- the next entry that the node applies is refused for want of memory
   Refuse : ℕ → Step
-
--- why a step isn't enabled
-pub data Reason : Type 0 where
-  NoSuch : Reason
-  Ended : Reason
-  TooMany : Reason
-  Down : Reason
-  Busy : Reason
-  Nothing : Reason
-  Full : Reason
-  NotYet : Reason
 
 pub data Outcome : Type 0 where
   Opened : Connection → Outcome

@@ -4,7 +4,8 @@ use Rattle.nr_model.specs.Bytes.{Bytes}
 use Rattle.nr_model.specs.Items.{Connection}
 use Rattle.nr_model.specs.Connections.{Setup, Handed}
 use Rattle.nr_model.specs.Nodes.{World, fresh}
-use Rattle.nr_model.specs.Nodes.Steps.{Step, Open, Feed, Post, Lift, Reserve, Fill, Fetch, Apply, Look, Answer, Collect, Close, Refuse, Ended, Down, Busy, Nothing, Full, NotYet, NoSuch, Outcome, Opened, Done, Idle, nothing_refused, outcome, after_step}
+use Rattle.nr_model.specs.Nodes.Steps.{Step, Open, Feed, Post, Lift, Reserve, Fill, Fetch, Apply, Look, Answer, Collect, Close, Refuse, Outcome, Opened, Done, Idle, nothing_refused, outcome, after_step}
+use Rattle.nr_model.specs.declared.reason.Reason.TheVariants.{Ended, Down, Busy, Nothing, Full, NotYet, NoSuch}
 use Rattle.nr_model.specs.Nodes.Pasts.{handed_by}
 
 -- so many nodes and places, one worker a node

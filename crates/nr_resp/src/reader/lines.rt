@@ -7,7 +7,7 @@ ghost use Rattle.nr_model.specs.declared.fault.Fault.TheVariants as faults;
 
 use super::FeedError;
 use memchr::memchr;
-use nr_blob::{Blob, read_int};
+use nr_blob::{Blob, Memory, read_int};
 use nr_model::fault::Fault;
 use std::alloc::{AllocError, Global};
 
@@ -181,7 +181,7 @@ fn has_quotes(line: &[u8]) -> bool
 }
 
 /// The words of a line, which spaces and tabs part.
-fn words_of(alloc: Global, line: &[u8]) -> Result<Vec<Blob>, AllocError>
+fn words_of(alloc: Global, line: &[u8]) -> Result<Vec<Blob>, Memory>
     ensures { IfOk result (λ words. words.items ≡ words_of line.now) }
 {
     let mut words = Vec::new(alloc);
@@ -190,12 +190,12 @@ fn words_of(alloc: Global, line: &[u8]) -> Result<Vec<Blob>, AllocError>
         if !is_blank(*c) {
             word.push(*c)?;
         } else if !word.is_empty() {
-            words.push(Blob::from(word))?;
-            word = Vec::new(alloc);
+            words.push(Blob::from_slice(alloc, &word)?)?;
+            word.clear();
         }
     }
     if !word.is_empty() {
-        words.push(Blob::from(word))?;
+        words.push(Blob::from_slice(alloc, &word)?)?;
     }
     Ok(words)
 }

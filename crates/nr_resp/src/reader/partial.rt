@@ -267,7 +267,7 @@ impl PartialRequest {
         let Some((body, left)) = whole_body(len, piece) else {
             return self.body_front(count, len, piece);
         };
-        let word = Vec::from_slice(*self.words.allocator(), body)?;
+        let word = Blob::from_slice(*self.words.allocator(), body)?;
         self.add_word(count, word, frames)?;
         Ok(left)
     }
@@ -320,7 +320,7 @@ impl PartialRequest {
             return Err(FeedError::Fault(Fault::LineEnd));
         }
         let word = mem::replace(&mut self.part, Vec::new(*self.words.allocator()));
-        self.add_word(count, word, frames)?;
+        self.add_word(count, Blob::from(word), frames)?;
         Ok(&piece[1..])
     }
 
@@ -332,20 +332,20 @@ impl PartialRequest {
     fn add_word(
         &mut self,
         count: usize,
-        word: Vec<u8>,
+        word: Blob,
         frames: &mut Vec<Frame>,
     ) -> Result<(), FeedError>
         requires lacks { LacksWords count self.old.words.items }
         requires part { self.old.part.items ≡ [] }
-        requires short { length word.items ≤ most_word_bytes }
+        requires short { length word ≤ most_word_bytes }
         ensures held { OnOk result (IsHeld self.new) }
-        ensures moved { OnOk result ((left : Bytes) → Reads (bytes_at (stages.Ending count) self.old.words.items word.items ++ 10 ∷ left) (bytes_of self.new ++ left) (frames_seen frames.old.items) (frames_seen frames.new.items)) }
+        ensures moved { OnOk result ((left : Bytes) → Reads (bytes_at (stages.Ending count) self.old.words.items word ++ 10 ∷ left) (bytes_of self.new ++ left) (frames_seen frames.old.items) (frames_seen frames.new.items)) }
         ensures refused { IfErr result (λ error. error ≡ errors.Memory) }
         ensures begun { OnErr result ((left : Bytes) × (bytes_of self.new ++ left ≡ array_front count self.old.words.items)) }
         ensures kept { IsErr result → frames_seen frames.new.items ≡ frames_seen frames.old.items }
     {
         self.stage = Stage::Header { count };
-        self.words.push(Blob::from(word))?;
+        self.words.push(word)?;
         if self.words.len() >= count {
             let alloc = *self.words.allocator();
             let words = mem::replace(&mut self.words, Vec::new(alloc));

@@ -1,5 +1,5 @@
-use Rattle.nr_exec.proofs.Refusals.{refused_in}
-use Rattle.nr_exec.proofs.Swept.{live_live}
+use Rattle.nr_resp.proofs.Refusals.{refused_in}
+use Rattle.nr_keyspace.proofs.Live.{live_live}
 use Rattle.nr_exec.proofs.exec.change.Goals as goal
 
 pub change_in_section-requires : goal.change_in_section-requires

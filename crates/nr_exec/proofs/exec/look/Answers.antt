@@ -3,7 +3,7 @@ use Rattle.nr_model.specs.Commands as commands
 use Rattle.nr_model.specs.Keyspace.{live}
 use Rattle.nr_model.specs.Replies.{Reply}
 use Rattle.nr_resp.specs.Seen.{reply_of}
-use Rattle.nr_exec.proofs.Refusals.{refused_as}
+use Rattle.nr_resp.proofs.Refusals.{refused_as}
 use Rattle.nr_exec.proofs.exec.look.Goals as goal
 
 pub returns-in_ok-reply-in-Err : goal.returns-in_ok-reply-in-Err

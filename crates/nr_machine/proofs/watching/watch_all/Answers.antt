@@ -1,8 +1,5 @@
 use Rattle.std.proofs.Common.{arith, ap, ◌∙◌, ◌∷◌, []}
-use Rattle.std.specs.Option.{option_map}
-use Rattle.std.specs.FinMap as finmap
 use Rattle.nr_model.specs.Bytes.{Bytes}
-use Rattle.nr_model.specs.Keyspace.{Stored, live}
 use Rattle.nr_model.specs.Servers.{watches_added}
 use Rattle.nr_entry.specs.Jobs.{connection_of}
 use Rattle.nr_watch.specs.Watching.{Watching}
@@ -15,11 +12,9 @@ loop-name-preserved c = record {
   begun =
       one_begun _ _ _ _ _ _ _ _ c.loop-name.name-index _ c.flatten-deadline.result (omega arith) c.name-item.is
       (deadline_is _ _ _ c.deadline.result c.flatten-deadline.result
-      (c.deadline.ensures
-      ∙ ap (λ (name : Bytes). option_map (λ (s : Stored). s.deadline) (finmap.get (live c.args.keyspace.now c.args.now) (record { database = c.args.database; name = name }))) c.bytes.ensures)
-      c.flatten-deadline.ensures)
+      c.deadline.ensures c.flatten-deadline.ensures)
       (ap (λ (w : Watching). w.watches) c.in_ok-watch.ensures.ok
       ∙ ap (λ (name : Bytes). watches_added c.loop-name.watches.watches (connection_of c.args.conn)
-      (record { key = record { database = c.args.database; name = name }; deadline = c.flatten-deadline.result } ∷ [])) c.in_ok-copy.ensures)
+      (record { key = record { database = c.args.database; name = name }; deadline = c.flatten-deadline.result } ∷ [])) c.in_ok-copy.ensures.copied)
       c.loop-name.invariant.begun;
 }

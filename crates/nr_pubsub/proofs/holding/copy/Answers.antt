@@ -13,7 +13,7 @@ loop-name-preserved c = record {
   copied = copied_more byte_cmp nat_list_cmp_total exact_bytes c.args.names.now.keys c.loop-name.copied.keys c.insert.new.self.keys c.next.new.self
       c.in_ok-copy.field-0
       (subst (λ (name : Bytes). IsCopied byte_cmp nat_list_cmp_total exact_bytes c.args.names.now.keys c.loop-name.copied.keys (name ∷ c.next.new.self))
-      (sym c.in_ok-copy.ensures)
+      (sym c.in_ok-copy.ensures.copied)
       (subst (IsCopied byte_cmp nat_list_cmp_total exact_bytes c.args.names.now.keys c.loop-name.copied.keys)
       (rest_more deref c.loop-name.name-iterator c.next.new.self c.next.result c.in-Some.name c.in-Some.is c.next.ensures.steps)
       c.loop-name.invariant.copied))

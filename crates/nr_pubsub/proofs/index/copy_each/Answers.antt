@@ -20,8 +20,8 @@ loop-name-preserved-in_ok-insert c =
     (c.in-Some.name, c.in-Some.set) c.in-Some.is c.next.ensures.steps in
     record {
       copied = index_copied_more all c.loop-name.copied.entries c.insert.new.self.entries c.in-Some.name.now c.in_ok-copy.field-0 c.in-Some.set.now
-          c.in_ok-copy_set.field-0 c.next.new.self (subst (IsIndexCopied all c.loop-name.copied.entries) parts c.loop-name.invariant.copied)
-          c.in_ok-insert.ensures.updates.0 c.in_ok-copy.ensures c.in_ok-copy_set.ensures;
+          c.in_ok-set.set c.next.new.self (subst (IsIndexCopied all c.loop-name.copied.entries) parts c.loop-name.invariant.copied)
+          c.in_ok-insert.ensures.updates.0 c.in_ok-copy.ensures.copied c.in_ok-set.ensures;
       ordered = c.in_ok-insert.ensures.ordered;
     }
 
@@ -32,8 +32,8 @@ loop-name-preserved c =
     (c.in-Some.name, c.in-Some.set) c.in-Some.is c.next.ensures.steps in
     record {
       copied = index_copied_more all c.loop-name.copied.entries c.insert.new.self.entries c.in-Some.name.now c.in_ok-copy.field-0 c.in-Some.set.now
-          c.in_ok-copy_set.field-0 c.next.new.self (subst (IsIndexCopied all c.loop-name.copied.entries) parts c.loop-name.invariant.copied)
-          c.in_ok-insert.ensures.updates.0 c.in_ok-copy.ensures c.in_ok-copy_set.ensures;
+          c.in_ok-set.set c.next.new.self (subst (IsIndexCopied all c.loop-name.copied.entries) parts c.loop-name.invariant.copied)
+          c.in_ok-insert.ensures.updates.0 c.in_ok-copy.ensures.copied c.in_ok-set.ensures;
       ordered = c.in_ok-insert.ensures.ordered;
     }
 

@@ -2,5 +2,5 @@
 use Rattle.nr_server.proofs.Explained.{ended_answered}
 use Rattle.nr_server.proofs.answered.serve_answered.Goals as goal
 
-pub returns : goal.returns
-returns g c = λ first setup serving. ended_answered _ _ _ _ _ _ first setup _ c.serve.result c.requires (c.serve.ensures.serving first setup serving)
+pub returns-clause-answered : goal.returns-clause-answered
+returns-clause-answered g c = λ first setup serving. ended_answered _ _ _ _ _ _ first setup _ c.serve.result c.requires (c.serve.ensures.serving first setup serving)

@@ -3,9 +3,8 @@ use Rattle.std.specs.Map.Iter.{deref_pair}
 use Rattle.std.specs.FinMap as map
 use Rattle.std.proofs.lemmas.Map.Iter.{rest_more, rest_all}
 use Rattle.nr_model.specs.Bytes.{Bytes}
-use Rattle.nr_model.specs.Keyspace.{Stored}
+use Rattle.nr_model.specs.Keyspace.{Stored, Value}
 use Rattle.nr_keyspace.specs.Values.{value_of}
-use Rattle.nr_keyspace.specs.declared.value.Value.{Value}
 use Rattle.nr_keyspace.proofs.Copied.{IsCopied, copied_none, copied_more, copied_all}
 use Rattle.nr_keyspace.proofs.database.Database.copy.Goals as goal
 
@@ -19,10 +18,10 @@ pub loop-name-preserved : goal.loop-name-preserved
 loop-name-preserved c =
     let parts = rest_more deref_pair c.loop-name.name-iterator c.next.new.self c.next.result
     (c.in-Some.name, c.in-Some.entry) c.in-Some.is c.next.ensures.steps in
-    let stored : Value → Stored = λ value. record { value = value_of value; deadline = c.in-Some.entry.now.deadline } in
+    let stored : Value → Stored = λ value. record { value = value; deadline = c.in-Some.entry.now.deadline } in
     let put = c.in_ok-put.ensures.ok
-    ∙ ap (λ (name : Bytes). map.insert c.loop-name.copy name (stored c.in_ok-copy.field-0)) (c.in_ok-from_slice.ensures.items ∙ c.deref.ensures.value)
-    ∙ ap (λ value. map.insert c.loop-name.copy c.in-Some.name.now.items (stored value)) c.in_ok-copy.ensures in
+    ∙ ap (λ (name : Bytes). map.insert c.loop-name.copy name (stored (value_of c.in_ok-copy.field-0))) c.in_ok-name.ensures.copied
+    ∙ ap (λ value. map.insert c.loop-name.copy c.in-Some.name.now (stored value)) c.in_ok-copy.ensures in
     subst (λ copy. IsCopied c.args.self.now copy c.next.new.self) (sym put)
     (copied_more c.args.self.now c.loop-name.copy (deref_pair (c.in-Some.name, c.in-Some.entry)) c.next.new.self
     (subst (IsCopied c.args.self.now c.loop-name.copy) parts c.loop-name.invariant))

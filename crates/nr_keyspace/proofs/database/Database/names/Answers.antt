@@ -23,13 +23,13 @@ pub loop-name-preserved-in_ok-insert : goal.loop-name-preserved-in_ok-insert
 loop-name-preserved-in_ok-insert c =
     let parts = rest_more deref_pair c.loop-name.name-iterator c.next.new.self c.next.result
     (c.in-Some.name, c.in-Some.entry) c.in-Some.is c.next.ensures.steps in
-    let named = c.in_ok-from_slice.ensures ∙ c.deref.ensures.value in
+    let named = c.in_ok-copy.ensures.copied in
     let changes = c.in_ok-insert.ensures.updates in
     record {
       listed = listed_more c.args.now c.args.self.now c.loop-name.names c.insert.new.self (deref_pair (c.in-Some.name, c.in-Some.entry)) c.next.new.self true
           (subst (IsListed c.args.now c.args.self.now c.loop-name.names) parts c.loop-name.invariant.listed) (sym c.if-is_live.true ∙ c.is_live.ensures)
           (λ q. changes.0 q
-          ∙ ap (λ b. cond b true (sorted.contains byte_cmp c.loop-name.names q)) ((eq_by_cmp_equiv nat_list_cmp_total).symm c.in_ok-from_slice.field-0 q)
+          ∙ ap (λ b. cond b true (sorted.contains byte_cmp c.loop-name.names q)) ((eq_by_cmp_equiv nat_list_cmp_total).symm c.in_ok-copy.field-0 q)
           ∙ ap (λ (name : Bytes). cond (eq_by_cmp byte_cmp q name) true (sorted.contains byte_cmp c.loop-name.names q)) named);
       ordered = c.in_ok-insert.ensures.ordered;
     }

@@ -17,9 +17,9 @@ pub invariant_of-self-2 : goal.invariant_of-self-2
 invariant_of-self-2 c =
     let changes = c.in_ok-name.ensures.updates in
     removed_indexed c.self.inside.by_name.entries c.remove_entry.new.self.entries c.self.inside.deadlines c.take.new.self c.args.name.now
-    c.in_ok-name.name.items c.in_ok-name.entry
+    c.in_ok-name.name c.in_ok-name.entry
     c.self.invariant c.in_ok-name.ensures.value
-    ((bytes_decides c.args.name.now c.in_ok-name.name.items).0 c.in_ok-name.ensures.same_key) changes.1 changes.3 c.take.ensures.taken
+    ((bytes_decides c.args.name.now c.in_ok-name.name).0 c.in_ok-name.ensures.same_key) changes.1 changes.3 c.take.ensures.taken
 
 pub returns-clause-value : goal.returns-clause-value
 returns-clause-value c =

@@ -13,24 +13,24 @@ returns-in_default-clause-none c = λ _ name.
 pub invariant_of-self-2 : goal.invariant_of-self-2
 invariant_of-self-2 c =
     let entries = c.self.inside.by_name.entries in
-    let step = sweep_step c.args.now (store_of bytes_of entries) c.self.inside.deadlines c.pop_expired.new.self c.in-Some.name.items c.self.invariant
+    let step = sweep_step c.args.now (store_of bytes_of entries) c.self.inside.deadlines c.pop_expired.new.self c.in-Some.name c.self.invariant
     c.in-Some.ensures.expired in
-    let gone = removed bytes_of entries c.remove.new.self.entries c.in-Some.name.items c.remove.ensures.updates.1 c.remove.ensures.updates.3 in
+    let gone = removed bytes_of entries c.remove.new.self.entries c.in-Some.name c.remove.ensures.updates.1 c.remove.ensures.updates.3 in
     subst (λ store. IsIndexed store c.pop_expired.new.self) (sym gone) step.indexed
 
 pub returns-clause-same_live : goal.returns-clause-same_live
 returns-clause-same_live c = λ name.
     let entries = c.self.inside.by_name.entries in
-    let step = sweep_step c.args.now (store_of bytes_of entries) c.self.inside.deadlines c.pop_expired.new.self c.in-Some.name.items c.self.invariant
+    let step = sweep_step c.args.now (store_of bytes_of entries) c.self.inside.deadlines c.pop_expired.new.self c.in-Some.name c.self.invariant
     c.in-Some.ensures.expired in
-    let gone = removed bytes_of entries c.remove.new.self.entries c.in-Some.name.items c.remove.ensures.updates.1 c.remove.ensures.updates.3 in
+    let gone = removed bytes_of entries c.remove.new.self.entries c.in-Some.name c.remove.ensures.updates.1 c.remove.ensures.updates.3 in
     ap (λ store. only_live c.args.now (map.get store name)) gone ∙ step.same_live name
     ∙ ap (λ store. only_live c.args.now (map.get store name)) c.self.view_is
 
 pub returns-clause-one : goal.returns-clause-one
 returns-clause-one c = λ _.
     let entries = c.self.inside.by_name.entries in
-    let step = sweep_step c.args.now (store_of bytes_of entries) c.self.inside.deadlines c.pop_expired.new.self c.in-Some.name.items c.self.invariant
+    let step = sweep_step c.args.now (store_of bytes_of entries) c.self.inside.deadlines c.pop_expired.new.self c.in-Some.name c.self.invariant
     c.in-Some.ensures.expired in
-    let gone = removed bytes_of entries c.remove.new.self.entries c.in-Some.name.items c.remove.ensures.updates.1 c.remove.ensures.updates.3 in
+    let gone = removed bytes_of entries c.remove.new.self.entries c.in-Some.name c.remove.ensures.updates.1 c.remove.ensures.updates.3 in
     ap (λ store. suc (map.len store)) gone ∙ step.one ∙ ap map.len c.self.view_is

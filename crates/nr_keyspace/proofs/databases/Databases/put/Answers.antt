@@ -1,6 +1,5 @@
 use Rattle.std.proofs.Common.{◌<◌, length, set, ap, ◌∙◌, arith}
 use Rattle.std.specs.FinMap as map
-use Rattle.nr_model.specs.Bytes.{Bytes}
 use Rattle.nr_model.specs.Keyspace as model
 use Rattle.nr_keyspace.specs.Values.{value_of}
 use Rattle.nr_keyspace.specs.Joined.{joined, key_of}
@@ -14,7 +13,6 @@ returns-clause-ok c =
     let stored : model.Stored = record { value = value_of c.args.value; deadline = c.args.deadline } in
     ok_then c.put.result c.put.ensures.ok (λ is.
     ap (λ store. joined (set c.self.inside.databases.items c.index.result store)) is
-    ∙ inserted c.self.inside.databases.items c.index.result c.index_mut.result.now c.into_vec.result.items stored c.index_mut.ensures.value below
-    ∙ ap (λ keyspace. map.insert keyspace (key_of c.index.result c.into_vec.result.items) stored) c.self.view_is
-    ∙ ap (λ (name : Bytes). map.insert c.args.self.now (key_of c.index.result name) stored) c.into_vec.ensures
+    ∙ inserted c.self.inside.databases.items c.index.result c.index_mut.result.now c.args.name stored c.index_mut.ensures.value below
+    ∙ ap (λ keyspace. map.insert keyspace (key_of c.index.result c.args.name) stored) c.self.view_is
     ∙ ap (λ database. map.insert c.args.self.now (key_of database c.args.name) stored) c.index.ensures.value)

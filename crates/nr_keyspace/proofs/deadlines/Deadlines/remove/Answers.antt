@@ -1,14 +1,15 @@
-use Rattle.std.proofs.Common.{Vec, Global, ℕ, ℤ, ap, ◌∙◌, to_z, of_z, to_z-of_z, w64}
+use Rattle.std.proofs.Common.{ℤ, ap, ◌∙◌, to_z, of_z, to_z-of_z, w64}
 use Rattle.std.specs.FinSet as set
+use Rattle.nr_model.specs.Bytes.{Bytes}
 use Rattle.nr_keyspace.specs.Deadlines.{Due}
 use Rattle.nr_keyspace.proofs.Ordered.{removed}
 use Rattle.nr_keyspace.proofs.deadlines.Deadlines.remove.Goals as goal
 
 pub returns-clause-removed : goal.returns-clause-removed
 returns-clause-removed c =
-    let at : ℤ → Due = λ deadline. (deadline, c.args.name.items) in
+    let at : ℤ → Due = λ deadline. (deadline, c.args.name) in
     let key : Due = at (to_z w64 (of_z w64 c.args.deadline)) in
     let changes = c.remove.ensures.updates in
-    removed (λ (name : Vec ℕ Global). name.items) c.self.inside.ordered.keys c.remove.new.self.keys key changes.1 changes.3
+    removed (λ (name : Bytes). name) c.self.inside.ordered.keys c.remove.new.self.keys key changes.1 changes.3
     ∙ ap (λ dues. set.remove dues key) c.self.view_is
     ∙ ap (λ deadline. set.remove c.args.self.now (at deadline)) (to_z-of_z c.ranges.deadline)

@@ -5,7 +5,6 @@ use Rattle.nr_replica.specs.Members.{fresh_member}
 use Rattle.nr_nodes.specs.WorldState.{WorldState}
 use Rattle.nr_nodes.specs.Whole.{IsHeld}
 use Rattle.nr_nodes.specs.Taken.{Steps}
-use Rattle.nr_nodes.specs.Seen.{reason_seen}
 use Rattle.nr_nodes.proofs.Connects.{idle_found, done_found, there_node, may_close, ready, used, unclosed_yet, ends_by_bytes, closes_on}
 use Rattle.nr_nodes.proofs.world.World.close.Goals as goal
 
@@ -18,7 +17,7 @@ returns-in-Some-clause-taken c =
       failed
           = c.self.inside.has_failed;
     } in
-    subst (λ (w : WorldState). Steps w w (steps.Close (connection_of c.args.conn) c.args.moment) (steps.Idle (reason_seen c.in-Some.reason))) c.self.view_is
+    subst (λ (w : WorldState). Steps w w (steps.Close (connection_of c.args.conn) c.args.moment) (steps.Idle c.in-Some.reason)) c.self.view_is
     (idle_found v (steps.Close (connection_of c.args.conn) c.args.moment) c.deref.result.now c.why_not_close.result c.in-Some.reason _
     (λ setup world. refl) c.deref.ensures.value (c.why_not_close.ensures c.self.inside.setup c.args.moment) c.in-Some.is)
 

@@ -5,7 +5,6 @@ use Rattle.nr_replica.specs.Members.{fresh_member}
 use Rattle.nr_nodes.specs.WorldState.{WorldState}
 use Rattle.nr_nodes.specs.Whole.{IsHeld}
 use Rattle.nr_nodes.specs.Taken.{Steps}
-use Rattle.nr_nodes.specs.Seen.{reason_seen}
 use Rattle.nr_nodes.proofs.Connects.{idle_found, done_found, there_node, may_feed, ready, going, unclosed_fed, feeds_on}
 use Rattle.nr_nodes.proofs.world.World.feed.Goals as goal
 
@@ -19,7 +18,7 @@ returns-in-Some-clause-taken c =
           = c.self.inside.has_failed;
     } in
     subst (λ (w : WorldState). Steps w w (steps.Feed (connection_of c.args.conn) c.args.moment c.args.bytes.now)
-    (steps.Idle (reason_seen c.in-Some.reason))) c.self.view_is
+    (steps.Idle c.in-Some.reason)) c.self.view_is
     (idle_found v (steps.Feed (connection_of c.args.conn) c.args.moment c.args.bytes.now) c.deref.result.now c.why_not_feed.result c.in-Some.reason _
     (λ setup world. refl) c.deref.ensures.value (c.why_not_feed.ensures c.self.inside.setup c.args.moment c.args.bytes.now) c.in-Some.is)
 

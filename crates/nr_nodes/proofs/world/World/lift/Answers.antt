@@ -1,7 +1,6 @@
 use Rattle.std.proofs.Common.{rules, ◌≡◌, false, get_or, refl}
 use Rattle.nr_model.specs.Nodes.Steps as steps
 use Rattle.nr_model.specs.Nodes.Steps.{lifted_node}
-use Rattle.nr_nodes.specs.Seen.{reason_seen}
 use Rattle.nr_nodes.specs.Batches.{HasWorker, ComesTo}
 use Rattle.nr_nodes.proofs.Shown.{takes_nothing}
 use Rattle.nr_nodes.proofs.Standing.{step_at}
@@ -10,7 +9,7 @@ use Rattle.nr_nodes.proofs.world.World.lift.Goals as goal
 
 pub returns-in-Some-clause-taken : goal.returns-in-Some-clause-taken
 returns-in-Some-clause-taken c =
-    let comes : ComesTo c.args.self.now (steps.Lift c.args.node c.args.worker) (steps.Idle (reason_seen c.in-Some.reason)) = c.in-Some.ensures.outcome in
+    let comes : ComesTo c.args.self.now (steps.Lift c.args.node c.args.worker) (steps.Idle c.in-Some.reason) = c.in-Some.ensures.outcome in
     takes_nothing c.args.self.now (steps.Lift c.args.node c.args.worker) c.in-Some.reason comes.is
 
 pub returns-clause-taken : goal.returns-clause-taken

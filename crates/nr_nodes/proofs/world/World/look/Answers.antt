@@ -1,6 +1,5 @@
 use Rattle.std.proofs.Common.{rules, ◌≡◌, ◌<◌, length, get_or}
 use Rattle.nr_model.specs.Nodes.Steps as steps
-use Rattle.nr_nodes.specs.Seen.{reason_seen}
 use Rattle.nr_nodes.specs.Batches.{ComesTo}
 use Rattle.nr_nodes.proofs.Shown.{takes_nothing}
 use Rattle.nr_nodes.proofs.Replayed.{opens, look_there, within_by, let_go_ready, looked_all}
@@ -8,7 +7,7 @@ use Rattle.nr_nodes.proofs.world.World.look.Goals as goal
 
 pub returns-in-Some-clause-taken : goal.returns-in-Some-clause-taken
 returns-in-Some-clause-taken c =
-    let comes : ComesTo c.args.self.now (steps.Look c.args.node) (steps.Idle (reason_seen c.in-Some.reason)) = c.in-Some.ensures in
+    let comes : ComesTo c.args.self.now (steps.Look c.args.node) (steps.Idle c.in-Some.reason) = c.in-Some.ensures in
     takes_nothing c.args.self.now (steps.Look c.args.node) c.in-Some.reason comes.is
 
 pub index_mut-requires : goal.index_mut-requires

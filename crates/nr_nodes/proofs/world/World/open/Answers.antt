@@ -5,7 +5,6 @@ use Rattle.nr_nodes.specs.declared.node.Node.{Node}
 use Rattle.nr_nodes.specs.WorldState.{WorldState}
 use Rattle.nr_nodes.specs.Whole.{IsHeld}
 use Rattle.nr_nodes.specs.Taken.{Steps}
-use Rattle.nr_nodes.specs.Seen.{reason_seen}
 use Rattle.nr_nodes.proofs.Standing.{has_worker}
 use Rattle.nr_nodes.proofs.Connects.{idle_found, done_found, may_open, opened_in, held_many, held_whole, open_within, open_few, open_room, opens_on}
 use Rattle.nr_nodes.proofs.Paired.{paired_many}
@@ -20,7 +19,7 @@ returns-in-Some-clause-taken c =
       failed
           = c.self.inside.has_failed;
     } in
-    subst (λ (w : WorldState). Steps w w (steps.Open c.args.node c.args.worker) (steps.Idle (reason_seen c.in-Some.reason))) c.self.view_is
+    subst (λ (w : WorldState). Steps w w (steps.Open c.args.node c.args.worker) (steps.Idle c.in-Some.reason)) c.self.view_is
     (idle_found v (steps.Open c.args.node c.args.worker) c.deref.result.now c.why_not_open.result c.in-Some.reason _ (λ setup world. refl)
     c.deref.ensures.value c.why_not_open.ensures c.in-Some.is)
 

@@ -1,6 +1,5 @@
 use Rattle.std.proofs.Common.{rules, ◌≡◌, false, get_or, refl}
 use Rattle.nr_model.specs.Nodes.Steps as steps
-use Rattle.nr_nodes.specs.Seen.{reason_seen}
 use Rattle.nr_nodes.specs.Served.{posted_node}
 use Rattle.nr_nodes.specs.Batches.{HasWorker, ComesTo}
 use Rattle.nr_nodes.proofs.Shown.{takes_nothing}
@@ -10,7 +9,7 @@ use Rattle.nr_nodes.proofs.world.World.post.Goals as goal
 
 pub returns-in-Some-clause-taken : goal.returns-in-Some-clause-taken
 returns-in-Some-clause-taken c =
-    let comes : ComesTo c.args.self.now (steps.Post c.args.node c.args.worker) (steps.Idle (reason_seen c.in-Some.reason)) = c.in-Some.ensures.outcome in
+    let comes : ComesTo c.args.self.now (steps.Post c.args.node c.args.worker) (steps.Idle c.in-Some.reason) = c.in-Some.ensures.outcome in
     takes_nothing c.args.self.now (steps.Post c.args.node c.args.worker) c.in-Some.reason comes.is
 
 pub returns-clause-taken : goal.returns-clause-taken

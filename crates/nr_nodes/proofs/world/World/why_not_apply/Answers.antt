@@ -1,5 +1,6 @@
 use Rattle.std.proofs.Common.{rules, arith, ◌≡◌, ◌<◌, not, length, get_or, ap, ◌∙◌}
 use Rattle.nr_model.specs.Nodes.Steps as steps
+use Rattle.nr_model.specs.declared.reason.Reason.TheVariants as reasons
 use Rattle.nr_nodes.proofs.Replayed.{held_by, inside_by, such_by, apply_asked, fails, holds}
 use Rattle.nr_nodes.proofs.world.World.why_not_apply.Goals as goal
 
@@ -16,7 +17,7 @@ returns-then-not-index c = record {
       let at : c.index.result.now ≡ get_or c.self.inside.nodes.items c.args.node c.index.result.now = search rules in
       such_by _ c.args.self.now world c.args.node c.index.result.now apply_asked c.self.view_is held s
       (omega (arith, c.nodes.ensures.value, c.if-node-nodes.false)) at
-      ∙ holds (not c.index.result.now.is_fetched) steps.Nothing steps.Done (ap not c.if-not-index.true);
+      ∙ holds (not c.index.result.now.is_fetched) reasons.Nothing steps.Done (ap not c.if-not-index.true);
 }
 
 pub returns : goal.returns
@@ -26,5 +27,5 @@ returns c = record {
       let at : c.index.result.now ≡ get_or c.self.inside.nodes.items c.args.node c.index.result.now = search rules in
       such_by _ c.args.self.now world c.args.node c.index.result.now apply_asked c.self.view_is held s
       (omega (arith, c.nodes.ensures.value, c.if-node-nodes.false)) at
-      ∙ fails (not c.index.result.now.is_fetched) steps.Nothing steps.Done (ap not c.if-not-index.false);
+      ∙ fails (not c.index.result.now.is_fetched) reasons.Nothing steps.Done (ap not c.if-not-index.false);
 }

@@ -2,6 +2,7 @@ use Rattle.std.proofs.Common.{rules, arith, ◌≡◌, ◌+◌, ◌<◌, not, le
 use Rattle.std.proofs.lemmas.Bool.{eq-eqb, ne_eqb}
 use Rattle.std.specs.Prelude.{◌==◌}
 use Rattle.nr_model.specs.Nodes.Steps as steps
+use Rattle.nr_model.specs.declared.reason.Reason.TheVariants as reasons
 use Rattle.nr_nodes.specs.Logs.{log_seen}
 use Rattle.nr_nodes.proofs.Logged.{opened, holds, fails, outcome_of_fetch, within_by, there_by, inside_by, at_by, least_by, most_by, tail_by}
 use Rattle.nr_nodes.proofs.world.World.why_not_fetch.Goals as goal
@@ -42,7 +43,7 @@ returns-then-node-clause-reason c = λ events world past s.
     (within_by _ _ o c.args.number here)
     (there_by _ _ o c.args.number here)
     (at_by _ _ o c.args.number c.index-node.result.now at)
-    ∙ holds c.index-node.result.now.is_fetched steps.Busy _ c.if-node.true
+    ∙ holds c.index-node.result.now.is_fetched reasons.Busy _ c.if-node.true
 
 pub returns-then-node-tail-clause-reason : goal.returns-then-node-tail-clause-reason
 returns-then-node-tail-clause-reason c = λ events world past s.
@@ -54,8 +55,8 @@ returns-then-node-tail-clause-reason c = λ events world past s.
     (within_by _ _ o c.args.number here)
     (there_by _ _ o c.args.number here)
     (at_by _ _ o c.args.number c.index-node.result.now at)
-    ∙ fails c.index-node.result.now.is_fetched steps.Busy _ c.if-node.false
-    ∙ holds (c.index-node.result.now.passed == (c.args.self.now.log.base + length (log_seen c.args.self.now.log))) steps.Nothing _
+    ∙ fails c.index-node.result.now.is_fetched reasons.Busy _ c.if-node.false
+    ∙ holds (c.index-node.result.now.passed == (c.args.self.now.log.base + length (log_seen c.args.self.now.log))) reasons.Nothing _
     (eq-eqb c.index-node.result.now.passed (c.args.self.now.log.base + length (log_seen c.args.self.now.log)) (c.if-node-tail.true ∙ end))
 
 pub returns-then-not-is_filled-clause-reason : goal.returns-then-not-is_filled-clause-reason
@@ -68,10 +69,10 @@ returns-then-not-is_filled-clause-reason c = λ events world past s.
     (within_by _ _ o c.args.number here)
     (there_by _ _ o c.args.number here)
     (at_by _ _ o c.args.number c.index-node.result.now at)
-    ∙ fails c.index-node.result.now.is_fetched steps.Busy _ c.if-node.false
-    ∙ fails (c.index-node.result.now.passed == (c.args.self.now.log.base + length (log_seen c.args.self.now.log))) steps.Nothing _
+    ∙ fails c.index-node.result.now.is_fetched reasons.Busy _ c.if-node.false
+    ∙ fails (c.index-node.result.now.passed == (c.args.self.now.log.base + length (log_seen c.args.self.now.log))) reasons.Nothing _
     (ne_eqb c.index-node.result.now.passed (c.args.self.now.log.base + length (log_seen c.args.self.now.log)) (λ same. c.if-node-tail.false (same ∙ sym end)))
-    ∙ holds (not (steps.is_filled world c.args.number c.index-node.result.now.passed)) steps.NotYet _
+    ∙ holds (not (steps.is_filled world c.args.number c.index-node.result.now.passed)) reasons.NotYet _
     (ap not (sym (c.is_filled.ensures events world past s) ∙ c.if-not-is_filled.true))
 
 pub returns-clause-reason : goal.returns-clause-reason
@@ -84,10 +85,10 @@ returns-clause-reason c = λ events world past s.
     (within_by _ _ o c.args.number here)
     (there_by _ _ o c.args.number here)
     (at_by _ _ o c.args.number c.index-node.result.now at)
-    ∙ fails c.index-node.result.now.is_fetched steps.Busy _ c.if-node.false
-    ∙ fails (c.index-node.result.now.passed == (c.args.self.now.log.base + length (log_seen c.args.self.now.log))) steps.Nothing _
+    ∙ fails c.index-node.result.now.is_fetched reasons.Busy _ c.if-node.false
+    ∙ fails (c.index-node.result.now.passed == (c.args.self.now.log.base + length (log_seen c.args.self.now.log))) reasons.Nothing _
     (ne_eqb c.index-node.result.now.passed (c.args.self.now.log.base + length (log_seen c.args.self.now.log)) (λ same. c.if-node-tail.false (same ∙ sym end)))
-    ∙ fails (not (steps.is_filled world c.args.number c.index-node.result.now.passed)) steps.NotYet _
+    ∙ fails (not (steps.is_filled world c.args.number c.index-node.result.now.passed)) reasons.NotYet _
     (ap not (sym (c.is_filled.ensures events world past s) ∙ c.if-not-is_filled.false))
 
 pub returns-clause-there : goal.returns-clause-there

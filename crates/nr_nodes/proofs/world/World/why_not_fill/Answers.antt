@@ -1,5 +1,6 @@
 use Rattle.std.proofs.Common.{rules, arith, ◌≡◌, ◌<◌, false, not, length, get_or, ap, ◌∙◌}
 use Rattle.nr_model.specs.Nodes.Steps as steps
+use Rattle.nr_model.specs.declared.reason.Reason.TheVariants as reasons
 use Rattle.nr_nodes.proofs.Logged.{opened, fails, cell_is, outcome_of_fill, held_by, within_by, there_by, inside_by, at_by, cells_by, cells_all}
 use Rattle.nr_nodes.proofs.world.World.why_not_fill.Goals as goal
 
@@ -32,7 +33,7 @@ returns-clause-reason c = λ world s.
     (within_by _ _ o c.args.other other)
     (there_by _ _ o c.args.node here)
     (at_by _ _ o c.args.node c.index.result.now at)
-    ∙ fails (not (get_or c.index.result.now.unfilled.items c.args.other false)) steps.Nothing steps.Done
+    ∙ fails (not (get_or c.index.result.now.unfilled.items c.args.other false)) reasons.Nothing steps.Done
     (ap not (cell_is c.index.result.now.unfilled.items c.args.other c.index-2.result.now there cell ∙ c.if-not-index.false))
 
 pub returns-clause-there : goal.returns-clause-there

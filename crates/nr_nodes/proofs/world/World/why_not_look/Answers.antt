@@ -1,5 +1,6 @@
 use Rattle.std.proofs.Common.{rules, arith, ◌≡◌, ◌<◌, not, length, get_or, ap, sym, ◌∙◌}
 use Rattle.nr_model.specs.Nodes.Steps as steps
+use Rattle.nr_model.specs.declared.reason.Reason.TheVariants as reasons
 use Rattle.nr_nodes.specs.Served.{node_seen}
 use Rattle.nr_nodes.proofs.Replayed.{held_by, inside_by, fetch_fits, next_ready, there_by, such_by, look_asked, look_down, look_nothing, look_filled}
 use Rattle.nr_nodes.proofs.world.World.why_not_look.Goals as goal
@@ -66,7 +67,7 @@ returns-then-not-are_filled c = record {
       (omega (arith, c.nodes.ensures.value, c.if-number-nodes.false)) at
       ∙ look_filled world c.args.number (node_seen c.index-node.result.now) c.next_fetch.result c.are_filled.result (sym c.is_down.ensures ∙ c.if-is_down.false)
       (sym c.leads_read.ensures ∙ c.if-not-leads_read.false) c.next_fetch.ensures (c.are_filled.ensures events world past s)
-      ∙ ap (λ b. steps.idle_where (not b) steps.NotYet steps.Done) c.if-not-are_filled.true;
+      ∙ ap (λ b. steps.idle_where (not b) reasons.NotYet steps.Done) c.if-not-are_filled.true;
 }
 
 pub returns : goal.returns
@@ -78,5 +79,5 @@ returns c = record {
       (omega (arith, c.nodes.ensures.value, c.if-number-nodes.false)) at
       ∙ look_filled world c.args.number (node_seen c.index-node.result.now) c.next_fetch.result c.are_filled.result (sym c.is_down.ensures ∙ c.if-is_down.false)
       (sym c.leads_read.ensures ∙ c.if-not-leads_read.false) c.next_fetch.ensures (c.are_filled.ensures events world past s)
-      ∙ ap (λ b. steps.idle_where (not b) steps.NotYet steps.Done) c.if-not-are_filled.false;
+      ∙ ap (λ b. steps.idle_where (not b) reasons.NotYet steps.Done) c.if-not-are_filled.false;
 }

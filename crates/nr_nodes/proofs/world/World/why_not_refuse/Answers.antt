@@ -1,5 +1,6 @@
 use Rattle.std.proofs.Common.{rules, arith, ◌≡◌, ◌<◌, length, get_or, sym, ◌∙◌}
 use Rattle.nr_model.specs.Nodes.Steps as steps
+use Rattle.nr_model.specs.declared.reason.Reason.TheVariants as reasons
 use Rattle.nr_nodes.proofs.Replayed.{held_by, inside_by, such_by, refuse_asked, fails, holds}
 use Rattle.nr_nodes.proofs.world.World.why_not_refuse.Goals as goal
 
@@ -16,7 +17,7 @@ returns-then-is_down c = record {
       let at : c.index.result.now ≡ get_or c.self.inside.nodes.items c.args.node c.index.result.now = search rules in
       such_by _ c.args.self.now world c.args.node c.index.result.now refuse_asked c.self.view_is held s
       (omega (arith, c.nodes.ensures.value, c.if-node-nodes.false)) at
-      ∙ holds c.index.result.now.replica.down steps.Down steps.Done (sym c.is_down.ensures ∙ c.if-is_down.true);
+      ∙ holds c.index.result.now.replica.down reasons.Down steps.Done (sym c.is_down.ensures ∙ c.if-is_down.true);
 }
 
 pub returns : goal.returns
@@ -26,5 +27,5 @@ returns c = record {
       let at : c.index.result.now ≡ get_or c.self.inside.nodes.items c.args.node c.index.result.now = search rules in
       such_by _ c.args.self.now world c.args.node c.index.result.now refuse_asked c.self.view_is held s
       (omega (arith, c.nodes.ensures.value, c.if-node-nodes.false)) at
-      ∙ fails c.index.result.now.replica.down steps.Down steps.Done (sym c.is_down.ensures ∙ c.if-is_down.false);
+      ∙ fails c.index.result.now.replica.down reasons.Down steps.Done (sym c.is_down.ensures ∙ c.if-is_down.false);
 }

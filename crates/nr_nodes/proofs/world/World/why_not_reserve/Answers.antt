@@ -2,6 +2,7 @@ use Rattle.std.proofs.Common.{rules, arith, ◌≡◌, ◌<◌, not, length, get
 use Rattle.std.specs.List.{list_any}
 use Rattle.nr_model.specs.Entries.{entry_jobs}
 use Rattle.nr_model.specs.Nodes.Steps as steps
+use Rattle.nr_model.specs.declared.reason.Reason.TheVariants as reasons
 use Rattle.nr_entry.specs.Waiting.{has_some}
 use Rattle.nr_nodes.specs.Served.{node_seen}
 use Rattle.nr_nodes.specs.declared.node.Node.{Node}
@@ -26,7 +27,7 @@ returns-then-is_down-clause-reason c = λ world s.
     (within_by _ _ o c.args.number here)
     (there_by _ _ o c.args.number here)
     (at_by _ _ o c.args.number c.index-node.result.now at)
-    ∙ holds c.index-node.result.now.replica.down steps.Down _ (sym c.is_down.ensures ∙ c.if-is_down.true)
+    ∙ holds c.index-node.result.now.replica.down reasons.Down _ (sym c.is_down.ensures ∙ c.if-is_down.true)
 
 pub returns-then-is_filling-clause-reason : goal.returns-then-is_filling-clause-reason
 returns-then-is_filling-clause-reason c = λ world s.
@@ -37,8 +38,8 @@ returns-then-is_filling-clause-reason c = λ world s.
     (within_by _ _ o c.args.number here)
     (there_by _ _ o c.args.number here)
     (at_by _ _ o c.args.number c.index-node.result.now at)
-    ∙ fails c.index-node.result.now.replica.down steps.Down _ (sym c.is_down.ensures ∙ c.if-is_down.false)
-    ∙ holds (list_any steps.is_true c.index-node.result.now.unfilled.items) steps.Busy _ (sym c.is_filling.ensures ∙ c.if-is_filling.true)
+    ∙ fails c.index-node.result.now.replica.down reasons.Down _ (sym c.is_down.ensures ∙ c.if-is_down.false)
+    ∙ holds (list_any steps.is_true c.index-node.result.now.unfilled.items) reasons.Busy _ (sym c.is_filling.ensures ∙ c.if-is_filling.true)
 
 pub returns-then-not-has_place-clause-reason : goal.returns-then-not-has_place-clause-reason
 returns-then-not-has_place-clause-reason c = λ world s.
@@ -50,10 +51,10 @@ returns-then-not-has_place-clause-reason c = λ world s.
     (within_by _ _ o c.args.number here)
     (there_by _ _ o c.args.number here)
     (at_by _ _ o c.args.number c.index-node.result.now at)
-    ∙ fails c.index-node.result.now.replica.down steps.Down _ (sym c.is_down.ensures ∙ c.if-is_down.false)
-    ∙ fails (list_any steps.is_true c.index-node.result.now.unfilled.items) steps.Busy _ (sym c.is_filling.ensures ∙ c.if-is_filling.false)
-    ∙ fails (steps.is_empty jobs) steps.Nothing _ (some_lead jobs (sym c.leads_update.ensures ∙ c.if-not-leads_update.false))
-    ∙ holds (not (steps.has_place c.args.self.now.setup world)) steps.Full _ (ap not (sym (c.has_place.ensures world s) ∙ c.if-not-has_place.true))
+    ∙ fails c.index-node.result.now.replica.down reasons.Down _ (sym c.is_down.ensures ∙ c.if-is_down.false)
+    ∙ fails (list_any steps.is_true c.index-node.result.now.unfilled.items) reasons.Busy _ (sym c.is_filling.ensures ∙ c.if-is_filling.false)
+    ∙ fails (steps.is_empty jobs) reasons.Nothing _ (some_lead jobs (sym c.leads_update.ensures ∙ c.if-not-leads_update.false))
+    ∙ holds (not (steps.has_place c.args.self.now.setup world)) reasons.Full _ (ap not (sym (c.has_place.ensures world s) ∙ c.if-not-has_place.true))
 
 pub returns-clause-reason : goal.returns-clause-reason
 returns-clause-reason c = λ world s.
@@ -65,10 +66,10 @@ returns-clause-reason c = λ world s.
     (within_by _ _ o c.args.number here)
     (there_by _ _ o c.args.number here)
     (at_by _ _ o c.args.number c.index-node.result.now at)
-    ∙ fails c.index-node.result.now.replica.down steps.Down _ (sym c.is_down.ensures ∙ c.if-is_down.false)
-    ∙ fails (list_any steps.is_true c.index-node.result.now.unfilled.items) steps.Busy _ (sym c.is_filling.ensures ∙ c.if-is_filling.false)
-    ∙ fails (steps.is_empty jobs) steps.Nothing _ (some_lead jobs (sym c.leads_update.ensures ∙ c.if-not-leads_update.false))
-    ∙ fails (not (steps.has_place c.args.self.now.setup world)) steps.Full _ (ap not (sym (c.has_place.ensures world s) ∙ c.if-not-has_place.false))
+    ∙ fails c.index-node.result.now.replica.down reasons.Down _ (sym c.is_down.ensures ∙ c.if-is_down.false)
+    ∙ fails (list_any steps.is_true c.index-node.result.now.unfilled.items) reasons.Busy _ (sym c.is_filling.ensures ∙ c.if-is_filling.false)
+    ∙ fails (steps.is_empty jobs) reasons.Nothing _ (some_lead jobs (sym c.leads_update.ensures ∙ c.if-not-leads_update.false))
+    ∙ fails (not (steps.has_place c.args.self.now.setup world)) reasons.Full _ (ap not (sym (c.has_place.ensures world s) ∙ c.if-not-has_place.false))
 
 pub returns-clause-there : goal.returns-clause-there
 returns-clause-there c =

@@ -11,4 +11,4 @@ invariant_of-self-2 c = in_order c.self.inside.by_name.entries c.insert.new.self
 pub returns-clause-ok : goal.returns-clause-ok
 returns-clause-ok c = subst (λ m. IsPlaced m (standing_of c.insert.new.self.entries) c.args.name.now (connection_of c.args.conn ∷ [])) c.self.view_is
     (begun c.self.inside.by_name.entries c.insert.new.self.entries c.args.name.now c.in_ok-copy.field-0 c.in_ok-set.set (connection_of c.args.conn)
-    c.in_ok-insert.ensures.updates.0 c.in_ok-set.ensures c.in_ok-copy.ensures)
+    c.in_ok-insert.ensures.updates.0 c.in_ok-set.ensures c.in_ok-copy.ensures.copied)

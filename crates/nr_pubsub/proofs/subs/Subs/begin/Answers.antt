@@ -20,4 +20,4 @@ invariant_of-self-in_default c =
     (connection_of c.args.conn) c.args.kind c.args.name c.self.invariant
     c.in_ok-add.ensures.ok
     (c.in_default.ensures.ok ∙ ap (λ (n : Bytes). finmap.insert c.self.inside.holders (connection_of c.args.conn)
-    (subscribed c.args.kind (held_in c.self.inside.holders (connection_of c.args.conn)) n)) c.in_ok-held_name.ensures)
+    (subscribed c.args.kind (held_in c.self.inside.holders (connection_of c.args.conn)) n)) c.in_ok-held_name.ensures.copied)

@@ -1,4 +1,4 @@
-use Rattle.std.proofs.Common.{◌≡◌, ◌+◌, ◌≤◌, ◌++◌, length, take, drop, ap, sym, ◌∙◌, subst}
+use Rattle.std.proofs.Common.{◌≡◌, ◌+◌, ◌≤◌, ◌++◌, length, take, drop, refl, ap, sym, ◌∙◌, subst}
 use Rattle.nr_model.specs.Bytes.{Bytes}
 use Rattle.nr_model.specs.Strings.{padded}
 use Rattle.nr_strings.proofs.Written.{over_padded, all_of, same_length, length_padded}
@@ -12,10 +12,8 @@ returns-clause-ok c =
     let grown = c.grow.new.bytes.items in
     let padded_is : grown ≡ padded (offset + length written) text = c.in_ok-grow.ensures.ok ∙ ap (padded (offset + length written)) c.self.view_is in
     let fits : offset + length written ≤ length grown = subst (λ (b : Bytes). offset + length written ≤ length b) (sym padded_is) (length_padded (offset + length written) text) in
-    let over = c.overwrite.ensures ∙ ap (λ (b : Bytes). take offset b ++ written ++ drop (offset + length written) b) c.deref_mut.ensures.value in
-    all_of c.grow.new.bytes.len c.overwrite.new.bytes grown
-    (sym c.deref_mut.ensures.len ∙ ap length c.deref_mut.ensures.value)
-    (ap length over ∙ same_length offset written grown fits)
+    let over = c.overwrite.ensures ∙ ap (λ (b : Bytes). take offset b ++ written ++ drop (offset + length written) b) c.as_mut_slice.ensures.value in
+    all_of (length grown) c.overwrite.new.bytes grown refl (ap length over ∙ same_length offset written grown fits)
     ∙ over
     ∙ ap (λ (b : Bytes). take offset b ++ written ++ drop (offset + length written) b) padded_is
     ∙ over_padded offset written text

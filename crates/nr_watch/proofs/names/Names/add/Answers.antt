@@ -29,11 +29,11 @@ pub returns-clause-ok : goal.returns-clause-ok
 returns-clause-ok c =
     let old = c.args.self.now.conns.entries in
     let new = c.insert-3.new.self.entries in
-    let name = c.in_ok-from_slice.field-0.items in
+    let name = c.in_ok-copy.field-0 in
     let changes = rw c.get_mut.follows.holds-at-none at c.in_ok-insert-3.ensures.updates in
     let none : None ≡ lookup (is_name name) old =
-    c.in_default.ensures.value ∙ ap (λ (n : Bytes). lookup (is_name n) old) (sym c.in_ok-from_slice.ensures.items) in
-    subst (λ (n : Bytes). IsAdded (λ other. eq_by_cmp byte_cmp other n) c.args.conn old new) c.in_ok-from_slice.ensures.items
+    c.in_default.ensures.value ∙ ap (λ (n : Bytes). lookup (is_name n) old) (sym c.in_ok-copy.ensures.copied) in
+    subst (λ (n : Bytes). IsAdded (λ other. eq_by_cmp byte_cmp other n) c.args.conn old new) c.in_ok-copy.ensures.copied
     (added old new name c.args.conn None (Some c.insert-2.new.self) none changes.1 changes.3
     (λ d. more_conns c.new-conns.result c.insert-2.new.self c.args.conn c.in_ok-insert-2.ensures.updates.0 d
     ∙ ap (λ (keys : List ConnId). is_conn d c.args.conn || list_any (is_conn d) keys) c.new-conns.ensures.empty))
@@ -58,6 +58,6 @@ invariant_of-self-2 c =
     record {
       held = either c.insert-3.result c.insert-3.ensures.updates c.insert-3.ensures.err
           (λ updates. let changes = rw c.get_mut.follows.holds-at-none at updates in
-          still_held old new c.in_ok-from_slice.field-0.items (Some c.insert-2.new.self) c.args.self.now.held changes.1 changes.3 some)
+          still_held old new c.in_ok-copy.field-0 (Some c.insert-2.new.self) c.args.self.now.held changes.1 changes.3 some)
           (λ same. rw (same, c.get_mut.follows.holds-at-none) c.args.self.now.held);
     }

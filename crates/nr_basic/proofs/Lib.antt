@@ -1,0 +1,12 @@
+pub mod Added
+pub mod CopyWords
+pub mod Couples
+pub mod Expired
+pub mod Flushed
+pub mod Looking
+pub mod Options
+pub mod Overlong
+pub mod Redated
+pub mod Refused
+pub mod Removals
+pub mod Swapped

@@ -1,0 +1,4 @@
+pub mod Removed
+pub mod Pairs
+pub mod Options
+pub mod Expired

@@ -1,0 +1,3 @@
+mod Kept
+mod TakenOut
+mod Placed

@@ -1,0 +1,27 @@
+use Rattle.std.proofs.Common.{arith, ◌≡◌, ◌≤◌, List, length, ◌++◌, get_or, ap, sym, ◌∙◌}
+use Rattle.std.specs.Prelude.{map}
+use Rattle.std.proofs.lemmas.List.{map-append}
+use Rattle.nr_model.specs.Connections as traffic
+use Rattle.nr_entry.specs.Jobs.{connection_of}
+use Rattle.nr_replica.specs.Members.{Member}
+use Rattle.nr_nodes.specs.Seen.{handed_seen}
+use Rattle.nr_nodes.proofs.Collected.{some_waits, none_there}
+use Rattle.nr_nodes.proofs.waiting_bytes.hand_out.Goals as goal
+
+pub returns-then-waiting-eq0-clause-members : goal.returns-then-waiting-eq0-clause-members
+returns-then-waiting-eq0-clause-members c = λ d.
+    let none : length (get_or c.args.replica.now.members c.args.serial d).outbox.waiting ≡ 0 =
+    omega (arith, c.waiting-waiting.ensures d, c.if-waiting-eq0.true) in
+    none_there c.args.replica.now c.args.serial d none
+
+pub returns-clause-handed : goal.returns-clause-handed
+returns-clause-handed c = λ d.
+    let m : Member = get_or c.args.replica.now.members c.args.serial d in
+    let all : length m.outbox.waiting ≤ c.waiting-waiting.result = omega (arith, c.waiting-waiting.ensures d) in
+    let got = rw c.in-Some.is at (c.in_ok-piece.ensures.piece d) in
+    let some = rw c.in-Some.is at c.in_ok-piece.ensures.some in
+    ap (map handed_seen) c.in_ok-push.ensures.items
+    ∙ map-append handed_seen c.args.handed.now.items _
+    ∙ ap (λ (more : List traffic.Handed). map handed_seen c.args.handed.now.items ++ more)
+    (some_waits c.waiting-waiting.result m (connection_of c.in-Some.piece.conn) c.in-Some.piece.bytes.items all (got.0
+    ∙ sym (c.requires.named d)) got.2 some)

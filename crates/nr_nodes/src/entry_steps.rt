@@ -1,0 +1,190 @@
+// Entries of the log: a node reserves one and fills its cells, and each node fetches them in turn.
+ghost use Rattle.std.specs.Prelude.{◌≡◌, ◌<◌, ◌≤◌, ◌+◌, ◌&&◌, ◌==◌, true, false, not, nat_lt, length, slice_index_or, IfOk, IfNone, OnErr, IsErr, List};
+ghost use Rattle.std.specs.List.{list_any, list_all};
+ghost use Rattle.nr_model.specs.Entries.{entry_jobs};
+ghost use Rattle.nr_model.specs.Nodes as nodes;
+ghost use Rattle.nr_model.specs.Nodes.Steps as steps;
+ghost use Rattle.nr_model.specs.Nodes.Pasts.{Event, IsPast};
+ghost use Rattle.nr_entry.specs.Waiting.{has_some};
+ghost use Rattle.nr_nodes.specs.Seen.{outcome_seen};
+ghost use Rattle.nr_nodes.specs.Served.{node_seen};
+ghost use Rattle.nr_nodes.specs.Logs.{log_seen};
+ghost use Rattle.nr_nodes.specs.Taken.{Steps, idle_or};
+ghost use Rattle.nr_nodes.specs.WorldState.{Shows};
+
+use crate::node::Node;
+use crate::step::Outcome;
+use crate::world::World;
+use nr_blob::Memory;
+use nr_model::reason::Reason;
+
+impl World {
+    /// A node reserves an entry of the log for the updates that lead, at most 1,024 of them.
+    pub fn reserve(&mut self, node: usize) -> Result<Outcome, Memory>
+        ensures taken { IfOk result (λ outcome. Steps self.old self.new (steps.Reserve node) (outcome_seen outcome)) }
+        ensures failed { OnErr result (self.new.failed ≡ true) }
+        ensures setup { self.new.setup ≡ self.old.setup }
+        ensures repeats { self.old.failed ≡ true → IsErr result }
+    {
+        if self.has_failed {
+            return Err(Memory);
+        }
+        if let Some(reason) = self.why_not_reserve(node) {
+            return Ok(Outcome::Idle(reason));
+        }
+        self.has_failed = true;
+        if !self.log.has_number() {
+            return Err(Memory);
+        }
+        let entry = self.nodes[node].reserve(self.log.tail())?;
+        self.log.push(self.alloc, entry)?;
+        self.has_failed = false;
+        Ok(Outcome::Done)
+    }
+
+    fn why_not_reserve(&self, number: usize) -> Option<Reason>
+        requires still { self.now.failed ≡ false }
+        ensures reason { (world : nodes.World) → Shows self.now world → steps.outcome self.now.setup world (steps.Reserve number) ≡ idle_or result steps.Done }
+        ensures there { IfNone result (number < length self.now.nodes) }
+        ensures leads { (d : Node) → IfNone result (has_some (entry_jobs (node_seen (slice_index_or self.now.nodes number d)).waiting) ≡ true) }
+    {
+        if number >= self.setup.nodes() {
+            return Some(Reason::NoSuch);
+        }
+        let node = &self.nodes[number];
+        if node.replica.is_down() {
+            return Some(Reason::Down);
+        }
+        if is_filling(node) {
+            return Some(Reason::Busy);
+        }
+        if !node.replica.leads_update() {
+            return Some(Reason::Nothing);
+        }
+        if !self.has_place() {
+            return Some(Reason::Full);
+        }
+        None
+    }
+
+    // Whether the next entry finds a place that every node has passed.
+    fn has_place(&self) -> bool
+        requires still { self.now.failed ≡ false }
+        ensures { (world : nodes.World) → Shows self.now world → result ≡ steps.has_place self.now.setup world }
+    {
+        all_leave_place(&self.nodes, self.log.tail(), self.setup.places() as u64)
+    }
+
+    /// A node fills another node's cell of the entry that it reserved.
+    pub fn fill(&mut self, node: usize, other: usize) -> Result<Outcome, Memory>
+        ensures taken { IfOk result (λ outcome. Steps self.old self.new (steps.Fill node other) (outcome_seen outcome)) }
+        ensures failed { OnErr result (self.new.failed ≡ true) }
+        ensures setup { self.new.setup ≡ self.old.setup }
+        ensures repeats { self.old.failed ≡ true → IsErr result }
+    {
+        if self.has_failed {
+            return Err(Memory);
+        }
+        if let Some(reason) = self.why_not_fill(node, other) {
+            return Ok(Outcome::Idle(reason));
+        }
+        self.nodes[node].fill(other);
+        Ok(Outcome::Done)
+    }
+
+    fn why_not_fill(&self, node: usize, other: usize) -> Option<Reason>
+        requires still { self.now.failed ≡ false }
+        ensures reason { (world : nodes.World) → Shows self.now world → steps.outcome self.now.setup world (steps.Fill node other) ≡ idle_or result steps.Done }
+        ensures there { IfNone result (node < length self.now.nodes) }
+        ensures cell { (d : Node) → IfNone result (other < length (slice_index_or self.now.nodes node d).unfilled.items) }
+    {
+        if node >= self.setup.nodes() || other >= self.setup.nodes() {
+            return Some(Reason::NoSuch);
+        }
+        if !self.nodes[node].unfilled[other] {
+            return Some(Reason::Nothing);
+        }
+        None
+    }
+
+    /// A node fetches its next entry.
+    pub fn fetch(&mut self, node: usize) -> Result<Outcome, Memory>
+        ensures taken { IfOk result (λ outcome. Steps self.old self.new (steps.Fetch node) (outcome_seen outcome)) }
+        ensures failed { OnErr result (self.new.failed ≡ true) }
+        ensures setup { self.new.setup ≡ self.old.setup }
+        ensures repeats { self.old.failed ≡ true → IsErr result }
+    {
+        if self.has_failed {
+            return Err(Memory);
+        }
+        if let Some(reason) = self.why_not_fetch(node) {
+            return Ok(Outcome::Idle(reason));
+        }
+        self.nodes[node].fetch();
+        Ok(Outcome::Done)
+    }
+
+    fn why_not_fetch(&self, number: usize) -> Option<Reason>
+        requires still { self.now.failed ≡ false }
+        ensures reason { (events : List Event) (world : nodes.World) → IsPast self.now.setup events world → Shows self.now world → steps.outcome self.now.setup world (steps.Fetch number) ≡ idle_or result steps.Done }
+        ensures there { IfNone result (number < length self.now.nodes) }
+    {
+        if number >= self.setup.nodes() {
+            return Some(Reason::NoSuch);
+        }
+        let node = &self.nodes[number];
+        if node.is_fetched {
+            return Some(Reason::Busy);
+        }
+        if node.passed == self.log.tail() {
+            return Some(Reason::Nothing);
+        }
+        if !self.is_filled(number, node.passed) {
+            return Some(Reason::NotYet);
+        }
+        None
+    }
+
+    /// Whether a node's cell of an entry is filled.
+    pub(crate) fn is_filled(&self, node: usize, number: u64) -> bool
+        requires still { self.now.failed ≡ false }
+        requires there { node < length self.now.nodes }
+        requires base { self.now.log.base ≤ number }
+        requires tail { number < self.now.log.base + length (log_seen self.now.log) }
+        ensures { (events : List Event) (world : nodes.World) → IsPast self.now.setup events world → Shows self.now world → result ≡ steps.is_filled world node number }
+    {
+        let owner = self.log.entry(number).node;
+        is_filled_by(&self.nodes[owner], node, number)
+    }
+}
+
+// Whether a cell of the entry that it reserved last isn't filled yet.
+fn is_filling(node: &Node) -> bool
+    ensures { result ≡ list_any steps.is_true node.now.unfilled.items }
+{
+    node.unfilled.iter().any(|unfilled| *unfilled)
+}
+
+// Whether a node's cell of an entry that this one reserved is filled.
+fn is_filled_by(by: &Node, node: usize, number: u64) -> bool
+    requires { node < length by.now.unfilled.items }
+    ensures { result ≡ not (by.now.at == number && slice_index_or by.now.unfilled.items node false) }
+{
+    !(by.at == number && by.unfilled[node])
+}
+
+// Whether an entry at the tail finds a place that a node has passed.
+fn leaves_place(passed: u64, tail: u64, places: u64) -> bool
+    ensures { result ≡ nat_lt tail (passed + places) }
+{
+    tail < passed || tail - passed < places
+}
+
+// Whether it finds one that each of these has passed.
+fn all_leave_place(nodes: &[Node], tail: u64, places: u64) -> bool
+    ensures { result ≡ list_all (λ node. nat_lt tail (node.passed + places)) nodes.now }
+{
+    nodes
+        .iter()
+        .all(|node| leaves_place(node.passed, tail, places))
+}

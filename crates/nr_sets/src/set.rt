@@ -1,0 +1,135 @@
+// A set: what the commands add, look up and take out, member by member.
+ghost use Rattle.std.specs.Prelude.{◌≡◌, ◌↔◌, ◌<◌, ◌^◌, not, length, IsTrue, IfOk, OnOk, OnErr};
+ghost use Rattle.std.specs.FinSet as set;
+ghost use Rattle.std.specs.BTreeSet.{IsOrdered};
+ghost use Rattle.std.specs.Map.Iter.{ShowsInOrder, deref};
+ghost use Rattle.nr_model.specs.Bytes.{Bytes};
+ghost use Rattle.nr_model.specs.Keyspace.{byte_cmp};
+ghost use Rattle.nr_model.specs.Sets.{listed};
+
+use nr_blob::{Blob, Memory};
+use std::alloc::Global;
+use std::collections::BTreeSet;
+use std::collections::btree_set::Iter;
+use std::marker::Model;
+
+/// A set, as a key holds it. It is seen as a finite set of byte lists. To drop it is linear in its members.
+#[derive(Debug, Drop)]
+pub struct Set {
+    // Copies are made with it: a set doesn't hand its own out.
+    alloc: Global,
+    members: BTreeSet<Blob>,
+}
+
+impl Model for Set {
+    ghost use Rattle.std.specs.FinSet as set;
+    ghost use Rattle.std.specs.BTreeSet.{IsOrdered};
+    ghost use Rattle.nr_model.specs.Keyspace.{byte_cmp};
+    ghost use Rattle.nr_model.specs.Sets.{Members, coded_members};
+
+    ghost Value = { Members };
+
+    ghost coded = { coded_members };
+
+    ghost view = { λ s. set.from_list s.members.keys };
+
+    ghost invariant = { λ s. IsOrdered byte_cmp s.members };
+}
+
+impl Set {
+    /// The empty set. It takes no memory.
+    pub fn new(alloc: Global) -> Set
+        ensures { result ≡ set.empty }
+    {
+        Set {
+            alloc,
+            members: BTreeSet::new(alloc),
+        }
+    }
+
+    /// How many members. Constant.
+    pub fn len(&self) -> usize
+        ensures len { result ≡ set.len self.now }
+        ensures small { result < 2 ^ 63 }
+    {
+        self.members.len()
+    }
+
+    pub fn is_empty(&self) -> bool
+        ensures { IsTrue result ↔ (self.now ≡ set.empty) }
+    {
+        self.members.is_empty()
+    }
+
+    /// Puts a member in, and says whether it is new. Logarithmic. Where memory runs out nothing is changed.
+    pub fn insert(&mut self, member: Blob) -> Result<bool, Memory>
+        ensures new { IfOk result (λ is_new. is_new ≡ not (set.contains self.old member)) }
+        ensures ok { OnOk result (self.new ≡ set.insert self.old member) }
+        ensures err { OnErr result (self.new ≡ self.old) }
+    {
+        Ok(self.members.insert(member)?)
+    }
+
+    /// Whether this is a member. Logarithmic.
+    pub fn contains(&self, member: &Blob) -> bool
+        ensures { result ≡ set.contains self.now member.now }
+    {
+        self.members.contains(member)
+    }
+
+    /// Takes a member out, and says whether it was there. Logarithmic.
+    pub fn remove(&mut self, member: &Blob) -> bool
+        ensures there { result ≡ set.contains self.old member.now }
+        ensures removed { self.new ≡ set.remove self.old member.now }
+    {
+        self.members.remove(member)
+    }
+
+    /// The members, in byte order.
+    pub fn members(&self) -> Iter<'_, Blob>
+        ensures members { result ≡ listed self.now }
+        ensures len { length result ≡ set.len self.now }
+        ensures in_order { ShowsInOrder (deref {X = Bytes}) }
+    {
+        self.members.iter()
+    }
+
+    // Puts the members of another set in. Where memory runs out some of them are in.
+    pub(crate) fn extend(&mut self, other: &Set) -> Result<(), Memory>
+        ensures { OnOk result (self.new ≡ set.union self.old other.now) }
+    {
+        add_each(&mut self.members, &other.members)
+    }
+
+    /// The same members once more. O(n log n), and linear in their bytes.
+    pub fn copy(&self) -> Result<Set, Memory>
+        ensures { IfOk result (λ copied. copied ≡ self.now) }
+    {
+        Ok(Set {
+            alloc: self.alloc,
+            members: copy_each(self.alloc, &self.members)?,
+        })
+    }
+}
+
+fn add_each(members: &mut BTreeSet<Blob>, others: &BTreeSet<Blob>) -> Result<(), Memory>
+    requires { IsOrdered byte_cmp members.old }
+    ensures added { OnOk result (set.from_list {R = byte_cmp} members.new.keys ≡ set.union (set.from_list members.old.keys) (set.from_list others.now.keys)) }
+    ensures ordered { IsOrdered byte_cmp members.new }
+{
+    for other in others {
+        members.insert(other.copy()?)?;
+    }
+    Ok(())
+}
+
+fn copy_each(alloc: Global, members: &BTreeSet<Blob>) -> Result<BTreeSet<Blob>, Memory>
+    ensures same { IfOk result (λ copied. copied.keys ≡ members.now.keys) }
+    ensures ordered { IfOk result (λ copied. IsOrdered byte_cmp copied) }
+{
+    let mut copied = BTreeSet::new(alloc);
+    for member in members {
+        copied.insert(member.copy()?)?;
+    }
+    Ok(copied)
+}
