@@ -12,8 +12,11 @@ use nr_model::command::{Change, Look};
 use nr_resp::{Failure, Reply, Shown, arguments};
 use std::alloc::Global;
 
+mod hashes;
 mod keys;
+mod lists;
 mod server;
+mod sets;
 mod strings;
 
 /// The reply of a command that only looks, at a moment in milliseconds, for a connection whose database this is. The words are
@@ -50,6 +53,9 @@ fn look_in_section<'k>(
         Look::Server(command) => server::look(alloc, keyspace, now, database, command, words),
         Look::Keys(command) => keys::look(keyspace, now, database, command, words),
         Look::Strings(command) => strings::look(alloc, keyspace, now, database, command, words),
+        Look::Lists(command) => lists::look(alloc, keyspace, now, database, command, words),
+        Look::Hashes(command) => hashes::look(alloc, keyspace, now, database, command, words),
+        Look::Sets(command) => sets::look(alloc, keyspace, now, database, command, words),
     }
 }
 
@@ -98,6 +104,15 @@ fn change_in_section<T: Touched>(
         ),
         Change::Strings(command) => {
             strings::change(alloc, keyspace, now, *database, command, words, touched)
+        }
+        Change::Lists(command) => {
+            lists::change(alloc, keyspace, now, *database, command, words, touched)
+        }
+        Change::Hashes(command) => {
+            hashes::change(alloc, keyspace, now, *database, command, words, touched)
+        }
+        Change::Sets(command) => {
+            sets::change(alloc, keyspace, now, *database, command, words, touched)
         }
     }
 }

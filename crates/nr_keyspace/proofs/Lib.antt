@@ -17,3 +17,4 @@ pub mod Missing
 pub mod Redated
 pub mod Touching
 pub mod Kept
+pub mod Leaving

@@ -123,7 +123,7 @@ impl Database {
         let mut copy = Database::new(alloc, *self.by_name.hasher());
         for (name, entry) in self.by_name.iter() {
             let name = name.copy()?;
-            copy.put(name, entry.value.copy()?, entry.deadline)?;
+            copy.put(name, entry.value.copy(alloc)?, entry.deadline)?;
         }
         Ok(copy)
     }

@@ -59,6 +59,7 @@ impl<E: StringEdit> Edit for OnString<E> {
                 let given = self.edit.edit(text)?;
                 Ok(given)
             }
+            _ => Ok(Err(Refused::WrongType)),
         }
     }
 }

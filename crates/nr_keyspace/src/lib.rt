@@ -2,6 +2,7 @@
 //! memory alone, and knows no clock: each call is handed its moment.
 #![tactic(auto)]
 
+pub use collections::{HashEdit, ListEdit, OnHash, OnList, OnSet, SetEdit};
 pub use db::Db;
 pub use edit::{Edit, OnString, StringEdit};
 pub use keyspace::Keyspace;
@@ -9,11 +10,13 @@ pub use moment::is_live;
 pub use touched::{Nobody, Touched};
 pub use value::Value;
 
+mod collections;
 mod database;
 mod databases;
 mod db;
 mod deadlines;
 mod edit;
+mod emptied;
 mod keyspace;
 mod moment;
 mod touched;

@@ -1,19 +1,32 @@
 // What a key holds. A kind of value is a variant, and what is asked of a kind stands here: no command matches on a value.
 ghost use Rattle.std.specs.Prelude.{◌≡◌, Ok, IfOk, IfErr};
+ghost use Rattle.nr_model.specs.Keyspace.{Items, Fields, Members};
+ghost use Rattle.nr_model.specs.Commands.Held.{items_of, fields_of, members_of};
 ghost use Rattle.nr_model.specs.Commands.Keys.{kind_of};
 ghost use Rattle.nr_model.specs.Commands.Reading.{fault};
 ghost use Rattle.nr_model.specs.Commands.Strings.{text_of};
 ghost use Rattle.nr_keyspace.specs.Values.{value_of};
 
 use nr_blob::Memory;
+use nr_hashes::Hash;
+use nr_lists::List;
 use nr_model::refused::Refused;
+use nr_sets::Set;
 use nr_strings::Str;
+use std::alloc::Global;
 
-/// The value of a key.
+/// The value of a key. Collections stand in blocks of their own, so that a string needs no more room than without them. To drop a
+/// value is linear in it.
 #[derive(Debug, Drop)]
 pub enum Value {
     /// A string of bytes.
     String(Str),
+    /// Items in order.
+    List(Box<List>),
+    /// Fields with their values.
+    Hash(Box<Hash>),
+    /// Members, each once.
+    Set(Box<Set>),
 }
 
 impl From<Str> for Value {
@@ -29,12 +42,36 @@ impl From<Str> for Value {
 }
 
 impl Value {
+    /// A list as a value.
+    pub fn list(alloc: Global, list: List) -> Result<Value, Memory>
+        ensures { IfOk result (λ value. value_of value ≡ Items list) }
+    {
+        Ok(Value::List(Box::new(alloc, list)?))
+    }
+
+    /// A hash as a value.
+    pub fn hash(alloc: Global, hash: Hash) -> Result<Value, Memory>
+        ensures { IfOk result (λ value. value_of value ≡ Fields hash) }
+    {
+        Ok(Value::Hash(Box::new(alloc, hash)?))
+    }
+
+    /// A set as a value.
+    pub fn set(alloc: Global, set: Set) -> Result<Value, Memory>
+        ensures { IfOk result (λ value. value_of value ≡ Members set) }
+    {
+        Ok(Value::Set(Box::new(alloc, set)?))
+    }
+
     /// The same value once more. Linear in its size.
-    pub fn copy(&self) -> Result<Value, Memory>
+    pub fn copy(&self, alloc: Global) -> Result<Value, Memory>
         ensures { IfOk result (λ value. value_of value ≡ value_of self.now) }
     {
         match self {
             Value::String(text) => Ok(Value::String(text.copy()?)),
+            Value::List(list) => Value::list(alloc, list.copy()?),
+            Value::Hash(hash) => Value::hash(alloc, hash.copy()?),
+            Value::Set(set) => Value::set(alloc, set.copy()?),
         }
     }
 
@@ -44,6 +81,9 @@ impl Value {
     {
         match self {
             Value::String(_) => "string",
+            Value::List(_) => "list",
+            Value::Hash(_) => "hash",
+            Value::Set(_) => "set",
         }
     }
 
@@ -54,6 +94,7 @@ impl Value {
     {
         match self {
             Value::String(text) => Ok(text),
+            _ => Err(Refused::WrongType),
         }
     }
 
@@ -64,6 +105,40 @@ impl Value {
     {
         match self {
             Value::String(string) => Ok(string),
+            _ => Err(Refused::WrongType),
+        }
+    }
+
+    /// The list that it is. A value of another kind is refused.
+    pub fn as_list(&self) -> Result<&List, Refused>
+        ensures items { IfOk result (λ list. items_of (value_of self.now) ≡ Ok list.now) }
+        ensures refused { IfErr result (λ why. items_of (value_of self.now) ≡ fault why) }
+    {
+        match self {
+            Value::List(list) => Ok(list),
+            _ => Err(Refused::WrongType),
+        }
+    }
+
+    /// The hash that it is. A value of another kind is refused.
+    pub fn as_hash(&self) -> Result<&Hash, Refused>
+        ensures fields { IfOk result (λ hash. fields_of (value_of self.now) ≡ Ok hash.now) }
+        ensures refused { IfErr result (λ why. fields_of (value_of self.now) ≡ fault why) }
+    {
+        match self {
+            Value::Hash(hash) => Ok(hash),
+            _ => Err(Refused::WrongType),
+        }
+    }
+
+    /// The set that it is. A value of another kind is refused.
+    pub fn as_set(&self) -> Result<&Set, Refused>
+        ensures members { IfOk result (λ set. members_of (value_of self.now) ≡ Ok set.now) }
+        ensures refused { IfErr result (λ why. members_of (value_of self.now) ≡ fault why) }
+    {
+        match self {
+            Value::Set(set) => Ok(set),
+            _ => Err(Refused::WrongType),
         }
     }
 }

@@ -1,3 +1,4 @@
 mod Kept
 mod TakenOut
 mod Placed
+mod Within

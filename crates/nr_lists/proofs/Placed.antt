@@ -6,7 +6,9 @@ use Rattle.std.proofs.lemmas.List.{length_push, length-take, length-drop, take_a
 use Rattle.std.proofs.lemmas.List.FromFn.{length-enumerate_from, get_or-enumerate_from}
 use Rattle.std.proofs.lemmas.Bool.{cases_lt}
 use Rattle.nr_model.specs.Bytes.{Bytes}
-use Rattle.nr_model.specs.Lists.{End, Left, Right, seen_from, end_of, limited, passed_over, places_of}
+use Rattle.nr_model.specs.Lists.{seen_from, end_of, limited, passed_over, places_of}
+use Rattle.nr_model.specs.declared.command.End.{End}
+use Rattle.nr_model.specs.declared.command.End.TheVariants.{Left, Right}
 use Rattle.nr_lists.specs.Matches.{limit_of, place_from}
 use Rattle.nr_lists.proofs.TakenOut.{length_seen}
 
@@ -88,7 +90,7 @@ module _ (bytes : Bytes) (at place : ℕ) (item : Bytes) (all : List (ℕ × Byt
         }
 
 -- what is looked at after so many from an end
-numbered_at : (end : End) (items : List Bytes) (at : ℕ) (other : ℕ × Bytes) → at < length items
+pub numbered_at : (end : End) (items : List Bytes) (at : ℕ) (other : ℕ × Bytes) → at < length items
     → get_or (seen_from end (enumerate_from 0 items)) at other ≡ (place_from end (length items) at, get_or items (place_from end (length items) at) other.1)
 numbered_at Left items at other within =
     let same : 0 + at ≡ at = omega arith in

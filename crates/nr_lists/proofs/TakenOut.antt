@@ -4,7 +4,9 @@ use Rattle.std.proofs.lemmas.List.{length_push, length-reverse, reverse-reverse}
 use Rattle.std.proofs.lemmas.Bool.{and_from, and_left, and_right, lt-ltb, le-ltb}
 use Rattle.std.specs.Prelude.{◌&&◌, nat_lt, if◌then◌else◌, bytes_eq}
 use Rattle.nr_model.specs.Bytes.{Bytes}
-use Rattle.nr_model.specs.Lists.{End, Left, Right, seen_from, without_first}
+use Rattle.nr_model.specs.Lists.{seen_from, without_first}
+use Rattle.nr_model.specs.declared.command.End.{End}
+use Rattle.nr_model.specs.declared.command.End.TheVariants.{Left, Right}
 
 -- after so many turns, of which some took an item out
 pub record TakesOut (most taken turns : ℕ) (bytes : Bytes) (all items : List Bytes) : Type 0 where

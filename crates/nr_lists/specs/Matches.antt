@@ -1,6 +1,7 @@
 -- What is looked at, one item after another.
 use Rattle.std.specs.Prelude.{ℕ, zero, suc, ◌-◌, min}
-use Rattle.nr_model.specs.Lists.{End, Left, Right}
+use Rattle.nr_model.specs.declared.command.End.{End}
+use Rattle.nr_model.specs.declared.command.End.TheVariants.{Left, Right}
 
 -- a limit, or all where it is 0 or greater
 abbrev pub limit_of : ℕ → ℕ → ℕ

@@ -1,10 +1,8 @@
 //! Lists, as keys hold them: items that are put in and taken out at both ends.
 #![tactic(auto)]
 
-pub use ends::{End, Side};
 pub use list::List;
 
-mod ends;
 mod list;
 mod matches;
 mod places;

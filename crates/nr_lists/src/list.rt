@@ -1,17 +1,16 @@
 // A list: what the commands push, pop, read and cut, in place.
-ghost use Rattle.std.specs.Prelude.{◌≡◌, ◌↔◌, ◌+◌, ◌≢◌, List as Items, [], length, slice_range, pos, IsTrue, IfOk, OnOk, OnErr, is_some};
-ghost use Rattle.std.specs.Option.{option_map};
+ghost use Rattle.std.specs.Prelude.{◌≡◌, ◌↔◌, ◌+◌, ◌++◌, ◌^◌, ◌<◌, ◌≢◌, List as Items, [], length, slice_range, pos, All, IsTrue, IfNone, IfOk, OnOk, OnErr, is_some};
+ghost use Rattle.std.specs.Option.{option_map, option_to_list};
 ghost use Rattle.std.specs.Iterator.Runs.{YieldsRefsInOrder};
 ghost use Rattle.std.specs.VecDeque.Iter.{deque_iter_rest, deque_iter_steps};
 ghost use Rattle.nr_model.specs.Bytes.{Bytes};
 ghost use Rattle.nr_model.specs.Strings.{range};
-ghost use Rattle.nr_model.specs.Lists.{pushed, popped, item_at, index_of, place_of, with_item_at, pivot_of, inserted, removed, places_of};
-ghost use Rattle.nr_lists.specs.Ends.{end_named, side_named};
+ghost use Rattle.nr_model.specs.Lists.{pushed, popped, item_at, index_of, place_of, with_item_at, pivot_of, inserted, seen_from, removed, places_of};
 
-use crate::ends::{End, Side};
 use crate::matches;
 use crate::places::{end_of, place, start_of};
 use nr_blob::{Blob, Memory};
+use nr_model::command::{End, Side};
 use std::alloc::Global;
 use std::cmp;
 use std::collections::VecDeque;
@@ -45,7 +44,8 @@ impl List {
 
     /// How many items. Constant.
     pub fn len(&self) -> usize
-        ensures { result ≡ length self.now }
+        ensures len { result ≡ length self.now }
+        ensures small { result < 2 ^ 63 }
     {
         self.items.len()
     }
@@ -58,7 +58,7 @@ impl List {
 
     /// Puts an item at an end. Constant, but for growth. Where memory runs out nothing is changed.
     pub fn push(&mut self, end: End, item: Blob) -> Result<(), Memory>
-        ensures ok { OnOk result (self.new ≡ pushed (end_named end) item self.old) }
+        ensures ok { OnOk result (self.new ≡ pushed end item self.old) }
         ensures err { OnErr result (self.new ≡ self.old) }
     {
         match end {
@@ -70,8 +70,10 @@ impl List {
 
     /// Takes the item at an end out, if there is one. Constant.
     pub fn pop(&mut self, end: End) -> Option<Blob>
-        ensures item { result ≡ item_at (index_of (end_named end)) self.old }
-        ensures left { self.new ≡ popped (end_named end) self.old }
+        ensures item { result ≡ item_at (index_of end) self.old }
+        ensures left { self.new ≡ popped end self.old }
+        ensures seen { seen_from end self.old ≡ option_to_list result ++ seen_from end self.new }
+        ensures none { IfNone result (length self.old ≡ 0) }
     {
         match end {
             End::Left => self.items.pop_front(),
@@ -122,7 +124,7 @@ impl List {
     /// nothing is changed.
     pub fn insert(&mut self, side: Side, pivot: &[u8], item: Blob) -> Result<bool, Memory>
         ensures found { IfOk result (λ found. found ≡ is_some (pivot_of pivot.now self.old)) }
-        ensures ok { OnOk result (self.new ≡ inserted (side_named side) pivot.now item self.old) }
+        ensures ok { OnOk result (self.new ≡ inserted side pivot.now item self.old) }
         ensures err { OnErr result (self.new ≡ self.old) }
     {
         let Some(place) = matches::pivot(&self.items, pivot) else {
@@ -141,6 +143,7 @@ impl List {
     pub fn remove(&mut self, count: i64, bytes: &[u8]) -> usize
         ensures items { self.new ≡ removed count bytes.now self.old }
         ensures count { result + length self.new ≡ length self.old }
+        ensures small { result < 2 ^ 63 }
     {
         let most = matches::how_many(count, self.items.len());
         matches::take_out(&mut self.items, matches::end_of(count), most, bytes)
@@ -149,6 +152,7 @@ impl List {
     /// The places of the items with these bytes, counted from the front, in the order found: from the end for a rank below 0, beginning with
     /// the rank's match, among so many items looked at, and at most so many places. For the last two 0 is no limit. A rank of 0 is as 1.
     /// Linear in what is looked at.
+    #[tactic(auto, using(crate::proofs::Within::places_small))]
     pub fn positions(
         &self,
         bytes: &[u8],
@@ -156,7 +160,8 @@ impl List {
         count: usize,
         most: usize,
     ) -> Result<Vec<usize>, Memory>
-        ensures { IfOk result (λ places. places.items ≡ places_of rank count most bytes.now self.now) }
+        ensures places { IfOk result (λ places. places.items ≡ places_of rank count most bytes.now self.now) }
+        ensures small { IfOk result (λ places. All (λ place. place < 2 ^ 63) places.items) }
     {
         matches::places(&self.items, bytes, rank, count, most)
     }

@@ -4,11 +4,10 @@ ghost use Rattle.std.specs.List.{slice_index_or, enumerate_from};
 ghost use Rattle.std.specs.Option.{option_to_list};
 ghost use Rattle.std.specs.VecDeque.{deque_len, deque_capacity};
 ghost use Rattle.nr_model.specs.Lists.{pivot_of, seen_from, end_of, how_many, without_first, passed_over, places_of};
-ghost use Rattle.nr_lists.specs.Ends.{end_named};
 ghost use Rattle.nr_lists.specs.Matches.{limit_of, place_from};
 
-use crate::ends::End;
 use nr_blob::{Blob, Memory};
+use nr_model::command::End;
 use std::collections::VecDeque;
 
 // Whether an item has these bytes.
@@ -28,7 +27,7 @@ pub(crate) fn pivot(items: &VecDeque<Blob>, pivot: &[u8]) -> Option<usize>
 
 /// The end that a count or a rank begins at.
 pub(crate) fn end_of(count: i64) -> End
-    ensures { end_named result ≡ end_of count }
+    ensures { result ≡ end_of count }
 {
     if count < 0 { End::Right } else { End::Left }
 }
@@ -52,7 +51,7 @@ pub(crate) fn how_many(count: i64, all: usize) -> usize
 
 // Takes the item at an end out.
 fn take(items: &mut VecDeque<Blob>, end: End) -> Option<Blob>
-    ensures item { seen_from (end_named end) items.old.items ≡ option_to_list result ++ seen_from (end_named end) items.new.items }
+    ensures item { seen_from end items.old.items ≡ option_to_list result ++ seen_from end items.new.items }
     ensures none { IfNone result (deque_len items.old ≡ 0) }
     ensures len { deque_len items.new + length (option_to_list result) ≡ deque_len items.old }
     ensures capacity { deque_capacity items.new ≡ deque_capacity items.old }
@@ -66,7 +65,7 @@ fn take(items: &mut VecDeque<Blob>, end: End) -> Option<Blob>
 // Puts an item behind those that are still to be looked at from an end.
 fn put_behind(items: &mut VecDeque<Blob>, end: End, item: Blob)
     requires { deque_len items.old < deque_capacity items.old }
-    ensures item { seen_from (end_named end) items.new.items ≡ seen_from (end_named end) items.old.items ++ item ∷ [] }
+    ensures item { seen_from end items.new.items ≡ seen_from end items.old.items ++ item ∷ [] }
     ensures len { deque_len items.new ≡ deque_len items.old + 1 }
     ensures capacity { deque_capacity items.new ≡ deque_capacity items.old }
 {
@@ -78,8 +77,7 @@ fn put_behind(items: &mut VecDeque<Blob>, end: End, item: Blob)
 
 /// Takes the first so many items with these bytes out, looked at from an end, and says how many there were. Linear in the items.
 pub(crate) fn take_out(items: &mut VecDeque<Blob>, end: End, most: usize, bytes: &[u8]) -> usize
-    ensures items { let end = end_named end in
-        items.new.items ≡ seen_from end (without_first most bytes.now (seen_from end items.old.items)) }
+    ensures items { items.new.items ≡ seen_from end (without_first most bytes.now (seen_from end items.old.items)) }
     ensures count { result + length items.new.items ≡ length items.old.items }
 {
     let mut taken = 0;
@@ -107,7 +105,7 @@ fn limit(most: usize, all: usize) -> usize
 // The place of what is looked at after so many from an end.
 fn place_from(end: End, len: usize, seen: usize) -> usize
     requires { seen < len }
-    ensures place { result ≡ place_from (end_named end) len seen }
+    ensures place { result ≡ place_from end len seen }
     ensures bound { result < len }
 {
     match end {

@@ -7,6 +7,10 @@ pub mod Reading
 pub mod Server
 pub mod Keys
 pub mod Strings
+pub mod Held
+pub mod Lists
+pub mod Hashes
+pub mod Sets
 use Rattle.nr_model.specs.Bytes.{Bytes}
 use Rattle.nr_model.specs.Replies.{Reply}
 use Rattle.nr_model.specs.Keyspace.{Keyspace}
@@ -14,6 +18,9 @@ use Rattle.nr_model.specs.Commands.Shape.{Arity, Exactly, AtLeast, Done, staying
 use Rattle.nr_model.specs.Commands.Server as server
 use Rattle.nr_model.specs.Commands.Keys as keys
 use Rattle.nr_model.specs.Commands.Strings as strings
+use Rattle.nr_model.specs.Commands.Lists as lists
+use Rattle.nr_model.specs.Commands.Hashes as hashes
+use Rattle.nr_model.specs.Commands.Sets as sets
 use Rattle.nr_model.specs.declared.command.Command.{Command}
 use Rattle.nr_model.specs.declared.command.Command.TheVariants as commands
 use Rattle.nr_model.specs.declared.command.Operation.{Operation}
@@ -27,6 +34,8 @@ use Rattle.nr_model.specs.declared.command.Session.TheVariants as sessions
 use Rattle.nr_model.specs.declared.command.Kind.TheVariants as kinds
 use Rattle.nr_model.specs.declared.command.Unit.TheVariants as units
 use Rattle.nr_model.specs.declared.command.Timing.TheVariants as timings
+use Rattle.nr_model.specs.declared.command.End.TheVariants as ends
+use Rattle.nr_model.specs.declared.command.Combination.TheVariants as combinations
 use Rattle.nr_model.specs.declared.command.ServerLook.{ServerLook}
 use Rattle.nr_model.specs.declared.command.ServerLook.TheVariants as server_looks
 use Rattle.nr_model.specs.declared.command.ServerChange.{ServerChange}
@@ -39,6 +48,18 @@ use Rattle.nr_model.specs.declared.command.StringsLook.{StringsLook}
 use Rattle.nr_model.specs.declared.command.StringsLook.TheVariants as strings_looks
 use Rattle.nr_model.specs.declared.command.StringsChange.{StringsChange}
 use Rattle.nr_model.specs.declared.command.StringsChange.TheVariants as strings_changes
+use Rattle.nr_model.specs.declared.command.ListsLook.{ListsLook}
+use Rattle.nr_model.specs.declared.command.ListsLook.TheVariants as lists_looks
+use Rattle.nr_model.specs.declared.command.ListsChange.{ListsChange}
+use Rattle.nr_model.specs.declared.command.ListsChange.TheVariants as lists_changes
+use Rattle.nr_model.specs.declared.command.HashesLook.{HashesLook}
+use Rattle.nr_model.specs.declared.command.HashesLook.TheVariants as hashes_looks
+use Rattle.nr_model.specs.declared.command.HashesChange.{HashesChange}
+use Rattle.nr_model.specs.declared.command.HashesChange.TheVariants as hashes_changes
+use Rattle.nr_model.specs.declared.command.SetsLook.{SetsLook}
+use Rattle.nr_model.specs.declared.command.SetsLook.TheVariants as sets_looks
+use Rattle.nr_model.specs.declared.command.SetsChange.{SetsChange}
+use Rattle.nr_model.specs.declared.command.SetsChange.TheVariants as sets_changes
 
 -- Whether a command reads the keyspace and leaves it as it is. Another may change it, or what the server knows of a connection.
 abbrev pub session_looks : Session → Bool
@@ -55,12 +76,18 @@ unfoldable pub look : Look → ℕ → Keyspace → ℕ → List Bytes → Reply
 look (looks.Server command) now keyspace database arguments = server.look command now keyspace database arguments
 look (looks.Keys command) now keyspace database arguments = keys.look command now keyspace database arguments
 look (looks.Strings command) now keyspace database arguments = strings.look command now keyspace database arguments
+look (looks.Lists command) now keyspace database arguments = lists.look command now keyspace database arguments
+look (looks.Hashes command) now keyspace database arguments = hashes.look command now keyspace database arguments
+look (looks.Sets command) now keyspace database arguments = sets.look command now keyspace database arguments
 
 -- What a command does that may change the keyspace. SELECT alone changes the database.
 unfoldable pub change : Change → ℕ → Keyspace → ℕ → List Bytes → Done
 change (changes.Server command) now keyspace database arguments = server.change command now keyspace database arguments
 change (changes.Keys command) now keyspace database arguments = staying database (keys.change command now keyspace database arguments)
 change (changes.Strings command) now keyspace database arguments = staying database (strings.change command now keyspace database arguments)
+change (changes.Lists command) now keyspace database arguments = staying database (lists.change command now keyspace database arguments)
+change (changes.Hashes command) now keyspace database arguments = staying database (hashes.change command now keyspace database arguments)
+change (changes.Sets command) now keyspace database arguments = staying database (sets.change command now keyspace database arguments)
 
 -- a row of the table of names: the name in lower case, and how many words a request has
 pub record Row : Type 0 where
@@ -135,6 +162,65 @@ strings_change_row strings_changes.DecrBy = row (codes "decrby") (Exactly 3)
 strings_change_row strings_changes.SetBit = row (codes "setbit") (Exactly 4)
 strings_change_row strings_changes.BitOp = row (codes "bitop") (AtLeast 4)
 
+-- Lists
+abbrev pub lists_look_row : ListsLook → Row
+lists_look_row lists_looks.LLen = row (codes "llen") (Exactly 2)
+lists_look_row lists_looks.LRange = row (codes "lrange") (Exactly 4)
+lists_look_row lists_looks.LIndex = row (codes "lindex") (Exactly 3)
+lists_look_row lists_looks.LPos = row (codes "lpos") (AtLeast 3)
+
+abbrev pub lists_change_row : ListsChange → Row
+lists_change_row (lists_changes.Push ends.Left) = row (codes "lpush") (AtLeast 3)
+lists_change_row (lists_changes.Push ends.Right) = row (codes "rpush") (AtLeast 3)
+lists_change_row (lists_changes.PushX ends.Left) = row (codes "lpushx") (AtLeast 3)
+lists_change_row (lists_changes.PushX ends.Right) = row (codes "rpushx") (AtLeast 3)
+lists_change_row (lists_changes.Pop ends.Left) = row (codes "lpop") (AtLeast 2)
+lists_change_row (lists_changes.Pop ends.Right) = row (codes "rpop") (AtLeast 2)
+lists_change_row lists_changes.LSet = row (codes "lset") (Exactly 4)
+lists_change_row lists_changes.LTrim = row (codes "ltrim") (Exactly 4)
+lists_change_row lists_changes.LInsert = row (codes "linsert") (Exactly 5)
+lists_change_row lists_changes.LRem = row (codes "lrem") (Exactly 4)
+lists_change_row lists_changes.LMove = row (codes "lmove") (Exactly 5)
+lists_change_row lists_changes.RPopLPush = row (codes "rpoplpush") (Exactly 3)
+lists_change_row lists_changes.LMPop = row (codes "lmpop") (AtLeast 4)
+
+-- Hashes
+abbrev pub hashes_look_row : HashesLook → Row
+hashes_look_row hashes_looks.HGet = row (codes "hget") (Exactly 3)
+hashes_look_row hashes_looks.HMGet = row (codes "hmget") (AtLeast 3)
+hashes_look_row hashes_looks.HLen = row (codes "hlen") (Exactly 2)
+hashes_look_row hashes_looks.HExists = row (codes "hexists") (Exactly 3)
+hashes_look_row hashes_looks.HStrLen = row (codes "hstrlen") (Exactly 3)
+hashes_look_row hashes_looks.HKeys = row (codes "hkeys") (Exactly 2)
+hashes_look_row hashes_looks.HVals = row (codes "hvals") (Exactly 2)
+hashes_look_row hashes_looks.HGetAll = row (codes "hgetall") (Exactly 2)
+
+abbrev pub hashes_change_row : HashesChange → Row
+hashes_change_row hashes_changes.HSet = row (codes "hset") (AtLeast 4)
+hashes_change_row hashes_changes.HMSet = row (codes "hmset") (AtLeast 4)
+hashes_change_row hashes_changes.HSetNx = row (codes "hsetnx") (Exactly 4)
+hashes_change_row hashes_changes.HDel = row (codes "hdel") (AtLeast 3)
+hashes_change_row hashes_changes.HIncrBy = row (codes "hincrby") (Exactly 4)
+
+-- Sets
+abbrev pub sets_look_row : SetsLook → Row
+sets_look_row sets_looks.SIsMember = row (codes "sismember") (Exactly 3)
+sets_look_row sets_looks.SMIsMember = row (codes "smismember") (AtLeast 3)
+sets_look_row sets_looks.SCard = row (codes "scard") (Exactly 2)
+sets_look_row sets_looks.SMembers = row (codes "smembers") (Exactly 2)
+sets_look_row (sets_looks.Combine combinations.Intersection) = row (codes "sinter") (AtLeast 2)
+sets_look_row (sets_looks.Combine combinations.Union) = row (codes "sunion") (AtLeast 2)
+sets_look_row (sets_looks.Combine combinations.Difference) = row (codes "sdiff") (AtLeast 2)
+sets_look_row sets_looks.SInterCard = row (codes "sintercard") (AtLeast 3)
+
+abbrev pub sets_change_row : SetsChange → Row
+sets_change_row sets_changes.SAdd = row (codes "sadd") (AtLeast 3)
+sets_change_row sets_changes.SRem = row (codes "srem") (AtLeast 3)
+sets_change_row sets_changes.SMove = row (codes "smove") (Exactly 4)
+sets_change_row (sets_changes.CombineStore combinations.Intersection) = row (codes "sinterstore") (AtLeast 3)
+sets_change_row (sets_changes.CombineStore combinations.Union) = row (codes "sunionstore") (AtLeast 3)
+sets_change_row (sets_changes.CombineStore combinations.Difference) = row (codes "sdiffstore") (AtLeast 3)
+
 -- Transactions, and messages
 abbrev pub session_row : Session → Row
 session_row sessions.Multi = row (codes "multi") (Exactly 1)
@@ -154,11 +240,17 @@ abbrev pub look_row : Look → Row
 look_row (looks.Server command) = server_look_row command
 look_row (looks.Keys command) = keys_look_row command
 look_row (looks.Strings command) = strings_look_row command
+look_row (looks.Lists command) = lists_look_row command
+look_row (looks.Hashes command) = hashes_look_row command
+look_row (looks.Sets command) = sets_look_row command
 
 abbrev pub change_row : Change → Row
 change_row (changes.Server command) = server_change_row command
 change_row (changes.Keys command) = keys_change_row command
 change_row (changes.Strings command) = strings_change_row command
+change_row (changes.Lists command) = lists_change_row command
+change_row (changes.Hashes command) = hashes_change_row command
+change_row (changes.Sets command) = sets_change_row command
 
 abbrev pub operation_row : Operation → Row
 operation_row (operations.Look command) = look_row command
@@ -186,6 +278,24 @@ strings_look command = commands.Perform (operations.Look (looks.Strings command)
 
 abbrev pub strings_change : StringsChange → Command
 strings_change command = commands.Perform (operations.Change (changes.Strings command))
+
+abbrev pub lists_look : ListsLook → Command
+lists_look command = commands.Perform (operations.Look (looks.Lists command))
+
+abbrev pub lists_change : ListsChange → Command
+lists_change command = commands.Perform (operations.Change (changes.Lists command))
+
+abbrev pub hashes_look : HashesLook → Command
+hashes_look command = commands.Perform (operations.Look (looks.Hashes command))
+
+abbrev pub hashes_change : HashesChange → Command
+hashes_change command = commands.Perform (operations.Change (changes.Hashes command))
+
+abbrev pub sets_look : SetsLook → Command
+sets_look command = commands.Perform (operations.Look (looks.Sets command))
+
+abbrev pub sets_change : SetsChange → Command
+sets_change command = commands.Perform (operations.Change (changes.Sets command))
 
 abbrev pub server_looks_served : List Command
 server_looks_served =
@@ -255,10 +365,81 @@ strings_changes_served =
     ∷ strings_change strings_changes.SetBit
     ∷ strings_change strings_changes.BitOp ∷ []
 
--- those that are performed on the keyspace
-abbrev pub operations_served : List Command
-operations_served =
+abbrev pub lists_looks_served : List Command
+lists_looks_served =
+    lists_look lists_looks.LLen
+    ∷ lists_look lists_looks.LRange
+    ∷ lists_look lists_looks.LIndex
+    ∷ lists_look lists_looks.LPos ∷ []
+
+abbrev pub lists_changes_served : List Command
+lists_changes_served =
+    lists_change (lists_changes.Push ends.Left)
+    ∷ lists_change (lists_changes.Push ends.Right)
+    ∷ lists_change (lists_changes.PushX ends.Left)
+    ∷ lists_change (lists_changes.PushX ends.Right)
+    ∷ lists_change (lists_changes.Pop ends.Left)
+    ∷ lists_change (lists_changes.Pop ends.Right)
+    ∷ lists_change lists_changes.LSet
+    ∷ lists_change lists_changes.LTrim
+    ∷ lists_change lists_changes.LInsert
+    ∷ lists_change lists_changes.LRem
+    ∷ lists_change lists_changes.LMove
+    ∷ lists_change lists_changes.RPopLPush
+    ∷ lists_change lists_changes.LMPop ∷ []
+
+abbrev pub hashes_looks_served : List Command
+hashes_looks_served =
+    hashes_look hashes_looks.HGet
+    ∷ hashes_look hashes_looks.HMGet
+    ∷ hashes_look hashes_looks.HLen
+    ∷ hashes_look hashes_looks.HExists
+    ∷ hashes_look hashes_looks.HStrLen
+    ∷ hashes_look hashes_looks.HKeys
+    ∷ hashes_look hashes_looks.HVals
+    ∷ hashes_look hashes_looks.HGetAll ∷ []
+
+abbrev pub hashes_changes_served : List Command
+hashes_changes_served =
+    hashes_change hashes_changes.HSet
+    ∷ hashes_change hashes_changes.HMSet
+    ∷ hashes_change hashes_changes.HSetNx
+    ∷ hashes_change hashes_changes.HDel
+    ∷ hashes_change hashes_changes.HIncrBy ∷ []
+
+abbrev pub sets_looks_served : List Command
+sets_looks_served =
+    sets_look sets_looks.SIsMember
+    ∷ sets_look sets_looks.SMIsMember
+    ∷ sets_look sets_looks.SCard
+    ∷ sets_look sets_looks.SMembers
+    ∷ sets_look (sets_looks.Combine combinations.Intersection)
+    ∷ sets_look (sets_looks.Combine combinations.Union)
+    ∷ sets_look (sets_looks.Combine combinations.Difference)
+    ∷ sets_look sets_looks.SInterCard ∷ []
+
+abbrev pub sets_changes_served : List Command
+sets_changes_served =
+    sets_change sets_changes.SAdd
+    ∷ sets_change sets_changes.SRem
+    ∷ sets_change sets_changes.SMove
+    ∷ sets_change (sets_changes.CombineStore combinations.Intersection)
+    ∷ sets_change (sets_changes.CombineStore combinations.Union)
+    ∷ sets_change (sets_changes.CombineStore combinations.Difference) ∷ []
+
+-- those that are performed on the keyspace: on strings, on keys of any kind, on the server, and on collections
+abbrev pub plain_served : List Command
+plain_served =
     strings_looks_served ++ strings_changes_served ++ keys_looks_served ++ keys_changes_served ++ server_looks_served ++ server_changes_served
+
+abbrev pub hashes_served : List Command
+hashes_served = hashes_looks_served ++ hashes_changes_served
+
+abbrev pub collections_served : List Command
+collections_served = lists_looks_served ++ lists_changes_served ++ hashes_served ++ sets_looks_served ++ sets_changes_served
+
+abbrev pub operations_served : List Command
+operations_served = plain_served ++ collections_served
 
 -- and those that speak of connections
 abbrev pub sessions_served : List Command

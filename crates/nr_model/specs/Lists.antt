@@ -3,15 +3,10 @@ use Rattle.std.specs.Prelude.{ℕ, zero, suc, ◌+◌, ◌-◌, nat_lt, if◌the
 use Rattle.std.specs.List.{insert, position, enumerate_from}
 use Rattle.std.specs.Option.{option_map, option_and_then, unwrap_or}
 use Rattle.nr_model.specs.Bytes.{Bytes}
-
--- the ends of a list, and the sides of an item
-pub data End : Type 0 where
-  Left : End
-  Right : End
-
-pub data Side : Type 0 where
-  Before : Side
-  After : Side
+use Rattle.nr_model.specs.declared.command.End.{End}
+use Rattle.nr_model.specs.declared.command.End.TheVariants.{Left, Right}
+use Rattle.nr_model.specs.declared.command.Side.{Side}
+use Rattle.nr_model.specs.declared.command.Side.TheVariants.{Before, After}
 
 -- with one more at an end
 abbrev pub pushed : {A : Type 0} → End → A → List A → List A

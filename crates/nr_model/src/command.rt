@@ -24,6 +24,9 @@ pub enum Look {
     Server(ServerLook),
     Keys(KeysLook),
     Strings(StringsLook),
+    Lists(ListsLook),
+    Hashes(HashesLook),
+    Sets(SetsLook),
 }
 
 /// A command that may change the keyspace, or the database of its connection, by its section.
@@ -32,6 +35,9 @@ pub enum Change {
     Server(ServerChange),
     Keys(KeysChange),
     Strings(StringsChange),
+    Lists(ListsChange),
+    Hashes(HashesChange),
+    Sets(SetsChange),
 }
 
 /// Connection and server.
@@ -110,6 +116,107 @@ pub enum StringsChange {
     DecrBy,
     SetBit,
     BitOp,
+}
+
+/// Lists.
+#[derive(Clone, Copy, Debug, PartialEq, Eq)]
+pub enum ListsLook {
+    LLen,
+    LRange,
+    LIndex,
+    LPos,
+}
+
+/// Lists.
+#[derive(Clone, Copy, Debug, PartialEq, Eq)]
+pub enum ListsChange {
+    /// LPUSH and RPUSH.
+    Push(End),
+    /// LPUSHX and RPUSHX.
+    PushX(End),
+    /// LPOP and RPOP.
+    Pop(End),
+    LSet,
+    LTrim,
+    LInsert,
+    LRem,
+    LMove,
+    RPopLPush,
+    LMPop,
+}
+
+/// Hashes.
+#[derive(Clone, Copy, Debug, PartialEq, Eq)]
+pub enum HashesLook {
+    HGet,
+    HMGet,
+    HLen,
+    HExists,
+    HStrLen,
+    HKeys,
+    HVals,
+    HGetAll,
+}
+
+/// Hashes.
+#[derive(Clone, Copy, Debug, PartialEq, Eq)]
+pub enum HashesChange {
+    HSet,
+    HMSet,
+    HSetNx,
+    HDel,
+    HIncrBy,
+}
+
+/// Sets.
+#[derive(Clone, Copy, Debug, PartialEq, Eq)]
+pub enum SetsLook {
+    SIsMember,
+    SMIsMember,
+    SCard,
+    SMembers,
+    /// SINTER, SUNION and SDIFF.
+    Combine(Combination),
+    SInterCard,
+}
+
+/// Sets.
+#[derive(Clone, Copy, Debug, PartialEq, Eq)]
+pub enum SetsChange {
+    SAdd,
+    SRem,
+    SMove,
+    /// SINTERSTORE, SUNIONSTORE and SDIFFSTORE.
+    CombineStore(Combination),
+}
+
+/// An end of a list.
+#[derive(Clone, Copy, Debug, PartialEq, Eq)]
+pub enum End {
+    /// Where the first item stands.
+    Left,
+    /// Where the last item stands.
+    Right,
+}
+
+/// A side of an item of a list.
+#[derive(Clone, Copy, Debug, PartialEq, Eq)]
+pub enum Side {
+    /// Nearer to the first.
+    Before,
+    /// Nearer to the last.
+    After,
+}
+
+/// How several sets become one.
+#[derive(Clone, Copy, Debug, PartialEq, Eq)]
+pub enum Combination {
+    /// What all of them have.
+    Intersection,
+    /// What one of them has.
+    Union,
+    /// What the first has and no other.
+    Difference,
 }
 
 /// In what a time is counted.

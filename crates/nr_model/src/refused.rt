@@ -1,4 +1,5 @@
 // Why commands are refused, as the definitions and the bodies of commands both name it.
+use crate::command::End;
 
 /// Why a command is refused. Its reply is an error, whose text the definitions have, and it changes nothing.
 #[derive(Clone, Copy, Debug, PartialEq, Eq)]
@@ -43,6 +44,28 @@ pub enum Refused {
     BitValue,
     /// BITOP NOT got several sources.
     NotOfSeveral,
+    /// An index points to no item of a list.
+    IndexOutOfRange,
+    /// A count of what is popped is no integer, or below 0.
+    NotPositive,
+    /// LPOP or RPOP got more than a count.
+    PopArity(End),
+    /// How many keys follow is no integer, or below 1.
+    KeyCount,
+    /// More keys are announced than words are left.
+    TooManyKeys,
+    /// A count of what is taken is no integer, or below 1.
+    CountNotPositive,
+    /// A rank is 0.
+    RankZero,
+    /// A count or a limit is no integer, or below 0.
+    Negative,
+    /// The value of a field should spell an integer of 64 bits, and doesn't.
+    HashNotAnInteger,
+    /// HSET got a field without a value.
+    HSetArity,
+    /// HMSET got a field without a value.
+    HMSetArity,
 }
 
 /// The commands that name themselves where a deadline is refused.

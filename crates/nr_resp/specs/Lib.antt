@@ -7,3 +7,4 @@ pub mod Stream
 pub mod PartialRequest
 pub mod Failures
 pub mod Done
+pub mod Names

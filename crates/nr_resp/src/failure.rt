@@ -6,6 +6,7 @@ ghost use Rattle.nr_resp.specs.Failures.{answer_to};
 
 use crate::reply::Reply;
 use nr_blob::Memory;
+use nr_model::command::End;
 use nr_model::refused::{Expiring, Refused};
 
 /// Why a body ended early.
@@ -76,6 +77,18 @@ fn text(why: Refused) -> &'static str
         Refused::BitOffset => "ERR bit offset is not an integer or out of range",
         Refused::BitValue => "ERR bit is not an integer or out of range",
         Refused::NotOfSeveral => "ERR BITOP NOT must be called with a single source key.",
+        Refused::IndexOutOfRange => "ERR index out of range",
+        Refused::NotPositive => "ERR value is out of range, must be positive",
+        Refused::PopArity(End::Left) => "ERR wrong number of arguments for 'lpop' command",
+        Refused::PopArity(End::Right) => "ERR wrong number of arguments for 'rpop' command",
+        Refused::KeyCount => "ERR numkeys should be greater than 0",
+        Refused::TooManyKeys => "ERR Number of keys can't be greater than number of args",
+        Refused::CountNotPositive => "ERR count should be greater than 0",
+        Refused::RankZero => "ERR RANK can't be zero",
+        Refused::Negative => "ERR negative value not allowed",
+        Refused::HashNotAnInteger => "ERR hash value is not an integer",
+        Refused::HSetArity => "ERR wrong number of arguments for 'hset' command",
+        Refused::HMSetArity => "ERR wrong number of arguments for 'hmset' command",
     }
 }
 

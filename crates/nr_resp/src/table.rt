@@ -4,10 +4,13 @@ ghost use Rattle.nr_model.specs.Commands as table;
 ghost use Rattle.nr_model.specs.Commands.{named, served, row_of};
 ghost use Rattle.nr_model.specs.Commands.Shape as shape;
 ghost use Rattle.nr_model.specs.declared.command.Command.TheVariants as commands;
+ghost use Rattle.std.specs.Str.{str_to_ascii_lowercase};
+ghost use Rattle.nr_resp.specs.Names.{begins_with};
 
 use nr_model::command::{
-    Change, Command, KeysChange, KeysLook, Kind, Look, Operation, ServerChange, ServerLook,
-    Session, StringsChange, StringsLook, Timing, Unit,
+    Change, Combination, Command, End, HashesChange, HashesLook, KeysChange, KeysLook, Kind,
+    ListsChange, ListsLook, Look, Operation, ServerChange, ServerLook, Session, SetsChange,
+    SetsLook, StringsChange, StringsLook, Timing, Unit,
 };
 
 // The rows of a section: the command, its name in lower case, and how many words it takes.
@@ -80,6 +83,68 @@ macro_rules! rows {
             SetBit, "setbit", exactly 4;
             BitOp, "bitop", at_least 4)
     };
+    (ListsLook => $with:ident!($($arguments:tt)*)) => {
+        $with!(ListsLook, $($arguments)*;
+            LLen, "llen", exactly 2;
+            LRange, "lrange", exactly 4;
+            LIndex, "lindex", exactly 3;
+            LPos, "lpos", at_least 3)
+    };
+    (ListsChange => $with:ident!($($arguments:tt)*)) => {
+        $with!(ListsChange, $($arguments)*;
+            Push(End::Left), "lpush", at_least 3;
+            Push(End::Right), "rpush", at_least 3;
+            PushX(End::Left), "lpushx", at_least 3;
+            PushX(End::Right), "rpushx", at_least 3;
+            Pop(End::Left), "lpop", at_least 2;
+            Pop(End::Right), "rpop", at_least 2;
+            LSet, "lset", exactly 4;
+            LTrim, "ltrim", exactly 4;
+            LInsert, "linsert", exactly 5;
+            LRem, "lrem", exactly 4;
+            LMove, "lmove", exactly 5;
+            RPopLPush, "rpoplpush", exactly 3;
+            LMPop, "lmpop", at_least 4)
+    };
+    (HashesLook => $with:ident!($($arguments:tt)*)) => {
+        $with!(HashesLook, $($arguments)*;
+            HGet, "hget", exactly 3;
+            HMGet, "hmget", at_least 3;
+            HLen, "hlen", exactly 2;
+            HExists, "hexists", exactly 3;
+            HStrLen, "hstrlen", exactly 3;
+            HKeys, "hkeys", exactly 2;
+            HVals, "hvals", exactly 2;
+            HGetAll, "hgetall", exactly 2)
+    };
+    (HashesChange => $with:ident!($($arguments:tt)*)) => {
+        $with!(HashesChange, $($arguments)*;
+            HSet, "hset", at_least 4;
+            HMSet, "hmset", at_least 4;
+            HSetNx, "hsetnx", exactly 4;
+            HDel, "hdel", at_least 3;
+            HIncrBy, "hincrby", exactly 4)
+    };
+    (SetsLook => $with:ident!($($arguments:tt)*)) => {
+        $with!(SetsLook, $($arguments)*;
+            SIsMember, "sismember", exactly 3;
+            SMIsMember, "smismember", at_least 3;
+            SCard, "scard", exactly 2;
+            SMembers, "smembers", exactly 2;
+            Combine(Combination::Intersection), "sinter", at_least 2;
+            Combine(Combination::Union), "sunion", at_least 2;
+            Combine(Combination::Difference), "sdiff", at_least 2;
+            SInterCard, "sintercard", at_least 3)
+    };
+    (SetsChange => $with:ident!($($arguments:tt)*)) => {
+        $with!(SetsChange, $($arguments)*;
+            SAdd, "sadd", at_least 3;
+            SRem, "srem", at_least 3;
+            SMove, "smove", exactly 4;
+            CombineStore(Combination::Intersection), "sinterstore", at_least 3;
+            CombineStore(Combination::Union), "sunionstore", at_least 3;
+            CombineStore(Combination::Difference), "sdiffstore", at_least 3)
+    };
     (Session => $with:ident!($($arguments:tt)*)) => {
         $with!(Session, $($arguments)*;
             Multi, "multi", exactly 1;
@@ -148,6 +213,16 @@ pub fn lookup(word: &[u8]) -> Option<Command>
 fn operation(word: &[u8]) -> Option<Operation>
     ensures { option_map commands.Perform result ≡ named table.operations_served word.now }
 {
+    if let Some(operation) = plain(word) {
+        return Some(operation);
+    }
+    collection(word)
+}
+
+// Those on strings, on keys of any kind, and on the server.
+fn plain(word: &[u8]) -> Option<Operation>
+    ensures { option_map commands.Perform result ≡ named table.plain_served word.now }
+{
     if let Some(command) = strings_look(word) {
         return Some(Operation::Look(Look::Strings(command)));
     }
@@ -167,6 +242,54 @@ fn operation(word: &[u8]) -> Option<Operation>
         return Some(Operation::Change(Change::Server(command)));
     }
     None
+}
+
+// Those on lists, hashes and sets.
+fn collection(word: &[u8]) -> Option<Operation>
+    ensures { option_map commands.Perform result ≡ named table.collections_served word.now }
+{
+    if let Some(command) = lists_look(word) {
+        return Some(Operation::Look(Look::Lists(command)));
+    }
+    if let Some(command) = lists_change(word) {
+        return Some(Operation::Change(Change::Lists(command)));
+    }
+    if let Some(operation) = hashes(word) {
+        return Some(operation);
+    }
+    if let Some(command) = sets_look(word) {
+        return Some(Operation::Look(Look::Sets(command)));
+    }
+    if let Some(command) = sets_change(word) {
+        return Some(Operation::Change(Change::Sets(command)));
+    }
+    None
+}
+
+// Those on hashes: another letter at the beginning passes over them.
+fn hashes(word: &[u8]) -> Option<Operation>
+    ensures { option_map commands.Perform result ≡ named table.hashes_served word.now }
+{
+    if !begins_with(word, b'h') {
+        return None;
+    }
+    if let Some(command) = hashes_look(word) {
+        return Some(Operation::Look(Look::Hashes(command)));
+    }
+    if let Some(command) = hashes_change(word) {
+        return Some(Operation::Change(Change::Hashes(command)));
+    }
+    None
+}
+
+// Whether a word begins with a letter, whatever its case.
+fn begins_with(word: &[u8], letter: u8) -> bool
+    ensures { result ≡ begins_with letter (str_to_ascii_lowercase word.now) }
+{
+    match word.first() {
+        Some(first) => first.to_ascii_lowercase() == letter,
+        None => false,
+    }
 }
 
 fn server_look(word: &[u8]) -> Option<ServerLook>
@@ -205,6 +328,42 @@ fn strings_change(word: &[u8]) -> Option<StringsChange>
     rows!(StringsChange => find!(word))
 }
 
+fn lists_look(word: &[u8]) -> Option<ListsLook>
+    ensures { option_map table.lists_look result ≡ named table.lists_looks_served word.now }
+{
+    rows!(ListsLook => find!(word))
+}
+
+fn lists_change(word: &[u8]) -> Option<ListsChange>
+    ensures { option_map table.lists_change result ≡ named table.lists_changes_served word.now }
+{
+    rows!(ListsChange => find!(word))
+}
+
+fn hashes_look(word: &[u8]) -> Option<HashesLook>
+    ensures { option_map table.hashes_look result ≡ named table.hashes_looks_served word.now }
+{
+    rows!(HashesLook => find!(word))
+}
+
+fn hashes_change(word: &[u8]) -> Option<HashesChange>
+    ensures { option_map table.hashes_change result ≡ named table.hashes_changes_served word.now }
+{
+    rows!(HashesChange => find!(word))
+}
+
+fn sets_look(word: &[u8]) -> Option<SetsLook>
+    ensures { option_map table.sets_look result ≡ named table.sets_looks_served word.now }
+{
+    rows!(SetsLook => find!(word))
+}
+
+fn sets_change(word: &[u8]) -> Option<SetsChange>
+    ensures { option_map table.sets_change result ≡ named table.sets_changes_served word.now }
+{
+    rows!(SetsChange => find!(word))
+}
+
 fn session(word: &[u8]) -> Option<Session>
     ensures { option_map commands.Session result ≡ named table.sessions_served word.now }
 {
@@ -228,9 +387,15 @@ fn operation_name(operation: Operation) -> &'static str
         Operation::Look(Look::Server(command)) => rows!(ServerLook => name!(command)),
         Operation::Look(Look::Keys(command)) => rows!(KeysLook => name!(command)),
         Operation::Look(Look::Strings(command)) => rows!(StringsLook => name!(command)),
+        Operation::Look(Look::Lists(command)) => rows!(ListsLook => name!(command)),
+        Operation::Look(Look::Hashes(command)) => rows!(HashesLook => name!(command)),
+        Operation::Look(Look::Sets(command)) => rows!(SetsLook => name!(command)),
         Operation::Change(Change::Server(command)) => rows!(ServerChange => name!(command)),
         Operation::Change(Change::Keys(command)) => rows!(KeysChange => name!(command)),
         Operation::Change(Change::Strings(command)) => rows!(StringsChange => name!(command)),
+        Operation::Change(Change::Lists(command)) => rows!(ListsChange => name!(command)),
+        Operation::Change(Change::Hashes(command)) => rows!(HashesChange => name!(command)),
+        Operation::Change(Change::Sets(command)) => rows!(SetsChange => name!(command)),
     }
 }
 
@@ -251,12 +416,24 @@ fn operation_arity_ok(operation: Operation, words: usize) -> bool
         Operation::Look(Look::Server(command)) => rows!(ServerLook => arity_ok!(command, words)),
         Operation::Look(Look::Keys(command)) => rows!(KeysLook => arity_ok!(command, words)),
         Operation::Look(Look::Strings(command)) => rows!(StringsLook => arity_ok!(command, words)),
+        Operation::Look(Look::Lists(command)) => rows!(ListsLook => arity_ok!(command, words)),
+        Operation::Look(Look::Hashes(command)) => rows!(HashesLook => arity_ok!(command, words)),
+        Operation::Look(Look::Sets(command)) => rows!(SetsLook => arity_ok!(command, words)),
         Operation::Change(Change::Server(command)) => {
             rows!(ServerChange => arity_ok!(command, words))
         }
         Operation::Change(Change::Keys(command)) => rows!(KeysChange => arity_ok!(command, words)),
         Operation::Change(Change::Strings(command)) => {
             rows!(StringsChange => arity_ok!(command, words))
+        }
+        Operation::Change(Change::Lists(command)) => {
+            rows!(ListsChange => arity_ok!(command, words))
+        }
+        Operation::Change(Change::Hashes(command)) => {
+            rows!(HashesChange => arity_ok!(command, words))
+        }
+        Operation::Change(Change::Sets(command)) => {
+            rows!(SetsChange => arity_ok!(command, words))
         }
     }
 }

@@ -42,27 +42,6 @@ one_chosen p limit chosen new items x left whole is passes fewer pushed chooses 
       few = omega (arith, fewer, length_push chosen x);
     })
 
-pub one_left_out : (p : Bytes → Bool) (limit : ℕ) (chosen items : List Bytes) (x : Bytes) (left whole : List Bytes) → items ≡ x ∷ left → p x ≡ false
-    → Chooses p limit chosen items whole → Chooses p limit chosen left whole
-one_left_out p limit chosen items x left whole is fails chooses = record {
-  so_far = ap (λ b. chosen ++ take (limit - length chosen) (cond b (x ∷ filter p left) (filter p left))) (sym fails)
-      ∙ ap (λ xs. chosen ++ take (limit - length chosen) (filter p xs)) (sym is) ∙ chooses.so_far;
-  few = chooses.few;
-}
-
--- the same without a limit
-pub one_kept : (p : Bytes → Bool) (chosen new items : List Bytes) (x : Bytes) (left whole : List Bytes) → items ≡ x ∷ left → p x ≡ true
-    → new ≡ chosen ++ x ∷ [] → chosen ++ filter p items ≡ whole → new ++ filter p left ≡ whole
-one_kept p chosen new items x left whole is passes pushed so_far =
-    ap (λ xs. xs ++ filter p left) pushed ∙ append_assoc chosen (x ∷ []) (filter p left)
-    ∙ ap (λ b. chosen ++ cond b (x ∷ filter p left) (filter p left)) (sym passes)
-    ∙ ap (λ xs. chosen ++ filter p xs) (sym is) ∙ so_far
-
-pub one_dropped : (p : Bytes → Bool) (chosen items : List Bytes) (x : Bytes) (left whole : List Bytes) → items ≡ x ∷ left → p x ≡ false
-    → chosen ++ filter p items ≡ whole → chosen ++ filter p left ≡ whole
-one_dropped p chosen items x left whole is fails so_far =
-    ap (λ b. chosen ++ cond b (x ∷ filter p left) (filter p left)) (sym fails) ∙ ap (λ xs. chosen ++ filter p xs) (sym is) ∙ so_far
-
 fewer_pass : (p : Bytes → Bool) (xs : List Bytes) → length (filter p xs) ≤ length xs
 fewer_pass p [] = omega arith
 fewer_pass p (x ∷ xs) =

@@ -1,3 +1,5 @@
 mod Seen
 mod Chosen
-mod Common
+pub mod Common
+mod Joined
+pub mod Gathered

@@ -116,28 +116,3 @@ copied_more all copied new left member k rises so_far same is =
     let place : copied ++ k ∷ left ≡ all = ap (λ x. copied ++ x ∷ left) same ∙ so_far in
     let last : new ≡ copied ++ k ∷ [] = is ∙ inserted_last copied k left (subst (IsStrictlySortedBy byte_cmp) (sym place) rises) in
     ap (λ ks. ks ++ left) last ∙ append_assoc copied (k ∷ []) left ∙ place
-
-or_false : (a : Bool) → (a || false) ≡ a
-or_false true = refl
-or_false false = refl
-
-or_moves : (a b c : Bool) → ((a || b) || c) ≡ (b || (a || c))
-or_moves true true c = refl
-or_moves true false c = refl
-or_moves false b c = refl
-
--- one more is added
-pub added_more : (old new : List Bytes) (other k : Bytes) (left : List Bytes) → k ≡ other → seen new ≡ set.insert (seen old) k
-    → set.union (seen new) (seen left) ≡ set.union (seen old) (seen (other ∷ left))
-added_more old new other k left same is =
-    ap (λ s. set.union s (seen left)) (is ∙ ap (set.insert (seen old)) same)
-    ∙ set.same_set nat_list_cmp_total exact_bytes _ _ (λ q.
-    set.contains-union nat_list_cmp_total (set.insert (seen old) other) (seen left) q
-    ∙ ap (λ b. b || set.contains (seen left) q) (set.contains-insert nat_list_cmp_total (seen old) other q)
-    ∙ or_moves (eq_by_cmp byte_cmp q other) (set.contains (seen old) q) (set.contains (seen left) q)
-    ∙ ap (λ b. set.contains (seen old) q || b) (sym (set.contains-insert nat_list_cmp_total (seen left) other q))
-    ∙ sym (set.contains-union nat_list_cmp_total (seen old) (seen (other ∷ left)) q))
-
-pub added_all : (s : Members) → set.union s (seen []) ≡ s
-added_all s = set.same_set nat_list_cmp_total exact_bytes _ _ (λ q.
-    set.contains-union nat_list_cmp_total s (seen []) q ∙ ap (λ b. set.contains s q || b) (set.contains-empty byte_cmp q) ∙ or_false (set.contains s q))

@@ -2,7 +2,8 @@
 #![tactic(auto)]
 
 pub use set::Set;
-pub use several::{difference, intersection, union};
+pub use several::{difference, has, intersection, union};
 
+mod each;
 mod set;
 mod several;

@@ -94,13 +94,6 @@ impl Set {
         self.members.iter()
     }
 
-    // Puts the members of another set in. Where memory runs out some of them are in.
-    pub(crate) fn extend(&mut self, other: &Set) -> Result<(), Memory>
-        ensures { OnOk result (self.new ≡ set.union self.old other.now) }
-    {
-        add_each(&mut self.members, &other.members)
-    }
-
     /// The same members once more. O(n log n), and linear in their bytes.
     pub fn copy(&self) -> Result<Set, Memory>
         ensures { IfOk result (λ copied. copied ≡ self.now) }
@@ -110,17 +103,6 @@ impl Set {
             members: copy_each(self.alloc, &self.members)?,
         })
     }
-}
-
-fn add_each(members: &mut BTreeSet<Blob>, others: &BTreeSet<Blob>) -> Result<(), Memory>
-    requires { IsOrdered byte_cmp members.old }
-    ensures added { OnOk result (set.from_list {R = byte_cmp} members.new.keys ≡ set.union (set.from_list members.old.keys) (set.from_list others.now.keys)) }
-    ensures ordered { IsOrdered byte_cmp members.new }
-{
-    for other in others {
-        members.insert(other.copy()?)?;
-    }
-    Ok(())
 }
 
 fn copy_each(alloc: Global, members: &BTreeSet<Blob>) -> Result<BTreeSet<Blob>, Memory>

@@ -1,34 +1,59 @@
-// Several sets as one.
-ghost use Rattle.std.specs.Prelude.{◌≡◌, ◌<◌, ◌≤◌, ◌&&◌, not, List, [], length, take, filter, map, IfOk, IfSome, IfNone};
+// Several sets as one. A set that is missing is the empty one.
+ghost use Rattle.std.specs.Prelude.{◌≡◌, ◌≤◌, ◌⊎◌, ◌&&◌, not, List, length, take, filter, fold, map, IfOk, OnOk, IfSome, IfNone};
 ghost use Rattle.std.specs.List.{list_all, list_any, All, Contains};
 ghost use Rattle.std.specs.FinSet as set;
+ghost use Rattle.std.specs.Map.Iter.{deref};
 ghost use Rattle.nr_model.specs.Bytes.{Bytes};
+ghost use Rattle.nr_model.specs.Keyspace.{byte_cmp};
 ghost use Rattle.nr_model.specs.Lists.{limited};
+ghost use Rattle.nr_model.specs.Names.{put};
 ghost use Rattle.nr_model.specs.Sets.{listed, intersection_of, union_of, difference_of};
+ghost use Rattle.nr_sets.specs.Lent.{lent};
 
 use crate::set::Set;
 use nr_blob::{Blob, Memory};
 use std::alloc::Global;
+use std::collections::BTreeSet;
 
-/// What one of the sets has, as a set of its own. O(n log n) in their members, and linear in their bytes.
-pub fn union(alloc: Global, sets: &[&Set]) -> Result<Set, Memory>
-    ensures { IfOk result (λ joined. joined ≡ union_of (map (λ set. set.now) sets.now)) }
+/// The members that one of the sets has, in byte order. O(n log n) in the members of all.
+pub fn union<'a>(alloc: Global, sets: &[Option<&'a Set>]) -> Result<Vec<&'a Blob>, Memory>
+    ensures { IfOk result (λ members. map deref members.items ≡ listed (union_of (map lent sets.now))) }
 {
-    let mut joined = Set::new(alloc);
+    let mut joined = BTreeSet::new(alloc);
     for set in sets {
-        joined.extend(set)?;
+        join(&mut joined, *set)?;
     }
-    Ok(joined)
+    in_order(alloc, joined)
+}
+
+// Puts the members of a set in, each at its place.
+fn join<'a>(joined: &mut BTreeSet<&'a Blob>, set: Option<&'a Set>) -> Result<(), Memory>
+    ensures { OnOk result
+        (map deref joined.new.keys ≡ fold (λ members member. put byte_cmp member members) (map deref joined.old.keys) (listed (lent set.entry))) }
+{
+    let Some(set) = set else {
+        return Ok(());
+    };
+    for member in set.members() {
+        joined.insert(member)?;
+    }
+    Ok(())
+}
+
+fn in_order<'a>(alloc: Global, joined: BTreeSet<&'a Blob>) -> Result<Vec<&'a Blob>, Memory>
+    ensures { IfOk result (λ members. members.items ≡ joined.entry.keys) }
+{
+    Ok(joined.into_iter().collect(alloc)?)
 }
 
 /// The members that all of the sets have, in byte order, and at most so many of them, 0 being no limit. It walks the smallest set, and looks
 /// its members up in each.
 pub fn intersection<'a>(
     alloc: Global,
-    sets: &[&'a Set],
+    sets: &[Option<&'a Set>],
     most: usize,
 ) -> Result<Vec<&'a Blob>, Memory>
-    ensures { IfOk result (λ members. map (λ member. member.now) members.items ≡ limited most (listed (intersection_of (map (λ set. set.now) sets.now)))) }
+    ensures { IfOk result (λ members. map deref members.items ≡ limited most (listed (intersection_of (map lent sets.now)))) }
 {
     let Some(walked) = smallest(sets) else {
         return Ok(Vec::new(alloc));
@@ -37,40 +62,71 @@ pub fn intersection<'a>(
 }
 
 /// The members that the first set has and none of the others, in byte order. It walks the first, and looks its members up in the others.
-pub fn difference<'a>(alloc: Global, sets: &[&'a Set]) -> Result<Vec<&'a Blob>, Memory>
-    ensures { IfOk result (λ members. map (λ member. member.now) members.items ≡ listed (difference_of (map (λ set. set.now) sets.now))) }
+pub fn difference<'a>(alloc: Global, sets: &[Option<&'a Set>]) -> Result<Vec<&'a Blob>, Memory>
+    ensures { IfOk result (λ members. map deref members.items ≡ listed (difference_of (map lent sets.now))) }
 {
     let Some((first, others)) = sets.split_first() else {
         return Ok(Vec::new(alloc));
     };
-    left_over(alloc, first, others)
+    match *first {
+        Some(first) => left_over(alloc, first, others),
+        None => Ok(Vec::new(alloc)),
+    }
 }
 
-// A set that has the fewest members.
-fn smallest<'a>(sets: &[&'a Set]) -> Option<&'a Set>
-    ensures among { IfSome result (λ least. Contains (map (λ set. set.now) sets.now) least.now) }
-    ensures least { IfSome result (λ least. All (λ s. set.len least.now ≤ set.len s.now) sets.now) }
-    ensures none { IfNone result (sets.now ≡ []) }
+// A set that has the fewest members, unless one is missing.
+fn smallest<'a>(sets: &[Option<&'a Set>]) -> Option<&'a Set>
+    ensures among { IfSome result (λ least. Contains (map lent sets.now) least.now) }
+    ensures least { IfSome result (λ least. All (λ s. set.len least.now ≤ set.len (lent s)) sets.now) }
+    ensures none { IfNone result (intersection_of (map lent sets.now) ≡ set.empty) }
 {
-    let mut least = *sets.first()?;
+    let Some((first, _)) = sets.split_first() else {
+        return None;
+    };
+    let Some(mut least) = *first else {
+        return None;
+    };
     for set in sets {
-        if set.len() < least.len() {
-            least = set;
-        }
+        let Some(set) = *set else {
+            return None;
+        };
+        least = smaller(least, set);
     }
     Some(least)
 }
 
-fn all_have(sets: &[&Set], member: &Blob) -> bool
-    ensures { result ≡ list_all (λ s. set.contains s.now member.now) sets.now }
+fn smaller<'a>(first: &'a Set, second: &'a Set) -> &'a Set
+    ensures one { (result.now ≡ first.now) ⊎ (result.now ≡ second.now) }
+    ensures first { set.len result.now ≤ set.len first.now }
+    ensures second { set.len result.now ≤ set.len second.now }
 {
-    sets.iter().all(|set| set.contains(member))
+    if second.len() < first.len() {
+        second
+    } else {
+        first
+    }
 }
 
-fn any_has(sets: &[&Set], member: &Blob) -> bool
-    ensures { result ≡ list_any (λ s. set.contains s.now member.now) sets.now }
+/// Whether a set has a member. Logarithmic.
+pub fn has(held: Option<&Set>, member: &Blob) -> bool
+    ensures { result ≡ set.contains (lent held.entry) member.now }
 {
-    sets.iter().any(|set| set.contains(member))
+    match held {
+        Some(held) => held.contains(member),
+        None => false,
+    }
+}
+
+fn all_have(sets: &[Option<&Set>], member: &Blob) -> bool
+    ensures { result ≡ list_all (λ s. set.contains (lent s) member.now) sets.now }
+{
+    sets.iter().all(|set| has(*set, member))
+}
+
+fn any_has(sets: &[Option<&Set>], member: &Blob) -> bool
+    ensures { result ≡ list_any (λ s. set.contains (lent s) member.now) sets.now }
+{
+    sets.iter().any(|set| has(*set, member))
 }
 
 // How many of at most so many are taken, 0 being no limit.
@@ -84,11 +140,11 @@ fn limit(most: usize, all: usize) -> usize
 fn common<'a>(
     alloc: Global,
     walked: &'a Set,
-    sets: &[&'a Set],
+    sets: &[Option<&'a Set>],
     most: usize,
 ) -> Result<Vec<&'a Blob>, Memory>
     ensures { IfOk result (λ members.
-        map (λ member. member.now) members.items ≡ limited most (filter (λ m. list_all (λ s. set.contains s.now m) sets.now) (listed walked.now))) }
+        map deref members.items ≡ limited most (filter (λ m. list_all (λ s. set.contains (lent s) m) sets.now) (listed walked.now))) }
 {
     let limit = limit(most, walked.len());
     let mut members = Vec::new(alloc);
@@ -96,9 +152,10 @@ fn common<'a>(
         if members.len() == limit {
             return Ok(members);
         }
-        if all_have(sets, member) {
-            members.push(member)?;
+        if !all_have(sets, member) {
+            continue;
         }
+        members.push(member)?;
     }
     Ok(members)
 }
@@ -107,16 +164,17 @@ fn common<'a>(
 fn left_over<'a>(
     alloc: Global,
     walked: &'a Set,
-    others: &[&'a Set],
+    others: &[Option<&'a Set>],
 ) -> Result<Vec<&'a Blob>, Memory>
     ensures { IfOk result (λ members.
-        map (λ member. member.now) members.items ≡ filter (λ m. not (list_any (λ s. set.contains s.now m) others.now)) (listed walked.now)) }
+        map deref members.items ≡ filter (λ m. not (list_any (λ s. set.contains (lent s) m) others.now)) (listed walked.now)) }
 {
     let mut members = Vec::new(alloc);
     for member in walked.members() {
-        if !any_has(others, member) {
-            members.push(member)?;
+        if any_has(others, member) {
+            continue;
         }
+        members.push(member)?;
     }
     Ok(members)
 }

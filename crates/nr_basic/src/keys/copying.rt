@@ -14,6 +14,7 @@ use nr_keyspace::{Db, Keyspace, Touched};
 use nr_model::refused::Refused;
 use nr_resp::words::is_word;
 use nr_resp::{Failure, Reply};
+use std::alloc::Global;
 use std::marker::Model;
 
 // The words behind the two keys, DB index and REPLACE, in any order.
@@ -35,6 +36,7 @@ impl Model for CopyOptions {
 
 /// `COPY source destination [DB index] [REPLACE]`
 pub fn copy<T: Touched>(
+    alloc: Global,
     keyspace: &mut Keyspace,
     now: u64,
     database: Db,
@@ -52,11 +54,14 @@ pub fn copy<T: Touched>(
     if database == options.database && source == target {
         return Err(Failure::Refused(Refused::SameObject));
     }
-    copy_key(keyspace, now, database, source, target, options, touched)
+    copy_key(
+        alloc, keyspace, now, database, source, target, options, touched,
+    )
 }
 
 // Puts what a key of the database holds under another key once more.
 fn copy_key<T: Touched>(
+    alloc: Global,
     keyspace: &mut Keyspace,
     now: u64,
     database: Db,
@@ -73,7 +78,7 @@ fn copy_key<T: Touched>(
     if is_kept(keyspace, now, target, &options) {
         return Ok(Reply::Int(0));
     }
-    let Some(held) = copy_of(keyspace, now, database, source)? else {
+    let Some(held) = copy_of(alloc, keyspace, now, database, source)? else {
         return Ok(Reply::Int(0));
     };
     give(keyspace, options.database, target, held)?;

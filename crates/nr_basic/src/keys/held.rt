@@ -5,6 +5,7 @@ ghost use Rattle.nr_model.specs.Keyspace.{live, key_of};
 
 use nr_blob::{Blob, Memory};
 use nr_keyspace::{Db, Keyspace, Value};
+use std::alloc::Global;
 use std::marker::Model;
 
 /// A value and its deadline.
@@ -39,6 +40,7 @@ pub(super) fn take(keyspace: &mut Keyspace, now: u64, database: Db, name: &Blob)
 
 /// What a key holds once more. Linear in the size of its value.
 pub(super) fn copy_of(
+    alloc: Global,
     keyspace: &Keyspace,
     now: u64,
     database: Db,
@@ -53,7 +55,7 @@ pub(super) fn copy_of(
         return Ok(None);
     };
     Ok(Some(Held {
-        value: value.copy()?,
+        value: value.copy(alloc)?,
         deadline,
     }))
 }

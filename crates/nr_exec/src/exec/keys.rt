@@ -48,7 +48,7 @@ pub(super) fn change<T: Touched>(
         KeysChange::Del | KeysChange::Unlink => Ok(del(keyspace, now, database, words, touched)?),
         KeysChange::Rename => moving::rename(keyspace, now, database, words, touched),
         KeysChange::RenameNx => moving::rename_nx(keyspace, now, database, words, touched),
-        KeysChange::Copy => copying::copy(keyspace, now, database, words, touched),
+        KeysChange::Copy => copying::copy(alloc, keyspace, now, database, words, touched),
         KeysChange::Move => moving::move_key(keyspace, now, database, words, touched),
         KeysChange::Expire(timing) => {
             deadlines::expire(alloc, timing, keyspace, now, database, words, touched)

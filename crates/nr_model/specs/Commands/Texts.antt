@@ -4,6 +4,8 @@ use Rattle.nr_model.specs.Bytes.{Bytes, quoted}
 use Rattle.nr_model.specs.Replies.{Reply, Simple}
 use Rattle.nr_model.specs.declared.refused.Refused.{Refused}
 use Rattle.nr_model.specs.declared.refused.Refused.TheVariants as refusals
+use Rattle.nr_model.specs.declared.command.End.{End}
+use Rattle.nr_model.specs.declared.command.End.TheVariants.{Left, Right}
 use Rattle.nr_model.specs.declared.refused.Expiring.{Expiring}
 use Rattle.nr_model.specs.declared.refused.Expiring.TheVariants as expiring
 
@@ -53,7 +55,11 @@ expiring_name expiring.PExpire = codes "pexpire"
 expiring_name expiring.ExpireAt = codes "expireat"
 expiring_name expiring.PExpireAt = codes "pexpireat"
 
--- the text of each refusal (Redis, but for OptionsConflict and TooLong, which are shorter; which one a fault has is own)
+abbrev pub pop_name : End → Bytes
+pop_name Left = codes "lpop"
+pop_name Right = codes "rpop"
+
+-- the text of each refusal (Redis, but for OptionsConflict and TooLong, which are shorter, and CountNotPositive, RankZero and Negative; which one a fault has is own)
 abbrev pub refusal_text : Refused → Bytes
 refusal_text refusals.Syntax = syntax_error
 refusal_text refusals.NotAnInteger = not_an_integer
@@ -75,3 +81,14 @@ refusal_text refusals.TooLong = codes "ERR string exceeds maximum allowed size"
 refusal_text refusals.BitOffset = codes "ERR bit offset is not an integer or out of range"
 refusal_text refusals.BitValue = codes "ERR bit is not an integer or out of range"
 refusal_text refusals.NotOfSeveral = codes "ERR BITOP NOT must be called with a single source key."
+refusal_text refusals.IndexOutOfRange = codes "ERR index out of range"
+refusal_text refusals.NotPositive = codes "ERR value is out of range, must be positive"
+refusal_text (refusals.PopArity end) = wrong_arity (pop_name end)
+refusal_text refusals.KeyCount = codes "ERR numkeys should be greater than 0"
+refusal_text refusals.TooManyKeys = codes "ERR Number of keys can't be greater than number of args"
+refusal_text refusals.CountNotPositive = codes "ERR count should be greater than 0"
+refusal_text refusals.RankZero = codes "ERR RANK can't be zero"
+refusal_text refusals.Negative = codes "ERR negative value not allowed"
+refusal_text refusals.HashNotAnInteger = codes "ERR hash value is not an integer"
+refusal_text refusals.HSetArity = wrong_arity (codes "hset")
+refusal_text refusals.HMSetArity = wrong_arity (codes "hmset")

@@ -2,7 +2,9 @@
 use Rattle.std.specs.Prelude.{◌≡◌, ℕ, List, [], ◌∷◌, pos, negsuc, Some, None, fold}
 use Rattle.nr_model.specs.Bytes.{Bytes}
 use Rattle.nr_model.specs.Strings.{range}
-use Rattle.nr_model.specs.Lists.{Left, Right, Before, After, pushed, popped, item_at, with_item_at, inserted, removed, places_of}
+use Rattle.nr_model.specs.declared.command.End.TheVariants.{Left, Right}
+use Rattle.nr_model.specs.declared.command.Side.TheVariants.{Before, After}
+use Rattle.nr_model.specs.Lists.{pushed, popped, item_at, with_item_at, inserted, removed, places_of}
 
 -- items of one byte
 abbrev a : Bytes

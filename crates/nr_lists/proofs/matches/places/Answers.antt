@@ -1,7 +1,6 @@
 use Rattle.std.proofs.Common.{◌≡◌, length, take, get_or, ap, sym, ◌∙◌, rules, arith}
 use Rattle.std.specs.List.{enumerate_from}
 use Rattle.nr_model.specs.Lists.{seen_from, end_of, passed_over}
-use Rattle.nr_lists.specs.Ends.{end_named}
 use Rattle.nr_lists.specs.Matches.{limit_of, place_from}
 use Rattle.nr_lists.proofs.Placed.{found_in, enough_found, all_found, other_found, one_passed, one_found, next_looked_at, all_places, looked_at_all}
 use Rattle.nr_lists.proofs.matches.places.Goals as goal
@@ -12,7 +11,7 @@ returns-then-len-count c =
     let items = c.args.items.now.items in
     let long : c.len.result ≡ length items = c.len.ensures ∙ c.args.items.now.ok.0 in
     let long_too : c.len-2.result ≡ length items = c.len-2.ensures ∙ c.args.items.now.ok.0 in
-    let end = end_named c.end_of-end.result in
+    let end = c.end_of-end.result in
     let end_is : end ≡ end_of c.args.rank = search rules in
     let pass_is : c.passed_over-to_pass.result ≡ passed_over c.args.rank = search rules in
     let all = take c.limit-looked_at.result (seen_from end (enumerate_from 0 items)) in
@@ -27,7 +26,7 @@ returns c =
     let items = c.args.items.now.items in
     let long : c.len.result ≡ length items = c.len.ensures ∙ c.args.items.now.ok.0 in
     let long_too : c.len-2.result ≡ length items = c.len-2.ensures ∙ c.args.items.now.ok.0 in
-    let end = end_named c.end_of-end.result in
+    let end = c.end_of-end.result in
     let end_is : end ≡ end_of c.args.rank = search rules in
     let pass_is : c.passed_over-to_pass.result ≡ passed_over c.args.rank = search rules in
     let all = take c.limit-looked_at.result (seen_from end (enumerate_from 0 items)) in
@@ -41,7 +40,7 @@ pub loop-seen-preserved : goal.loop-seen-preserved
 loop-seen-preserved c =
     let items = c.args.items.now.items in
     let bytes = c.args.bytes.now in
-    let end = end_named c.end_of-end.result in
+    let end = c.end_of-end.result in
     let looked_at = c.limit-looked_at.result in
     let all = take looked_at (seen_from end (enumerate_from 0 items)) in
     let whole = found_in bytes c.limit-count.result c.passed_over-to_pass.result all in

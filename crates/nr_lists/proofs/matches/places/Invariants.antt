@@ -1,12 +1,11 @@
 use Rattle.std.proofs.Common.{take}
 use Rattle.std.specs.List.{enumerate_from}
 use Rattle.nr_model.specs.Lists.{seen_from}
-use Rattle.nr_lists.specs.Ends.{end_named}
 use Rattle.nr_lists.proofs.Placed.{Finds, found_in}
 use Rattle.nr_lists.proofs.matches.places.Given as goal
 
 -- the places so far
 abbrev pub invariant-loop-seen : goal.invariant-loop-seen
 invariant-loop-seen l =
-    let all = take l.looked_at (seen_from (end_named l.end) (enumerate_from 0 l.fn.items.items)) in
+    let all = take l.looked_at (seen_from l.end (enumerate_from 0 l.fn.items.items)) in
     Finds l.fn.bytes l.count l.to_pass l.seen all l.places.items (found_in l.fn.bytes l.count l.initial.to_pass all)

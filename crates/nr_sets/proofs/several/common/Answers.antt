@@ -1,28 +1,24 @@
 use Rattle.std.proofs.Common.{◌≡◌, length, ap, sym, ◌∙◌, arith, map}
 use Rattle.std.proofs.lemmas.List.{length-map, map_push}
 use Rattle.nr_model.specs.Sets.{listed}
-use Rattle.nr_sets.proofs.Chosen.{enough_chosen, all_chosen, one_chosen, one_left_out, within_limit}
+use Rattle.nr_sets.proofs.Chosen.{enough_chosen, all_chosen, one_chosen, within_limit}
+use Rattle.std.specs.Map.Iter.{deref}
 use Rattle.nr_sets.proofs.several.common.Goals as goal
 
 pub returns-then-len-limit : goal.returns-then-len-limit
 returns-then-len-limit c =
     let long : length (listed c.args.walked.now) ≡ c.len.result = ap length (sym c.members-member-items.ensures.members) ∙ c.members-member-items.ensures.len ∙ sym c.len.ensures.len in
     enough_chosen _ c.limit-limit.result _ c.loop-member.member-iterator _
-    (omega (arith, length-map c.loop-member.members.items (λ m. m.now), c.loop-member.members.ok, c.len-in-loop-member.ensures, c.if-len-limit.true))
+    (omega (arith, length-map c.loop-member.members.items deref, c.loop-member.members.ok, c.len-in-loop-member.ensures, c.if-len-limit.true))
     c.loop-member.invariant
     ∙ sym (c.limit-limit.ensures _ (within_limit _ (listed c.args.walked.now) c.len.result long))
 
 pub loop-member-preserved : goal.loop-member-preserved
 loop-member-preserved c =
-    one_left_out _ c.limit-limit.result _ c.loop-member.member-iterator c.in-Some.member.now c.next.new.self _ c.in-Some.ensures.steps
-    (sym c.all_have.ensures ∙ c.if-all_have.false) c.loop-member.invariant
-
-pub loop-member-preserved-in-Continue-1 : goal.loop-member-preserved-in-Continue-1
-loop-member-preserved-in-Continue-1 c =
     one_chosen _ c.limit-limit.result _ _ c.loop-member.member-iterator c.in-Some.member.now c.next.new.self _ c.in-Some.ensures.steps
-    (sym c.all_have.ensures ∙ c.if-all_have.true)
-    (omega (arith, length-map c.loop-member.members.items (λ m. m.now), c.loop-member.members.ok, c.len-in-loop-member.ensures, c.if-len-limit.false, c.loop-member.invariant.few))
-    (ap (map (λ m. m.now)) c.in_ok-push.ensures.items ∙ map_push (λ m. m.now) c.loop-member.members.items c.in-Some.member) c.loop-member.invariant
+    (sym c.all_have.ensures ∙ c.if-not-all_have.false)
+    (omega (arith, length-map c.loop-member.members.items deref, c.loop-member.members.ok, c.len-in-loop-member.ensures, c.if-len-limit.false, c.loop-member.invariant.few))
+    (ap (map deref) c.in_ok-push.ensures.items ∙ map_push deref c.loop-member.members.items c.in-Some.member) c.loop-member.invariant
 
 pub returns : goal.returns
 returns c =

@@ -1,0 +1,6 @@
+mod Moved
+mod NoItems
+mod Options
+mod Popped
+mod Pushed
+mod Relisted

@@ -1,0 +1,3 @@
+pub mod Relisted
+pub mod Options
+pub mod Popped

@@ -1,0 +1,8 @@
+use Rattle.std.proofs.Common.{sym}
+use Rattle.std.specs.FinMap as map
+use Rattle.nr_model.specs.Bytes.{Bytes}
+use Rattle.nr_model.specs.Keyspace.{byte_cmp}
+use Rattle.nr_members.proofs.hashes.looks.len_of.Goals as goal
+
+pub returns-in-None-clause-len : goal.returns-in-None-clause-len
+returns-in-None-clause-len c = rw c.in-None.is (sym (map.len-empty byte_cmp Bytes))

@@ -1,0 +1,9 @@
+use Rattle.std.proofs.Common.{◌≡◌, ◌++◌, map}
+use Rattle.std.specs.FinMap as finmap
+use Rattle.nr_model.specs.Replies as replies
+use Rattle.nr_resp.specs.Shown.{item_reply}
+use Rattle.nr_members.proofs.hashes.looks.values_of.Given as goal
+
+-- what is shown and what is left are all
+abbrev pub invariant-loop-value : goal.invariant-loop-value
+invariant-loop-value l = map item_reply l.items.items ++ map replies.Bulk l.value-iterator ≡ map replies.Bulk (finmap.values l.fn.hash)

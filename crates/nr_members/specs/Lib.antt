@@ -1,0 +1,3 @@
+pub mod HashesEdited
+pub mod HashesSet
+pub mod Changed
