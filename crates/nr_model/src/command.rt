@@ -219,6 +219,15 @@ pub enum Combination {
     Difference,
 }
 
+/// Which way the members of a sorted set are told.
+#[derive(Clone, Copy, Debug, PartialEq, Eq)]
+pub enum Direction {
+    /// From the least score to the greatest.
+    Ascending,
+    /// From the greatest score to the least.
+    Descending,
+}
+
 /// In what a time is counted.
 #[derive(Clone, Copy, Debug, PartialEq, Eq)]
 pub enum Unit {
