@@ -16,6 +16,7 @@ use Rattle.nr_oplog.specs.Layout.{passed_word}
 use Rattle.nr_oplog.specs.Rule.{Share, Owns, SeatOk, LogRule}
 use Rattle.nr_oplog.specs.Plays.{with_tail, with_read, with_passed, saw_tail, saw_tail_and_ran, saw_passed, compared}
 use Rattle.nr_oplog.specs.Seats.{IsOfNode}
+use Rattle.nr_oplog.specs.Law.{HoldsOfCounts}
 use Rattle.nr_oplog.proofs.Fronts.{begins_more, begins_both, applied_append}
 use Rattle.nr_entry.proofs.Changes.{change, at_change, change_here, change_else}
 use Rattle.nr_oplog.proofs.Seats.{each_set, apart_set, unmoved}
@@ -81,8 +82,13 @@ module _ (nodes places : ℕ) where
         unmoved nodes places s r (passed_word node) id m.1 m.0 w at mine (λ x o. o),
         (
           refl,
-          λ x e. let is : node ≡ x = word_one node x e in
-              (ap (λ z. with_passed z n m.0) is, subst (λ z. get_or m.0.met z 0 ≤ n) is (subst (λ z. get_or m.0.met node 0 ≤ z) (sym counts) (k.met node near))),
+          λ x e. let is : node ≡ x = word_one node x e in (
+            ap (λ z. with_passed z n m.0) is,
+            subst (λ z. get_or m.0.met z 0 ≤ n) is (subst (λ z. get_or m.0.met node 0 ≤ z) (sym counts) (k.met node near)),
+            λ single same. let here : node ≡ m.0.standing.node = is ∙ same in
+                let has : Owns nodes places m.0 node = (le_of_eq (sym here), subst (λ z. node < z) (sym single) (omega arith)) in
+                counts ∙ ap length (r.applied_is node ∙ ap applied_of (k.owns node has).whole),
+          ),
         ),
       )
 
@@ -179,3 +185,8 @@ module _ (nodes places : ℕ) where
         subst (λ (ws : List ℕ). LogRule nodes places record { words = ws; homes = s.homes; views = set s.views id w }) (sym (lib.Seq.set-get_or s.words 0 0)) (reads_kept id m job mine s r at),
         (refl, refl, subst (λ z. m.0.standing.seen ≤ z) (sym r.tail_is) (r.each_seat id m.0 at).seen),
       )
+
+-- what was met of a node is at most what it has passed
+pub holds_of_counts : HoldsOfCounts
+holds_of_counts nodes places s r node near id other v w at at' own =
+    subst (λ z. get_or v.met node 0 ≤ z) (ap length (r.applied_is node ∙ ap applied_of ((r.each_seat other w at').owns node own).whole)) ((r.each_seat id v at).met node near)

@@ -5,3 +5,4 @@ pub mod Names
 pub mod Seats
 pub mod Calls
 pub mod Opening
+pub mod Law

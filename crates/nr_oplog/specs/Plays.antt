@@ -40,7 +40,8 @@ abbrev pub saw_tail_and_ran : Option Job → Sat → ℕ → Sat → Type 0
 saw_tail_and_ran job m n m' = (m'.1 ≡ m.1) × (m'.0 ≡ with_read job n m.0) × (m.0.standing.seen ≤ n)
 
 abbrev pub saw_passed : At → Sat → ℕ → Sat → Type 0
-saw_passed st m n m' = (m'.1 ≡ m.1) × ((node : ℕ) → st.word ≡ passed_word node → (m'.0 ≡ with_passed node n m.0) × (slice_index m.0.met node ≤ n))
+saw_passed st m n m' = (m'.1 ≡ m.1) × ((node : ℕ) → st.word ≡ passed_word node → (m'.0 ≡ with_passed node n m.0) × (slice_index m.0.met node ≤ n)
+    × (m.0.upto ≡ suc m.0.standing.node → node ≡ m.0.standing.node → n ≡ passed_of m.0.standing))
 
 -- the tail was as expected, and the number is reserved; or it was not
 abbrev pub claimed : At → Sat → ℕ → Sat → Type 0

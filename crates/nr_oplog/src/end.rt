@@ -1,5 +1,6 @@
 // A seat with its log.
 ghost use Rattle.std.specs.Prelude.{◌≡◌};
+ghost use Rattle.nr_oplog.specs.Calls.{LoadsCounts, IsLeastOf};
 
 use crate::log::{LogName, Oplog};
 use crate::seat::LogSeat;
@@ -34,6 +35,15 @@ impl<B: LogName> End<B> {
         ensures { result ≡ seat }
     {
         End { seat, log }
+    }
+
+    /// The least of the counts of entries that nodes have passed: one load for each node. All nodes have passed each entry of a lower number, and
+    /// go on having passed it.
+    pub fn least_passed(&mut self) -> u64
+        ensures loads { LoadsCounts self.old self.new }
+        ensures least { IsLeastOf result self.new.met }
+    {
+        self.seat.least_passed(&self.log)
     }
 }
 

@@ -37,6 +37,7 @@
 #![tactic(auto)]
 
 pub use end::End;
+pub use law::log_law;
 pub use log::{LogName, Oplog};
 pub use open::{OpenError, Opened};
 pub use seat::{LogSeat, MOST_ENTRIES};
@@ -44,6 +45,7 @@ pub use token::Token;
 pub use view::{LogView, Shape};
 
 mod end;
+mod law;
 mod log;
 mod open;
 mod opening;

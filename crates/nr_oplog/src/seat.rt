@@ -8,7 +8,7 @@ ghost use Rattle.nr_log_end.specs.Standings.{IsSharesFor, IsAllFilled, StandsInL
 ghost use Rattle.nr_oplog.specs.Rule.{opening_view};
 ghost use Rattle.nr_oplog.specs.Plays.{with_read};
 ghost use Rattle.nr_oplog.specs.Seats.{IsBehind};
-ghost use Rattle.nr_oplog.specs.Calls.{LooksAtTail, OnlyCounts};
+ghost use Rattle.nr_oplog.specs.Calls.{LooksAtTail, OnlyCounts, LoadsCounts, IsLeastOf};
 
 use crate::log::{LogName, Oplog};
 use crate::plays::RanJob;
@@ -169,6 +169,16 @@ impl<B: LogName> LogSeat<B> {
     {
         self.seen = log.load_tail(&mut self.seat);
         self.seen
+    }
+
+    /// The least of the counts of entries that nodes have passed: one load for each node. All nodes have passed each entry of a lower number, and
+    /// go on having passed it.
+    pub fn least_passed(&mut self, log: &Oplog<B>) -> u64
+        ensures loads { LoadsCounts self.old self.new }
+        ensures least { IsLeastOf result self.new.met }
+    {
+        self.least = log.load_all_passed(&mut self.seat);
+        self.least
     }
 
     /// Notes that this node's replica has run a read, behind the entries that were passed so far: one load of the tail.

@@ -7,6 +7,7 @@ ghost use Rattle.nr_log_end.specs.Standings.{passed_of, IsAllFilled, StandsInLog
 ghost use Rattle.nr_log_end.specs.declared.standing.Look.{Look};
 ghost use Rattle.nr_oplog.specs.Layout.{passed_word, stamp_word, slot_of, words_of, slots_of};
 ghost use Rattle.nr_oplog.specs.Plays.{with_tail, with_read, with_passed, token_view, with_told, with_look, AreOfOneLog};
+ghost use Rattle.nr_oplog.specs.Calls.{LoadsCounts, IsLeastOf};
 ghost use Rattle.nr_oplog.specs.Rule.{opening_view};
 ghost use Rattle.nr_oplog.specs.Seats.{IsSameSeat, IsOfNode, HasShareFor, CountsOf, IsBehind};
 
@@ -66,8 +67,24 @@ impl<B: LogName> Oplog<B> {
         ensures seat { IsSameSeat seat.old seat.new }
         ensures view { seat.new.me ≡ (with_passed node result seat.old.me.0, seat.old.me.1) }
         ensures greater { slice_index seat.old.me.0.met node ≤ result }
+        ensures own { seat.old.me.0.upto ≡ suc seat.old.me.0.standing.node → node ≡ seat.old.me.0.standing.node → result ≡ passed_of seat.old.me.0.standing }
     {
         self.table.shared.load::<SeePassed>(seat, 16 * node + 16)
+    }
+
+    // Loads the passed counts of all nodes, and gives the least of them.
+    pub(crate) fn load_all_passed(&self, seat: &mut LogSlotSeat) -> u64
+        requires { (seat.old.table_id ≡ B.log) × IsOfNode seat.old.me.0 self.now.table.shared.key.nodes self.now.table.shared.key.places × (length seat.old.me.0.met ≡ self.now.table.shared.key.nodes) }
+        ensures seat { IsSameSeat seat.old seat.new × (seat.new.me.1 ≡ seat.old.me.1) }
+        ensures loads { LoadsCounts seat.old.me.0 seat.new.me.0 }
+        ensures least { IsLeastOf result seat.new.me.0.met }
+    {
+        let mut least = self.load_passed(seat, 0);
+        for node in 1..self.nodes {
+            let count = self.load_passed(seat, node);
+            least = least.min(count);
+        }
+        least
     }
 
     // Loads the passed counts until a node is found that has to pass more before there is a place at this tail. Gives the least of them

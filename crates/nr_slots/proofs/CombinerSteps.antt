@@ -11,13 +11,16 @@ use Rattle.nr_slots.specs.declared.view.Parcel.{Parcel}
 use Rattle.nr_slots.specs.declared.view.Parcel.TheVariants.{Posted, Answered}
 use Rattle.nr_slots.specs.declared.view.Grip.TheVariants.{Loose, Lifting, Answering}
 use Rattle.nr_slots.specs.declared.view.Desk.{Desk}
+use Rattle.nr_slots.specs.declared.view.Found.{Found}
+use Rattle.nr_slots.specs.declared.view.Found.TheVariants.{Nothing, Batch as FoundBatch}
 use Rattle.nr_slots.specs.declared.view.SlotView.{SlotView}
 use Rattle.nr_slots.specs.Layout.{word_of, place_of}
 use Rattle.nr_slots.specs.Names.{Names, IsForLast}
 use Rattle.nr_slots.specs.Rule.{Stage, offered, lifting, held, answering, ready, Tale, word_at, home_at, lifted_at, answered_at, grip_at, batches, answers, lane_of, desk_of, SlotOk, SlotRule, combiner_view}
 use Rattle.nr_slots.specs.Plays.{desk_at, sought, lifted, reached, answered}
 use Rattle.nr_slots.proofs.Tales.{is_offered, is_lifting, is_held, is_answering}
-use Rattle.nr_slots.proofs.Moves.{one_word, combiner_moved, unmoved}
+use Rattle.nr_slots.proofs.Heads.{begins_all, front_all}
+use Rattle.nr_slots.proofs.Moves.{one_word, combiner_moved, seen}
 use Rattle.nr_slots.proofs.WorkerSteps.{Carried, told}
 
 -- what a combiner does to what it knows of a worker
@@ -33,9 +36,9 @@ to_reach desk = record desk { grip = Answering }
 abbrev pub to_reply : Answer → Desk → Desk
 to_reply a desk = record { lifted = desk.lifted; answered = desk.answered ++ a ∷ []; grip = Loose }
 
-module _ (workers id worker : ℕ) (near : worker < workers) (desks : List Desk) (full : length desks ≡ workers) (cs : Carried) where
+module _ (workers id worker : ℕ) (near : worker < workers) (desks : List Desk) (looks : List Found) (full : length desks ≡ workers) (cs : Carried) where
   abbrev v : SlotView
-  v = combiner_view workers desks
+  v = combiner_view workers desks looks
 
   abbrev St : Type 0
   St = State (Option Parcel) SlotView
@@ -45,7 +48,11 @@ module _ (workers id worker : ℕ) (near : worker < workers) (desks : List Desk)
 
   -- the view with another desk for the worker
   abbrev desked : Desk → SlotView
-  desked d = combiner_view workers (set desks worker d)
+  desked d = combiner_view workers (set desks worker d) looks
+
+  -- the same behind one more look
+  abbrev looked : Found → Desk → SlotView
+  looked found d = combiner_view workers (set desks worker d) (looks ++ found ∷ [])
 
   -- what is said of the worker's word is said of each worker with this word
   of_word : (P : ℕ → Type 0) → P worker → (x : ℕ) → word_of worker ≡ word_of x → P x
@@ -107,27 +114,35 @@ module _ (workers id worker : ℕ) (near : worker < workers) (desks : List Desk)
     where
       found : get_or s.words (word_of worker) 0 ≡ 1 → Seeks slots s
       found one = let f = offered_now s r at loose even one in let b : Batch = f.0 in let e = f.1 in (
-        desked (to_seek b desk),
+        looked (FoundBatch worker) (to_seek b desk),
         takes (place_of worker) (Some (Posted b)),
         home_at_stage s r at (offered b) e,
-        combiner_moved workers s r id worker near (told (t s r at).rounds (lifting b)) tt (ok s r at).each_named (get_or s.words (word_of worker) 0) (word_at_stage s r at (offered b) e) none refl desks (to_seek b desk) at full
-            (sought_is s r at b e) (lane_at_stage s r at (offered b) e),
-        of_word (λ x. (get_or s.words (word_of worker) 0 ≡ 1 → (c : Batch) × ((desked (to_seek b desk), (place_of worker, Some (Posted b)) ∷ cs) ≡ (combiner_view workers (set desks x (to_seek c (desk_at desks x))), (place_of x, Some (Posted c)) ∷ cs)))
-            × (get_or s.words (word_of worker) 0 ≢ 1 → (desked (to_seek b desk), (place_of worker, Some (Posted b)) ∷ cs) ≡ (v, cs)))
+        combiner_moved workers s r id worker near (told (t s r at).rounds (lifting b)) tt (ok s r at).each_named (get_or s.words (word_of worker) 0) (word_at_stage s r at (offered b) e) none refl desks (to_seek b desk) looks (looks ++ FoundBatch worker ∷ []) at full
+            (sought_is s r at b e) (lane_at_stage s r at (offered b) e) ((b ∷ [], refl), begins_all desk.answered),
+        of_word (λ x. (get_or s.words (word_of worker) 0 ≡ 1 → (c : Batch) × ((looked (FoundBatch worker) (to_seek b desk), (place_of worker, Some (Posted b)) ∷ cs) ≡ (combiner_view workers (set desks x (to_seek c (desk_at desks x))) (looks ++ FoundBatch x ∷ []), (place_of x, Some (Posted c)) ∷ cs)))
+            × (get_or s.words (word_of worker) 0 ≢ 1 → (looked (FoundBatch worker) (to_seek b desk), (place_of worker, Some (Posted b)) ∷ cs) ≡ (combiner_view workers desks (looks ++ Nothing x ∷ []), cs)))
             ((λ _. (b, refl)), (λ other. absurd (other one))),
       )
 
       missed : get_or s.words (word_of worker) 0 ≢ 1 → Seeks slots s
-      missed other = (v, keeps, tt, unmoved workers s r (word_of worker) id cs v at, (λ x here. ((λ one. absurd (other one)), (λ _. refl))))
+      missed other = let q = r.each_seat id v at in let w : SlotView = combiner_view workers desks (looks ++ Nothing worker ∷ []) in (
+        w,
+        keeps,
+        tt,
+        seen workers s r (word_of worker) id cs v w at record { within = q.within; lane_is = q.lane_is; desk_is = q.desk_is; noted_is = q.noted_is } (λ x o. o) (λ c. c),
+        of_word (λ x. (get_or s.words (word_of worker) 0 ≡ 1 → (c : Batch) × ((w, cs) ≡ (combiner_view workers (set desks x (to_seek c (desk_at desks x))) (looks ++ FoundBatch x ∷ []), (place_of x, Some (Posted c)) ∷ cs)))
+            × (get_or s.words (word_of worker) 0 ≢ 1 → (w, cs) ≡ (combiner_view workers desks (looks ++ Nothing x ∷ []), cs)))
+            ((λ one. absurd (other one)), (λ _. refl)),
+      )
 
   pub lifts : (slots : ℕ) → desk.grip ≡ Lifting → Allows (SlotRule workers) slots id (v, (place_of worker, None) ∷ cs) (word_of worker) (λ z. z) (λ _. lifted (step slots (word_of worker) 0 0 none) (v, (place_of worker, None) ∷ cs))
   lifts slots g s r wide at small = let f = lifting_now s r at g in let b : Batch = f.0 in let e = f.1 in (
     desked (to_loose desk),
     gives,
     tt,
-    combiner_moved workers s r id worker near (told (t s r at).rounds (held b)) tt (ok s r at).each_named (get_or s.words (word_of worker) 0) (word_at_stage s r at (lifting b) e) (some None) refl desks (to_loose desk) at full
-        (ap to_loose (knows_at s r at (lifting b) e)) (lane_at_stage s r at (lifting b) e),
-    of_word (λ x. (desked (to_loose desk), cs) ≡ (combiner_view workers (set desks x (to_loose (desk_at desks x))), cs)) refl,
+    combiner_moved workers s r id worker near (told (t s r at).rounds (held b)) tt (ok s r at).each_named (get_or s.words (word_of worker) 0) (word_at_stage s r at (lifting b) e) (some None) refl desks (to_loose desk) looks looks at full
+        (ap to_loose (knows_at s r at (lifting b) e)) (lane_at_stage s r at (lifting b) e) (front_all desk),
+    of_word (λ x. (desked (to_loose desk), cs) ≡ (combiner_view workers (set desks x (to_loose (desk_at desks x))) looks, cs)) refl,
   )
 
   pub reaches : (slots : ℕ) (a : Answer) → desk.grip ≡ Loose → IsForLast a desk.lifted desk.answered
@@ -136,9 +151,9 @@ module _ (workers id worker : ℕ) (near : worker < workers) (desks : List Desk)
     desked (to_reach desk),
     takes (place_of worker) None,
     home_at_stage s r at (held b) e,
-    combiner_moved workers s r id worker near (told (t s r at).rounds (answering b)) tt (ok s r at).each_named (get_or s.words (word_of worker) 0) (word_at_stage s r at (held b) e) none refl desks (to_reach desk) at full
-        (ap to_reach (knows_at s r at (held b) e)) (lane_at_stage s r at (held b) e),
-    of_word (λ x. (desked (to_reach desk), (place_of worker, None) ∷ cs) ≡ (combiner_view workers (set desks x (to_reach (desk_at desks x))), (place_of x, None) ∷ cs)) refl,
+    combiner_moved workers s r id worker near (told (t s r at).rounds (answering b)) tt (ok s r at).each_named (get_or s.words (word_of worker) 0) (word_at_stage s r at (held b) e) none refl desks (to_reach desk) looks looks at full
+        (ap to_reach (knows_at s r at (held b) e)) (lane_at_stage s r at (held b) e) (front_all desk),
+    of_word (λ x. (desked (to_reach desk), (place_of worker, None) ∷ cs) ≡ (combiner_view workers (set desks x (to_reach (desk_at desks x))) looks, (place_of x, None) ∷ cs)) refl,
   )
 
   pub replies : (slots : ℕ) (a : Answer) → desk.grip ≡ Answering → IsForLast a desk.lifted desk.answered
@@ -147,7 +162,7 @@ module _ (workers id worker : ℕ) (near : worker < workers) (desks : List Desk)
     desked (to_reply a desk),
     gives,
     tt,
-    combiner_moved workers s r id worker near (told (t s r at).rounds (ready b a)) f.2 (ok s r at).each_named 2 refl (some (Some (Answered a))) refl desks (to_reply a desk) at full
-        (replied_is s r at a b e) (lane_at_stage s r at (answering b) e),
-    of_word (λ x. (desked (to_reply a desk), cs) ≡ (combiner_view workers (set desks x (to_reply a (desk_at desks x))), cs)) refl,
+    combiner_moved workers s r id worker near (told (t s r at).rounds (ready b a)) f.2 (ok s r at).each_named 2 refl (some (Some (Answered a))) refl desks (to_reply a desk) looks looks at full
+        (replied_is s r at a b e) (lane_at_stage s r at (answering b) e) (begins_all desk.lifted, (a ∷ [], refl)),
+    of_word (λ x. (desked (to_reply a desk), cs) ≡ (combiner_view workers (set desks x (to_reply a (desk_at desks x))) looks, cs)) refl,
   )

@@ -1,12 +1,13 @@
 -- What the rule says of a worker and the combiner, from the tale of the worker's slot.
-use Rattle.std.proofs.Common.{zero, suc, ◌+◌, ◌≤◌, List, [], ◌∷◌, ◌++◌, length, refl, sym, ap, subst, inl, inr, arith, append-nil}
+use Rattle.std.proofs.Common.{◌≡◌, ◌≢◌, zero, suc, ◌+◌, ◌≤◌, List, [], ◌∷◌, ◌++◌, length, get_or, refl, sym, ap, subst, inl, inr, arith, append-nil}
 use Rattle.nr_entry.specs.declared.batch.Batch.{Batch}
 use Rattle.nr_entry.specs.declared.batch.Answer.{Answer}
 use Rattle.nr_slots.specs.declared.view.Lane.{Lane}
 use Rattle.nr_slots.specs.declared.view.Desk.{Desk}
 use Rattle.nr_slots.specs.Names.{Names}
-use Rattle.nr_slots.specs.Rule.{Round, Stage, vacant, placing, offered, lifting, held, answering, ready, fetching, posted_at, lifted_at, answered_at, IsNamed, batches, answers}
+use Rattle.nr_slots.specs.Rule.{Round, Stage, vacant, placing, offered, lifting, held, answering, ready, fetching, posted_at, lifted_at, answered_at, word_at, IsNamed, batches, answers}
 use Rattle.nr_slots.specs.Law.{IsAllOrAllButLast, NameEach, SlotFacts, HoldsOfSeats}
+use Rattle.nr_slots.specs.Layout.{word_of}
 use Rattle.nr_slots.proofs.Tales.{even, snoc_length, nil_length}
 use Rattle.nr_slots.proofs.Moves.{EachNamed}
 
@@ -58,8 +59,22 @@ module _ (rounds : List Round) (each : EachNamed rounds) where
   facts (ready b a) n = record { lifted_is = inl refl; answered_is = both_more b a n; collected_is = inr (a, refl); at_most_one = fewer b }
   facts (fetching b a) n = record { lifted_is = inl refl; answered_is = both_more b a n; collected_is = inr (a, refl); at_most_one = fewer b }
 
+-- a batch that isn't lifted is offered
+all_lifted : (rounds : List Round) (st : Stage) → word_at st ≢ 1 → batches rounds ++ lifted_at st ≡ batches rounds ++ posted_at st
+all_lifted rounds vacant h = refl
+all_lifted rounds placing h = refl
+all_lifted rounds (offered b) h = absurd (h refl)
+all_lifted rounds (lifting b) h = refl
+all_lifted rounds (held b) h = refl
+all_lifted rounds (answering b) h = refl
+all_lifted rounds (ready b a) h = refl
+all_lifted rounds (fetching b a) h = refl
+
 pub holds_of_seats : HoldsOfSeats
 holds_of_seats workers s r worker near id other v c at at' owns combines =
     let k = r.each_slot worker near in
     let lane = (r.each_seat id v at).lane_is worker owns in let desk = (r.each_seat other c at').desk_is combines worker near in
-    subst (λ (q : Lane × Desk). SlotFacts q.0.posted q.0.collected q.1.lifted q.1.answered) (λ i. (sym lane i, sym desk i)) (facts (r.tale worker).rounds k.each_named (r.tale worker).stage k.named)
+    subst (λ (q : Lane × Desk). SlotFacts q.0.posted q.0.collected q.1.lifted q.1.answered × (get_or s.words (word_of worker) 0 ≢ 1 → q.1.lifted ≡ q.0.posted)) (λ i. (sym lane i, sym desk i)) (
+      facts (r.tale worker).rounds k.each_named (r.tale worker).stage k.named,
+      λ other. all_lifted (r.tale worker).rounds (r.tale worker).stage (subst (λ z. z ≢ 1) k.word_is other),
+    )

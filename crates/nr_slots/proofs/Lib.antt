@@ -1,5 +1,7 @@
 pub mod Tales
+pub mod Heads
 pub mod Moves
+pub mod Notes
 pub mod WorkerSteps
 pub mod CombinerSteps
 pub mod Calls

@@ -9,8 +9,9 @@ use Rattle.nr_slots.specs.declared.view.Parcel.{Parcel}
 use Rattle.nr_slots.specs.declared.view.Desk.{Desk}
 use Rattle.nr_slots.specs.declared.view.SlotView.{SlotView}
 use Rattle.nr_slots.specs.Layout.{word_of, place_of, words_of, places_of}
-use Rattle.nr_slots.specs.Rule.{Tale, vacant, Owns, Combines, OnlyOne, SeatOk, SlotRule, opening_view, no_desk}
+use Rattle.nr_slots.specs.Rule.{Tale, vacant, desk_of, Owns, Combines, OnlyOne, SeatOk, SlotRule, opening_view, no_desk}
 use Rattle.nr_slots.specs.Plays.{worker_left, worker_right}
+use Rattle.nr_slots.proofs.Heads.{front_none}
 use Rattle.nr_slots.proofs.Moves.{each_set, only_set, place_there}
 
 at_end : {A : Type 0} (l : List A) (a b : A) (j : ℕ) → get_elem? (l ++ a ∷ []) j ≡ some b → (get_elem? l j ≡ some b) ⊎ ((j ≡ length l) × (a ≡ b))
@@ -35,10 +36,10 @@ new_desks (suc n) zero = refl
 new_desks (suc n) (suc i) = new_desks n i
 
 -- a seat joins the others
-each_more : (F : SlotView → Type 0) (views : List SlotView) (x : SlotView) → ((j : ℕ) (u : SlotView) → get_elem? views j ≡ some u → F u) → F x → (j : ℕ) (u : SlotView) → get_elem? (views ++ x ∷ []) j ≡ some u → F u
+pub each_more : (F : SlotView → Type 0) (views : List SlotView) (x : SlotView) → ((j : ℕ) (u : SlotView) → get_elem? views j ≡ some u → F u) → F x → (j : ℕ) (u : SlotView) → get_elem? (views ++ x ∷ []) j ≡ some u → F u
 each_more F views x old new j u e = ⊎_elim (λ h. old j u h) (λ (h : (j ≡ length views) × Path SlotView x u). subst F h.1 new) (at_end views x u j e)
 
-only_more : (P : SlotView → Type 0) (views : List SlotView) (x : SlotView) → OnlyOne P views → ((j : ℕ) (u : SlotView) → get_elem? views j ≡ some u → P u → P x → ⊥) → OnlyOne P (views ++ x ∷ [])
+pub only_more : (P : SlotView → Type 0) (views : List SlotView) (x : SlotView) → OnlyOne P views → ((j : ℕ) (u : SlotView) → get_elem? views j ≡ some u → P u → P x → ⊥) → OnlyOne P (views ++ x ∷ [])
 only_more P views x only alone i j u w ei ej hi hj =
     ⊎_elim
     (λ h. ⊎_elim (λ h'. only i j u w h h' hi hj) (λ (h' : (j ≡ length views) × Path SlotView x w). absurd (alone i u h hi (subst P (sym h'.1) hj))) (at_end views x w j ej))
@@ -64,10 +65,10 @@ module _ (workers : ℕ) where
     right_in x o = let l : x < suc from = o.1 in (o.0, omega arith)
 
     left_ok : SeatOk workers r.tale (worker_left v)
-    left_ok = record { within = k.within; lane_is = λ x o. k.lane_is x (left_in x o); desk_is = k.desk_is }
+    left_ok = record { within = k.within; lane_is = λ x o. k.lane_is x (left_in x o); desk_is = k.desk_is; noted_is = k.noted_is }
 
     right_ok : SeatOk workers r.tale (worker_right v)
-    right_ok = record { within = omega arith; lane_is = λ x o. k.lane_is x (right_in x o); desk_is = λ c. absurd (cc) }
+    right_ok = record { within = omega arith; lane_is = λ x o. k.lane_is x (right_in x o); desk_is = λ c. absurd (cc); noted_is = λ x there. front_none (desk_of (r.tale x)) }
 
     alone : (x j : ℕ) (u : SlotView) → get_elem? (set s.views id (worker_left v)) j ≡ some u → Owns u x → Owns (worker_right v) x → ⊥
     alone x j u e o o' =
@@ -93,7 +94,7 @@ module _ (workers : ℕ) where
   new_tale = record { rounds = []; stage = vacant }
 
   first_ok : SeatOk workers (λ _. new_tale) (opening_view workers 0)
-  first_ok = record { within = le_refl workers; lane_is = λ x o. refl; desk_is = λ c x there. new_desks workers x }
+  first_ok = record { within = le_refl workers; lane_is = λ x o. refl; desk_is = λ c x there. new_desks workers x; noted_is = λ x there. front_none (desk_of new_tale) }
 
   one : (j : ℕ) (u : SlotView) → get_elem? (opening_view workers 0 ∷ []) j ≡ some u → SeatOk workers (λ _. new_tale) u
   one zero u e = subst (SeatOk workers (λ _. new_tale)) (some-injective _ _ e) first_ok

@@ -13,6 +13,7 @@ use Rattle.nr_slots.specs.declared.view.Parcel.{Parcel}
 use Rattle.nr_slots.specs.declared.view.Parcel.TheVariants.{Posted, Answered}
 use Rattle.nr_slots.specs.declared.view.Hand.TheVariants.{Still, Placing, Fetching}
 use Rattle.nr_slots.specs.declared.view.Lane.{Lane}
+use Rattle.nr_slots.specs.declared.view.Desk.{Desk}
 use Rattle.nr_slots.specs.declared.view.SlotView.{SlotView}
 use Rattle.nr_slots.specs.Layout.{word_of, place_of}
 use Rattle.nr_slots.specs.Names.{Names, IsForLast}
@@ -46,9 +47,9 @@ pub each_more : (rounds : List Round) (b : Batch) (a : Answer) → Names a b →
 each_more rounds b a n each k x e = let y : Round = record { batch = b; answer = a } in
     ⊎_elim (λ h. each k x h) (λ (h : y ≡ x). subst (λ (z : Round). Names z.answer z.batch) h n) (at_snoc rounds y x k e)
 
-module _ (workers id worker : ℕ) (near : worker < workers) (lane : Lane) (cs : Carried) where
+module _ (workers id worker : ℕ) (near : worker < workers) (lane : Lane) (noted : List Desk) (cs : Carried) where
   abbrev v : SlotView
-  v = worker_view worker lane
+  v = worker_view worker lane noted
 
   abbrev St : Type 0
   St = State (Option Parcel) SlotView
@@ -111,10 +112,10 @@ module _ (workers id worker : ℕ) (near : worker < workers) (lane : Lane) (cs :
 
   pub places : (slots : ℕ) → CanPost lane → Allows (SlotRule workers) slots id (v, cs) (word_of worker) (λ z. z) (λ _. placed (v, cs))
   places slots can s r wide at small = let e = vacant_now s r at can in (
-    worker_view worker (to_place lane),
+    worker_view worker (to_place lane) noted,
     takes (place_of worker) None,
     home_at_stage s r at vacant e,
-    worker_moved workers s r id worker near (told (t s r at).rounds placing) tt (ok s r at).each_named (get_or s.words (word_of worker) 0) (word_at_stage s r at vacant e) none refl lane (to_place lane) at
+    worker_moved workers s r id worker near (told (t s r at).rounds placing) tt (ok s r at).each_named (get_or s.words (word_of worker) 0) (word_at_stage s r at vacant e) none refl lane (to_place lane) noted at
         (ap to_place (knows_at s r at vacant e)) (desk_at_stage s r at vacant e),
     refl,
   )
@@ -122,10 +123,10 @@ module _ (workers id worker : ℕ) (near : worker < workers) (lane : Lane) (cs :
   pub publishes : (slots : ℕ) (b : Batch) → lane.hand ≡ Placing
       → Allows (SlotRule workers) slots id (v, (place_of worker, Some (Posted b)) ∷ cs) (word_of worker) (λ _. 1) (λ _. published (v, (place_of worker, Some (Posted b)) ∷ cs))
   publishes slots b h s r wide at small = let e = placing_now s r at h in (
-    worker_view worker (to_publish b lane),
+    worker_view worker (to_publish b lane) noted,
     gives,
     tt,
-    worker_moved workers s r id worker near (told (t s r at).rounds (offered b)) tt (ok s r at).each_named 1 refl (some (Some (Posted b))) refl lane (to_publish b lane) at
+    worker_moved workers s r id worker near (told (t s r at).rounds (offered b)) tt (ok s r at).each_named 1 refl (some (Some (Posted b))) refl lane (to_publish b lane) noted at
         (published_is s r at b e) (desk_at_stage s r at placing e),
     refl,
   )
@@ -140,10 +141,10 @@ module _ (workers id worker : ℕ) (near : worker < workers) (lane : Lane) (cs :
       found two =
           let f = is_ready (t s r at).stage (still_now s r at still) (sym (ok s r at).word_is ∙ two) in let b : Batch = f.0 in let a : Answer = f.1 in let e = f.2 in
           let n : Names a b = named_at s r at (ready b a) e in let k = knows_at s r at (ready b a) e in (
-            worker_view worker (to_fetch a lane),
+            worker_view worker (to_fetch a lane) noted,
             takes (place_of worker) (Some (Answered a)),
             home_at_stage s r at (ready b a) e,
-            worker_moved workers s r id worker near (told (t s r at).rounds (fetching b a)) n (ok s r at).each_named (get_or s.words (word_of worker) 0) (word_at_stage s r at (ready b a) e) none refl lane (to_fetch a lane) at
+            worker_moved workers s r id worker near (told (t s r at).rounds (fetching b a)) n (ok s r at).each_named (get_or s.words (word_of worker) 0) (word_at_stage s r at (ready b a) e) none refl lane (to_fetch a lane) noted at
                 (ap (to_fetch a) k) (desk_at_stage s r at (ready b a) e),
             ((λ _. (a, subst (λ (z : Lane). IsForLast a z.posted z.collected) (sym k) (for_last (t s r at).rounds a b n), refl)), (λ other. absurd (other two))),
           )
@@ -155,10 +156,10 @@ module _ (workers id worker : ℕ) (near : worker < workers) (lane : Lane) (cs :
       → Allows (SlotRule workers) slots id (v, (place_of worker, None) ∷ cs) (word_of worker) (λ _. 0) (λ _. cleared (v, (place_of worker, None) ∷ cs))
   clears slots a h s r wide at small = let f = fetching_now s r at a h in let b : Batch = f.0 in let e = f.1 in
       let n : Names a b = named_at s r at (fetching b a) e in (
-        worker_view worker (to_clear lane),
+        worker_view worker (to_clear lane) noted,
         gives,
         tt,
-        worker_moved workers s r id worker near (told ((t s r at).rounds ++ record { batch = b; answer = a } ∷ []) vacant) tt (each_more (t s r at).rounds b a n (ok s r at).each_named) 0 refl (some None) refl lane (to_clear lane) at
+        worker_moved workers s r id worker near (told ((t s r at).rounds ++ record { batch = b; answer = a } ∷ []) vacant) tt (each_more (t s r at).rounds b a n (ok s r at).each_named) 0 refl (some None) refl lane (to_clear lane) noted at
             (cleared_is s r at b a e) (cleared_same s r at b a e),
         refl,
       )

@@ -4,13 +4,19 @@ use Rattle.std.specs.Coded.{Coded, code_by, coded×, coded_ℕ, coded_list}
 use Rattle.atomic_table.specs.Seated.{TableId, table_id_coded}
 use Rattle.nr_slots.specs.declared.view.Lane.{Lane}
 use Rattle.nr_slots.specs.declared.view.Desk.{Desk}
+use Rattle.nr_slots.specs.declared.view.Found.{Found}
 use Rattle.nr_slots.specs.contracts.view.Lane as of_lane
 use Rattle.nr_slots.specs.contracts.view.Desk as of_desk
-use Rattle.nr_slots.specs.Seats.{WorkerView, CombinerView}
+use Rattle.nr_slots.specs.contracts.view.Found as of_found
+use Rattle.nr_slots.specs.Seats.{WorkerView, CombinerView, NoteView}
 
 abbrev pub worker_code : Coded WorkerView
 worker_code = code_by (TableId × (ℕ × Lane)) (coded× table_id_coded (coded× coded_ℕ of_lane.the_row.coded)) (λ v. (v.slots, (v.worker, v.lane)))
     (λ p. record { slots = p.0; worker = p.1.0; lane = p.1.1 }) (λ _. refl)
 
 abbrev pub combiner_code : Coded CombinerView
-combiner_code = code_by (TableId × List Desk) (coded× table_id_coded (coded_list of_desk.the_row.coded)) (λ v. (v.slots, v.desks)) (λ p. record { slots = p.0; desks = p.1 }) (λ _. refl)
+combiner_code = code_by (TableId × (List Desk × List Found)) (coded× table_id_coded (coded× (coded_list of_desk.the_row.coded) (coded_list of_found.the_row.coded))) (λ v. (v.slots, (v.desks, v.looks)))
+    (λ p. record { slots = p.0; desks = p.1.0; looks = p.1.1 }) (λ _. refl)
+
+abbrev pub note_code : Coded NoteView
+note_code = code_by (TableId × List Desk) (coded× table_id_coded (coded_list of_desk.the_row.coded)) (λ v. (v.slots, v.desks)) (λ p. record { slots = p.0; desks = p.1 }) (λ _. refl)

@@ -1,7 +1,10 @@
 -- Which batch an answer is for.
-use Rattle.std.specs.Prelude.{◌≡◌, List, [], ◌∷◌, ◌++◌, length}
+use Rattle.std.specs.Prelude.{◌≡◌, ◌≤◌, List, [], ◌∷◌, ◌++◌, length}
+use Rattle.nr_model.specs.Bytes.{IsBeginningOf}
 use Rattle.nr_entry.specs.declared.batch.Batch.{Batch}
 use Rattle.nr_entry.specs.declared.batch.Answer.{Answer}
+use Rattle.nr_slots.specs.declared.view.Lane.{Lane}
+use Rattle.nr_slots.specs.declared.view.Desk.{Desk}
 
 -- an answer names a batch by its node, its worker and its number
 abbrev pub Names : Answer → Batch → Type 0
@@ -14,3 +17,10 @@ IsForLast answer batches answers = (before : List Batch) × (batch : Batch) × (
 -- it is the last of these batches, and all batches before it have their answers
 abbrev pub IsUnanswered : Batch → List Batch → List Answer → Type 0
 IsUnanswered batch batches answers = (before : List Batch) × (batches ≡ before ++ batch ∷ []) × (length answers ≡ length before)
+
+-- What a combiner had lifted is a beginning of what the worker posted. Of what it had answered and what the worker collected one is a beginning
+-- of the other.
+abbrev pub IsTold : Desk → Lane → Type 0
+IsTold desk lane = IsBeginningOf desk.lifted lane.posted
+    × (length desk.answered ≤ length lane.collected → IsBeginningOf desk.answered lane.collected)
+    × (length lane.collected ≤ length desk.answered → IsBeginningOf lane.collected desk.answered)

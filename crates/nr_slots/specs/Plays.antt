@@ -10,10 +10,12 @@ use Rattle.nr_slots.specs.declared.view.Hand.TheVariants.{Still, Placing, Fetchi
 use Rattle.nr_slots.specs.declared.view.Grip.TheVariants.{Loose, Lifting, Answering}
 use Rattle.nr_slots.specs.declared.view.Lane.{Lane}
 use Rattle.nr_slots.specs.declared.view.Desk.{Desk}
+use Rattle.nr_slots.specs.declared.view.Found.{Found}
+use Rattle.nr_slots.specs.declared.view.Found.TheVariants.{Nothing, Batch as FoundBatch}
 use Rattle.nr_slots.specs.declared.view.SlotView.{SlotView}
 use Rattle.nr_slots.specs.Layout.{word_of, place_of}
-use Rattle.nr_slots.specs.Names.{IsForLast}
-use Rattle.nr_slots.specs.Rule.{no_lane, no_desk}
+use Rattle.nr_slots.specs.Rule.{no_lane, no_desk, note_view}
+use Rattle.nr_slots.specs.Names.{IsForLast, IsTold}
 
 abbrev pub Carried : Type 0
 Carried = List (ℕ × Option Parcel)
@@ -75,6 +77,10 @@ desk_at desks worker = slice_index_or desks worker no_desk
 abbrev pub with_desk : ℕ → Desk → SlotView → SlotView
 with_desk worker desk v = record v { desks = slice_set v.desks worker desk }
 
+-- one more look of the combiner met this
+abbrev pub with_look : Found → SlotView → SlotView
+with_look found v = record v { looks = v.looks ++ found ∷ [] }
+
 abbrev At : Type 0
 At = Step (Option Parcel)
 
@@ -83,8 +89,8 @@ abbrev pub sought : At → Sat → ℕ → Sat → Type 0
 sought st m n m' =
     (worker : ℕ) → st.word ≡ word_of worker
     → (n ≡ 1 → (b : Batch)
-    × (m' ≡ (with_desk worker record { lifted = (desk_at m.0.desks worker).lifted ++ b ∷ []; answered = (desk_at m.0.desks worker).answered; grip = Lifting } m.0, (place_of worker, Some (Posted b)) ∷ m.1)))
-    × (n ≢ 1 → m' ≡ m)
+    × (m' ≡ (with_look (FoundBatch worker) (with_desk worker record { lifted = (desk_at m.0.desks worker).lifted ++ b ∷ []; answered = (desk_at m.0.desks worker).answered; grip = Lifting } m.0), (place_of worker, Some (Posted b)) ∷ m.1)))
+    × (n ≢ 1 → m' ≡ (with_look (Nothing worker) m.0, m.1))
 
 -- it gave the place back, empty
 abbrev pub lifted : At → Sat → Sat → Type 0
@@ -104,4 +110,19 @@ abbrev pub worker_left : SlotView → SlotView
 worker_left v = record v { from = suc v.from }
 
 abbrev pub worker_right : SlotView → SlotView
-worker_right v = record { from = v.from; upto = suc v.from; combines = false; lane = no_lane; desks = [] }
+worker_right v = record { from = v.from; upto = suc v.from; combines = false; lane = no_lane; desks = []; looks = []; noted = [] }
+
+-- a note is cut from the combiner's seat
+abbrev pub noted_now : SlotView → SlotView
+noted_now v = note_view v.desks
+
+-- a worker's seat is told of a note
+abbrev pub with_noted : SlotView → SlotView → SlotView
+with_noted v w = record v { noted = w.noted }
+
+abbrev pub nobody : SlotView
+nobody = note_view []
+
+-- the worker looked at its slot, after it was told of a note
+abbrev pub compared : Sat → Sat → Type 0
+compared m m' = (m' ≡ m) × IsTold (desk_at m.0.noted m.0.from) m.0.lane

@@ -6,6 +6,7 @@ use mathlib.Core.Option.{some, none}
 use mathlib.Core.Option as maybe
 use lib.ListN.{get_elem?}
 use Rattle.atomic_table.specs.Table.{State}
+use Rattle.nr_model.specs.Bytes.{IsBeginningOf}
 use Rattle.nr_entry.specs.declared.batch.Batch.{Batch}
 use Rattle.nr_entry.specs.declared.batch.Answer.{Answer}
 use Rattle.nr_slots.specs.declared.view.Parcel.{Parcel}
@@ -16,6 +17,7 @@ use Rattle.nr_slots.specs.declared.view.Grip.{Grip}
 use Rattle.nr_slots.specs.declared.view.Grip.TheVariants.{Loose, Lifting, Answering}
 use Rattle.nr_slots.specs.declared.view.Lane.{Lane}
 use Rattle.nr_slots.specs.declared.view.Desk.{Desk}
+use Rattle.nr_slots.specs.declared.view.Found.{Found}
 use Rattle.nr_slots.specs.declared.view.SlotView.{SlotView}
 use Rattle.nr_slots.specs.Layout.{word_of, place_of, words_of, places_of}
 use Rattle.nr_slots.specs.Names.{Names}
@@ -153,6 +155,10 @@ no_lane = record { posted = []; collected = []; hand = Still }
 abbrev pub no_desk : Desk
 no_desk = record { lifted = []; answered = []; grip = Loose }
 
+-- what was lifted and answered first
+abbrev pub IsFrontOf : Desk → Desk → Type 0
+IsFrontOf front desk = IsBeginningOf front.lifted desk.lifted × IsBeginningOf front.answered desk.answered
+
 -- the seat is that of the worker
 abbrev pub Owns : SlotView → ℕ → Type 0
 Owns v worker = (v.from ≤ worker) × (worker < v.upto)
@@ -165,10 +171,12 @@ abbrev pub OnlyOne : (SlotView → Type 0) → List SlotView → Type 0
 OnlyOne P views = (id other : ℕ) (v u : SlotView) → get_elem? views id ≡ some v → get_elem? views other ≡ some u → P v → P u → id ≡ other
 
 module _ (workers : ℕ) where
+  -- what a seat was told that the combiner did, it did before anything else
   pub record SeatOk (tale : ℕ → Tale) (v : SlotView) : Type 0 where
     pub within : v.upto ≤ workers
     pub lane_is : (worker : ℕ) → Owns v worker → v.lane ≡ lane_of (tale worker)
     pub desk_is : Combines v → (worker : ℕ) → worker < workers → slice_index_or v.desks worker no_desk ≡ desk_of (tale worker)
+    pub noted_is : (worker : ℕ) → worker < workers → IsFrontOf (slice_index_or v.noted worker no_desk) (desk_of (tale worker))
 
   pub record SlotRule (s : State (Option Parcel) SlotView) : Type 0 where
     pub tale : ℕ → Tale
@@ -180,12 +188,16 @@ module _ (workers : ℕ) where
 
   -- the view of the combiner, which as the slots are opened has the seats of the workers from one on
   abbrev pub opening_view : ℕ → SlotView
-  opening_view from = record { from = from; upto = workers; combines = true; lane = no_lane; desks = replicate workers no_desk }
+  opening_view from = record { from = from; upto = workers; combines = true; lane = no_lane; desks = replicate workers no_desk; looks = []; noted = [] }
 
--- the view of a worker's seat
-abbrev pub worker_view : ℕ → Lane → SlotView
-worker_view worker lane = record { from = worker; upto = suc worker; combines = false; lane = lane; desks = [] }
+-- the view of a worker's seat, which was told this of the combiner
+abbrev pub worker_view : ℕ → Lane → List Desk → SlotView
+worker_view worker lane noted = record { from = worker; upto = suc worker; combines = false; lane = lane; desks = []; looks = []; noted = noted }
 
 -- the view of the combiner's seat
-abbrev pub combiner_view : ℕ → List Desk → SlotView
-combiner_view workers desks = record { from = workers; upto = workers; combines = true; lane = no_lane; desks = desks }
+abbrev pub combiner_view : ℕ → List Desk → List Found → SlotView
+combiner_view workers desks looks = record { from = workers; upto = workers; combines = true; lane = no_lane; desks = desks; looks = looks; noted = [] }
+
+-- the view of a note, which is the seat of nobody
+abbrev pub note_view : List Desk → SlotView
+note_view noted = record { from = 0; upto = 0; combines = false; lane = no_lane; desks = []; looks = []; noted = noted }

@@ -1,5 +1,5 @@
 -- What contracts see of the slots and their seats, and what calls do to it.
-use Rattle.std.specs.Prelude.{◌≡◌, ℕ, ◌+◌, ◌<◌, Bool, false, List, [], ◌∷◌, ◌++◌, length, replicate, slice_set, slice_index_or, if◌then◌else◌}
+use Rattle.std.specs.Prelude.{◌≡◌, ◌⊎◌, ℕ, ◌+◌, ◌<◌, Bool, false, List, [], ◌∷◌, ◌++◌, length, replicate, slice_set, slice_index_or, if◌then◌else◌}
 use Rattle.atomic_table.specs.Seated.{TableId}
 use Rattle.nr_entry.specs.declared.batch.Batch.{Batch}
 use Rattle.nr_entry.specs.declared.batch.Answer.{Answer}
@@ -7,6 +7,8 @@ use Rattle.nr_slots.specs.declared.view.Hand.TheVariants.{Still}
 use Rattle.nr_slots.specs.declared.view.Grip.TheVariants.{Loose}
 use Rattle.nr_slots.specs.declared.view.Lane.{Lane}
 use Rattle.nr_slots.specs.declared.view.Desk.{Desk}
+use Rattle.nr_slots.specs.declared.view.Found.{Found}
+use Rattle.nr_slots.specs.declared.view.Found.TheVariants.{Nothing, Batch as FoundBatch}
 use Rattle.nr_slots.specs.Layout.{words_of, places_of}
 use Rattle.nr_slots.specs.Rule.{no_lane, no_desk}
 
@@ -21,8 +23,14 @@ pub record WorkerView : Type 0 where
   pub worker : ℕ
   pub lane : Lane
 
--- the slots of a combiner's seat, and what it did at each worker's
+-- the slots of a combiner's seat, what it did at each worker's, and what its looks met
 pub record CombinerView : Type 0 where
+  pub slots : TableId
+  pub desks : List Desk
+  pub looks : List Found
+
+-- the slots of a note, and what the combiner had done at each worker's
+pub record NoteView : Type 0 where
   pub slots : TableId
   pub desks : List Desk
 
@@ -35,7 +43,7 @@ abbrev pub new_worker : TableId → ℕ → WorkerView
 new_worker id worker = record { slots = id; worker = worker; lane = no_lane }
 
 abbrev pub new_combiner : TableId → ℕ → CombinerView
-new_combiner id workers = record { slots = id; desks = replicate workers no_desk }
+new_combiner id workers = record { slots = id; desks = replicate workers no_desk; looks = [] }
 
 -- one more batch was posted
 abbrev pub with_posted : Batch → WorkerView → WorkerView
@@ -45,9 +53,24 @@ with_posted batch v = record v { lane = record { posted = v.lane.posted ++ batch
 abbrev pub with_collected : Answer → WorkerView → WorkerView
 with_collected answer v = record v { lane = record { posted = v.lane.posted; collected = v.lane.collected ++ answer ∷ []; hand = v.lane.hand } }
 
--- one more batch was lifted from the worker's slot, and nothing else was done
+-- one more batch was found in the worker's slot and lifted, and nothing else was done
 abbrev pub with_lifted : ℕ → Batch → CombinerView → CombinerView
-with_lifted worker batch v = record v { desks = slice_set v.desks worker record { lifted = (desk_of v worker).lifted ++ batch ∷ []; answered = (desk_of v worker).answered; grip = (desk_of v worker).grip } }
+with_lifted worker batch v = record v {
+  desks = slice_set v.desks worker record { lifted = (desk_of v worker).lifted ++ batch ∷ []; answered = (desk_of v worker).answered; grip = (desk_of v worker).grip };
+  looks = v.looks ++ FoundBatch worker ∷ [];
+}
+
+-- the batch lifted last from the worker's slot wasn't answered
+abbrev pub HoldsOne : ℕ → CombinerView → Type 0
+HoldsOne worker v = length (desk_of v worker).lifted ≡ length (desk_of v worker).answered + 1
+
+-- nothing was done: the combiner held a batch of the worker, or a look at the worker's slot met none
+abbrev pub FoundNone : ℕ → CombinerView → CombinerView → Type 0
+FoundNone worker v w = (HoldsOne worker v × (w ≡ v)) ⊎ (w ≡ record v { looks = v.looks ++ Nothing worker ∷ [] })
+
+-- what a note keeps of a combiner
+abbrev pub note_of : CombinerView → NoteView
+note_of v = record { slots = v.slots; desks = v.desks }
 
 -- one more answer was put into the worker's slot, and nothing else was done
 abbrev pub with_answered : ℕ → Answer → CombinerView → CombinerView

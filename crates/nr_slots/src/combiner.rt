@@ -1,17 +1,18 @@
 // The combiner's seat at the slots.
 ghost use Rattle.std.specs.Prelude.{◌≡◌, ◌<◌, ◌≤◌, [], length, MatchOption, IfSome};
 ghost use Rattle.nr_slots.specs.Names.{IsForLast, IsUnanswered};
-ghost use Rattle.nr_slots.specs.Seats.{new_combiner, with_lifted, with_answered, desk_of, IsOfWorkers};
+ghost use Rattle.nr_slots.specs.Seats.{new_combiner, with_lifted, with_answered, desk_of, note_of, FoundNone, IsOfWorkers};
 ghost use Rattle.nr_slots.specs.Rule.{opening_view};
 
+use crate::note::Note;
 use crate::slots::Slots;
-use crate::steps::{put_answer, take_batch};
+use crate::steps::{keep, put_answer, take_batch};
 use crate::view::SlotSeat;
 use nr_entry::{Answer, Batch};
 use std::marker::Model;
 
 /// The seat of a node's combiner at the slots of its workers. Contracts see for each worker the batches that it lifted, and the answers
-/// that it gave.
+/// that it gave, and what each of its looks at a slot met.
 #[derive(Drop)]
 pub struct CombinerSeat {
     seat: SlotSeat,
@@ -30,9 +31,9 @@ impl Model for CombinerSeat {
 
     ghost coded = { combiner_code };
 
-    ghost view = { λ s. record { slots = s.seat.table_id; desks = s.seat.me.0.desks } };
+    ghost view = { λ s. record { slots = s.seat.table_id; desks = s.seat.me.0.desks; looks = s.seat.me.0.looks } };
 
-    ghost invariant = { λ s. (s.seat.me ≡ (combiner_view (length s.seat.me.0.desks) s.seat.me.0.desks, [])) × (length s.seat.me.0.desks ≤ 16) × IsOfWorkers s.seat.table_id (length s.seat.me.0.desks) × AreHolding s.holds s.seat.me.0.desks };
+    ghost invariant = { λ s. (s.seat.me ≡ (combiner_view (length s.seat.me.0.desks) s.seat.me.0.desks s.seat.me.0.looks, [])) × (length s.seat.me.0.desks ≤ 16) × IsOfWorkers s.seat.table_id (length s.seat.me.0.desks) × AreHolding s.holds s.seat.me.0.desks };
 }
 
 impl CombinerSeat {
@@ -48,11 +49,11 @@ impl CombinerSeat {
     }
 
     /// Takes a worker's batch out of its slot, if one is offered: two loads, or one where none is, or no step where the batch lifted last
-    /// wasn't answered.
+    /// wasn't answered. Where it finds none, its look at the slot met none.
     pub fn lift(&mut self, slots: &Slots, worker: usize) -> Option<Batch>
         requires slots { self.old.slots ≡ slots.now.id }
         requires worker { worker < length self.old.desks }
-        ensures lifted { MatchOption result (self.new ≡ self.old) (λ batch. self.new ≡ with_lifted worker batch self.old) }
+        ensures lifted { MatchOption result (FoundNone worker self.old self.new) (λ batch. self.new ≡ with_lifted worker batch self.old) }
         ensures unanswered { IfSome result (λ batch. IsUnanswered batch (desk_of self.new worker).lifted (desk_of self.new worker).answered) }
     {
         if self.holds[worker] {
@@ -72,5 +73,13 @@ impl CombinerSeat {
     {
         put_answer(&slots.table.shared, &mut self.seat, worker, answer);
         self.holds[worker] = false;
+    }
+    /// A note that keeps what this combiner has done until now: one load.
+    pub fn note(&mut self, slots: &Slots) -> Note
+        requires { self.old.slots ≡ slots.now.id }
+        ensures kept { result ≡ note_of self.old }
+        ensures same { self.new ≡ self.old }
+    {
+        Note::new(keep(&slots.table.shared, &mut self.seat))
     }
 }

@@ -36,17 +36,21 @@
 //!
 //! Only the side whose turn it is, by the word and by what it did itself, touches the place, so no call waits. That each batch is
 //! lifted once, and that each answer is that of the worker's own last batch, holds between any two steps, whatever the threads do.
+//!
+//! A note keeps what the combiner had done at one moment. A worker that hears it knows that what was lifted is what it posted first.
 #![tactic(auto)]
 
 pub use combiner::CombinerSeat;
 pub use law::slots_law;
+pub use note::Note;
 pub use opening::OpenError;
 pub use slots::Slots;
-pub use view::{Desk, Grip, Hand, Lane};
+pub use view::{Desk, Found, Grip, Hand, Lane};
 pub use worker::WorkerSeat;
 
 mod combiner;
 mod law;
+mod note;
 mod opening;
 mod plays;
 mod slots;

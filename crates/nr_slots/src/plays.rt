@@ -1,8 +1,8 @@
 // What each step tells its seat. These types are for the proofs alone.
-ghost use Rattle.nr_slots.specs.Plays.{placed, published, looked, cleared, sought, lifted, reached, answered, worker_left, worker_right};
+ghost use Rattle.nr_slots.specs.Plays.{placed, published, looked, cleared, sought, lifted, reached, answered, worker_left, worker_right, noted_now, with_noted, nobody, compared};
 
 use crate::view::{Parcel, SlotView};
-use atomic_table::{Play, Split};
+use atomic_table::{Join, Play, Split};
 
 pub(crate) struct Place;
 
@@ -59,4 +59,28 @@ impl Split<SlotView> for NextWorker {
     ghost left = { worker_left };
 
     ghost right = { worker_right };
+}
+
+// A note is cut from the combiner's seat.
+pub(crate) struct Keep;
+
+impl Split<SlotView> for Keep {
+    ghost left = { λ v. v };
+
+    ghost right = { noted_now };
+}
+
+// A worker is told of a note.
+pub(crate) struct Tell;
+
+impl Join<SlotView> for Tell {
+    ghost both = { with_noted };
+
+    ghost spent = { nobody };
+}
+
+pub(crate) struct Compare;
+
+impl Play<Option<Parcel>, SlotView> for Compare {
+    ghost then = { λ _ m _. compared m };
 }

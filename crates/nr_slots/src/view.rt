@@ -45,6 +45,14 @@ pub struct Desk {
     pub grip: Grip,
 }
 
+/// What a combiner's look at a worker's slot met. No value of it is made: contracts alone speak of it.
+pub enum Found {
+    /// A batch of this worker that wasn't lifted yet.
+    Batch(u64),
+    /// None: all batches that this worker had posted until then were lifted before.
+    Nothing(u64),
+}
+
 // What a seat knows: that of the workers from one on and below another, and of the combiner, if it combines.
 pub struct SlotView {
     pub from: u64,
@@ -52,6 +60,10 @@ pub struct SlotView {
     pub combines: bool,
     pub lane: Lane,
     pub desks: LinkedList<Desk>,
+    // What the combiner's looks met, in order.
+    pub looks: LinkedList<Found>,
+    // For each worker what the combiner had done at some moment, as far as the seat was told.
+    pub noted: LinkedList<Desk>,
 }
 
 pub(crate) type SlotTable = Table<Option<Parcel>, SlotView, usize, SlotLaw, Global>;

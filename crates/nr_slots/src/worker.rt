@@ -1,11 +1,12 @@
 // A worker's seat at the slots.
-ghost use Rattle.std.specs.Prelude.{◌≡◌, ◌↔◌, ◌*◌, ◌<◌, [], length, MatchOption, MatchResult, IsOk};
-ghost use Rattle.nr_slots.specs.Names.{IsForLast};
+ghost use Rattle.std.specs.Prelude.{◌≡◌, ◌↔◌, ◌*◌, ◌<◌, [], length, slice_index_or, MatchOption, MatchResult, IsOk};
+ghost use Rattle.nr_slots.specs.Names.{IsForLast, IsTold};
 ghost use Rattle.nr_slots.specs.Seats.{new_worker, with_posted, with_collected, IsOfWorkers};
-ghost use Rattle.nr_slots.specs.Rule.{worker_view, no_lane};
+ghost use Rattle.nr_slots.specs.Rule.{worker_view, no_lane, no_desk};
 
+use crate::note::Note;
 use crate::slots::Slots;
-use crate::steps::{put_batch, take_answer};
+use crate::steps::{compare, put_batch, take_answer};
 use crate::view::SlotSeat;
 use nr_entry::{Answer, Batch};
 use std::marker::Model;
@@ -32,12 +33,12 @@ impl Model for WorkerSeat {
 
     ghost view = { λ s. record { slots = s.seat.table_id; worker = s.worker; lane = s.seat.me.0.lane } };
 
-    ghost invariant = { λ s. (s.seat.me ≡ (worker_view s.worker s.seat.me.0.lane, [])) × (s.worker < 16) × (2 * s.worker < s.seat.table_id.slots) × IsWaiting s.waiting s.seat.me.0.lane };
+    ghost invariant = { λ s. (s.seat.me ≡ (worker_view s.worker s.seat.me.0.lane s.seat.me.0.noted, [])) × (s.worker < 16) × (2 * s.worker < s.seat.table_id.slots) × IsWaiting s.waiting s.seat.me.0.lane };
 }
 
 impl WorkerSeat {
     pub(crate) fn first(seat: SlotSeat, worker: usize) -> WorkerSeat
-        requires seat { seat.me ≡ (worker_view worker no_lane, []) }
+        requires seat { seat.me ≡ (worker_view worker no_lane [], []) }
         requires worker { (worker < 16) × (2 * worker < seat.table_id.slots) }
         ensures { result ≡ new_worker seat.table_id worker }
     {
@@ -74,5 +75,20 @@ impl WorkerSeat {
         let answer = take_answer(&slots.table.shared, &mut self.seat, self.worker)?;
         self.waiting = false;
         Some(answer)
+    }
+    /// Looks at the slot, told of a note that the combiner made: the batches that it had lifted are a beginning of those that this worker
+    /// posted, and of the answers that it had given and those that this worker collected one is a beginning of the other. It takes two loads.
+    pub fn hear(&mut self, slots: &Slots, note: Note)
+        requires slots { self.old.slots ≡ slots.now.id }
+        requires note { note.slots ≡ slots.now.id }
+        ensures told { IsTold (slice_index_or note.desks self.old.worker no_desk) self.old.lane }
+        ensures same { self.new ≡ self.old }
+    {
+        compare(
+            &slots.table.shared,
+            &mut self.seat,
+            self.worker,
+            note.into_seat(),
+        );
     }
 }
