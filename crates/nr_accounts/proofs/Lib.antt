@@ -1,0 +1,5 @@
+mod Seen
+mod Steps
+mod Strangers
+mod Counts
+pub mod Batches

@@ -1,0 +1,37 @@
+-- The account of a connection: the worker that serves it, the number of its next job, that of its first job that waits, and whether its end was taken.
+use Rattle.std.specs.Prelude.{ℕ, ◌+◌, ◌-◌, ◌^◌, Bool, false, not, ◌&&◌, ◌==◌, nat_lt}
+use Rattle.nr_model.specs.Items.{Item, is_end}
+use Rattle.nr_accounts.specs.declared.account.Account.{Account}
+
+-- no job is numbered so
+abbrev pub most_number : ℕ
+most_number = 2 ^ 64 - 1
+
+abbrev pub fresh_account : ℕ → Account
+fresh_account worker = record { worker = worker; next = 0; done = 0; is_ended = false }
+
+-- the worker serves the connection, the end of which wasn't taken
+abbrev pub is_of : ℕ → Account → Bool
+is_of worker account = account.worker == worker && not account.is_ended
+
+-- its next job
+abbrev pub is_next : Item → Account → Bool
+is_next job account = job.number == account.next && nat_lt account.next most_number
+
+abbrev pub takes : ℕ → Item → Account → Bool
+takes worker job account = is_of worker account && is_next job account
+
+-- with one more job, and with one fewer
+abbrev pub taken : Item → Account → Account
+taken job account = record account { next = account.next + 1; is_ended = is_end job.deed }
+
+abbrev pub untaken : Account → Account
+untaken account = record account { next = account.next - 1; is_ended = false }
+
+-- its first job that waits
+abbrev pub is_first : Item → Account → Bool
+is_first job account = job.number == account.done && nat_lt account.done account.next
+
+-- and one fewer that waits
+abbrev pub executed : Account → Account
+executed account = record account { done = account.done + 1 }

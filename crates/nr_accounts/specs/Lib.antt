@@ -1,0 +1,3 @@
+pub mod Account
+pub mod Held
+pub mod Book

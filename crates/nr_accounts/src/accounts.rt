@@ -1,0 +1,145 @@
+// The accounts of a node.
+ghost use Rattle.std.specs.Prelude.{◌≡◌, ◌<◌, ◌++◌, ◌∷◌, ℕ, true, cond, [], length, replicate, slice_set, Some, None, IfOk, IfErr, OnOk, OnErr};
+ghost use Rattle.std.specs.Option.{option_copied};
+ghost use Rattle.std.specs.FinMap as finmap;
+ghost use Rattle.nr_model.specs.Entries.{Jobs};
+ghost use Rattle.nr_entry.specs.Jobs.{item_of, items_of};
+ghost use Rattle.nr_accounts.specs.Account.{fresh_account};
+ghost use Rattle.nr_accounts.specs.Held.{takes_all};
+ghost use Rattle.nr_accounts.specs.Book as specs;
+ghost use Rattle.nr_accounts.specs.Book.{Book, HasTaken, HasExecuted, refusal_of, with_batch, with_jobs, with_executed, last_of, is_above};
+
+use crate::account::Account;
+use crate::held::BySerial;
+use crate::taking::{execute, give_back, has_stranger, take_all};
+use nr_blob::Memory;
+use nr_entry::{Batch, Job, Refusal};
+use std::alloc::Global;
+use std::marker::Model;
+
+/// The accounts of the connections that a node serves, and of the batches that it took of its workers.
+#[derive(Drop)]
+pub struct Accounts {
+    node: usize,
+    held: BySerial,
+    // For each worker the number of the last batch that was taken.
+    last: Vec<Option<u64>>,
+}
+
+impl Model for Accounts {
+    ghost use Rattle.nr_accounts.specs.Book.{Book, coded_book};
+
+    ghost Value = { Book };
+
+    ghost coded = { coded_book };
+
+    ghost view = { λ a. record { node = a.node; held = a.held; last = a.last.items } };
+}
+
+impl Accounts {
+    /// No connection, and no batch of so many workers.
+    pub fn new(alloc: Global, node: usize, workers: usize) -> Result<Accounts, Memory>
+        ensures accounts { IfOk result (λ accounts. accounts ≡ record { node = node; held = finmap.empty; last = replicate workers None }) }
+    {
+        let mut last = Vec::with_capacity(alloc, workers)?;
+        last.resize(workers, None)?;
+        Ok(Accounts {
+            node,
+            held: BySerial::new(alloc),
+            last,
+        })
+    }
+
+    /// Opens the account of a connection, which this worker serves. Logarithmic. Where memory runs out nothing changes.
+    pub fn open(&mut self, serial: u64, worker: u8) -> Result<(), Memory>
+        ensures opened { OnOk result (self.new ≡ record self.old { held = finmap.insert self.old.held serial (fresh_account worker) }) }
+        ensures unchanged { OnErr result (self.new ≡ self.old) }
+    {
+        let account = Account {
+            worker,
+            next: 0,
+            done: 0,
+            is_ended: false,
+        };
+        self.held.insert(serial, account)
+    }
+
+    /// The account of a connection of this node, or `None` where none was opened, or its end was executed. Logarithmic.
+    pub fn get(&self, serial: u64) -> Option<&Account>
+        ensures { option_copied result ≡ finmap.get self.now.held serial }
+    {
+        self.held.get(serial)
+    }
+
+    /// Takes a batch, with all of its jobs, and says the number of the worker's batch before it. It is refused, and nothing changes, where it
+    /// names another node or a worker that there isn't, or has a job of a connection that its worker doesn't serve or whose end was taken
+    /// before; else where a job's number isn't its connection's next one, or its own isn't above that of the worker's last batch.
+    /// Logarithmic in the connections for each job. To say why it is refused takes as many steps as there are pairs of jobs.
+    pub fn take(&mut self, batch: &Batch) -> Result<Option<u64>, Refusal>
+        ensures taken { OnOk result (self.new ≡ with_batch batch.now self.old) }
+        ensures due { OnOk result (refusal_of self.old batch.now ≡ None) }
+        ensures before { IfOk result (λ before. before ≡ last_of self.old batch.now.worker) }
+        ensures worker { OnOk result (batch.now.worker < length self.old.last) }
+        ensures refused { IfErr result (λ why. refusal_of self.old batch.now ≡ Some why) }
+        ensures unchanged { OnErr result (self.new ≡ self.old) }
+        ensures numbered { (jobs : Jobs) → HasTaken self.old jobs → OnOk result (HasTaken self.new (jobs ++ items_of batch.now.jobs.items)) }
+    {
+        if batch.node != self.node || batch.worker >= self.last.len() {
+            return Err(Refusal::Stranger);
+        }
+        let before = self.last[batch.worker];
+        if is_above(batch.number, before)
+            && take_all(&mut self.held, self.node, batch.worker, &batch.jobs)
+        {
+            self.last[batch.worker] = Some(batch.number);
+            return Ok(before);
+        }
+        if has_stranger(&self.held, self.node, batch.worker, &batch.jobs) {
+            return Err(Refusal::Stranger);
+        }
+        Err(Refusal::WrongNumber)
+    }
+
+    /// The batch that was taken last wasn't: so where its jobs found no room. `before` is the number of the worker's batch before it.
+    /// Logarithmic in the connections for each job.
+    pub fn give_back(&mut self, batch: &Batch, before: Option<u64>)
+        requires { batch.now.worker < length self.old.last }
+        ensures { (book : Book) → refusal_of book batch.now ≡ None → self.old ≡ with_batch batch.now book → before ≡ last_of book batch.now.worker
+            → self.new ≡ book }
+    {
+        give_back(&mut self.held, &batch.jobs);
+        self.last[batch.worker] = before;
+    }
+
+    /// Whether a job is the first of its connection that waits. Logarithmic.
+    pub fn leads(&self, job: &Job) -> bool
+        ensures { result ≡ specs.leads self.now (item_of job.now) }
+    {
+        if job.conn.node != self.node {
+            return false;
+        }
+        match self.held.get(job.conn.serial) {
+            Some(account) => account.leads(job),
+            None => false,
+        }
+    }
+
+    /// A job was executed. False, and nothing changes, where it isn't the first of its connection that waits. Logarithmic. A connection's end closes its account.
+    pub fn execute(&mut self, job: &Job) -> bool
+        ensures leads { result ≡ specs.leads self.old (item_of job.now) }
+        ensures executed { self.new ≡ cond result (with_executed (item_of job.now) self.old) self.old }
+        ensures in_order { (jobs : Jobs) → HasExecuted self.old jobs → result ≡ true → HasExecuted self.new (jobs ++ item_of job.now ∷ []) }
+        ensures numbered { (jobs : Jobs) → HasTaken self.old jobs → HasTaken self.new jobs }
+    {
+        job.conn.node == self.node && execute(&mut self.held, job)
+    }
+}
+
+fn is_above(number: u64, last: Option<u64>) -> bool
+    ensures { result ≡ is_above number last }
+{
+    match last {
+        Some(last) => last < number,
+        None => true,
+    }
+}

@@ -1,0 +1,98 @@
+// The accounts of a node's connections, by serial.
+ghost use Rattle.std.specs.Prelude.{◌≡◌, cond, OnOk, OnErr};
+ghost use Rattle.std.specs.Option.{option_copied};
+ghost use Rattle.std.specs.FinMap as finmap;
+ghost use Rattle.nr_entry.specs.Jobs.{item_of};
+ghost use Rattle.nr_accounts.specs.Account.{taken, untaken, executed};
+ghost use Rattle.nr_accounts.specs.Held.{changed, takes_by, leads_by};
+
+use crate::account::Account;
+use nr_blob::Memory;
+use nr_entry::Job;
+use std::alloc::Global;
+use std::collections::BTreeMap;
+use std::marker::Model;
+
+/// The accounts of the connections that were opened and whose end wasn't executed. They are seen as a finite map.
+#[derive(Drop)]
+pub(crate) struct BySerial {
+    accounts: BTreeMap<u64, Account>,
+}
+
+impl Model for BySerial {
+    ghost use Rattle.std.specs.FinMap as finmap;
+    ghost use Rattle.std.specs.BTreeMap.{IsOrdered};
+    ghost use Rattle.std.specs.Ordering.{nat_cmp};
+    ghost use Rattle.nr_accounts.specs.Held.{Held, coded_held};
+
+    ghost Value = { Held };
+
+    ghost coded = { coded_held };
+
+    ghost view = { λ b. finmap.from_sorted b.accounts.entries };
+
+    ghost invariant = { λ b. IsOrdered nat_cmp b.accounts };
+}
+
+impl BySerial {
+    pub(crate) fn new(alloc: Global) -> BySerial
+        ensures { result ≡ finmap.empty }
+    {
+        BySerial {
+            accounts: BTreeMap::new(alloc),
+        }
+    }
+
+    pub(crate) fn get(&self, serial: u64) -> Option<&Account>
+        ensures { option_copied result ≡ finmap.get self.now serial }
+    {
+        self.accounts.get(&serial)
+    }
+
+    /// Puts an account in, in the place of the one that was there.
+    pub(crate) fn insert(&mut self, serial: u64, account: Account) -> Result<(), Memory>
+        ensures ok { OnOk result (self.new ≡ finmap.insert self.old serial account) }
+        ensures err { OnErr result (self.new ≡ self.old) }
+    {
+        self.accounts.insert(serial, account)?;
+        Ok(())
+    }
+
+    pub(crate) fn remove(&mut self, serial: u64)
+        ensures { self.new ≡ finmap.remove self.old serial }
+    {
+        self.accounts.remove(&serial);
+    }
+
+    /// Takes a connection's next job, if it is that.
+    pub(crate) fn take(&mut self, serial: u64, worker: usize, job: &Job) -> bool
+        ensures takes { result ≡ takes_by worker (item_of job.now) (finmap.get self.old serial) }
+        ensures taken { self.new ≡ cond result (changed (taken (item_of job.now)) serial self.old) self.old }
+    {
+        let Some(account) = self.accounts.get_mut(&serial) else {
+            return false;
+        };
+        account.take(worker, job)
+    }
+
+    /// The connection's job that was taken last wasn't.
+    pub(crate) fn give_back(&mut self, serial: u64)
+        ensures { self.new ≡ changed untaken serial self.old }
+    {
+        let Some(account) = self.accounts.get_mut(&serial) else {
+            return;
+        };
+        account.give_back();
+    }
+
+    /// The connection's first job that waits was executed, if this is it.
+    pub(crate) fn execute(&mut self, serial: u64, job: &Job) -> bool
+        ensures leads { result ≡ leads_by (item_of job.now) (finmap.get self.old serial) }
+        ensures executed { self.new ≡ cond result (changed executed serial self.old) self.old }
+    {
+        let Some(account) = self.accounts.get_mut(&serial) else {
+            return false;
+        };
+        account.execute(job)
+    }
+}
