@@ -1,5 +1,5 @@
 -- The jobs that the bytes of a connection ask for come feed by feed, and a close cuts them.
-use Rattle.std.proofs.Common.{◌≡◌, ◌+◌, Bool, true, false, cond, List, [], ◌∷◌, ◌++◌, length, drop, refl, ap, sym, ◌∙◌, subst, arith, append_assoc, ℕ, suc, ◌-◌, not, inl, inr}
+use Rattle.std.proofs.Common.{◌≡◌, ◌+◌, Bool, true, false, cond, List, [], ◌∷◌, ◌++◌, length, drop, refl, ap, sym, ◌∙◌, subst, arith, append_assoc, ℕ, suc, not, inl, inr}
 use Rattle.std.specs.Prelude.{Option, Some, None, ◌||◌, ◌&&◌, ◌==◌, filter, option_to_list}
 use Rattle.std.specs.List.{list_any}
 use Rattle.std.proofs.lemmas.List.{append-nil, take_at}
@@ -14,7 +14,6 @@ use Rattle.nr_model.specs.Modes.{plain, framed_conversation, conversation, deeds
 use Rattle.nr_model.specs.Entries.{Jobs}
 use Rattle.nr_model.specs.Connections.{Feeding, Closing, fed_to}
 use Rattle.nr_model.specs.Asked.{jobs_from, jobs_of_feeds, closing_job, own_jobs, close_number, cut_by}
-use Rattle.nr_model.specs.Keyspace.{moment}
 use Rattle.nr_model.proofs.Cuts.{cut_law}
 use Rattle.nr_model.proofs.Conversing.{together, joined_on, no_fault}
 use Rattle.nr_model.proofs.JobLists.{same_is, filter-keeps, filter-drops, CountsFrom, CountsFrom-append, CountsFrom-front, CountsFrom-next}

@@ -1,5 +1,5 @@
 -- The bytes that were fed to a connection and handed out for it, in parts.
-use Rattle.std.proofs.Common.{◌≡◌, ◌+◌, Bool, true, false, cond, List, [], ◌∷◌, ◌++◌, refl, ap, sym, ◌∙◌, append_assoc}
+use Rattle.std.proofs.Common.{◌≡◌, Bool, true, false, cond, List, [], ◌∷◌, ◌++◌, refl, ap, sym, ◌∙◌, append_assoc}
 use Rattle.std.proofs.lemmas.List.{append-nil}
 use Rattle.nr_model.specs.Bytes.{Bytes}
 use Rattle.nr_model.specs.Items.{Connection, same_connection}

@@ -1,7 +1,6 @@
 -- What was taken, in order: its updates are those of the entries, and its reads stand behind the entries that their node had applied.
 use Rattle.std.proofs.Common.{◌≡◌, ℕ, zero, suc, ◌+◌, ◌-◌, true, List, [], ◌∷◌, ◌++◌, length, map, refl, ap, sym, ◌∙◌, subst, arith, append_assoc}
 use Rattle.std.specs.Prelude.{flat_map, filter}
-use Rattle.std.specs.List.{AllByRecursion}
 use Rattle.std.proofs.lemmas.List.{append-nil, length-append, map-append}
 use Rattle.std.proofs.lemmas.List.Elements.{filter-append}
 use Rattle.nr_model.specs.Items.{Connection, same_connection, Deed, Item, is_update}
@@ -9,7 +8,7 @@ use Rattle.nr_model.specs.Entries.{Jobs, entry_items, entry_moment, entry_jobs, 
 use Rattle.nr_model.specs.Connections.{Setup}
 use Rattle.nr_model.specs.Asked.{own_jobs}
 use Rattle.nr_model.specs.Nodes.{Taken, Entry, Reads, World, node_at, items_taken, jobs_taken, log_of, tail_of}
-use Rattle.nr_model.specs.Nodes.Explained.{Placed, placed_all, reads_in, logged_part, items_before, placed_reads}
+use Rattle.nr_model.specs.Nodes.Explained.{placed_all, reads_in, logged_part, items_before, placed_reads}
 use Rattle.nr_model.specs.Nodes.Steps.{advanced_by}
 use Rattle.nr_model.specs.Nodes.Pasts.{Event, world_after}
 use Rattle.nr_model.proofs.Choices.{entry_updates, look_reads}

@@ -11,6 +11,7 @@ pub mod Held
 pub mod Lists
 pub mod Hashes
 pub mod Sets
+pub mod SortedSets
 use Rattle.nr_model.specs.Bytes.{Bytes}
 use Rattle.nr_model.specs.Replies.{Reply}
 use Rattle.nr_model.specs.Keyspace.{Keyspace}

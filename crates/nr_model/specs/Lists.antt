@@ -1,5 +1,5 @@
 -- What the commands on lists read and write: ends, places, ranges and matches (Redis command reference, list; ranges as those of strings).
-use Rattle.std.specs.Prelude.{ℕ, zero, suc, ◌+◌, ◌-◌, nat_lt, if◌then◌else◌, ◌&&◌, not, bytes_eq, ℤ, pos, negsuc, List, [], ◌∷◌, ◌++◌, length, take, drop, map, filter, reverse, slice_get, slice_set, Option, Some, None}
+use Rattle.std.specs.Prelude.{ℕ, zero, suc, ◌+◌, ◌-◌, nat_lt, if◌then◌else◌, ◌&&◌, bytes_eq, ℤ, pos, negsuc, List, [], ◌∷◌, ◌++◌, length, take, drop, map, filter, reverse, slice_get, slice_set, Option, Some, None}
 use Rattle.std.specs.List.{insert, position, enumerate_from}
 use Rattle.std.specs.Option.{option_map, option_and_then, unwrap_or}
 use Rattle.nr_model.specs.Bytes.{Bytes}

@@ -8,6 +8,7 @@ pub mod Strings
 pub mod Lists
 pub mod Hashes
 pub mod Sets
+pub mod SortedSets
 pub mod Modes
 pub mod Sequential
 pub mod Nodes

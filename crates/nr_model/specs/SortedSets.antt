@@ -1,6 +1,6 @@
 -- What the commands on sorted sets read and write: members with whole scores, in the order of the scores and then of the bytes (Redis command
 -- reference, sorted set; whole scores, their texts and their range own).
-use Rattle.std.specs.Prelude.{ℕ, ◌+◌, ◌^◌, ◌&&◌, ◌||◌, ◌==◌, not, Bool, true, false, nat_le, nat_lt, if◌then◌else◌, List, [], ◌∷◌, take, drop, map, filter, reverse, Option, Some, None, ℤ, pos, negsuc, bytes_eq, codes}
+use Rattle.std.specs.Prelude.{ℕ, ◌+◌, ◌^◌, ◌&&◌, ◌||◌, ◌==◌, not, Bool, true, false, nat_le, nat_lt, if◌then◌else◌, List, [], ◌∷◌, take, drop, filter, fold, reverse, Option, Some, None, ℤ, pos, negsuc, ◌+ℤ◌, ◌*ℤ◌, int_lt, bytes_eq, codes}
 use Rattle.std.specs.List.{list_all, position}
 use Rattle.std.specs.Option.{option_or, option_map, option_and_then}
 use Rattle.std.specs.Ordering.{int_cmp, ordering_then, is_lt}
@@ -11,6 +11,12 @@ use Rattle.nr_model.specs.Bytes.{Bytes}
 use Rattle.nr_model.specs.Numbers.{int_value}
 use Rattle.nr_model.specs.Keyspace.{byte_cmp, coded_bytes}
 use Rattle.nr_model.specs.Names.{in_order}
+use Rattle.nr_model.specs.Strings.{range}
+use Rattle.nr_model.specs.Sets.{Members, listed}
+use Rattle.nr_model.specs.declared.command.Aggregate.{Aggregate}
+use Rattle.nr_model.specs.declared.command.Aggregate.TheVariants.{Sum, Min, Max}
+use Rattle.nr_model.specs.declared.command.Joining.{Joining}
+use Rattle.nr_model.specs.declared.command.Joining.TheVariants.{Union, Intersection}
 use Rattle.nr_model.specs.declared.command.Direction.{Direction}
 use Rattle.nr_model.specs.declared.command.Direction.TheVariants.{Ascending, Descending}
 
@@ -126,3 +132,74 @@ is_between (ByBytes min max) scored = is_within byte_cmp min max scored.0
 -- those between two bounds, in order
 abbrev pub between : Bounds → List Scored → List Scored
 between bounds scored = filter (is_between bounds) scored
+
+-- without some of them
+abbrev pub without : List Scored → Scores → Scores
+without gone scores = fold (λ left scored. finmap.remove left scored.0) scores gone
+
+-- so many of a list, some being passed over (Redis LIMIT): below 0 passed over there are none, and a count below 0 takes all
+pub record Limit : Type 0 where
+  pub offset : ℤ
+  pub count : ℤ
+
+abbrev pub counted : {A : Type 0} → ℤ → List A → List A
+counted (pos n) xs = take n xs
+counted (negsuc n) xs = xs
+
+abbrev pub windowed : {A : Type 0} → ℤ → ℤ → List A → List A
+windowed (pos n) count xs = counted count (drop n xs)
+windowed (negsuc n) count xs = []
+
+abbrev pub limited_to : {A : Type 0} → Option Limit → List A → List A
+limited_to None xs = xs
+limited_to (Some limit) xs = windowed limit.offset limit.count xs
+
+-- the ends of a range: places, of which those below 0 count from the end, or bounds
+pub data Ends : Type 0 where
+  Places : ℤ → ℤ → Ends
+  Within : Bounds → Ends
+
+-- the members of a range, in the direction in which they are told
+abbrev pub told_range : Ends → Direction → Option Limit → Scores → List Scored
+told_range (Places first last) direction limit scores = range first last (told_in direction (ranked scores))
+told_range (Within bounds) direction limit scores = limited_to limit (told_in direction (between bounds (ranked scores)))
+
+-- the members of a set, each with score 1
+abbrev pub of_members : Members → Scores
+of_members members = fold (λ scores member. finmap.insert scores member (pos 1)) finmap.empty (listed members)
+
+-- two scores of one member as one, where it had one before
+abbrev pub aggregated : Aggregate → Option ℤ → ℤ → ℤ
+aggregated aggregate None score = score
+aggregated Sum (Some before) score = before +ℤ score
+aggregated Min (Some before) score = if int_lt score before then score else before
+aggregated Max (Some before) score = if int_lt before score then score else before
+
+-- several sorted sets, each with the weight that its scores are multiplied by; where no weight is given it is 1
+pub record Source : Type 0 where
+  pub scores : Scores
+  pub weight : ℤ
+
+abbrev pub weighted : List Scores → List ℤ → List Source
+weighted [] weights = []
+weighted (scores ∷ others) [] = record { scores = scores; weight = pos 1 } ∷ weighted others []
+weighted (scores ∷ others) (weight ∷ weights) = record { scores = scores; weight = weight } ∷ weighted others weights
+
+-- what each member has with one source more
+abbrev pub gathered_one : Aggregate → ℤ → Scores → Scored → Scores
+gathered_one aggregate weight sums scored = finmap.insert sums scored.0 (aggregated aggregate (finmap.get sums scored.0) (weight *ℤ scored.1))
+
+abbrev pub gathered : Aggregate → Scores → Source → Scores
+gathered aggregate sums source = fold (gathered_one aggregate source.weight) sums (finmap.entries source.scores)
+
+-- several as one: exact, whatever the scores become
+abbrev pub are_in_all : List Source → Bytes → Bool
+are_in_all sources member = list_all (λ source. finmap.contains_key source.scores member) sources
+
+abbrev pub joined : Joining → Aggregate → List Source → Scores
+joined Union aggregate sources = fold (gathered aggregate) finmap.empty sources
+joined Intersection aggregate sources = finmap.retain_keys (fold (gathered aggregate) finmap.empty sources) (are_in_all sources)
+
+-- all of the scores are such as sorted sets may have
+abbrev pub are_scores : Scores → Bool
+are_scores scores = list_all is_score (finmap.values scores)

@@ -228,6 +228,75 @@ pub enum Direction {
     Descending,
 }
 
+/// Sorted sets.
+#[derive(Clone, Copy, Debug, PartialEq, Eq)]
+pub enum SortedSetsLook {
+    ZScore,
+    ZMScore,
+    ZCard,
+    /// ZRANK and ZREVRANK.
+    Rank(Direction),
+    ZCount,
+    ZLexCount,
+    /// ZRANGE and its older names.
+    Range(RangeForm),
+}
+
+/// Sorted sets.
+#[derive(Clone, Copy, Debug, PartialEq, Eq)]
+pub enum SortedSetsChange {
+    ZAdd,
+    ZIncrBy,
+    ZRem,
+    /// ZREMRANGEBYRANK, ZREMRANGEBYSCORE and ZREMRANGEBYLEX.
+    RemRange(RangeBy),
+    /// ZPOPMIN and ZPOPMAX.
+    Pop(Direction),
+    /// ZUNIONSTORE and ZINTERSTORE.
+    JoinStore(Joining),
+}
+
+/// What a range of a sorted set is told by.
+#[derive(Clone, Copy, Debug, PartialEq, Eq)]
+pub enum RangeBy {
+    /// The places of its members.
+    Places,
+    /// Their scores.
+    Scores,
+    /// Their bytes.
+    Members,
+}
+
+/// The names of the command that tells a range of a sorted set.
+#[derive(Clone, Copy, Debug, PartialEq, Eq)]
+pub enum RangeForm {
+    /// ZRANGE, whose options say what the range is told by, and which way.
+    Any,
+    /// ZREVRANGE.
+    Reversed,
+    /// ZRANGEBYSCORE and ZREVRANGEBYSCORE.
+    ByScores(Direction),
+    /// ZRANGEBYLEX and ZREVRANGEBYLEX.
+    ByMembers(Direction),
+}
+
+/// How several sorted sets become one.
+#[derive(Clone, Copy, Debug, PartialEq, Eq)]
+pub enum Joining {
+    /// The members that one of them has.
+    Union,
+    /// The members that all of them have.
+    Intersection,
+}
+
+/// How the scores of a member in several sorted sets become one.
+#[derive(Clone, Copy, Debug, PartialEq, Eq)]
+pub enum Aggregate {
+    Sum,
+    Min,
+    Max,
+}
+
 /// In what a time is counted.
 #[derive(Clone, Copy, Debug, PartialEq, Eq)]
 pub enum Unit {

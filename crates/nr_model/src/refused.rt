@@ -66,6 +66,18 @@ pub enum Refused {
     HSetArity,
     /// HMSET got a field without a value.
     HMSetArity,
+    /// A word should spell a whole score from -2^53 to 2^53, and doesn't.
+    NotAFloat,
+    /// A score would be below -2^53 or above 2^53.
+    ScoreRange,
+    /// A word is no bound of scores.
+    ScoreBound,
+    /// A word is no bound of members.
+    MemberBound,
+    /// LIMIT stands with a range by places.
+    LimitByPlaces,
+    /// WITHSCORES stands with a range by members.
+    ScoresByMembers,
 }
 
 /// The commands that name themselves where a deadline is refused.

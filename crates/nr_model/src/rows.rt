@@ -6,6 +6,7 @@ ghost use Rattle.nr_model.specs.Rows.Strings.{StringRows};
 ghost use Rattle.nr_model.specs.Rows.Lists.{ListRows};
 ghost use Rattle.nr_model.specs.Rows.Hashes.{HashRows};
 ghost use Rattle.nr_model.specs.Rows.Sets.{SetRows};
+ghost use Rattle.nr_model.specs.Rows.SortedSets.{SortedSetRows};
 ghost use Rattle.nr_model.specs.Rows.Nodes.{NodesRows};
 
 /// What the bytes of a connection ask for: transactions, subscriptions, unknown names and ends.
@@ -46,4 +47,9 @@ fn hash_rows()
 /// Sets: what all of them have, one of them, and the first alone.
 fn set_rows()
     ensures { SetRows }
+{}
+
+/// Sorted sets: their order, ranges by places and bounds, texts of scores, conditions, and several as one.
+fn sorted_set_rows()
+    ensures { SortedSetRows }
 {}

@@ -89,6 +89,16 @@ fn text(why: Refused) -> &'static str
         Refused::HashNotAnInteger => "ERR hash value is not an integer",
         Refused::HSetArity => "ERR wrong number of arguments for 'hset' command",
         Refused::HMSetArity => "ERR wrong number of arguments for 'hmset' command",
+        Refused::NotAFloat => "ERR value is not a valid float",
+        Refused::ScoreRange => "ERR resulting score is out of range",
+        Refused::ScoreBound => "ERR min or max is not a float",
+        Refused::MemberBound => "ERR min or max not valid string range item",
+        Refused::LimitByPlaces => {
+            "ERR syntax error, LIMIT is only supported in combination with either BYSCORE or BYLEX"
+        }
+        Refused::ScoresByMembers => {
+            "ERR syntax error, WITHSCORES not supported in combination with BYLEX"
+        }
     }
 }
 

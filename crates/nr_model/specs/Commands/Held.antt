@@ -1,10 +1,11 @@
--- What keys hold as lists, hashes and sets (Redis data types): a missing key reads as the empty one, and one with nothing left in it is no key.
-use Rattle.std.specs.Prelude.{ℕ, Bool, true, false, ◌==◌, List, [], ◌∷◌, length, Option, Some, None, Ok, ℤ, if◌then◌else◌}
+-- What keys hold as lists, hashes, sets and sorted sets (Redis data types): a missing key reads as the empty one, and one with nothing left in it is no key.
+use Rattle.std.specs.Prelude.{ℕ, Bool, false, ◌==◌, List, length, Option, Some, None, Ok, ℤ, if◌then◌else◌}
 use Rattle.std.specs.FinMap as map
 use Rattle.std.specs.FinSet as set
 use Rattle.nr_model.specs.Bytes.{Bytes}
 use Rattle.nr_model.specs.Hashes.{Hash}
 use Rattle.nr_model.specs.Sets.{Members}
+use Rattle.nr_model.specs.SortedSets as sorted
 use Rattle.nr_model.specs.Keyspace as keyspaces
 use Rattle.nr_model.specs.Keyspace.{Key, key_of, Keyspace, Stored, Value, Text, Items, Fields, Scores}
 use Rattle.nr_model.specs.Commands.Reading.{Read, fault, read_then}
@@ -34,6 +35,14 @@ members_of (Fields fields) = fault WrongType
 members_of (keyspaces.Members members) = Ok members
 members_of (Scores scores) = fault WrongType
 
+-- its members with their scores, where it is a sorted set
+abbrev pub scores_of : Value → Read sorted.Scores
+scores_of (Text text) = fault WrongType
+scores_of (Items items) = fault WrongType
+scores_of (Fields fields) = fault WrongType
+scores_of (keyspaces.Members members) = fault WrongType
+scores_of (Scores scores) = Ok scores
+
 -- what is stored, read so; none where there is no key
 abbrev pub held_as : {A : Type 0} → (Value → Read A) → Option Stored → Read (Option A)
 held_as read None = Ok None
@@ -47,6 +56,9 @@ fields_at keyspace database name = held_as fields_of (map.get keyspace (key_of d
 
 abbrev pub members_at : Keyspace → ℕ → Bytes → Read (Option Members)
 members_at keyspace database name = held_as members_of (map.get keyspace (key_of database name))
+
+abbrev pub scores_at : Keyspace → ℕ → Bytes → Read (Option sorted.Scores)
+scores_at keyspace database name = held_as scores_of (map.get keyspace (key_of database name))
 
 -- the deadline that a key has, if it is there and has one
 abbrev pub deadline_of : Option Stored → Option ℤ

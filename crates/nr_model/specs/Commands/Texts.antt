@@ -59,7 +59,7 @@ abbrev pub pop_name : End → Bytes
 pop_name Left = codes "lpop"
 pop_name Right = codes "rpop"
 
--- the text of each refusal (Redis, but for OptionsConflict and TooLong, which are shorter, and CountNotPositive, RankZero and Negative; which one a fault has is own)
+-- the text of each refusal (Redis, but for OptionsConflict and TooLong, which are shorter, and CountNotPositive, RankZero, Negative and ScoreRange; which one a fault has is own)
 abbrev pub refusal_text : Refused → Bytes
 refusal_text refusals.Syntax = syntax_error
 refusal_text refusals.NotAnInteger = not_an_integer
@@ -92,3 +92,9 @@ refusal_text refusals.Negative = codes "ERR negative value not allowed"
 refusal_text refusals.HashNotAnInteger = codes "ERR hash value is not an integer"
 refusal_text refusals.HSetArity = wrong_arity (codes "hset")
 refusal_text refusals.HMSetArity = wrong_arity (codes "hmset")
+refusal_text refusals.NotAFloat = codes "ERR value is not a valid float"
+refusal_text refusals.ScoreRange = codes "ERR resulting score is out of range"
+refusal_text refusals.ScoreBound = codes "ERR min or max is not a float"
+refusal_text refusals.MemberBound = codes "ERR min or max not valid string range item"
+refusal_text refusals.LimitByPlaces = codes "ERR syntax error, LIMIT is only supported in combination with either BYSCORE or BYLEX"
+refusal_text refusals.ScoresByMembers = codes "ERR syntax error, WITHSCORES not supported in combination with BYLEX"

@@ -1,5 +1,5 @@
 -- Ends, indexes, pivots, counts and ranks of lists, at some lists.
-use Rattle.std.specs.Prelude.{◌≡◌, ℕ, List, [], ◌∷◌, pos, negsuc, Some, None, fold}
+use Rattle.std.specs.Prelude.{◌≡◌, List, [], ◌∷◌, pos, negsuc, Some, None, fold}
 use Rattle.nr_model.specs.Bytes.{Bytes}
 use Rattle.nr_model.specs.Strings.{range}
 use Rattle.nr_model.specs.declared.command.End.TheVariants.{Left, Right}

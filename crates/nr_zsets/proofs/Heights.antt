@@ -1,0 +1,30 @@
+-- How many items a balanced tree has at least.
+use Rattle.std.proofs.Common.{◌≡◌, ℕ, suc, ◌+◌, ◌*◌, ◌/◌, ◌^◌, ◌≤◌, ◌<◌, max, List, ◌∷◌, ◌++◌, length, arith, length-append, sym, ap, ◌∙◌, refl}
+use Rattle.std.proofs.Math.Pow.{pow_mono}
+use Rattle.std.proofs.Math.Nat.{two-pow-succ}
+use Rattle.nr_zsets.specs.Trees.{DifferByAtMost, IsFull}
+
+half_more : (m : ℕ) → (m + 2) / 2 ≡ suc (m / 2)
+half_more m = omega arith
+
+half_below : (h m : ℕ) → h ≤ m + 1 → h / 2 ≤ (m + 1) / 2
+half_below h m le = omega arith
+
+-- one level above sides that are full and even
+pub full_more : (l r a b : ℕ) → DifferByAtMost 1 l r → IsFull l a → IsFull r b → IsFull (max l r + 1) (a + b + 1)
+full_more l r a b even full_l full_r =
+    let h = max l r in
+    let left : 2 ^ (h / 2) ≤ a + 1 = omega (arith, full_l, pow_mono {i = h / 2} {j = (l + 1) / 2} (half_below h l (omega (arith, even.1)))) in
+    let right : 2 ^ (h / 2) ≤ b + 1 = omega (arith, full_r, pow_mono {i = h / 2} {j = (r + 1) / 2} (half_below h r (omega (arith, even.0)))) in
+    let half : (h + 1 + 1) / 2 ≡ suc (h / 2) = omega arith in
+    rw half (rw (two-pow-succ (h / 2)) (omega (arith, left, right)))
+
+-- a full tree of fewer than 2^64 items is low
+pub full_low : (h n : ℕ) → IsFull h n → n < 2 ^ 64 → h ≤ 128
+full_low h n full few =
+    elim (Rattle.std.proofs.lemmas.Bool.cases_lt h 129) [
+      | Rattle.std.proofs.Common.inl low ↦ omega (arith, low)
+      | Rattle.std.proofs.Common.inr high ↦
+          let tall : 2 ^ 65 ≤ 2 ^ ((h + 1) / 2) = pow_mono {i = 65} {j = (h + 1) / 2} (omega (arith, high)) in
+          absurd (omega (arith, tall, full, few))
+    ]

@@ -1,0 +1,4 @@
+pub mod Heights
+pub mod Places
+pub mod Parted
+pub mod Parts

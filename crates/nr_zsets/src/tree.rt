@@ -1,0 +1,130 @@
+// An AVL tree of boxes in which each node knows how many items stand below it: a list that is read, cut and joined by places, in logarithmic
+// time. It knows no order: where an item belongs is for its owner to say.
+ghost use Rattle.std.specs.Prelude.{◌≡◌, ◌+◌, ◌≤◌, [], ◌∷◌, length, max, IfOk};
+ghost use Rattle.nr_zsets.specs.Trees.{seen, item_of, IsBalanced, IsFull};
+
+use nr_blob::{Blob, Memory};
+use std::alloc::Global;
+use std::marker::Model;
+use std::mem;
+
+mod balance;
+mod edits;
+mod walks;
+
+/// Members with their scores, each at its place. It is seen as the list of them, and its height.
+#[cycle(tree)]
+#[derive(Drop)]
+pub(crate) struct Tree {
+    root: Link,
+}
+
+#[cycle(tree)]
+#[derive(Drop)]
+enum Link {
+    Leaf,
+    Fork(Box<Node>),
+}
+
+/// A member with its score, and what stands before it and behind it.
+#[cycle(tree)]
+#[derive(Drop)]
+pub(crate) struct Node {
+    left: Tree,
+    right: Tree,
+    pub(crate) member: Blob,
+    pub(crate) score: i64,
+    count: usize,
+    height: u64,
+}
+
+impl Model for Tree {
+    ghost use Rattle.std.specs.Prelude.{ℕ, ℤ, List, length};
+
+    ghost Value = { List (List ℕ × ℤ) × ℕ };
+
+    ghost use Rattle.nr_zsets.specs.Trees.{seen, IsBalanced};
+
+    ghost view = { λ t. seen t.root };
+
+    ghost invariant = { λ t. IsBalanced t.root };
+
+    ghost size = { λ d. length d.0 };
+
+    ghost use Rattle.std.proofs.Common.{arith, length-append};
+
+    ghost size_decreases = { λ t h. Prim.grind (arith, length-append) };
+}
+
+impl Node {
+    /// A node of its own.
+    pub(crate) fn new(alloc: Global, member: Blob, score: i64) -> Result<Box<Node>, Memory>
+        ensures { IfOk result (λ node. item_of node.value ≡ (member, score)) }
+    {
+        let node = Node {
+            left: Tree::new(),
+            right: Tree::new(),
+            member,
+            score,
+            count: 1,
+            height: 1,
+        };
+        Ok(Box::new(alloc, node)?)
+    }
+}
+
+impl Tree {
+    /// The empty tree. It takes no memory.
+    pub(crate) fn new() -> Tree
+        ensures { result ≡ ([], 0) }
+    {
+        Tree { root: Link::Leaf }
+    }
+
+    fn height(&self) -> u64
+        ensures height { result ≡ self.now.1 }
+        ensures full { IsFull self.now.1 (length self.now.0) }
+        ensures low { self.now.1 ≤ 128 }
+    {
+        match &self.root {
+            Link::Leaf => 0,
+            Link::Fork(node) => node.height,
+        }
+    }
+
+    /// How many items. Constant.
+    pub(crate) fn len(&self) -> usize
+        ensures len { result ≡ length self.now.0 }
+        ensures full { IsFull self.now.1 (length self.now.0) }
+    {
+        match &self.root {
+            Link::Leaf => 0,
+            Link::Fork(node) => node.count,
+        }
+    }
+
+    fn open(self) -> Link
+        ensures same_view { seen result ≡ self }
+        ensures balanced { IsBalanced result }
+    {
+        self.root
+    }
+
+    fn close(root: Link) -> Tree
+        requires { IsBalanced root }
+        ensures { result ≡ seen root }
+    {
+        Tree { root }
+    }
+}
+
+// A node without its sides.
+fn apart(mut node: Box<Node>) -> (Tree, Box<Node>, Tree)
+    ensures left { result.0 ≡ node.value.left }
+    ensures item { item_of result.1.value ≡ item_of node.value }
+    ensures right { result.2 ≡ node.value.right }
+{
+    let left = mem::replace(&mut node.left, Tree::new());
+    let right = mem::replace(&mut node.right, Tree::new());
+    (left, node, right)
+}
