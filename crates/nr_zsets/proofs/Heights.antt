@@ -1,7 +1,8 @@
 -- How many items a balanced tree has at least.
-use Rattle.std.proofs.Common.{◌≡◌, ℕ, suc, ◌+◌, ◌*◌, ◌/◌, ◌^◌, ◌≤◌, ◌<◌, max, List, ◌∷◌, ◌++◌, length, arith, length-append, sym, ap, ◌∙◌, refl}
+use Rattle.std.proofs.Common.{◌≡◌, inl, inr, ℕ, suc, ◌+◌, ◌*◌, ◌/◌, ◌^◌, ◌≤◌, ◌<◌, max, List, ◌∷◌, ◌++◌, length, arith, length-append, sym, ap, ◌∙◌, refl}
 use Rattle.std.proofs.Math.Pow.{pow_mono}
 use Rattle.std.proofs.Math.Nat.{two-pow-succ}
+use Rattle.std.proofs.lemmas.Bool.{cases_lt}
 use Rattle.nr_zsets.specs.Trees.{DifferByAtMost, IsFull}
 
 half_more : (m : ℕ) → (m + 2) / 2 ≡ suc (m / 2)
@@ -28,3 +29,17 @@ full_low h n full few =
           let tall : 2 ^ 65 ≤ 2 ^ ((h + 1) / 2) = pow_mono {i = 65} {j = (h + 1) / 2} (omega (arith, high)) in
           absurd (omega (arith, tall, full, few))
     ]
+
+-- of fewer than 2^d items it has at most 2 d levels
+pub few_levels : (h n d : ℕ) → IsFull h n → n < 2 ^ d → h ≤ 2 * d
+few_levels h n d full few =
+    elim (cases_lt (2 * d) h) [
+      | inl more ↦
+          let half : suc d ≤ (h + 1) / 2 = omega (arith, more) in
+          let great : 2 ^ suc d ≤ 2 ^ ((h + 1) / 2) = pow_mono {i = suc d} {j = (h + 1) / 2} half in
+          absurd (omega (arith, full, few, rw (two-pow-succ d) at great))
+      | inr low ↦ low
+    ]
+
+pub few_ticks : (h n len d old new : ℕ) → IsFull h n → n ≡ len → new ≤ old + h → len < 2 ^ d → new ≤ old + 2 * d
+few_ticks h n len d old new full size cost few = let low = few_levels h n d full (rw size few) in omega (arith, low, cost)

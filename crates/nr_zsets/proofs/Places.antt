@@ -1,5 +1,5 @@
 -- Lists by places: an item and what stands on both sides of it.
-use Rattle.std.proofs.Common.{◌≡◌, ℕ, zero, suc, ◌+◌, ◌-◌, ◌<◌, ◌≤◌, Some, List, [], ◌∷◌, ◌++◌, length, refl, sym, ap, ◌∙◌, arith}
+use Rattle.std.proofs.Common.{◌≡◌, ℕ, suc, ◌-◌, ◌<◌, ◌≤◌, Some, None, List, [], ◌∷◌, ◌++◌, length, refl, sym, ap, ◌∙◌, arith}
 use Rattle.std.specs.List.{insert, remove, slice_get}
 use Rattle.std.proofs.lemmas.List.Edits.{insert-append_right, remove-append_right}
 use Rattle.nr_model.specs.SortedSets.{Scored}
@@ -8,6 +8,9 @@ use Rattle.nr_zsets.specs.Trees.{joined}
 -- what is seen of a node, by parts that are taken from it
 pub joined_is : (self a b l r : List Scored × ℕ) (x y : Scored) (h : ℕ) → (joined a x b, h) ≡ self → l ≡ a → y ≡ x → r ≡ b → self.0 ≡ joined l y r
 joined_is self a b l r x y h same left item right = sym (ap (λ d. d.0) same) ∙ sym (λ i. joined (left i) (item i) (right i))
+
+pub same_Some : {A : Type 0} (x y : A) → Some x ≡ Some y → x ≡ y
+same_Some x y e = ap (λ o. elim o [ Some z ↦ z | None ↦ x ]) e
 
 module _ {A : Type 0} where
   pub inserted_behind : (all l r new : List A) (x y : A) (place before : ℕ) → all ≡ l ++ x ∷ r → before ≡ length l → before < place
@@ -36,15 +39,15 @@ module _ {A : Type 0} where
       ∙ sym (remove-append_right l (x ∷ r) (length l) place refl (omega arith))
       ∙ ap (λ xs. remove xs place) (sym is)
 
-  get-seam : (l : List A) (x : A) (r : List A) → slice_get (l ++ x ∷ r) (length l) ≡ Some x
-  get-seam [] x r = refl
-  get-seam (y ∷ l) x r = get-seam l x r
+  pub seam_at : (l : List A) (x : A) (r : List A) → slice_get (l ++ x ∷ r) (length l) ≡ Some x
+  seam_at [] x r = refl
+  seam_at (y ∷ l) x r = seam_at l x r
 
   pub item_here : (all l r : List A) (x : A) (place before : ℕ) → all ≡ l ++ x ∷ r → before ≡ length l → before ≤ place → place ≤ before
       → slice_get all place ≡ Some x
   item_here all l r x place before is size low high =
       let here : place ≡ length l = omega arith in
-      ap (λ xs. slice_get xs place) is ∙ ap (slice_get (l ++ x ∷ r)) here ∙ get-seam l x r
+      ap (λ xs. slice_get xs place) is ∙ ap (slice_get (l ++ x ∷ r)) here ∙ seam_at l x r
 
   -- the first of a list and what is left
   pub first_rest : (r rest : List A) (next : A) → slice_get r 0 ≡ Some next → rest ≡ remove r 0 → next ∷ rest ≡ r

@@ -2,6 +2,9 @@
 #![tactic(auto)]
 
 pub use ticks::Ticks;
+pub use zset::Zset;
 
+mod order;
 mod ticks;
 mod tree;
+mod zset;

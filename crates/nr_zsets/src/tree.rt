@@ -7,6 +7,7 @@ use nr_blob::{Blob, Memory};
 use std::alloc::Global;
 use std::marker::Model;
 use std::mem;
+pub(crate) use walks::Cut;
 
 mod balance;
 mod edits;
@@ -71,6 +72,14 @@ impl Node {
         };
         Ok(Box::new(alloc, node)?)
     }
+
+    /// Its member and score.
+    pub(crate) fn into_item(node: Box<Node>) -> (Blob, i64)
+        ensures { result ≡ item_of node.value }
+    {
+        let Node { member, score, .. } = Box::into_inner(node);
+        (member, score)
+    }
 }
 
 impl Tree {
@@ -101,6 +110,24 @@ impl Tree {
             Link::Leaf => 0,
             Link::Fork(node) => node.count,
         }
+    }
+
+    /// The same items once more, each at its place. Linear in them and their bytes.
+    pub(crate) fn copy(&self, alloc: Global) -> Result<Tree, Memory>
+        ensures { IfOk result (λ copied. copied ≡ self.now) }
+    {
+        let Link::Fork(node) = &self.root else {
+            return Ok(Tree::new());
+        };
+        let copied = Node {
+            left: node.left.copy(alloc)?,
+            right: node.right.copy(alloc)?,
+            member: node.member.copy()?,
+            score: node.score,
+            count: node.count,
+            height: node.height,
+        };
+        Ok(Tree::close(Link::Fork(Box::new(alloc, copied)?)))
     }
 
     fn open(self) -> Link

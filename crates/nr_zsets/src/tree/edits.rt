@@ -5,6 +5,7 @@ ghost use Rattle.nr_zsets.specs.Trees.{item_of};
 
 use super::balance::{even, settled};
 use super::{Link, Node, Tree, apart};
+use std::mem;
 
 impl Tree {
     /// With one item more, which stands at this place. Logarithmic.
@@ -30,6 +31,7 @@ impl Tree {
     /// The node of the item at this place, and the tree without it. Logarithmic.
     pub(crate) fn remove_at(self, place: usize) -> (Box<Node>, Tree)
         requires { place < length self.0 }
+        ensures fits { length self.0 < 2 ^ 64 }
         ensures item { slice_get self.0 place ≡ Some (item_of result.0.value) }
         ensures items { result.1.0 ≡ remove self.0 place }
         ensures not_higher { result.1.1 ≤ self.1 }
@@ -53,5 +55,27 @@ impl Tree {
         }
         let (next, right) = right.remove_at(0);
         (top, Tree::close(settled(left, next, right)))
+    }
+    /// Puts an item in at this place. Logarithmic.
+    pub(crate) fn put(&mut self, place: usize, node: Box<Node>)
+        requires within { place ≤ length self.old.0 }
+        requires fits { length self.old.0 + 1 < 2 ^ 64 }
+        ensures { self.new.0 ≡ insert self.old.0 place (item_of node.value) }
+    {
+        let tree = mem::replace(self, Tree::new());
+        *self = tree.insert_at(place, node);
+    }
+
+    /// Takes the item at this place out. Logarithmic.
+    pub(crate) fn take(&mut self, place: usize) -> Box<Node>
+        requires { place < length self.old.0 }
+        ensures fits { length self.old.0 < 2 ^ 64 }
+        ensures item { slice_get self.old.0 place ≡ Some (item_of result.value) }
+        ensures items { self.new.0 ≡ remove self.old.0 place }
+    {
+        let tree = mem::replace(self, Tree::new());
+        let (node, tree) = tree.remove_at(place);
+        *self = tree;
+        node
     }
 }

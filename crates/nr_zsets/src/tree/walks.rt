@@ -1,14 +1,16 @@
 // What stands where: at a place, in front of a cut, and from one place to another.
 ghost use Rattle.std.specs.Prelude.{◌≡◌, ℕ, ◌+◌, ◌-◌, ◌≤◌, ◌<◌, ◌++◌, ◌∷◌, [], Bool, length, map, filter, slice_get, vec_len, vec_capacity};
 ghost use Rattle.std.specs.Option.{option_map};
-ghost use Rattle.nr_model.specs.SortedSets.{Scored, told_in};
+ghost use Rattle.nr_model.specs.SortedSets.{Scored, told_in, between};
+ghost use Rattle.nr_zbounds.specs.Ranges.{seen_bounds};
 ghost use Rattle.nr_zsets.specs.Lists.{IsParted, part, shown};
-ghost use Rattle.nr_zsets.specs.Trees.{item_of, joined};
+ghost use Rattle.nr_zsets.specs.Trees.{item_of, joined, IsFull};
 
 use super::{Link, Node, Tree};
 use crate::ticks::Ticks;
 use nr_blob::Blob;
 use nr_model::command::Direction;
+use nr_zbounds::Bounds;
 use std::marker::Brand;
 use std::sync::ledger::{Blank, Ledger};
 
@@ -53,6 +55,7 @@ impl Tree {
     pub(crate) fn at<L: Ledger>(&self, place: usize, ticks: &mut Ticks<L>) -> Option<(&Blob, i64)>
         ensures item { option_map shown result ≡ slice_get self.now.0 place }
         ensures cost { ticks.new ≤ ticks.old + self.now.1 }
+        ensures full { IsFull self.now.1 (length self.now.0) }
     {
         match &self.root {
             Link::Leaf => None,
@@ -75,6 +78,7 @@ impl Tree {
         ensures place { IsParted (C.parts cut.now) self.now.0 → result ≡ length (filter (C.parts cut.now) self.now.0) }
         ensures within { result ≤ length self.now.0 }
         ensures cost { ticks.new ≤ ticks.old + self.now.1 }
+        ensures full { IsFull self.now.1 (length self.now.0) }
     {
         match &self.root {
             Link::Leaf => 0,
@@ -88,6 +92,19 @@ impl Tree {
                 }
             }
         }
+    }
+
+    /// How many items are between bounds. Linear.
+    pub(crate) fn count(&self, bounds: &Bounds<'_>) -> usize
+        ensures count { result ≡ length (between (seen_bounds bounds.now) self.now.0) }
+        ensures within { result ≤ length self.now.0 }
+    {
+        let Link::Fork(node) = &self.root else {
+            return 0;
+        };
+        let node: &Node = node;
+        let own = usize::from(bounds.holds(node.member.bytes(), node.score));
+        node.left.count(bounds) + own + node.right.count(bounds)
     }
 
     /// Lends the items from one place to another, both counted as they are told in a direction, into a vector with room for them. Logarithmic,
@@ -115,11 +132,7 @@ impl Tree {
         let before = first.len();
         let behind = before + 1;
         first.lend(direction, from, to, lent);
-        node.lend_own(
-            from.saturating_sub(before),
-            to.saturating_sub(before),
-            lent,
-        );
+        node.lend_own(from.saturating_sub(before), to.saturating_sub(before), lent);
         second.lend(
             direction,
             from.saturating_sub(behind),

@@ -1,4 +1,4 @@
-use Rattle.std.proofs.Common.{◌≡◌, sym, subst}
+use Rattle.std.proofs.Common.{sym, subst}
 use Rattle.nr_zsets.specs.Trees.{IsBalanced}
 use Rattle.nr_zsets.proofs.Heights.{full_low}
 use Rattle.nr_zsets.proofs.tree.Tree.height.Goals as goal

@@ -1,4 +1,4 @@
-use Rattle.std.proofs.Common.{arith, ◌≡◌, ◌+◌, ◌∷◌, ◌++◌, length, length-append, refl, sym, max}
+use Rattle.std.proofs.Common.{arith, ◌≡◌, ◌+◌, ◌∷◌, length, length-append, refl, sym}
 use Rattle.nr_zsets.specs.Trees.{joined, item_of}
 use Rattle.nr_zsets.proofs.Heights.{full_more}
 use Rattle.nr_zsets.proofs.tree.balance.even.Goals as goal

@@ -1,0 +1,27 @@
+use Rattle.std.proofs.Common.{◌≡◌, Some, None, cond, rules, ap, sym, ◌∙◌}
+use Rattle.std.specs.List.{slice_get}
+use Rattle.nr_model.specs.SortedSets.{Scored, ranked, is_between}
+use Rattle.nr_zbounds.specs.Ranges.{seen_bounds}
+use Rattle.nr_zsets.proofs.Ranges.{held_there}
+use Rattle.nr_zsets.proofs.zset.Zset.held_at.Goals as goal
+
+pub returns-then-holds : goal.returns-then-holds
+returns-then-holds c =
+    let bounds = seen_bounds c.args.bounds.now in
+    let x : Scored = (c.in-Some.member.now, c.in-Some.score) in
+    let at : Some x ≡ slice_get c.self.inside.tree.0 c.args.place = search (rules, c.in-Some.ensures) in
+    let bytes : c.holds.result ≡ is_between bounds (c.bytes.result.now, c.in-Some.score) = search (rules, c.holds.ensures) in
+    let is = held_there bounds c.self.inside.tree.0 (ranked c.args.self.now) c.args.place x c.holds.result (c.self.invariant ∙ ap ranked c.self.view_is) at
+    (bytes ∙ ap (λ m. is_between bounds (m, c.in-Some.score)) c.bytes.ensures) in
+    let found = sym (is ∙ ap (λ b. cond b (Some x) None) c.if-holds.true) in
+    search (rules, found)
+
+pub returns-else-holds : goal.returns-else-holds
+returns-else-holds c =
+    let bounds = seen_bounds c.args.bounds.now in
+    let x : Scored = (c.in-Some.member.now, c.in-Some.score) in
+    let at : Some x ≡ slice_get c.self.inside.tree.0 c.args.place = search (rules, c.in-Some.ensures) in
+    let bytes : c.holds.result ≡ is_between bounds (c.bytes.result.now, c.in-Some.score) = search (rules, c.holds.ensures) in
+    let is = held_there bounds c.self.inside.tree.0 (ranked c.args.self.now) c.args.place x c.holds.result (c.self.invariant ∙ ap ranked c.self.view_is) at
+    (bytes ∙ ap (λ m. is_between bounds (m, c.in-Some.score)) c.bytes.ensures) in
+    sym (is ∙ ap (λ b. cond b (Some x) None) c.if-holds.false)

@@ -1,0 +1,21 @@
+use Rattle.std.proofs.Common.{sym, ◌∙◌, ap, length, rules, refl}
+use Rattle.nr_model.specs.SortedSets.{Scored, ranked}
+use Rattle.nr_model.specs.declared.command.Direction.TheVariants.{Ascending}
+use Rattle.nr_zsets.proofs.Heights.{few_ticks}
+use Rattle.nr_zsets.proofs.Ranked.{found_place, length-ranked, rank_there, rank_missing}
+use Rattle.nr_zsets.proofs.zset.Zset.place.Goals as goal
+
+pub returns-in_default-clause-place : goal.returns-in_default-clause-place
+returns-in_default-clause-place g c = rank_missing Ascending c.args.self.now c.args.member.now (sym c.in_default.ensures)
+
+pub returns-clause-place : goal.returns-clause-place
+returns-clause-place g c =
+    let x : Scored = (c.args.member.now, c.in-Some.score) in
+    let place = found_place c.self.inside.tree.0 c.args.self.now x c.place_of.result (c.self.invariant ∙ ap ranked c.self.view_is)
+    (search (rules, c.place_of.ensures.place)) in
+    rank_there Ascending c.args.self.now x c.place_of.result (length (ranked c.args.self.now)) (sym c.in-Some.ensures) place refl
+
+pub returns-clause-cost : goal.returns-clause-cost
+returns-clause-cost g c = λ d.
+    few_ticks _ _ _ d _ _ c.place_of.ensures.full
+    (ap length (c.self.invariant ∙ ap ranked c.self.view_is) ∙ length-ranked c.args.self.now) c.place_of.ensures.cost
