@@ -1,12 +1,14 @@
-//! Bytes and numbers: owned bytes, integers as texts, and the refusal for want of memory.
+//! Bytes and numbers: owned bytes, integers as texts, ends of ranges, and the refusal for want of memory.
 #![tactic(auto)]
 
 pub use blob::{Blob, Bytes, MOST_IN_PLACE};
 pub use integer::{int_text, read_int};
 pub use memory::Memory;
 pub use quoted::{on_one_line, push_quoted};
+pub use range::{end_of, start_of};
 
 mod blob;
 mod integer;
 mod memory;
 mod quoted;
+mod range;

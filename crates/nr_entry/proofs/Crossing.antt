@@ -14,14 +14,23 @@ use Rattle.nr_entry.specs.contracts.job.Job as Job
 use Rattle.nr_entry.specs.contracts.job.JobKind as Kind
 use Rattle.nr_entry.specs.contracts.job.Read as Read
 use Rattle.nr_entry.specs.contracts.job.Update as Update
+use Rattle.nr_model.specs.contracts.command.Change as Change
 
-pub ruleset parts = (sendable, crosses, blob.the_send, blob.the_sync, reply.send-Reply, reply.sync-Reply, look.the_send, look.the_sync, change.the_send, change.the_sync, operation.the_send, operation.the_sync, conn.the_send, conn.the_sync, transaction.the_send, transaction.the_sync, refusal.the_send, refusal.the_sync)
+pub ruleset parts = (blob.the_send, blob.the_sync, reply.send-Reply, reply.sync-Reply, look.the_send, look.the_sync, change.the_send, change.the_sync, operation.the_send, operation.the_sync, conn.the_send, conn.the_sync, transaction.the_send, transaction.the_sync, refusal.the_send, refusal.the_sync, sendable, crosses)
+
+pub change_sent : IsSend (Change.the_field).row
+change_sent = search parts depth 60 fits 100000
+
+pub change_shared : IsSync (Change.the_field).row
+change_shared = search parts depth 60 fits 100000
+
+pub ruleset changes = (parts, change_sent, change_shared)
 
 pub update_sent : IsSend (Update.the_field).row
-update_sent = search parts depth 60 fits 100000
+update_sent = search changes depth 60 fits 100000
 
 pub update_shared : IsSync (Update.the_field).row
-update_shared = search parts depth 60 fits 100000
+update_shared = search changes depth 60 fits 100000
 
 pub read_sent : IsSend (Read.the_field).row
 read_sent = search parts depth 60 fits 100000

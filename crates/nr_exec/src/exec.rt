@@ -17,6 +17,7 @@ mod keys;
 mod lists;
 mod server;
 mod sets;
+mod sorted_sets;
 mod strings;
 
 /// The reply of a command that only looks, at a moment in milliseconds, for a connection whose database this is. The words are
@@ -51,11 +52,14 @@ fn look_in_section<'k>(
     let words = arguments(words);
     match command {
         Look::Server(command) => server::look(alloc, keyspace, now, database, command, words),
-        Look::Keys(command) => keys::look(keyspace, now, database, command, words),
+        Look::Keys(command) => keys::look(alloc, keyspace, now, database, command, words),
         Look::Strings(command) => strings::look(alloc, keyspace, now, database, command, words),
         Look::Lists(command) => lists::look(alloc, keyspace, now, database, command, words),
         Look::Hashes(command) => hashes::look(alloc, keyspace, now, database, command, words),
         Look::Sets(command) => sets::look(alloc, keyspace, now, database, command, words),
+        Look::SortedSets(command) => {
+            sorted_sets::look(alloc, keyspace, now, database, command, words)
+        }
     }
 }
 
@@ -113,6 +117,9 @@ fn change_in_section<T: Touched>(
         }
         Change::Sets(command) => {
             sets::change(alloc, keyspace, now, *database, command, words, touched)
+        }
+        Change::SortedSets(command) => {
+            sorted_sets::change(alloc, keyspace, now, *database, command, words, touched)
         }
     }
 }

@@ -5,11 +5,10 @@ use Rattle.std.specs.FinMap as map
 use Rattle.std.specs.Ordering.{eq_by_cmp}
 use Rattle.nr_model.specs.Keyspace.{Key, key_cmp, Keyspace, Stored, Value, is_live_at, live}
 use Rattle.nr_model.specs.Commands.Held.{is_emptied}
-use Rattle.nr_model.specs.Commands.Held as held
 use Rattle.nr_model.specs.Commands.Reading.{Read}
 use Rattle.nr_model.specs.declared.refused.Refused.{Refused}
 use Rattle.nr_model.proofs.Live.{get-live, get-live-insert, key_total}
-use Rattle.nr_keyspace.specs.Edited.{IsEdit, IsEdited, Refuses, EditsRead, EditsTelling, IsEditOf, IsEditedRead, without, without_found}
+use Rattle.nr_keyspace.specs.Edited.{IsEdited, Refuses, EditsRead, EditsTelling, IsEditOf, IsEditedRead, without, without_found}
 use Rattle.nr_blob.specs.declared.memory.Memory.{Memory}
 use Rattle.nr_keyspace.specs.Values.{value_of}
 use Rattle.nr_keyspace.specs.declared.value.Value as code

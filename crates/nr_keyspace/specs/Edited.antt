@@ -8,7 +8,8 @@ use Rattle.nr_model.specs.Keyspace as model
 use Rattle.nr_model.specs.Bytes.{Bytes}
 use Rattle.nr_model.specs.Hashes.{Hash}
 use Rattle.nr_model.specs.Sets as sets
-use Rattle.nr_model.specs.Commands.Held.{items_of, fields_of, members_of, is_emptied, kept}
+use Rattle.nr_model.specs.SortedSets as sorted_sets
+use Rattle.nr_model.specs.Commands.Held.{items_of, fields_of, members_of, scores_of, is_emptied, kept}
 use Rattle.nr_model.specs.Commands.Reading.{Read}
 use Rattle.nr_model.specs.Commands.Shape.{refusal}
 use Rattle.nr_model.specs.Commands.Strings.{text_of, or_empty}
@@ -50,7 +51,7 @@ abbrev pub read_or : {A : Type 0} → A → Read A → A
 read_or nothing (Ok a) = a
 read_or nothing (Err error) = nothing
 
--- the items of a value that is a list, its fields, its members; and nothing of another
+-- the items of a value that is a list, its fields, its members, its scores; and nothing of another
 abbrev pub items_in : model.Value → List Bytes
 items_in value = read_or [] (items_of value)
 
@@ -59,6 +60,9 @@ fields_in value = read_or map.empty (fields_of value)
 
 abbrev pub members_in : model.Value → sets.Members
 members_in value = read_or set.empty (members_of value)
+
+abbrev pub scores_in : model.Value → sorted_sets.Scores
+scores_in value = read_or map.empty (scores_of value)
 
 -- a collection, read so, becomes another that the edit allows; where the edit refuses it, or the value is of another kind, the value stays;
 -- where memory ran out within it, nothing is said of it
@@ -80,6 +84,9 @@ EditsFields edits = EditsRead fields_of fields_in model.Fields edits
 
 abbrev pub EditsMembers : {Given : Type 0} → (sets.Members → sets.Members → Result Given Refused → Type 0) → model.Value → model.Value → Result (Result Given Refused) Memory → Type 0
 EditsMembers edits = EditsRead members_of members_in model.Members edits
+
+abbrev pub EditsScores : {Given : Type 0} → (sorted_sets.Scores → sorted_sets.Scores → Result Given Refused → Type 0) → model.Value → model.Value → Result (Result Given Refused) Memory → Type 0
+EditsScores edits = EditsRead scores_of scores_in model.Scores edits
 
 -- an edit that tells too whether nothing is left
 abbrev pub EditsTelling : {A Given : Type 0} → (A → model.Value) → (A → A → Result Given Refused → Type 0) → A → A → Result (Given × Bool) Refused → Type 0

@@ -9,3 +9,4 @@ value_of (kinds.String text) = model.Text text
 value_of (kinds.List list) = model.Items list.value
 value_of (kinds.Hash hash) = model.Fields hash.value
 value_of (kinds.Set members) = model.Members members.value
+value_of (kinds.SortedSet scores) = model.Scores scores.value

@@ -1,8 +1,9 @@
-// What commands do to lists, hashes and sets, where they lie.
+// What commands do to lists, hashes, sets and sorted sets, where they lie.
 ghost use Rattle.std.specs.Prelude.{◌≡◌, IfOk, OnErr, Result, List as Items};
 ghost use Rattle.nr_model.specs.Bytes.{Bytes};
 ghost use Rattle.nr_model.specs.Hashes as hashes;
 ghost use Rattle.nr_model.specs.Sets as sets;
+ghost use Rattle.nr_model.specs.SortedSets as sorted_sets;
 ghost use Rattle.nr_model.specs.declared.refused.Refused as refusals;
 
 use crate::edit::Edit;
@@ -12,6 +13,7 @@ use nr_hashes::Hash;
 use nr_lists::List;
 use nr_model::refused::Refused;
 use nr_sets::Set;
+use nr_zsets::Zset;
 
 /// What a command does to a list, in place.
 pub trait ListEdit: Drop {
@@ -119,6 +121,43 @@ impl<E: SetEdit> Edit for OnSet<E> {
     fn edit(self, value: &mut Value) -> Result<Result<Result<E::Given, Refused>, Memory>, Memory> {
         match value {
             Value::Set(set) => Ok(self.edit.edit(set)),
+            _ => Ok(Ok(Err(Refused::WrongType))),
+        }
+    }
+}
+
+/// What a command does to a sorted set, in place.
+pub trait SortedSetEdit: Drop {
+    /// What the command is told of the sorted set.
+    type Given;
+
+    /// A sorted set, what becomes of it, and what the command is told, or why it is refused.
+    ghost edits: { Self → sorted_sets.Scores → sorted_sets.Scores → Result Self.Given refusals.Refused → Type 0 };
+
+    /// Where it is refused the sorted set is as it was. Where memory runs out nothing is said of it.
+    fn edit(self, zset: &mut Zset) -> Result<Result<Self::Given, Refused>, Memory>
+        ensures ok { IfOk result (λ given. edits self zset.old zset.new given) }
+        ensures refused { IfOk result (λ given. OnErr given (zset.new ≡ zset.old)) };
+}
+
+/// What a command does to a value that has to be a sorted set. A value of another kind is refused, and stays as it was. Want of memory is
+/// handed on, and nothing is said of the value then.
+#[derive(Drop)]
+pub struct OnSortedSet<E> {
+    /// What is done to the sorted set.
+    pub edit: E,
+}
+
+impl<E: SortedSetEdit> Edit for OnSortedSet<E> {
+    ghost use Rattle.nr_keyspace.specs.Edited.{EditsScores};
+
+    type Given = Result<Result<E::Given, Refused>, Memory>;
+
+    ghost edits = { λ on old new given. EditsScores (E.edits on.edit) old new given };
+
+    fn edit(self, value: &mut Value) -> Result<Result<Result<E::Given, Refused>, Memory>, Memory> {
+        match value {
+            Value::SortedSet(zset) => Ok(self.edit.edit(zset)),
             _ => Ok(Ok(Err(Refused::WrongType))),
         }
     }

@@ -1,9 +1,12 @@
 // The keys of one database: a hashed map beside an ordered index of their deadlines, kept in step.
-ghost use Rattle.std.specs.Prelude.{◌≡◌, ◌<◌, ◌^◌, not, ◌≤◌, ◌+◌, suc, true, false, Some, None, IfOk, OnOk, OnErr, IfSome, OnSome, IfNone, is_some};
+ghost use Rattle.std.specs.Prelude as prelude;
+ghost use Rattle.std.specs.Prelude.{◌≡◌, ◌<◌, ◌^◌, not, ◌≤◌, ◌+◌, ◌&&◌, suc, true, false, filter, Some, None, IfOk, OnOk, OnErr, IfSome, OnSome, IfNone, is_some};
 ghost use Rattle.std.specs.Option.{option_map};
 ghost use Rattle.std.specs.FinMap as map;
+ghost use Rattle.std.specs.Map.Iter.{deref};
 ghost use Rattle.nr_model.specs.Bytes.{Bytes};
-ghost use Rattle.nr_model.specs.Keyspace.{Stored, only_live};
+ghost use Rattle.nr_model.specs.Patterns.{matches};
+ghost use Rattle.nr_model.specs.Keyspace.{Stored, is_live_at, only_live};
 ghost use Rattle.nr_keyspace.specs.Values.{value_of};
 ghost use Rattle.nr_keyspace.specs.Names.{live_store};
 ghost use Rattle.nr_keyspace.specs.Edited.{IsEdited};
@@ -14,8 +17,9 @@ use crate::edit::Edit;
 use crate::moment::is_live;
 use crate::value::Value;
 use nr_blob::{Blob, Memory};
-use std::alloc::{AllocError, Global};
-use std::collections::{BTreeSet, HashMap};
+use nr_glob::matches;
+use std::alloc::Global;
+use std::collections::HashMap;
 use std::hash::RandomState;
 use std::marker::Model;
 
@@ -100,10 +104,11 @@ fn edit_at<E: Edit>(
     Ok(Some(given))
 }
 
-fn in_order(alloc: Global, names: BTreeSet<Blob>) -> Result<Vec<Blob>, AllocError>
-    ensures { IfOk result (λ listed. listed.items ≡ names.keys) }
+// Whether an entry is live, and its name matches a pattern.
+fn is_wanted(now: u64, pattern: &[u8], name: &Blob, entry: &Entry) -> bool
+    ensures { result ≡ is_live_at now entry.now.deadline && matches pattern.now name.now }
 {
-    names.into_iter().collect(alloc)
+    is_live(now, entry.deadline) && matches(pattern, name.bytes())
 }
 
 impl Database {
@@ -172,17 +177,23 @@ impl Database {
         self.by_name.len() - self.deadlines.count_expired(now)
     }
 
-    /// The live names in byte order.
-    pub(crate) fn names(&self, alloc: Global, now: u64) -> Result<Vec<Blob>, Memory>
-        ensures { IfOk result (λ names. names.items ≡ map.keys (live_store self.now now)) }
+    /// The live names that match a pattern, lent, in byte order. Looks at every name, and sorts the matches.
+    pub(crate) fn matching(
+        &self,
+        alloc: Global,
+        now: u64,
+        pattern: &[u8],
+    ) -> Result<Vec<&Blob>, Memory>
+        ensures { IfOk result (λ names. prelude.map deref names.items ≡ filter (matches pattern.now) (map.keys (live_store self.now now))) }
     {
-        let mut names = BTreeSet::new(alloc);
+        let mut names = Vec::new(alloc);
         for (name, entry) in self.by_name.iter() {
-            if is_live(now, entry.deadline) {
-                names.insert(name.copy()?)?;
+            if is_wanted(now, pattern, name, entry) {
+                names.push(name)?;
             }
         }
-        Ok(in_order(alloc, names)?)
+        names.sort_unstable();
+        Ok(names)
     }
 
     /// Stores a value and its deadline in the place of what was at the name.

@@ -1,7 +1,10 @@
 // All sixteen databases, with what is gone and not yet taken out, seen as one finite map from (database, name) to value and deadline.
-ghost use Rattle.std.specs.Prelude.{◌≡◌, ◌<◌, ◌^◌, not, ◌==◌, cond, ℕ, length, IfOk, OnOk, OnErr, None, IfSome, OnSome, IfNone, is_some};
+ghost use Rattle.std.specs.Prelude as prelude;
+ghost use Rattle.std.specs.Prelude.{◌≡◌, ◌<◌, ◌^◌, not, ◌==◌, cond, ℕ, length, filter, IfOk, OnOk, OnErr, None, IfSome, OnSome, IfNone, is_some};
 ghost use Rattle.std.specs.Option.{option_map};
 ghost use Rattle.std.specs.FinMap as map;
+ghost use Rattle.std.specs.Map.Iter.{deref};
+ghost use Rattle.nr_model.specs.Patterns.{matches};
 ghost use Rattle.nr_model.specs.Keyspace as model;
 ghost use Rattle.nr_model.specs.Keyspace.{names_in};
 ghost use Rattle.nr_keyspace.specs.Values.{value_of};
@@ -121,11 +124,17 @@ impl Databases {
         self.databases[database.index()].len(now)
     }
 
-    /// The names of a database's live keys, in byte order. Looks at every key of the database.
-    pub(crate) fn keys(&self, alloc: Global, now: u64, database: Db) -> Result<Vec<Blob>, Memory>
-        ensures { IfOk result (λ names. names.items ≡ names_in (model.live self.now now) database) }
+    /// The names of a database's live keys that match a pattern, in byte order. Looks at every key of the database, and sorts the matches.
+    pub(crate) fn matching(
+        &self,
+        alloc: Global,
+        now: u64,
+        database: Db,
+        pattern: &[u8],
+    ) -> Result<Vec<&Blob>, Memory>
+        ensures { IfOk result (λ names. prelude.map deref names.items ≡ filter (matches pattern.now) (names_in (model.live self.now now) database)) }
     {
-        self.databases[database.index()].names(alloc, now)
+        self.databases[database.index()].matching(alloc, now, pattern)
     }
 
     /// Stores a value and its deadline in the place of whatever the key had. Where memory runs out nothing changes.

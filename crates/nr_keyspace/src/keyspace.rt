@@ -1,7 +1,10 @@
 // The databases as commands see them: what was gone at the latest sweep is out of the view, whenever its memory is given back.
-ghost use Rattle.std.specs.Prelude.{◌≡◌, ◌<◌, ◌^◌, not, ◌==◌, cond, length, None, IfOk, OnOk, OnErr, IfSome, OnSome, IfNone, is_some};
+ghost use Rattle.std.specs.Prelude as prelude;
+ghost use Rattle.std.specs.Prelude.{◌≡◌, ◌<◌, ◌^◌, not, ◌==◌, cond, length, filter, None, IfOk, OnOk, OnErr, IfSome, OnSome, IfNone, is_some};
 ghost use Rattle.std.specs.Option.{option_map};
 ghost use Rattle.std.specs.FinMap as map;
+ghost use Rattle.std.specs.Map.Iter.{deref};
+ghost use Rattle.nr_model.specs.Patterns.{matches};
 ghost use Rattle.nr_model.specs.Keyspace as model;
 ghost use Rattle.nr_model.specs.Keyspace.{names_in};
 ghost use Rattle.nr_keyspace.specs.Values.{value_of};
@@ -15,6 +18,7 @@ use crate::db::Db;
 use crate::edit::Edit;
 use crate::value::Value;
 use nr_blob::{Blob, Memory};
+use nr_zsets::Zset;
 use std::alloc::Global;
 use std::hash::RandomState;
 use std::marker::Model;
@@ -25,6 +29,8 @@ use std::marker::Model;
 pub struct Keyspace {
     databases: Databases,
     sweeps: Sweeps,
+    // What its hashers take.
+    keys: RandomState,
 }
 
 impl Model for Keyspace {
@@ -46,6 +52,7 @@ impl Keyspace {
         Ok(Keyspace {
             databases: Databases::new(alloc, keys)?,
             sweeps: Sweeps::none(),
+            keys,
         })
     }
 
@@ -56,7 +63,15 @@ impl Keyspace {
         Ok(Keyspace {
             databases: self.databases.copy()?,
             sweeps: self.sweeps,
+            keys: self.keys,
         })
+    }
+
+    /// A sorted set without members, whose hasher has the seed of this keyspace's. It takes no memory.
+    pub fn empty_sorted_set(&self, alloc: Global) -> Zset
+        ensures { result ≡ map.empty }
+    {
+        Zset::new(alloc, self.keys)
     }
 
     /// The value of a live key.
@@ -83,11 +98,19 @@ impl Keyspace {
         self.databases.len(self.sweeps.later(now), database)
     }
 
-    /// The names of a database's live keys, in byte order. Looks at every key of the database.
-    pub fn keys(&self, alloc: Global, now: u64, database: Db) -> Result<Vec<Blob>, Memory>
-        ensures { IfOk result (λ names. names.items ≡ names_in (model.live self.now now) database) }
+    /// The names of a database's live keys that match a glob-style pattern, in byte order, and lent. Looks at every key of the database, and
+    /// sorts the matches.
+    pub fn matching(
+        &self,
+        alloc: Global,
+        now: u64,
+        database: Db,
+        pattern: &[u8],
+    ) -> Result<Vec<&Blob>, Memory>
+        ensures { IfOk result (λ names. prelude.map deref names.items ≡ filter (matches pattern.now) (names_in (model.live self.now now) database)) }
     {
-        self.databases.keys(alloc, self.sweeps.later(now), database)
+        let now = self.sweeps.later(now);
+        self.databases.matching(alloc, now, database, pattern)
     }
 
     /// Stores a value and its deadline in the place of whatever the key had. Where memory runs out nothing changes. With a deadline

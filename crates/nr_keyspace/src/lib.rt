@@ -2,7 +2,9 @@
 //! memory alone, and knows no clock: each call is handed its moment.
 #![tactic(auto)]
 
-pub use collections::{HashEdit, ListEdit, OnHash, OnList, OnSet, SetEdit};
+pub use collections::{
+    HashEdit, ListEdit, OnHash, OnList, OnSet, OnSortedSet, SetEdit, SortedSetEdit,
+};
 pub use db::Db;
 pub use edit::{Edit, OnString, StringEdit};
 pub use keyspace::Keyspace;

@@ -1,7 +1,7 @@
 // What a key holds. A kind of value is a variant, and what is asked of a kind stands here: no command matches on a value.
 ghost use Rattle.std.specs.Prelude.{◌≡◌, Ok, IfOk, IfErr};
-ghost use Rattle.nr_model.specs.Keyspace.{Items, Fields, Members};
-ghost use Rattle.nr_model.specs.Commands.Held.{items_of, fields_of, members_of};
+ghost use Rattle.nr_model.specs.Keyspace.{Items, Fields, Members, Scores};
+ghost use Rattle.nr_model.specs.Commands.Held.{items_of, fields_of, members_of, scores_of};
 ghost use Rattle.nr_model.specs.Commands.Keys.{kind_of};
 ghost use Rattle.nr_model.specs.Commands.Reading.{fault};
 ghost use Rattle.nr_model.specs.Commands.Strings.{text_of};
@@ -13,11 +13,12 @@ use nr_lists::List;
 use nr_model::refused::Refused;
 use nr_sets::Set;
 use nr_strings::Str;
+use nr_zsets::Zset;
 use std::alloc::Global;
 
 /// The value of a key. Collections stand in blocks of their own, so that a string needs no more room than without them. To drop a
 /// value is linear in it.
-#[derive(Debug, Drop)]
+#[derive(Drop)]
 pub enum Value {
     /// A string of bytes.
     String(Str),
@@ -27,6 +28,8 @@ pub enum Value {
     Hash(Box<Hash>),
     /// Members, each once.
     Set(Box<Set>),
+    /// Members with their scores, in order.
+    SortedSet(Box<Zset>),
 }
 
 impl From<Str> for Value {
@@ -63,6 +66,13 @@ impl Value {
         Ok(Value::Set(Box::new(alloc, set)?))
     }
 
+    /// A sorted set as a value.
+    pub fn sorted_set(alloc: Global, zset: Zset) -> Result<Value, Memory>
+        ensures { IfOk result (λ value. value_of value ≡ Scores zset) }
+    {
+        Ok(Value::SortedSet(Box::new(alloc, zset)?))
+    }
+
     /// The same value once more. Linear in its size.
     pub fn copy(&self, alloc: Global) -> Result<Value, Memory>
         ensures { IfOk result (λ value. value_of value ≡ value_of self.now) }
@@ -72,6 +82,7 @@ impl Value {
             Value::List(list) => Value::list(alloc, list.copy()?),
             Value::Hash(hash) => Value::hash(alloc, hash.copy()?),
             Value::Set(set) => Value::set(alloc, set.copy()?),
+            Value::SortedSet(zset) => Value::sorted_set(alloc, zset.copy()?),
         }
     }
 
@@ -84,6 +95,7 @@ impl Value {
             Value::List(_) => "list",
             Value::Hash(_) => "hash",
             Value::Set(_) => "set",
+            Value::SortedSet(_) => "zset",
         }
     }
 
@@ -138,6 +150,17 @@ impl Value {
     {
         match self {
             Value::Set(set) => Ok(set),
+            _ => Err(Refused::WrongType),
+        }
+    }
+
+    /// The sorted set that it is. A value of another kind is refused.
+    pub fn as_sorted_set(&self) -> Result<&Zset, Refused>
+        ensures scores { IfOk result (λ zset. scores_of (value_of self.now) ≡ Ok zset.now) }
+        ensures refused { IfErr result (λ why. scores_of (value_of self.now) ≡ fault why) }
+    {
+        match self {
+            Value::SortedSet(zset) => Ok(zset),
             _ => Err(Refused::WrongType),
         }
     }

@@ -6,7 +6,6 @@ mod held;
 pub mod looks;
 /// LMOVE and RPOPLPUSH.
 pub mod moving;
-mod numbers;
 mod places;
 /// LPOP, RPOP and LMPOP.
 pub mod popping;

@@ -4,10 +4,9 @@ ghost use Rattle.nr_model.specs.Commands.Reading.{fault, read_options};
 ghost use Rattle.nr_model.specs.Commands.Lists as lists;
 ghost use Rattle.nr_list_commands.specs.Options.{valued};
 
-use crate::numbers::natural;
 use nr_blob::Blob;
 use nr_model::refused::Refused;
-use nr_resp::words::{integer, is_word};
+use nr_resp::words::{integer, is_word, natural};
 use std::marker::Model;
 
 /// Which matches LPOS answers.

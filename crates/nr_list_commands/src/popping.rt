@@ -14,14 +14,13 @@ ghost use Rattle.nr_list_commands.specs.Options.{valued};
 ghost use Rattle.nr_list_commands.specs.Popped.{none_popped};
 
 use crate::held::{Relisting, edit_items, items_at};
-use crate::numbers::{natural, positive};
 use crate::words::end_of;
 use nr_blob::{Blob, Memory};
 use nr_keyspace::{Db, Keyspace, Touched};
 use nr_lists::List;
 use nr_model::command::End;
 use nr_model::refused::Refused;
-use nr_resp::words::is_word;
+use nr_resp::words::{is_word, natural, positive};
 use nr_resp::{Failure, Reply};
 use std::alloc::Global;
 use std::cmp;

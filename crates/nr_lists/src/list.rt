@@ -8,8 +8,8 @@ ghost use Rattle.nr_model.specs.Strings.{range};
 ghost use Rattle.nr_model.specs.Lists.{pushed, popped, item_at, index_of, place_of, with_item_at, pivot_of, inserted, seen_from, removed, places_of};
 
 use crate::matches;
-use crate::places::{end_of, place, start_of};
-use nr_blob::{Blob, Memory};
+use crate::places::place;
+use nr_blob::{Blob, Memory, end_of, start_of};
 use nr_model::command::{End, Side};
 use std::alloc::Global;
 use std::cmp;

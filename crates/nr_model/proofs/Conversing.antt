@@ -138,6 +138,7 @@ command_subscribed (Perform (Look (looks.Strings command))) call h = refl
 command_subscribed (Perform (Look (looks.Lists command))) call h = refl
 command_subscribed (Perform (Look (looks.Hashes command))) call h = refl
 command_subscribed (Perform (Look (looks.Sets command))) call h = refl
+command_subscribed (Perform (Look (looks.SortedSets command))) call h = refl
 command_subscribed (Perform (Change command)) call h = refl
 
 abbrev Beginning : Reading → Held → Type 0
@@ -530,6 +531,7 @@ held_subscribed (Perform (Look (looks.Strings command))) words mode e = refl
 held_subscribed (Perform (Look (looks.Lists command))) words mode e = refl
 held_subscribed (Perform (Look (looks.Hashes command))) words mode e = refl
 held_subscribed (Perform (Look (looks.Sets command))) words mode e = refl
+held_subscribed (Perform (Look (looks.SortedSets command))) words mode e = refl
 held_subscribed (Perform (Change command)) words mode e = refl
 
 held_unsubscribed : (o : Option Transaction) (call : Call) (mode : Mode) → Holds (unsubscribed_answer o call mode) mode.held

@@ -22,6 +22,7 @@ use Rattle.nr_model.specs.Commands.Strings as strings
 use Rattle.nr_model.specs.Commands.Lists as lists
 use Rattle.nr_model.specs.Commands.Hashes as hashes
 use Rattle.nr_model.specs.Commands.Sets as sets
+use Rattle.nr_model.specs.Commands.SortedSets as sorted_sets
 use Rattle.nr_model.specs.declared.command.Command.{Command}
 use Rattle.nr_model.specs.declared.command.Command.TheVariants as commands
 use Rattle.nr_model.specs.declared.command.Operation.{Operation}
@@ -37,6 +38,10 @@ use Rattle.nr_model.specs.declared.command.Unit.TheVariants as units
 use Rattle.nr_model.specs.declared.command.Timing.TheVariants as timings
 use Rattle.nr_model.specs.declared.command.End.TheVariants as ends
 use Rattle.nr_model.specs.declared.command.Combination.TheVariants as combinations
+use Rattle.nr_model.specs.declared.command.Direction.TheVariants as directions
+use Rattle.nr_model.specs.declared.command.RangeForm.TheVariants as forms
+use Rattle.nr_model.specs.declared.command.RangeBy.TheVariants as ranges
+use Rattle.nr_model.specs.declared.command.Joining.TheVariants as joinings
 use Rattle.nr_model.specs.declared.command.ServerLook.{ServerLook}
 use Rattle.nr_model.specs.declared.command.ServerLook.TheVariants as server_looks
 use Rattle.nr_model.specs.declared.command.ServerChange.{ServerChange}
@@ -61,6 +66,10 @@ use Rattle.nr_model.specs.declared.command.SetsLook.{SetsLook}
 use Rattle.nr_model.specs.declared.command.SetsLook.TheVariants as sets_looks
 use Rattle.nr_model.specs.declared.command.SetsChange.{SetsChange}
 use Rattle.nr_model.specs.declared.command.SetsChange.TheVariants as sets_changes
+use Rattle.nr_model.specs.declared.command.SortedSetsLook.{SortedSetsLook}
+use Rattle.nr_model.specs.declared.command.SortedSetsLook.TheVariants as sorted_sets_looks
+use Rattle.nr_model.specs.declared.command.SortedSetsChange.{SortedSetsChange}
+use Rattle.nr_model.specs.declared.command.SortedSetsChange.TheVariants as sorted_sets_changes
 
 -- Whether a command reads the keyspace and leaves it as it is. Another may change it, or what the server knows of a connection.
 abbrev pub session_looks : Session → Bool
@@ -80,6 +89,7 @@ look (looks.Strings command) now keyspace database arguments = strings.look comm
 look (looks.Lists command) now keyspace database arguments = lists.look command now keyspace database arguments
 look (looks.Hashes command) now keyspace database arguments = hashes.look command now keyspace database arguments
 look (looks.Sets command) now keyspace database arguments = sets.look command now keyspace database arguments
+look (looks.SortedSets command) now keyspace database arguments = sorted_sets.look command now keyspace database arguments
 
 -- What a command does that may change the keyspace. SELECT alone changes the database.
 unfoldable pub change : Change → ℕ → Keyspace → ℕ → List Bytes → Done
@@ -89,6 +99,7 @@ change (changes.Strings command) now keyspace database arguments = staying datab
 change (changes.Lists command) now keyspace database arguments = staying database (lists.change command now keyspace database arguments)
 change (changes.Hashes command) now keyspace database arguments = staying database (hashes.change command now keyspace database arguments)
 change (changes.Sets command) now keyspace database arguments = staying database (sets.change command now keyspace database arguments)
+change (changes.SortedSets command) now keyspace database arguments = staying database (sorted_sets.change command now keyspace database arguments)
 
 -- a row of the table of names: the name in lower case, and how many words a request has
 pub record Row : Type 0 where
@@ -116,6 +127,7 @@ abbrev pub keys_look_row : KeysLook → Row
 keys_look_row keys_looks.Exists = row (codes "exists") (AtLeast 2)
 keys_look_row keys_looks.Touch = row (codes "touch") (AtLeast 2)
 keys_look_row keys_looks.Type = row (codes "type") (Exactly 2)
+keys_look_row keys_looks.Keys = row (codes "keys") (Exactly 2)
 keys_look_row (keys_looks.Ttl units.Seconds) = row (codes "ttl") (Exactly 2)
 keys_look_row (keys_looks.Ttl units.Milliseconds) = row (codes "pttl") (Exactly 2)
 keys_look_row (keys_looks.ExpireTime units.Seconds) = row (codes "expiretime") (Exactly 2)
@@ -222,6 +234,34 @@ sets_change_row (sets_changes.CombineStore combinations.Intersection) = row (cod
 sets_change_row (sets_changes.CombineStore combinations.Union) = row (codes "sunionstore") (AtLeast 3)
 sets_change_row (sets_changes.CombineStore combinations.Difference) = row (codes "sdiffstore") (AtLeast 3)
 
+-- Sorted sets
+abbrev pub sorted_sets_look_row : SortedSetsLook → Row
+sorted_sets_look_row sorted_sets_looks.ZScore = row (codes "zscore") (Exactly 3)
+sorted_sets_look_row sorted_sets_looks.ZMScore = row (codes "zmscore") (AtLeast 3)
+sorted_sets_look_row sorted_sets_looks.ZCard = row (codes "zcard") (Exactly 2)
+sorted_sets_look_row (sorted_sets_looks.Rank directions.Ascending) = row (codes "zrank") (Exactly 3)
+sorted_sets_look_row (sorted_sets_looks.Rank directions.Descending) = row (codes "zrevrank") (Exactly 3)
+sorted_sets_look_row sorted_sets_looks.ZCount = row (codes "zcount") (Exactly 4)
+sorted_sets_look_row sorted_sets_looks.ZLexCount = row (codes "zlexcount") (Exactly 4)
+sorted_sets_look_row (sorted_sets_looks.Range forms.Any) = row (codes "zrange") (AtLeast 4)
+sorted_sets_look_row (sorted_sets_looks.Range forms.Reversed) = row (codes "zrevrange") (AtLeast 4)
+sorted_sets_look_row (sorted_sets_looks.Range (forms.ByScores directions.Ascending)) = row (codes "zrangebyscore") (AtLeast 4)
+sorted_sets_look_row (sorted_sets_looks.Range (forms.ByScores directions.Descending)) = row (codes "zrevrangebyscore") (AtLeast 4)
+sorted_sets_look_row (sorted_sets_looks.Range (forms.ByMembers directions.Ascending)) = row (codes "zrangebylex") (AtLeast 4)
+sorted_sets_look_row (sorted_sets_looks.Range (forms.ByMembers directions.Descending)) = row (codes "zrevrangebylex") (AtLeast 4)
+
+abbrev pub sorted_sets_change_row : SortedSetsChange → Row
+sorted_sets_change_row sorted_sets_changes.ZAdd = row (codes "zadd") (AtLeast 4)
+sorted_sets_change_row sorted_sets_changes.ZIncrBy = row (codes "zincrby") (Exactly 4)
+sorted_sets_change_row sorted_sets_changes.ZRem = row (codes "zrem") (AtLeast 3)
+sorted_sets_change_row (sorted_sets_changes.RemRange ranges.Places) = row (codes "zremrangebyrank") (Exactly 4)
+sorted_sets_change_row (sorted_sets_changes.RemRange ranges.Scores) = row (codes "zremrangebyscore") (Exactly 4)
+sorted_sets_change_row (sorted_sets_changes.RemRange ranges.Members) = row (codes "zremrangebylex") (Exactly 4)
+sorted_sets_change_row (sorted_sets_changes.Pop directions.Ascending) = row (codes "zpopmin") (AtLeast 2)
+sorted_sets_change_row (sorted_sets_changes.Pop directions.Descending) = row (codes "zpopmax") (AtLeast 2)
+sorted_sets_change_row (sorted_sets_changes.JoinStore joinings.Union) = row (codes "zunionstore") (AtLeast 4)
+sorted_sets_change_row (sorted_sets_changes.JoinStore joinings.Intersection) = row (codes "zinterstore") (AtLeast 4)
+
 -- Transactions, and messages
 abbrev pub session_row : Session → Row
 session_row sessions.Multi = row (codes "multi") (Exactly 1)
@@ -244,6 +284,7 @@ look_row (looks.Strings command) = strings_look_row command
 look_row (looks.Lists command) = lists_look_row command
 look_row (looks.Hashes command) = hashes_look_row command
 look_row (looks.Sets command) = sets_look_row command
+look_row (looks.SortedSets command) = sorted_sets_look_row command
 
 abbrev pub change_row : Change → Row
 change_row (changes.Server command) = server_change_row command
@@ -252,6 +293,7 @@ change_row (changes.Strings command) = strings_change_row command
 change_row (changes.Lists command) = lists_change_row command
 change_row (changes.Hashes command) = hashes_change_row command
 change_row (changes.Sets command) = sets_change_row command
+change_row (changes.SortedSets command) = sorted_sets_change_row command
 
 abbrev pub operation_row : Operation → Row
 operation_row (operations.Look command) = look_row command
@@ -298,6 +340,12 @@ sets_look command = commands.Perform (operations.Look (looks.Sets command))
 abbrev pub sets_change : SetsChange → Command
 sets_change command = commands.Perform (operations.Change (changes.Sets command))
 
+abbrev pub sorted_sets_look : SortedSetsLook → Command
+sorted_sets_look command = commands.Perform (operations.Look (looks.SortedSets command))
+
+abbrev pub sorted_sets_change : SortedSetsChange → Command
+sorted_sets_change command = commands.Perform (operations.Change (changes.SortedSets command))
+
 abbrev pub server_looks_served : List Command
 server_looks_served =
     server_look server_looks.Ping
@@ -317,6 +365,7 @@ keys_looks_served =
     keys_look keys_looks.Exists
     ∷ keys_look keys_looks.Touch
     ∷ keys_look keys_looks.Type
+    ∷ keys_look keys_looks.Keys
     ∷ keys_look (keys_looks.Ttl units.Seconds)
     ∷ keys_look (keys_looks.Ttl units.Milliseconds)
     ∷ keys_look (keys_looks.ExpireTime units.Seconds)
@@ -428,6 +477,35 @@ sets_changes_served =
     ∷ sets_change (sets_changes.CombineStore combinations.Union)
     ∷ sets_change (sets_changes.CombineStore combinations.Difference) ∷ []
 
+abbrev pub sorted_sets_looks_served : List Command
+sorted_sets_looks_served =
+    sorted_sets_look sorted_sets_looks.ZScore
+    ∷ sorted_sets_look sorted_sets_looks.ZMScore
+    ∷ sorted_sets_look sorted_sets_looks.ZCard
+    ∷ sorted_sets_look (sorted_sets_looks.Rank directions.Ascending)
+    ∷ sorted_sets_look (sorted_sets_looks.Rank directions.Descending)
+    ∷ sorted_sets_look sorted_sets_looks.ZCount
+    ∷ sorted_sets_look sorted_sets_looks.ZLexCount
+    ∷ sorted_sets_look (sorted_sets_looks.Range forms.Any)
+    ∷ sorted_sets_look (sorted_sets_looks.Range forms.Reversed)
+    ∷ sorted_sets_look (sorted_sets_looks.Range (forms.ByScores directions.Ascending))
+    ∷ sorted_sets_look (sorted_sets_looks.Range (forms.ByScores directions.Descending))
+    ∷ sorted_sets_look (sorted_sets_looks.Range (forms.ByMembers directions.Ascending))
+    ∷ sorted_sets_look (sorted_sets_looks.Range (forms.ByMembers directions.Descending)) ∷ []
+
+abbrev pub sorted_sets_changes_served : List Command
+sorted_sets_changes_served =
+    sorted_sets_change sorted_sets_changes.ZAdd
+    ∷ sorted_sets_change sorted_sets_changes.ZIncrBy
+    ∷ sorted_sets_change sorted_sets_changes.ZRem
+    ∷ sorted_sets_change (sorted_sets_changes.RemRange ranges.Places)
+    ∷ sorted_sets_change (sorted_sets_changes.RemRange ranges.Scores)
+    ∷ sorted_sets_change (sorted_sets_changes.RemRange ranges.Members)
+    ∷ sorted_sets_change (sorted_sets_changes.Pop directions.Ascending)
+    ∷ sorted_sets_change (sorted_sets_changes.Pop directions.Descending)
+    ∷ sorted_sets_change (sorted_sets_changes.JoinStore joinings.Union)
+    ∷ sorted_sets_change (sorted_sets_changes.JoinStore joinings.Intersection) ∷ []
+
 -- those that are performed on the keyspace: on strings, on keys of any kind, on the server, and on collections
 abbrev pub plain_served : List Command
 plain_served =
@@ -436,8 +514,11 @@ plain_served =
 abbrev pub hashes_served : List Command
 hashes_served = hashes_looks_served ++ hashes_changes_served
 
+abbrev pub sorted_sets_served : List Command
+sorted_sets_served = sorted_sets_looks_served ++ sorted_sets_changes_served
+
 abbrev pub collections_served : List Command
-collections_served = lists_looks_served ++ lists_changes_served ++ hashes_served ++ sets_looks_served ++ sets_changes_served
+collections_served = lists_looks_served ++ lists_changes_served ++ hashes_served ++ sets_looks_served ++ sets_changes_served ++ sorted_sets_served
 
 abbrev pub operations_served : List Command
 operations_served = plain_served ++ collections_served

@@ -4,6 +4,7 @@ pub mod Requests
 pub mod Replies
 pub mod Patterns
 pub mod Commands
+pub mod Keys
 pub mod Strings
 pub mod Lists
 pub mod Hashes

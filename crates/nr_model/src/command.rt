@@ -27,6 +27,7 @@ pub enum Look {
     Lists(ListsLook),
     Hashes(HashesLook),
     Sets(SetsLook),
+    SortedSets(SortedSetsLook),
 }
 
 /// A command that may change the keyspace, or the database of its connection, by its section.
@@ -38,6 +39,7 @@ pub enum Change {
     Lists(ListsChange),
     Hashes(HashesChange),
     Sets(SetsChange),
+    SortedSets(SortedSetsChange),
 }
 
 /// Connection and server.
@@ -64,6 +66,7 @@ pub enum KeysLook {
     Exists,
     Touch,
     Type,
+    Keys,
     /// TTL and PTTL.
     Ttl(Unit),
     /// EXPIRETIME and PEXPIRETIME.

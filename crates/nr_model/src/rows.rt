@@ -2,6 +2,7 @@
 
 ghost use Rattle.nr_model.specs.Rows.Modes.{ModeRows};
 ghost use Rattle.nr_model.specs.Rows.Sequential.{MessageRows, SequentialRows};
+ghost use Rattle.nr_model.specs.Rows.Keys.{KeysRows};
 ghost use Rattle.nr_model.specs.Rows.Strings.{StringRows};
 ghost use Rattle.nr_model.specs.Rows.Lists.{ListRows};
 ghost use Rattle.nr_model.specs.Rows.Hashes.{HashRows};
@@ -27,6 +28,11 @@ fn sequential_rows()
 /// Steps of several nodes: why they are idle, reads off the log, a full circle, a node that falls, and a close.
 fn nodes_rows()
     ensures { NodesRows }
+{}
+
+/// Keys: the names of a database that match a pattern, in byte order.
+fn keys_rows()
+    ensures { KeysRows }
 {}
 
 /// Strings: ranges, bits and their counts, and strings joined bit by bit.

@@ -1,4 +1,5 @@
 pub mod Names
+pub mod Checked
 pub mod Arrays
 pub mod Heads
 pub mod Lines

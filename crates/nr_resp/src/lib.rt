@@ -2,15 +2,17 @@
 #![tactic(auto)]
 
 pub use command::{Cmd, arguments, copy_words};
+pub use conditions::Conditions;
 pub use failure::Failure;
 pub use frame::Frame;
 pub use reader::{FeedError, Reader};
 pub use reading::{CmdError, check};
 pub use reply::Reply;
-pub use shown::{Item, Shown};
+pub use shown::{Item, Shown, number_bulk};
 pub use table::{arity_ok, lookup, name};
 
 mod command;
+mod conditions;
 mod failure;
 mod frame;
 mod reader;

@@ -1,6 +1,7 @@
 // A reply on its way to a connection's buffer. What a command that only looks shows is lent by whoever holds it.
 ghost use Rattle.std.specs.Prelude.{◌≡◌, ◌++◌, ℕ, List, OnOk, OnErr, IfOk, map};
 ghost use Rattle.std.specs.Fmt.{signed_decimal};
+ghost use Rattle.std.specs.Map.Iter.{deref};
 ghost use Rattle.nr_model.specs.Replies as model;
 ghost use Rattle.nr_model.specs.Replies.{reply_text};
 ghost use Rattle.nr_resp.specs.Seen.{reply_of};
@@ -35,6 +36,17 @@ pub enum Item<'a> {
 }
 
 impl<'a> Shown<'a> {
+    /// An array of bulks, each lent.
+    pub fn bulks(alloc: Global, texts: &[&'a Blob]) -> Result<Shown<'a>, Memory>
+        ensures { IfOk result (λ shown. shown_reply shown ≡ model.array (map model.Bulk (map deref texts.now))) }
+    {
+        let mut items = Vec::with_capacity(alloc, texts.len())?;
+        for text in texts {
+            items.push(Item::Bulk(text.bytes()))?;
+        }
+        Ok(Shown::Items(items))
+    }
+
     /// Appends the reply's bytes, or nothing where memory runs out.
     pub fn write(&self, out: &mut Vec<u8>) -> Result<(), Memory>
         ensures ok { OnOk result (out.new.items ≡ out.old.items ++ reply_text (shown_reply self.now)) }
@@ -82,7 +94,8 @@ fn owned_item(alloc: Global, item: Item<'_>) -> Result<Reply, Memory>
     }
 }
 
-fn number_bulk(alloc: Global, n: i64) -> Result<Reply, Memory>
+/// The bulk of a number's text.
+pub fn number_bulk(alloc: Global, n: i64) -> Result<Reply, Memory>
     ensures { IfOk result (λ reply. reply_of reply ≡ model.Bulk (signed_decimal n)) }
 {
     let mut text = Vec::new(alloc);

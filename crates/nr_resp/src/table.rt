@@ -8,9 +8,10 @@ ghost use Rattle.std.specs.Str.{str_to_ascii_lowercase};
 ghost use Rattle.nr_resp.specs.Names.{begins_with};
 
 use nr_model::command::{
-    Change, Combination, Command, End, HashesChange, HashesLook, KeysChange, KeysLook, Kind,
-    ListsChange, ListsLook, Look, Operation, ServerChange, ServerLook, Session, SetsChange,
-    SetsLook, StringsChange, StringsLook, Timing, Unit,
+    Change, Combination, Command, Direction, End, HashesChange, HashesLook, Joining, KeysChange,
+    KeysLook, Kind, ListsChange, ListsLook, Look, Operation, RangeBy, RangeForm, ServerChange,
+    ServerLook, Session, SetsChange, SetsLook, SortedSetsChange, SortedSetsLook, StringsChange,
+    StringsLook, Timing, Unit,
 };
 
 // The rows of a section: the command, its name in lower case, and how many words it takes.
@@ -34,6 +35,7 @@ macro_rules! rows {
             Exists, "exists", at_least 2;
             Touch, "touch", at_least 2;
             Type, "type", exactly 2;
+            Keys, "keys", exactly 2;
             Ttl(Unit::Seconds), "ttl", exactly 2;
             Ttl(Unit::Milliseconds), "pttl", exactly 2;
             ExpireTime(Unit::Seconds), "expiretime", exactly 2;
@@ -145,6 +147,35 @@ macro_rules! rows {
             CombineStore(Combination::Union), "sunionstore", at_least 3;
             CombineStore(Combination::Difference), "sdiffstore", at_least 3)
     };
+    (SortedSetsLook => $with:ident!($($arguments:tt)*)) => {
+        $with!(SortedSetsLook, $($arguments)*;
+            ZScore, "zscore", exactly 3;
+            ZMScore, "zmscore", at_least 3;
+            ZCard, "zcard", exactly 2;
+            Rank(Direction::Ascending), "zrank", exactly 3;
+            Rank(Direction::Descending), "zrevrank", exactly 3;
+            ZCount, "zcount", exactly 4;
+            ZLexCount, "zlexcount", exactly 4;
+            Range(RangeForm::Any), "zrange", at_least 4;
+            Range(RangeForm::Reversed), "zrevrange", at_least 4;
+            Range(RangeForm::ByScores(Direction::Ascending)), "zrangebyscore", at_least 4;
+            Range(RangeForm::ByScores(Direction::Descending)), "zrevrangebyscore", at_least 4;
+            Range(RangeForm::ByMembers(Direction::Ascending)), "zrangebylex", at_least 4;
+            Range(RangeForm::ByMembers(Direction::Descending)), "zrevrangebylex", at_least 4)
+    };
+    (SortedSetsChange => $with:ident!($($arguments:tt)*)) => {
+        $with!(SortedSetsChange, $($arguments)*;
+            ZAdd, "zadd", at_least 4;
+            ZIncrBy, "zincrby", exactly 4;
+            ZRem, "zrem", at_least 3;
+            RemRange(RangeBy::Places), "zremrangebyrank", exactly 4;
+            RemRange(RangeBy::Scores), "zremrangebyscore", exactly 4;
+            RemRange(RangeBy::Members), "zremrangebylex", exactly 4;
+            Pop(Direction::Ascending), "zpopmin", at_least 2;
+            Pop(Direction::Descending), "zpopmax", at_least 2;
+            JoinStore(Joining::Union), "zunionstore", at_least 4;
+            JoinStore(Joining::Intersection), "zinterstore", at_least 4)
+    };
     (Session => $with:ident!($($arguments:tt)*)) => {
         $with!(Session, $($arguments)*;
             Multi, "multi", exactly 1;
@@ -163,18 +194,18 @@ macro_rules! rows {
 }
 
 macro_rules! find {
-    ($section:ident, $word:ident; $($id:ident $(($of:path))?, $name:literal, $test:ident $count:literal);*) => {{
+    ($section:ident, $word:ident; $($id:ident $(($($of:tt)+))?, $name:literal, $test:ident $count:literal);*) => {{
         $(if $word.eq_ignore_ascii_case($name.as_bytes()) {
-            return Some($section::$id $(($of))?);
+            return Some($section::$id $(($($of)+))?);
         })*
         None
     }};
 }
 
 macro_rules! name {
-    ($section:ident, $command:ident; $($id:ident $(($of:path))?, $name:literal, $test:ident $count:literal);*) => {
+    ($section:ident, $command:ident; $($id:ident $(($($of:tt)+))?, $name:literal, $test:ident $count:literal);*) => {
         match $command {
-            $($section::$id $(($of))? => $name,)*
+            $($section::$id $(($($of)+))? => $name,)*
         }
     };
 }
@@ -189,9 +220,9 @@ macro_rules! is_count {
 }
 
 macro_rules! arity_ok {
-    ($section:ident, $command:ident, $words:ident; $($id:ident $(($of:path))?, $name:literal, $test:ident $count:literal);*) => {
+    ($section:ident, $command:ident, $words:ident; $($id:ident $(($($of:tt)+))?, $name:literal, $test:ident $count:literal);*) => {
         match $command {
-            $($section::$id $(($of))? => is_count!($test $count, $words),)*
+            $($section::$id $(($($of)+))? => is_count!($test $count, $words),)*
         }
     };
 }
@@ -244,7 +275,7 @@ fn plain(word: &[u8]) -> Option<Operation>
     None
 }
 
-// Those on lists, hashes and sets.
+// Those on lists, hashes, sets and sorted sets.
 fn collection(word: &[u8]) -> Option<Operation>
     ensures { option_map commands.Perform result ≡ named table.collections_served word.now }
 {
@@ -263,7 +294,7 @@ fn collection(word: &[u8]) -> Option<Operation>
     if let Some(command) = sets_change(word) {
         return Some(Operation::Change(Change::Sets(command)));
     }
-    None
+    sorted_sets(word)
 }
 
 // Those on hashes: another letter at the beginning passes over them.
@@ -278,6 +309,22 @@ fn hashes(word: &[u8]) -> Option<Operation>
     }
     if let Some(command) = hashes_change(word) {
         return Some(Operation::Change(Change::Hashes(command)));
+    }
+    None
+}
+
+// Those on sorted sets: another letter at the beginning passes over them.
+fn sorted_sets(word: &[u8]) -> Option<Operation>
+    ensures { option_map commands.Perform result ≡ named table.sorted_sets_served word.now }
+{
+    if !begins_with(word, b'z') {
+        return None;
+    }
+    if let Some(command) = sorted_sets_look(word) {
+        return Some(Operation::Look(Look::SortedSets(command)));
+    }
+    if let Some(command) = sorted_sets_change(word) {
+        return Some(Operation::Change(Change::SortedSets(command)));
     }
     None
 }
@@ -364,6 +411,18 @@ fn sets_change(word: &[u8]) -> Option<SetsChange>
     rows!(SetsChange => find!(word))
 }
 
+fn sorted_sets_look(word: &[u8]) -> Option<SortedSetsLook>
+    ensures { option_map table.sorted_sets_look result ≡ named table.sorted_sets_looks_served word.now }
+{
+    rows!(SortedSetsLook => find!(word))
+}
+
+fn sorted_sets_change(word: &[u8]) -> Option<SortedSetsChange>
+    ensures { option_map table.sorted_sets_change result ≡ named table.sorted_sets_changes_served word.now }
+{
+    rows!(SortedSetsChange => find!(word))
+}
+
 fn session(word: &[u8]) -> Option<Session>
     ensures { option_map commands.Session result ≡ named table.sessions_served word.now }
 {
@@ -390,12 +449,16 @@ fn operation_name(operation: Operation) -> &'static str
         Operation::Look(Look::Lists(command)) => rows!(ListsLook => name!(command)),
         Operation::Look(Look::Hashes(command)) => rows!(HashesLook => name!(command)),
         Operation::Look(Look::Sets(command)) => rows!(SetsLook => name!(command)),
+        Operation::Look(Look::SortedSets(command)) => rows!(SortedSetsLook => name!(command)),
         Operation::Change(Change::Server(command)) => rows!(ServerChange => name!(command)),
         Operation::Change(Change::Keys(command)) => rows!(KeysChange => name!(command)),
         Operation::Change(Change::Strings(command)) => rows!(StringsChange => name!(command)),
         Operation::Change(Change::Lists(command)) => rows!(ListsChange => name!(command)),
         Operation::Change(Change::Hashes(command)) => rows!(HashesChange => name!(command)),
         Operation::Change(Change::Sets(command)) => rows!(SetsChange => name!(command)),
+        Operation::Change(Change::SortedSets(command)) => {
+            rows!(SortedSetsChange => name!(command))
+        }
     }
 }
 
@@ -419,6 +482,9 @@ fn operation_arity_ok(operation: Operation, words: usize) -> bool
         Operation::Look(Look::Lists(command)) => rows!(ListsLook => arity_ok!(command, words)),
         Operation::Look(Look::Hashes(command)) => rows!(HashesLook => arity_ok!(command, words)),
         Operation::Look(Look::Sets(command)) => rows!(SetsLook => arity_ok!(command, words)),
+        Operation::Look(Look::SortedSets(command)) => {
+            rows!(SortedSetsLook => arity_ok!(command, words))
+        }
         Operation::Change(Change::Server(command)) => {
             rows!(ServerChange => arity_ok!(command, words))
         }
@@ -434,6 +500,9 @@ fn operation_arity_ok(operation: Operation, words: usize) -> bool
         }
         Operation::Change(Change::Sets(command)) => {
             rows!(SetsChange => arity_ok!(command, words))
+        }
+        Operation::Change(Change::SortedSets(command)) => {
+            rows!(SortedSetsChange => arity_ok!(command, words))
         }
     }
 }

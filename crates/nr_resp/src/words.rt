@@ -1,5 +1,6 @@
 // What commands read from the words behind their name, from left to right: the first fault is the one that is answered.
 ghost use Rattle.std.specs.Prelude.{◌≡◌, Ok, IfOk, IfErr};
+ghost use Rattle.nr_model.specs.Commands.Lists as lists;
 ghost use Rattle.nr_model.specs.Replies.{Error};
 ghost use Rattle.nr_model.specs.Commands.Texts.{unsupported_option};
 ghost use Rattle.nr_resp.specs.Seen.{reply_of};
@@ -136,4 +137,46 @@ pub fn unsupported_option(alloc: Global, word: &Blob) -> Result<Reply, Memory>
     let mut text = Vec::from_slice(alloc, b"ERR Unsupported option ")?;
     push_quoted(&mut text, word.bytes())?;
     Ok(Reply::Error(Blob::from(text)))
+}
+
+/// The number of 0 or more that a word spells. Another word is refused as it is said.
+pub fn natural(why: Refused, word: &Blob) -> Result<usize, Refused>
+    ensures number { IfOk result (λ n. lists.natural why word.now ≡ Ok n) }
+    ensures refused { IfErr result (λ error. lists.natural why word.now ≡ fault error) }
+{
+    match read_int(word.bytes()) {
+        Some(n) => natural_of(why, n),
+        None => Err(why),
+    }
+}
+
+fn natural_of(why: Refused, n: i64) -> Result<usize, Refused>
+    ensures number { IfOk result (λ number. lists.natural_of why n ≡ Ok number) }
+    ensures refused { IfErr result (λ error. lists.natural_of why n ≡ fault error) }
+{
+    if n < 0 {
+        return Err(why);
+    }
+    Ok(n as usize)
+}
+
+/// The number of 1 or more that a word spells. Another word is refused as it is said.
+pub fn positive(why: Refused, word: &Blob) -> Result<usize, Refused>
+    ensures number { IfOk result (λ n. lists.positive why word.now ≡ Ok n) }
+    ensures refused { IfErr result (λ error. lists.positive why word.now ≡ fault error) }
+{
+    match read_int(word.bytes()) {
+        Some(n) => positive_of(why, n),
+        None => Err(why),
+    }
+}
+
+fn positive_of(why: Refused, n: i64) -> Result<usize, Refused>
+    ensures number { IfOk result (λ number. lists.positive_of why n ≡ Ok number) }
+    ensures refused { IfErr result (λ error. lists.positive_of why n ≡ fault error) }
+{
+    if n < 1 {
+        return Err(why);
+    }
+    Ok(n as usize)
 }

@@ -1,11 +1,10 @@
 -- Members of several sets, by what each of the sets has.
-use Rattle.std.proofs.Common.{◌≡◌, ℕ, zero, suc, ◌+◌, ◌⊎◌, inl, inr, ◌<◌, Bool, true, false, not, ◌||◌, ◌&&◌, List, [], ◌∷◌, ◌≤◌, length, get_or, map, refl, ap, sym, ◌∙◌, subst, arith, true≢false}
+use Rattle.std.proofs.Common.{◌≡◌, ℕ, zero, suc, ◌<◌, Bool, true, false, not, ◌||◌, ◌&&◌, List, [], ◌∷◌, ◌≤◌, length, get_or, map, take, drop, refl, ap, sym, ◌∙◌, arith, true≢false}
 use Rattle.std.specs.Prelude.{filter, fold}
-use Rattle.std.specs.List.{list_all, list_any, Contains}
+use Rattle.std.specs.List.{list_all, list_any}
 use Rattle.std.specs.FinSet as set
 use Rattle.std.specs.Cmp.Lexicographic.{nat_list_cmp_total}
-use Rattle.std.proofs.lemmas.List.{length-map, get_or-map, get_or_default}
-use Rattle.std.proofs.Math.Nat.{eq-or-lt_of_le}
+use Rattle.std.proofs.lemmas.List.{get_or-map}
 use Rattle.std.proofs.lemmas.Map.Lookups.{exact_bytes}
 use Rattle.nr_model.specs.Bytes.{Bytes}
 use Rattle.nr_model.specs.Keyspace.{byte_cmp}
@@ -33,10 +32,9 @@ and_swap true false = refl
 and_swap false true = refl
 and_swap false false = refl
 
--- what is implied adds nothing
-implied : (a b : Bool) → (a ≡ true → b ≡ true) → (a && b) ≡ a
-implied true b follows = follows refl
-implied false b follows = refl
+and_inside : (a b c d : Bool) → (a && ((b && c) && d)) ≡ (((a && b) && c) && d)
+and_inside true b c d = refl
+and_inside false b c d = refl
 
 both_hold : (a b : Bool) → (a && b) ≡ true → (a ≡ true) × (b ≡ true)
 both_hold true b h = (refl, h)
@@ -52,14 +50,6 @@ holds_at f (x ∷ xs) zero d within all = (both_hold (f x) (list_all f xs) all).
 holds_at f (x ∷ xs) (suc k) d within all = holds_at f xs k d (omega (arith, within)) (both_hold (f x) (list_all f xs) all).1
 
 module _ {A : Type 0} (now : A → Members) where
-  -- what stands at a place is among them
-  pub among : (sets : List A) (k : ℕ) (s : A) → k < length sets → s ≡ get_or sets k s → Contains (map now sets) (now s)
-  among sets k s within is = (k, subst (λ n. k < n) (sym (length-map sets now)) within, get_or-map now sets k s (now s) within ∙ ap now (sym is))
-
-  all_alike : (f : Members → Bool) (sets : List A) → list_all f (map now sets) ≡ list_all (λ s. f (now s)) sets
-  all_alike f [] = refl
-  all_alike f (s ∷ sets) = ap (λ b. f (now s) && b) (all_alike f sets)
-
   in_common : (s : Members) (sets : List A) (q : Bytes) → set.contains (fold set.intersection s (map now sets)) q ≡ (set.contains s q && list_all (λ s. set.contains (now s) q) sets)
   in_common s [] q = sym (and_true (set.contains s q))
   in_common s (other ∷ sets) q =
@@ -71,18 +61,31 @@ module _ {A : Type 0} (now : A → Members) where
   in_all [] q some = absurd (omega (arith, some))
   in_all (s ∷ sets) q some = in_common (now s) sets q
 
-  -- what all have is what all have of one of them
-  pub common_is : (sets : List A) (walked : Members) → Contains (map now sets) walked
-      → filter (λ m. list_all (λ s. set.contains (now s) m) sets) (listed walked) ≡ listed (intersection_of (map now sets))
-  common_is sets walked one =
-      let within : one.0 < length sets = subst (λ n. one.0 < n) (length-map sets now) one.1 in
-      let wanted : Bytes → Bool = λ m. list_all (λ s. set.contains (now s) m) sets in
+  -- all of them have it if those before one, that one and those behind it have
+  all_beside : (f : A → Bool) (sets : List A) (k : ℕ) (d : A) → k < length sets
+      → list_all f sets ≡ ((list_all f (take k sets) && list_all f (drop (suc k) sets)) && f (get_or sets k d))
+  all_beside f [] k d within = absurd (omega (arith, within))
+  all_beside f (s ∷ sets) zero d within = and_swap (f s) (list_all f sets)
+  all_beside f (s ∷ sets) (suc k) d within =
+      ap (λ b. f s && b) (all_beside f sets k d (omega (arith, within)))
+      ∙ and_inside (f s) (list_all f (take k sets)) (list_all f (drop (suc k) sets)) (f (get_or sets k d))
+
+  -- what all have is what one of them has, and those before it and behind it have
+  pub common_is : (sets : List A) (k : ℕ) (behind : List A) (walked : Members) → k < length sets → behind ≡ drop (suc k) sets → get_or (map now sets) k set.empty ≡ walked
+      → filter (λ m. list_all (λ s. set.contains (now s) m) (take k sets) && list_all (λ s. set.contains (now s) m) behind) (listed walked)
+      ≡ listed (intersection_of (map now sets))
+  common_is [] k behind walked within rest at = absurd (omega (arith, within))
+  common_is (first ∷ others) k behind walked within rest at =
+      let sets : List A = first ∷ others in
+      let before : Bytes → Bool = λ m. list_all (λ s. set.contains (now s) m) (take k sets) in
+      let wanted : Bytes → Bool = λ m. before m && list_all (λ s. set.contains (now s) m) behind in
+      let is : now (get_or sets k first) ≡ walked = sym (get_or-map now sets k first set.empty within) ∙ at in
       listed_is (intersection_of (map now sets)) (filter wanted (listed walked)) (ordered-filter byte_cmp wanted (listed walked) (ordered-listed walked)) (λ q.
       has-filter byte_cmp nat_list_cmp_total exact_bytes q wanted (listed walked)
       ∙ ap (λ b. wanted q && b) (has-listed walked q)
-      ∙ implied (wanted q) (set.contains walked q) (λ all.
-      ap (λ s. set.contains s q) (sym one.2)
-      ∙ holds_at (λ s. set.contains s q) (map now sets) one.0 walked one.1 (all_alike (λ s. set.contains s q) sets ∙ all))
+      ∙ ap (λ s. wanted q && set.contains s q) (sym is)
+      ∙ ap (λ sets. (before q && list_all (λ s. set.contains (now s) q) sets) && set.contains (now (get_or (first ∷ others) k first)) q) rest
+      ∙ sym (all_beside (λ s. set.contains (now s) q) sets k first within)
       ∙ sym (in_all sets q (omega (arith, within))))
 
   -- with an empty one among them nothing is in common
@@ -131,19 +134,3 @@ none_limited (suc most) = refl
 -- none of the first so many has fewer members
 abbrev pub IsLeastOf : {A : Type 0} → (A → Members) → List A → Members → ℕ → Type 0
 IsLeastOf {A} now sets least n = (k : ℕ) (d : A) → k < n → set.len least ≤ set.len (now (get_or sets k d))
-
--- of the least so far and one more the smaller
-pub smaller_among : {A : Type 0} (now : A → Members) (sets : List A) (i : ℕ) (s : A) (other least new : Members) → i < length sets → s ≡ get_or sets i s → now s ≡ other
-    → Contains (map now sets) least → (new ≡ least) ⊎ (new ≡ other) → Contains (map now sets) new
-smaller_among now sets i s other least new within is seen held (inl same) = subst (Contains (map now sets)) (sym same) held
-smaller_among now sets i s other least new within is seen held (inr same) = subst (Contains (map now sets)) (seen ∙ sym same) (among now sets i s within is)
-
-pub smaller_least : {A : Type 0} (now : A → Members) (sets : List A) (i : ℕ) (s : A) (other least new : Members) → i < length sets → s ≡ get_or sets i s → now s ≡ other
-    → IsLeastOf now sets least i → set.len new ≤ set.len least → set.len new ≤ set.len other → IsLeastOf now sets new (i + 1)
-smaller_least {A} now sets i s other least new within is seen so_far first second k d below =
-    elim (eq-or-lt_of_le (let few : k ≤ i = omega arith in few)) [
-      | inl same ↦
-          let here : get_or sets k d ≡ s = ap (λ j. get_or sets j d) same ∙ get_or_default sets i d s within ∙ sym is in
-          omega (arith, second, ap (λ (x : A). set.len (now x)) here, ap (λ m. set.len m) seen)
-      | inr less ↦ omega (arith, first, so_far k d less)
-    ]

@@ -1,6 +1,6 @@
 // Several sets as one. A set that is missing is the empty one.
-ghost use Rattle.std.specs.Prelude.{◌≡◌, ◌≤◌, ◌⊎◌, ◌&&◌, not, List, length, take, filter, fold, map, IfOk, OnOk, IfSome, IfNone};
-ghost use Rattle.std.specs.List.{list_all, list_any, All, Contains};
+ghost use Rattle.std.specs.Prelude.{◌≡◌, ◌<◌, ◌≤◌, ◌⊎◌, ◌&&◌, not, List, length, get_or, take, filter, fold, map, IfOk, OnOk, IfSome, IfNone};
+ghost use Rattle.std.specs.List.{list_all, list_any, All};
 ghost use Rattle.std.specs.FinSet as set;
 ghost use Rattle.std.specs.Map.Iter.{deref};
 ghost use Rattle.nr_model.specs.Bytes.{Bytes};
@@ -47,7 +47,7 @@ fn in_order<'a>(alloc: Global, joined: BTreeSet<&'a Blob>) -> Result<Vec<&'a Blo
 }
 
 /// The members that all of the sets have, in byte order, and at most so many of them, 0 being no limit. It walks the smallest set, and looks
-/// its members up in each.
+/// its members up in the others.
 pub fn intersection<'a>(
     alloc: Global,
     sets: &[Option<&'a Set>],
@@ -55,10 +55,10 @@ pub fn intersection<'a>(
 ) -> Result<Vec<&'a Blob>, Memory>
     ensures { IfOk result (λ members. map deref members.items ≡ limited most (listed (intersection_of (map lent sets.now)))) }
 {
-    let Some(walked) = smallest(sets) else {
+    let Some((place, walked)) = smallest(sets) else {
         return Ok(Vec::new(alloc));
     };
-    common(alloc, walked, sets, most)
+    common(alloc, walked, &sets[..place], &sets[place + 1..], most)
 }
 
 /// The members that the first set has and none of the others, in byte order. It walks the first, and looks its members up in the others.
@@ -74,33 +74,35 @@ pub fn difference<'a>(alloc: Global, sets: &[Option<&'a Set>]) -> Result<Vec<&'a
     }
 }
 
-// A set that has the fewest members, unless one is missing.
-fn smallest<'a>(sets: &[Option<&'a Set>]) -> Option<&'a Set>
-    ensures among { IfSome result (λ least. Contains (map lent sets.now) least.now) }
-    ensures least { IfSome result (λ least. All (λ s. set.len least.now ≤ set.len (lent s)) sets.now) }
+// The place of a set that has the fewest members, and the set, unless one is missing.
+fn smallest<'a>(sets: &[Option<&'a Set>]) -> Option<(usize, &'a Set)>
+    ensures within { IfSome result (λ least. least.0 < length sets.now) }
+    ensures at { IfSome result (λ least. get_or (map lent sets.now) least.0 set.empty ≡ least.1.now) }
+    ensures least { IfSome result (λ least. All (λ s. set.len least.1.now ≤ set.len (lent s)) sets.now) }
     ensures none { IfNone result (intersection_of (map lent sets.now) ≡ set.empty) }
 {
     let Some((first, _)) = sets.split_first() else {
         return None;
     };
-    let Some(mut least) = *first else {
+    let Some(first) = *first else {
         return None;
     };
-    for set in sets {
+    let mut least = (0, first);
+    for (place, set) in sets.iter().enumerate() {
         let Some(set) = *set else {
             return None;
         };
-        least = smaller(least, set);
+        least = smaller(least, (place, set));
     }
     Some(least)
 }
 
-fn smaller<'a>(first: &'a Set, second: &'a Set) -> &'a Set
-    ensures one { (result.now ≡ first.now) ⊎ (result.now ≡ second.now) }
-    ensures first { set.len result.now ≤ set.len first.now }
-    ensures second { set.len result.now ≤ set.len second.now }
+fn smaller<'a>(first: (usize, &'a Set), second: (usize, &'a Set)) -> (usize, &'a Set)
+    ensures one { (result ≡ first.entry) ⊎ (result ≡ second.entry) }
+    ensures first { set.len result.1.now ≤ set.len first.entry.1.now }
+    ensures second { set.len result.1.now ≤ set.len second.entry.1.now }
 {
-    if second.len() < first.len() {
+    if second.1.len() < first.1.len() {
         second
     } else {
         first
@@ -123,6 +125,12 @@ fn all_have(sets: &[Option<&Set>], member: &Blob) -> bool
     sets.iter().all(|set| has(*set, member))
 }
 
+fn both_have(before: &[Option<&Set>], behind: &[Option<&Set>], member: &Blob) -> bool
+    ensures { result ≡ (list_all (λ s. set.contains (lent s) member.now) before.now && list_all (λ s. set.contains (lent s) member.now) behind.now) }
+{
+    all_have(before, member) && all_have(behind, member)
+}
+
 fn any_has(sets: &[Option<&Set>], member: &Blob) -> bool
     ensures { result ≡ list_any (λ s. set.contains (lent s) member.now) sets.now }
 {
@@ -136,15 +144,17 @@ fn limit(most: usize, all: usize) -> usize
     if most == 0 { all } else { most }
 }
 
-// The members of one set that all of some sets have, at most so many.
+// The members of one set that those before it and those behind it have, at most so many.
 fn common<'a>(
     alloc: Global,
     walked: &'a Set,
-    sets: &[Option<&'a Set>],
+    before: &[Option<&'a Set>],
+    behind: &[Option<&'a Set>],
     most: usize,
 ) -> Result<Vec<&'a Blob>, Memory>
     ensures { IfOk result (λ members.
-        map deref members.items ≡ limited most (filter (λ m. list_all (λ s. set.contains (lent s) m) sets.now) (listed walked.now))) }
+        map deref members.items ≡ limited most (filter
+        (λ m. list_all (λ s. set.contains (lent s) m) before.now && list_all (λ s. set.contains (lent s) m) behind.now) (listed walked.now))) }
 {
     let limit = limit(most, walked.len());
     let mut members = Vec::new(alloc);
@@ -152,7 +162,7 @@ fn common<'a>(
         if members.len() == limit {
             return Ok(members);
         }
-        if !all_have(sets, member) {
+        if !both_have(before, behind, member) {
             continue;
         }
         members.push(member)?;

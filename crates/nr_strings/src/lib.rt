@@ -7,5 +7,4 @@ pub use string::{MAX_LEN, Str};
 mod bytes;
 mod counts;
 mod joins;
-mod ranges;
 mod string;

@@ -7,9 +7,8 @@ ghost use Rattle.nr_strings.specs.Joins.{function_of};
 use crate::bytes::byte_or_zero;
 use crate::counts::{ones_between, ones_of};
 use crate::joins::{self, BitOperation};
-use crate::ranges::{end_of, start_of};
 use itoa::Buffer;
-use nr_blob::{Blob, Bytes, Memory};
+use nr_blob::{Blob, Bytes, Memory, end_of, start_of};
 use std::alloc::Global;
 use std::marker::Model;
 

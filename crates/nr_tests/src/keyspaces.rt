@@ -20,7 +20,7 @@ fn filled(alloc: Global, keys: RandomState) -> Result<Keyspace, Memory> {
 fn keys_have_deadlines(rt: HostRuntime) -> Result<(), Fail> {
     let mut keyspace = filled(rt.alloc(), RandomState::new(&rt)?)?.copy()?;
     for (now, count) in [(99, 3), (100, 2), (200, 1)] {
-        let names = keyspace.keys(rt.alloc(), now, Db::FIRST)?;
+        let names = keyspace.matching(rt.alloc(), now, Db::FIRST, b"*")?;
         assert!(rt; names.len() == count, "at {now}");
     }
     let name = Blob::from_slice(rt.alloc(), b"c")?;

@@ -18,6 +18,8 @@ mod serving;
 #[cfg(test)]
 mod settings;
 #[cfg(test)]
+mod sorted_sets;
+#[cfg(test)]
 mod tcp;
 #[cfg(test)]
 mod worlds;

@@ -6,14 +6,14 @@ ghost use Rattle.nr_model.specs.Commands.Shape.{staying};
 ghost use Rattle.nr_model.specs.Commands.Keys as keys;
 ghost use Rattle.nr_resp.specs.Done.{Performs};
 
-use crate::keys::conditions::{Conditions, compatible, conditions_from};
+use crate::keys::conditions::{are_met, conditions_from};
 use nr_blob::Blob;
 use nr_keyspace::deadline::hold_until;
 use nr_keyspace::{Db, Keyspace, Touched};
 use nr_model::command::Timing;
 use nr_model::refused::{Expiring, Refused};
 use nr_resp::words::{expiry, one_word, unsupported_option};
-use nr_resp::{Failure, Reply};
+use nr_resp::{Conditions, Failure, Reply};
 use std::alloc::Global;
 
 /// `EXPIRE key seconds [NX | XX | GT | LT]`, `PEXPIRE`, `EXPIREAT`, `PEXPIREAT`
@@ -39,7 +39,7 @@ pub fn expire<T: Touched>(
     let deadline = expiry(expiring_of(timing), timing, now, number)?;
     match conditions_from(words) {
         Ok(conditions) => {
-            let conditions = compatible(conditions)?;
+            let conditions = conditions.compatible()?;
             redate(keyspace, now, database, name, deadline, conditions, touched)
         }
         Err(word) => Ok(unsupported_option(alloc, word)?),
@@ -74,7 +74,7 @@ fn redate<T: Touched>(
     let Some(before) = keyspace.deadline(now, database, name) else {
         return Ok(Reply::Int(0));
     };
-    if !conditions.are_met(before, deadline) {
+    if !are_met(conditions, before, deadline) {
         return Ok(Reply::Int(0));
     }
     hold_until(keyspace, now, database, name, Some(deadline))?;

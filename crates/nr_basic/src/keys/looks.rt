@@ -11,6 +11,7 @@ use nr_keyspace::{Db, Keyspace};
 use nr_model::command::Unit;
 use nr_resp::words::one_word;
 use nr_resp::{Failure, Reply, Shown};
+use std::alloc::Global;
 
 /// `EXISTS key [key ..]`, `TOUCH key [key ..]`
 pub fn exists<'k>(
@@ -59,6 +60,21 @@ fn kind_at(keyspace: &Keyspace, now: u64, database: Db, name: &Blob) -> &'static
         Some(value) => value.kind(),
         None => "none",
     }
+}
+
+/// `KEYS pattern`. It looks at every key of the database, and sorts the names that match, which are lent.
+pub fn matching<'k>(
+    alloc: Global,
+    keyspace: &'k Keyspace,
+    now: u64,
+    database: Db,
+    words: &'k [Blob],
+) -> Result<Shown<'k>, Failure>
+    ensures { Answers result (keys.matching (live keyspace.now now) database words.now) }
+{
+    let pattern = one_word(words)?;
+    let names = keyspace.matching(alloc, now, database, pattern.bytes())?;
+    Ok(Shown::bulks(alloc, &names)?)
 }
 
 /// `TTL key`, `PTTL key`

@@ -14,6 +14,7 @@ use std::alloc::Global;
 
 /// A command that only looks. The words are those behind the name.
 pub(super) fn look<'k>(
+    alloc: Global,
     keyspace: &'k Keyspace,
     now: u64,
     database: Db,
@@ -25,6 +26,7 @@ pub(super) fn look<'k>(
     match command {
         KeysLook::Exists | KeysLook::Touch => looks::exists(keyspace, now, database, words),
         KeysLook::Type => looks::kind(keyspace, now, database, words),
+        KeysLook::Keys => looks::matching(alloc, keyspace, now, database, words),
         KeysLook::Ttl(unit) => looks::ttl(unit, keyspace, now, database, words),
         KeysLook::ExpireTime(unit) => looks::expire_time(unit, keyspace, now, database, words),
     }

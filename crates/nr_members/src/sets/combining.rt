@@ -2,13 +2,11 @@
 ghost use Rattle.std.specs.Prelude.{◌≡◌, ◌++◌, ◌∷◌, [], Ok, Err, IfOk, IfErr, OnOk, map};
 ghost use Rattle.std.specs.Map.Iter.{deref};
 ghost use Rattle.nr_model.specs.Keyspace.{live, key_of};
-ghost use Rattle.nr_model.specs.Replies.{Bulk};
 ghost use Rattle.nr_model.specs.Sets.{listed};
 ghost use Rattle.nr_model.specs.Commands.Reading.{read_then};
 ghost use Rattle.nr_model.specs.Commands.Shape.{staying};
 ghost use Rattle.nr_model.specs.Commands.Sets as sets;
 ghost use Rattle.nr_resp.specs.Seen.{reply_of};
-ghost use Rattle.nr_resp.specs.Shown.{item_reply};
 ghost use Rattle.nr_resp.specs.Done.{Answers, IsDone, Performs};
 ghost use Rattle.nr_resp.specs.Failures.{IfRefused};
 ghost use Rattle.nr_sets.specs.Lent.{lent};
@@ -18,7 +16,7 @@ use nr_blob::{Blob, Memory};
 use nr_keyspace::{Db, Keyspace, Touched, Value};
 use nr_model::command::Combination;
 use nr_model::refused::Refused;
-use nr_resp::{Failure, Item, Reply, Shown};
+use nr_resp::{Failure, Reply, Shown};
 use nr_sets::{Set, difference, intersection, union};
 use std::alloc::Global;
 
@@ -35,17 +33,7 @@ pub fn combine<'k>(
     ensures { Answers result (sets.combine combination (live keyspace.now now) database names.now) }
 {
     let members = combined(alloc, combination, keyspace, now, database, names)?;
-    Ok(Shown::Items(items_of(alloc, &members)?))
-}
-
-fn items_of<'k>(alloc: Global, members: &[&'k Blob]) -> Result<Vec<Item<'k>>, Memory>
-    ensures { IfOk result (λ items. map item_reply items.items ≡ map Bulk (map deref members.now)) }
-{
-    let mut items = Vec::with_capacity(alloc, members.len())?;
-    for member in members {
-        items.push(Item::Bulk(member.bytes()))?;
-    }
-    Ok(items)
+    Ok(Shown::bulks(alloc, &members)?)
 }
 
 // What keys hold as sets, made one, in byte order.

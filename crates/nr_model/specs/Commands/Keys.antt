@@ -1,9 +1,11 @@
 -- Keys (Redis command reference, generic).
 use Rattle.std.specs.Prelude.{ℕ, ◌==◌, Bool, true, false, not, ◌&&◌, ◌||◌, List, [], ◌∷◌, ◌++◌, length, filter, Option, Some, None, is_some, is_none, Ok, Err, ℤ, pos, negsuc, ◌+ℤ◌, ◌-ℤ◌, int_lt, int_div, bytes_eq, codes, cond, if◌then◌else◌}
+use Rattle.std.specs.Prelude as prelude
 use Rattle.std.specs.FinMap as map
 use Rattle.nr_model.specs.Bytes.{Bytes}
-use Rattle.nr_model.specs.Replies.{Reply, Simple, Error, Int}
-use Rattle.nr_model.specs.Keyspace.{Key, key_of, Keyspace, Stored, Value, Text, Items, Fields, Members, Scores, is_live_at}
+use Rattle.nr_model.specs.Patterns.{matches}
+use Rattle.nr_model.specs.Replies.{Reply, Simple, Error, Int, Bulk, array}
+use Rattle.nr_model.specs.Keyspace.{Key, key_of, Keyspace, Stored, Value, Text, Items, Fields, Members, Scores, is_live_at, names_in}
 use Rattle.nr_model.specs.Commands.Shape.{Effect, unchanged, refused, answered, performed}
 use Rattle.nr_model.specs.Commands.Reading.{Read, fault, read_then, one_word, two_words, database_index, expiry, OptionWord, Unknown, Flag, Valued, read_options, is_word}
 use Rattle.nr_model.specs.Commands.Texts.{ok, unsupported_option}
@@ -37,6 +39,14 @@ kind_at (Some stored) = kind_of stored.value
 
 abbrev pub kind : Keyspace → ℕ → List Bytes → Reply
 kind keyspace database words = answered (one_word words) (λ name. Simple (kind_at (map.get keyspace (key_of database name))))
+
+-- KEYS pattern: the names that match it, in byte order
+abbrev pub names_matching : Bytes → Keyspace → ℕ → List Bytes
+names_matching pattern_text keyspace database = filter (matches pattern_text) (names_in keyspace database)
+
+abbrev pub matching : Keyspace → ℕ → List Bytes → Reply
+matching keyspace database words =
+    answered (one_word words) (λ pattern_text. array (prelude.map Bulk (names_matching pattern_text keyspace database)))
 
 -- milliseconds as so many of a unit, to the nearest second (own at half a second)
 abbrev pub in_unit : Unit → ℤ → ℤ
@@ -254,6 +264,7 @@ abbrev pub look : KeysLook → ℕ → Keyspace → ℕ → List Bytes → Reply
 look looks.Exists now keyspace database arguments = exists keyspace database arguments
 look looks.Touch now keyspace database arguments = exists keyspace database arguments
 look looks.Type now keyspace database arguments = kind keyspace database arguments
+look looks.Keys now keyspace database arguments = matching keyspace database arguments
 look (looks.Ttl unit) now keyspace database arguments = ttl unit now keyspace database arguments
 look (looks.ExpireTime unit) now keyspace database arguments = expire_time unit keyspace database arguments
 

@@ -372,7 +372,7 @@ raised conditions (Some before) by =
     if conditions.nx then Ok None else read_then (sum_of before by) (λ sum. Ok (unless_stopped conditions (Some before) sum))
 
 abbrev pub raised_to : Keyspace → Key → Scores → Bytes → Option ℤ → Effect
-raised_to keyspace key scores member None = unchanged keyspace NullBulk
+raised_to keyspace key scores member None = rescored keyspace key scores 0 NullBulk
 raised_to keyspace key scores member (Some score) =
     let scoring = scored (scoring_of scores) (finmap.get scores member) (member, score) in
     rescored keyspace key scoring.scores (scoring.added + scoring.changed) (score_bulk score)
@@ -381,12 +381,15 @@ abbrev pub raise : Keyspace → Key → Conditions → Scores → Scored → Eff
 raise keyspace key conditions scores pair =
     performed keyspace (raised conditions (finmap.get scores pair.0) pair.1) (raised_to keyspace key scores pair.0)
 
+abbrev pub raise_first : Keyspace → Key → Conditions → Scores → List Scored → Effect
+raise_first keyspace key conditions scores [] = rescored keyspace key scores 0 NullBulk
+raise_first keyspace key conditions scores (pair ∷ pairs) = raise keyspace key conditions scores pair
+
 -- of one pair with INCR, of all without
 abbrev pub add_pairs : Keyspace → Key → AddOptions → Scores → List Scored → Effect
-add_pairs keyspace key options scores [] = unchanged keyspace (Int (pos 0))
-add_pairs keyspace key options scores (pair ∷ pairs) =
-    if options.increment then raise keyspace key options.conditions scores pair
-    else added keyspace key options.changed (add_all options.conditions scores (pair ∷ pairs))
+add_pairs keyspace key options scores pairs =
+    if options.increment then raise_first keyspace key options.conditions scores pairs
+    else added keyspace key options.changed (add_all options.conditions scores pairs)
 
 abbrev pub zadd : Keyspace → ℕ → List Bytes → Effect
 zadd keyspace database words =

@@ -11,4 +11,5 @@ returns c =
     (another _ c.args.word.now _ _ _ _ c.as_bytes-5.ensures.value (λ same. c.if-eq_ignore_ascii_case-5.ensures.test.1 same)
     (another _ c.args.word.now _ _ _ _ c.as_bytes-6.ensures.value (λ same. c.if-eq_ignore_ascii_case-6.ensures.test.1 same)
     (another _ c.args.word.now _ _ _ _ c.as_bytes-7.ensures.value (λ same. c.if-eq_ignore_ascii_case-7.ensures.test.1 same)
-    refl)))))))
+    (another _ c.args.word.now _ _ _ _ c.as_bytes-8.ensures.value (λ same. c.if-eq_ignore_ascii_case-8.ensures.test.1 same)
+    refl))))))))

@@ -7,3 +7,6 @@ returns-in-Some c = named_here table.operations_served table.sessions_served c.a
 
 pub returns-in-Some-session : goal.returns-in-Some-session
 returns-in-Some-session c = named_there table.operations_served table.sessions_served c.args.word.now _ c.in_default.ensures c.in-Some-session.ensures
+
+pub returns : goal.returns
+returns c = named_there table.operations_served table.sessions_served c.args.word.now _ c.in_default.ensures c.in_default-session.ensures

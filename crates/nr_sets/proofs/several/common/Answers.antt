@@ -16,7 +16,7 @@ returns-then-len-limit c =
 pub loop-member-preserved : goal.loop-member-preserved
 loop-member-preserved c =
     one_chosen _ c.limit-limit.result _ _ c.loop-member.member-iterator c.in-Some.member.now c.next.new.self _ c.in-Some.ensures.steps
-    (sym c.all_have.ensures ∙ c.if-not-all_have.false)
+    (sym c.both_have.ensures ∙ c.if-not-both_have.false)
     (omega (arith, length-map c.loop-member.members.items deref, c.loop-member.members.ok, c.len-in-loop-member.ensures, c.if-len-limit.false, c.loop-member.invariant.few))
     (ap (map deref) c.in_ok-push.ensures.items ∙ map_push deref c.loop-member.members.items c.in-Some.member) c.loop-member.invariant
 

@@ -1,4 +1,4 @@
-use Rattle.std.proofs.Common.{map, take}
+use Rattle.std.proofs.Common.{◌&&◌, map, take}
 use Rattle.std.specs.Prelude.{filter, Bool}
 use Rattle.nr_model.specs.Bytes.{Bytes}
 use Rattle.std.specs.List.{list_all}
@@ -12,5 +12,5 @@ use Rattle.nr_sets.proofs.several.common.Given as goal
 -- the members so far
 abbrev pub invariant-loop-member : goal.invariant-loop-member
 invariant-loop-member l =
-    let wanted : Bytes → Bool = λ m. list_all (λ s. set.contains (lent s) m) l.fn.sets in
+    let wanted : Bytes → Bool = λ m. list_all (λ s. set.contains (lent s) m) l.fn.before && list_all (λ s. set.contains (lent s) m) l.fn.behind in
     Chooses wanted l.limit (map deref l.members.items) l.member-iterator (take l.limit (filter wanted (listed l.fn.walked)))

@@ -1,4 +1,5 @@
-use Rattle.std.proofs.Common.{◌∙◌, ap, sym, map}
+use Rattle.std.proofs.Common.{◌≡◌, ◌+◌, ℕ, suc, drop, ◌∙◌, ap, sym, map, arith}
+use Rattle.std.proofs.lemmas.List.{take_rest}
 use Rattle.std.proofs.lemmas.Result.{IfOk-weaker}
 use Rattle.std.specs.Map.Iter.{deref}
 use Rattle.nr_model.specs.Lists.{limited}
@@ -14,5 +15,8 @@ returns-in_default c =
 
 pub returns : goal.returns
 returns c =
+    let sets = c.args.sets.now in
+    let place = c.in-Some.place in
+    let behind = take_rest sets (place + 1) ∙ ap (λ (n : ℕ). drop n sets) (let next : place + 1 ≡ suc place = omega arith in next) in
     IfOk-weaker c.common.result _ _
-    (λ members are. are ∙ ap (limited c.args.most) (common_is lent c.args.sets.now c.in-Some.walked.now c.in-Some.ensures.among)) c.common.ensures
+    (λ members are. are ∙ ap (limited c.args.most) (common_is lent sets place _ c.in-Some.walked.now c.in-Some.ensures.within behind c.in-Some.ensures.at)) c.common.ensures

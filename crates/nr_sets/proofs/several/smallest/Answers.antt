@@ -1,6 +1,6 @@
 use Rattle.std.proofs.Common.{ap}
 use Rattle.nr_sets.specs.Lent.{lent}
-use Rattle.nr_sets.proofs.Common.{none_in_common, none_first, smaller_among, smaller_least}
+use Rattle.nr_sets.proofs.Common.{none_in_common, none_first}
 use Rattle.nr_sets.proofs.several.smallest.Goals as goal
 
 pub returns-in_default-first-clause-none : goal.returns-in_default-first-clause-none
@@ -9,12 +9,4 @@ returns-in_default-first-clause-none c =
 
 pub returns-in_default-set-clause-none : goal.returns-in_default-set-clause-none
 returns-in_default-set-clause-none c =
-    none_in_common lent c.args.sets.now c.loop-set.set-index c.set-item.result c.loop-set-test.true c.set-item.is (ap lent c.in_default-set.is)
-
-pub loop-set-preserved : goal.loop-set-preserved
-loop-set-preserved c = record {
-  among = smaller_among lent c.args.sets.now c.loop-set.set-index c.set-item.result _ c.loop-set.least.now c.smaller-least.result.now c.loop-set-test.true c.set-item.is
-      (ap lent c.in-Some-set.is) c.loop-set.invariant.among c.smaller-least.ensures.one;
-  least = smaller_least lent c.args.sets.now c.loop-set.set-index c.set-item.result _ c.loop-set.least.now c.smaller-least.result.now c.loop-set-test.true c.set-item.is
-      (ap lent c.in-Some-set.is) c.loop-set.invariant.least c.smaller-least.ensures.first c.smaller-least.ensures.second;
-}
+    none_in_common lent c.args.sets.now c.loop-place.place c.index-sets-place.result c.loop-place-test.true c.index-sets-place.is (ap lent c.in_default-set.is)

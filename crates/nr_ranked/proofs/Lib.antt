@@ -1,0 +1,10 @@
+pub mod Changes
+pub mod Edits
+pub mod Pairs
+pub mod RangeOptions
+pub mod StoringDone
+pub mod StoringListings
+pub mod StoringOptions
+pub mod StoringSums
+pub mod Taken
+pub mod Told
