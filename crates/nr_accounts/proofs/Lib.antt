@@ -1,5 +1,5 @@
-mod Seen
-mod Steps
-mod Strangers
-mod Counts
+pub mod Seen
+pub mod Steps
+pub mod Strangers
+pub mod Counts
 pub mod Batches

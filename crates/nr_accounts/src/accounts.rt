@@ -71,6 +71,13 @@ impl Accounts {
         self.held.get(serial)
     }
 
+    /// Drops the account of a connection. Logarithmic.
+    pub fn forget(&mut self, serial: u64)
+        ensures { self.new ≡ record self.old { held = finmap.remove self.old.held serial } }
+    {
+        self.held.remove(serial);
+    }
+
     /// Takes a batch, with all of its jobs, and says the number of the worker's batch before it. It is refused, and nothing changes, where it
     /// names another node or a worker that there isn't, or has a job of a connection that its worker doesn't serve or whose end was taken
     /// before; else where a job's number isn't its connection's next one, or its own isn't above that of the worker's last batch.

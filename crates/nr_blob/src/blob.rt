@@ -8,6 +8,7 @@ ghost use Rattle.std.specs.Ordering.{nat_cmp};
 ghost use Rattle.std.proofs.Common.{refl, rules};
 
 use crate::memory::Memory;
+use crate::order::compare;
 use smallvec::SmallVec;
 use std::alloc::Global;
 use std::cmp::Ordering;
@@ -136,7 +137,7 @@ impl Ord for Blob {
     ghost matches_eq = { texts_ties };
 
     fn cmp(&self, other: &Self) -> Ordering {
-        self.bytes().cmp(&other.bytes())
+        compare(self.bytes(), other.bytes())
     }
 }
 

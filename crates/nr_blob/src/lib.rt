@@ -10,5 +10,6 @@ pub use range::{end_of, start_of};
 mod blob;
 mod integer;
 mod memory;
+mod order;
 mod quoted;
 mod range;

@@ -1,18 +1,12 @@
 -- The jobs that are taken, and those that are left.
-use Rattle.std.proofs.Common.{◌≡◌, ℕ, zero, suc, ◌+◌, ◌-◌, ◌<◌, ◌≤◌, Bool, true, false, not, cond, List, [], ◌∷◌, ◌++◌, length, map, take, get_or, refl, sym, ap, ◌∙◌, append_assoc, arith}
-use Rattle.std.specs.Prelude.{◌&&◌, ◌||◌, ◌==◌}
+use Rattle.std.proofs.Common.{◌≡◌, ℕ, zero, suc, ◌≤◌, Bool, true, false, not, cond, List, [], ◌∷◌, ◌++◌, length, map, take, refl, sym, ap, ◌∙◌, arith}
+use Rattle.std.specs.Prelude.{◌&&◌, ◌||◌}
 use Rattle.std.specs.List.{list_any}
-use Rattle.std.proofs.lemmas.List.{append-nil, take_all, take_more, map-append}
-use Rattle.std.proofs.lemmas.Bool.Decides.{nat_tests}
-use Rattle.std.specs.Ordering.{nat_cmp, ordering_then, is_eq}
+use Rattle.std.proofs.lemmas.List.{take_all}
 use mathlib.Core.Bool.{beq}
 use Rattle.nr_model.specs.Items.{Connection, Item, same_connection, is_update}
 use Rattle.nr_model.specs.Entries.{Jobs, leading, not_leading, left_after, has_read_of, has_update_of}
-use Rattle.std.specs.declared.cmp.Ordering.{Ordering}
-use Rattle.nr_entry.specs.declared.conn.ConnId.{ConnId}
-use Rattle.nr_entry.specs.declared.job.Job.{Job}
-use Rattle.nr_entry.specs.Jobs.{connection_of, conn_cmp, item_of, items_of}
-use Rattle.nr_entry.specs.Choice.{marked, unmarked, is_blocked, leads_among, is_taken, room_behind, leading_marks, room_after}
+use Rattle.nr_entry.specs.Choice.{marked, unmarked, is_blocked, leads_among, is_taken, room_behind, leading_marks}
 
 -- the marked jobs are the first that lead
 take_none : (jobs : Jobs) → take zero jobs ≡ []

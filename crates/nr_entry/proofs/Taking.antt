@@ -9,7 +9,7 @@ use Rattle.nr_entry.specs.declared.job.Job.{Job}
 use Rattle.nr_entry.specs.Jobs.{item_of, items_of}
 use Rattle.nr_entry.specs.Entry.{are_updates, are_of}
 use Rattle.nr_entry.specs.Choice.{marked, unmarked, leading_marks}
-use Rattle.nr_entry.proofs.Marks.{marked_leading, unmarked_left, map-marked, map-unmarked, take_all_leading, left_by_all, length-leading_marks}
+use Rattle.nr_entry.proofs.Marks.{marked_leading, unmarked_left, map-marked, map-unmarked, take_all_leading, left_by_all}
 
 pub how_many : (jobs : List Job) → length (items_of jobs) ≡ length jobs
 how_many [] = refl

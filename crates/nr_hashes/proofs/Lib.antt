@@ -1,1 +1,6 @@
 mod Seen
+pub mod Placed
+pub mod Reading
+pub mod Skipped
+pub mod Around
+pub mod Kept

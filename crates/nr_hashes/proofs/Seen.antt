@@ -1,21 +1,25 @@
 -- Entries in byte order, as the finite map that they are seen as.
-use Rattle.std.proofs.Common.{◌≡◌, Bool, true, false, cond, not, T, Option, Some, None, is_some, List, [], ◌∷◌, ◌++◌, length, append_assoc, refl, ap, sym, ◌∙◌, subst}
+use Rattle.std.proofs.Common.{◌≡◌, Bool, true, false, cond, not, T, Option, Some, None, is_some, is_none, List, [], ◌∷◌, ◌++◌, length, append_assoc, refl, ap, sym, ◌∙◌, subst}
 use Rattle.std.specs.Prelude.{◌&&◌, map as each}
+use Rattle.std.specs.declared.cmp.Ordering.{Ordering}
 use Rattle.std.specs.declared.cmp.Ordering.TheVariants.{Less, Equal, Greater}
-use Rattle.std.specs.Ordering.{eq_by_cmp, is_lt, match_ordering, ordering_reverse}
+use Rattle.std.specs.Ordering.{eq_by_cmp, is_lt, is_eq, match_ordering, ordering_reverse}
 use Rattle.std.specs.Cmp.{eq_by_cmp_equiv}
 use Rattle.std.specs.Cmp.Lexicographic.{nat_list_cmp_total}
 use Rattle.std.specs.List.{AllByRecursion}
 use Rattle.std.specs.List.Sorted.{IsStrictlySortedBy}
-use Rattle.std.specs.Map.{keys_of, values_of, lookup}
+use Rattle.std.specs.Map.{keys_of, values_of, lookup, remove_entry}
 use Rattle.std.specs.BTreeMap.{insert_entry, is_at}
 use Rattle.std.specs.FinMap as map
 use Rattle.std.specs.FinMap.Entries as entries
 use Rattle.std.proofs.lemmas.List.{nil_from_length}
+use Rattle.std.proofs.lemmas.Map.{lookup-remove_entry}
+use Rattle.std.proofs.lemmas.Map.Keys.{IsDistinct-from_sorted}
 use Rattle.std.proofs.lemmas.Map.Lookups.{exact_bytes}
 use Rattle.nr_model.specs.Bytes.{Bytes}
 use Rattle.nr_model.specs.Keyspace.{byte_cmp}
 use Rattle.nr_model.specs.Hashes.{Hash}
+use Rattle.nr_hashes.proofs.Placed.{rises_remove}
 
 abbrev pub Entries : Type 0
 Entries = List (Bytes × Bytes)
@@ -47,6 +51,11 @@ values_seen es rises = ap (each (λ (e : Bytes × Bytes). e.1)) (entries_seen es
 
 pub len_seen : (es : Entries) → IsStrictlySortedBy byte_cmp (keys_of es) → map.len (seen es) ≡ length es
 len_seen es rises = map.len-entries (seen es) ∙ ap length (entries_seen es rises)
+
+at_equal : (r : Ordering) → is_eq r ≡ true → r ≡ Equal
+at_equal Less is = cc
+at_equal Equal is = refl
+at_equal Greater is = cc
 
 found : (es : Entries) (q : Bytes) → entries.find byte_cmp q es ≡ lookup (is_at (byte_cmp q)) es
 found [] q = refl
@@ -80,11 +89,17 @@ pub inserted_seen : (old new : Entries) (k v : Bytes) → IsStrictlySortedBy byt
 inserted_seen old new k v rises too is = map.same_entries_map _ _
     (entries_seen new too ∙ is ∙ sym (map.entries-insert nat_list_cmp_total (seen old) k v ∙ ap (entries.put byte_cmp k v) (entries_seen old rises) ∙ placed old k v))
 
+tests_one : (k x y : Bytes) → is_at (byte_cmp k) x ≡ true → is_at (byte_cmp k) y ≡ eq_by_cmp byte_cmp x y
+tests_one k x y is = ap (λ (q : Bytes). eq_by_cmp byte_cmp q y) (exact_bytes k x (at_equal (byte_cmp k x) is))
+
 -- a field taken out
-pub removed_seen : (old new : Entries) (k : Bytes) → IsStrictlySortedBy byte_cmp (keys_of old) → IsStrictlySortedBy byte_cmp (keys_of new)
-    → ((q : Bytes) → lookup (is_at (byte_cmp q)) new ≡ cond (is_at (byte_cmp k) q) None (lookup (is_at (byte_cmp q)) old)) → seen new ≡ map.remove (seen old) k
-removed_seen old new k rises too at = map.same_map nat_list_cmp_total exact_bytes _ _ (λ q.
-    get_seen new too q ∙ at q ∙ ap (λ b. cond b None (lookup (is_at (byte_cmp q)) old)) ((eq_by_cmp_equiv nat_list_cmp_total).symm k q)
+pub removed_seen : (old new : Entries) (k : Bytes) → IsStrictlySortedBy byte_cmp (keys_of old) → new ≡ remove_entry (is_at (byte_cmp k)) old → seen new ≡ map.remove (seen old) k
+removed_seen old new k rises is =
+    let too : IsStrictlySortedBy byte_cmp (keys_of new) = subst (λ (es : Entries). IsStrictlySortedBy byte_cmp (keys_of es)) (sym is) (rises_remove (is_at (byte_cmp k)) old rises) in
+    map.same_map nat_list_cmp_total exact_bytes _ _ (λ q.
+    get_seen new too q ∙ ap (lookup (is_at (byte_cmp q))) is
+    ∙ lookup-remove_entry (eq_by_cmp_equiv nat_list_cmp_total) (is_at (byte_cmp k)) (tests_one k) q old (IsDistinct-from_sorted byte_cmp (keys_of old) rises)
+    ∙ ap (λ b. cond b None (lookup (is_at (byte_cmp q)) old)) ((eq_by_cmp_equiv nat_list_cmp_total).symm k q)
     ∙ sym (map.get-remove nat_list_cmp_total (seen old) k q ∙ ap (cond (eq_by_cmp byte_cmp q k) None) (get_seen old rises q)))
 
 last_of : (x k v : Bytes) (es left : Entries) → AllByRecursion (λ y. byte_cmp x y ≡ Less) (keys_of (es ++ (k, v) ∷ left)) → byte_cmp x k ≡ Less
@@ -107,9 +122,7 @@ copied_more all copied new left field value k v rises so_far same_field same_val
     let last : new ≡ copied ++ (k, v) ∷ [] = is ∙ inserted_last copied k v left (subst (λ (es : Entries). IsStrictlySortedBy byte_cmp (keys_of es)) (sym place) rises) in
     ap (λ es. es ++ left) last ∙ append_assoc copied ((k, v) ∷ []) left ∙ place
 
-turned : (b r : Bool) → b ≡ not r → r ≡ not b
-turned b true e = ap not (sym e)
-turned b false e = ap not (sym e)
-
-pub is_new : {A : Type 0} (before : Option A) (none : Bool) → is_some before ≡ not none → none ≡ not (is_some before)
-is_new before none e = turned (is_some before) none e
+-- a field is new where it is not found
+pub is_new : {A : Type 0} (o : Option A) → is_none o ≡ not (is_some o)
+is_new None = refl
+is_new (Some x) = refl

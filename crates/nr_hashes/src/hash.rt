@@ -2,38 +2,36 @@
 ghost use Rattle.std.specs.Prelude.{◌≡◌, ◌↔◌, ◌<◌, ◌^◌, not, IsTrue, IfOk, OnOk, OnErr};
 ghost use Rattle.std.specs.Option.{option_map};
 ghost use Rattle.std.specs.FinMap as map;
-ghost use Rattle.std.specs.BTreeMap.{IsOrdered};
-ghost use Rattle.std.specs.Map.Iter.{ShowsInOrder, deref, deref_pair};
-ghost use Rattle.nr_model.specs.Bytes.{Bytes};
-ghost use Rattle.nr_model.specs.Keyspace.{byte_cmp};
 
+use crate::form::Form;
+use crate::pairs::{Fields, Pairs, Values};
 use nr_blob::{Blob, Memory};
 use std::alloc::Global;
-use std::collections::BTreeMap;
-use std::collections::btree_map::{Iter, Keys, Values};
 use std::marker::Model;
 
-/// A hash, as a key holds it. It is seen as a finite map from fields to values. To drop it is linear in its fields.
+/// A hash, as a key holds it. It is seen as a finite map from fields to values. At most 128 fields, none of them nor their values longer than
+/// 64 bytes, stand in one block; more or longer ones make a tree, and a tree stays one. To drop it is linear in its fields.
 #[derive(Debug, Drop)]
 pub struct Hash {
-    // Copies are made with it: a map doesn't hand its own out.
+    // Blocks and copies are made with it.
     alloc: Global,
-    values: BTreeMap<Blob, Blob>,
+    form: Form,
 }
 
 impl Model for Hash {
     ghost use Rattle.std.specs.FinMap as map;
-    ghost use Rattle.std.specs.BTreeMap.{IsOrdered};
-    ghost use Rattle.nr_model.specs.Keyspace.{byte_cmp};
     ghost use Rattle.nr_model.specs.Hashes.{Hash, coded_hash};
 
     ghost Value = { Hash };
 
     ghost coded = { coded_hash };
 
-    ghost view = { λ hash. map.from_sorted hash.values.entries };
+    ghost use Rattle.nr_hashes.specs.Orders.{AreInOrder};
+    ghost use Rattle.nr_hashes.specs.Forms.{entries_of};
 
-    ghost invariant = { λ hash. IsOrdered byte_cmp hash.values };
+    ghost view = { λ hash. map.from_sorted (entries_of hash.form) };
+
+    ghost invariant = { λ hash. AreInOrder (entries_of hash.form) };
 }
 
 impl Hash {
@@ -43,7 +41,7 @@ impl Hash {
     {
         Hash {
             alloc,
-            values: BTreeMap::new(alloc),
+            form: Form::new(alloc),
         }
     }
 
@@ -52,70 +50,67 @@ impl Hash {
         ensures len { result ≡ map.len self.now }
         ensures small { result < 2 ^ 63 }
     {
-        self.values.len()
+        self.form.len()
     }
 
     pub fn is_empty(&self) -> bool
         ensures { IsTrue result ↔ (self.now ≡ map.empty) }
     {
-        self.values.is_empty()
+        self.form.len() == 0
     }
 
-    /// Puts a value at a field, in the place of the one that was there, and says whether the field is new. Logarithmic. Where memory runs
-    /// out nothing is changed.
-    pub fn insert(&mut self, field: Blob, value: Blob) -> Result<bool, Memory>
-        ensures new { IfOk result (λ is_new. is_new ≡ not (map.contains_key self.old field)) }
-        ensures ok { OnOk result (self.new ≡ map.insert self.old field value) }
+    /// Puts a value at a field, in the place of the one that was there, and says whether the field is new. In a block linear in its bytes,
+    /// in a tree logarithmic; O(n log n) where a block becomes a tree. Where memory runs out nothing is changed.
+    pub fn insert(&mut self, field: &Blob, value: &[u8]) -> Result<bool, Memory>
+        ensures new { IfOk result (λ is_new. is_new ≡ not (map.contains_key self.old field.now)) }
+        ensures ok { OnOk result (self.new ≡ map.insert self.old field.now value.now) }
         ensures err { OnErr result (self.new ≡ self.old) }
     {
-        let before = self.values.insert(field, value)?;
-        Ok(before.is_none())
+        let is_new = self.form.insert(self.alloc, field, value)?;
+        Ok(is_new)
     }
 
-    /// The value at a field. Logarithmic.
-    pub fn get(&self, field: &Blob) -> Option<&Blob>
+    /// The value at a field. In a block linear in its bytes, in a tree logarithmic.
+    pub fn get(&self, field: &Blob) -> Option<&[u8]>
         ensures { option_map (λ value. value.now) result ≡ map.get self.now field.now }
     {
-        self.values.get(field)
+        self.form.get(field)
     }
 
-    /// Whether a field is there. Logarithmic.
+    /// Whether a field is there. Costs what `get` does.
     pub fn contains(&self, field: &Blob) -> bool
         ensures { result ≡ map.contains_key self.now field.now }
     {
-        self.values.contains_key(field)
+        self.get(field).is_some()
     }
 
-    /// Takes a field out, and says whether it was there. Logarithmic.
+    /// Takes a field out, and says whether it was there. In a block linear in its bytes, in a tree logarithmic.
     pub fn remove(&mut self, field: &Blob) -> bool
         ensures there { result ≡ map.contains_key self.old field.now }
         ensures removed { self.new ≡ map.remove self.old field.now }
     {
-        self.values.remove(field).is_some()
+        self.form.remove(field)
     }
 
     /// The fields with their values, by the fields' byte order.
-    pub fn pairs(&self) -> Iter<'_, Blob, Blob>
-        ensures pairs { result ≡ map.entries self.now }
-        ensures in_order { ShowsInOrder (deref_pair {K = Bytes} {X = Bytes}) }
+    pub fn pairs(&self) -> Pairs<'_>
+        ensures { result ≡ map.entries self.now }
     {
-        self.values.iter()
+        self.form.pairs()
     }
 
     /// The fields, in byte order.
-    pub fn fields(&self) -> Keys<'_, Blob, Blob>
-        ensures fields { result ≡ map.keys self.now }
-        ensures in_order { ShowsInOrder (deref {X = Bytes}) }
+    pub fn fields(&self) -> Fields<'_>
+        ensures { result ≡ map.keys self.now }
     {
-        self.values.keys()
+        Fields::of(self.pairs())
     }
 
     /// The values, by their fields' byte order.
-    pub fn values(&self) -> Values<'_, Blob, Blob>
-        ensures values { result ≡ map.values self.now }
-        ensures in_order { ShowsInOrder (deref {X = Bytes}) }
+    pub fn values(&self) -> Values<'_>
+        ensures { result ≡ map.values self.now }
     {
-        self.values.values()
+        Values::of(self.pairs())
     }
 
     /// The same fields and values once more. O(n log n), and linear in their bytes.
@@ -124,19 +119,7 @@ impl Hash {
     {
         Ok(Hash {
             alloc: self.alloc,
-            values: copy_each(self.alloc, &self.values)?,
+            form: self.form.copy(self.alloc)?,
         })
     }
-}
-
-fn copy_each(alloc: Global, values: &BTreeMap<Blob, Blob>) -> Result<BTreeMap<Blob, Blob>, Memory>
-    ensures same { IfOk result (λ copied. copied.entries ≡ values.now.entries) }
-    ensures ordered { IfOk result (λ copied. IsOrdered byte_cmp copied) }
-{
-    let mut copied = BTreeMap::new(alloc);
-    for (field, value) in values {
-        let held = value.copy()?;
-        copied.insert(field.copy()?, held)?;
-    }
-    Ok(copied)
 }

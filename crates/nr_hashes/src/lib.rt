@@ -2,5 +2,9 @@
 #![tactic(auto)]
 
 pub use hash::Hash;
+pub use pairs::{Fields, Pairs, Values};
 
+mod form;
 mod hash;
+mod packed;
+mod pairs;

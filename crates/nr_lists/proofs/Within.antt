@@ -1,5 +1,5 @@
 -- Where items stand is within the list.
-use Rattle.std.proofs.Common.{◌≡◌, ℕ, zero, suc, ◌-◌, ◌<◌, ◌^◌, Bool, List, length, take, drop, map, get_or, ap, sym, subst, arith}
+use Rattle.std.proofs.Common.{◌≡◌, ℕ, zero, suc, ◌<◌, ◌^◌, Bool, List, length, drop, sym, subst, arith}
 use Rattle.std.specs.Prelude.{All, filter, bytes_eq, ℤ}
 use Rattle.std.specs.List.{enumerate_from}
 use Rattle.std.proofs.lemmas.List.Elements.{All-take, All-drop, All-filter, All-map, All-weaker}

@@ -43,19 +43,22 @@ pub trait LogEnd {
     fn fill(&mut self, at: u64, node: usize)
         requires number { at ≡ (standing self.old).at }
         requires share { IsSome (slice_index_or (standing self.old).unfilled node None) }
-        ensures { standing self.new ≡ filled_for node (standing self.old) };
+        ensures filled { standing self.new ≡ filled_for node (standing self.old) }
+        ensures looks { looks self.new ≡ looks self.old };
 
     /// The next entry, where its cell is filled.
     fn fetch(&mut self) -> Option<Arc<Entry, Global>>
         requires { (standing self.old).held ≡ None }
         ensures some { IfSome result (λ entry. standing self.new ≡ fetched_with (arc_value entry) (standing self.old)) }
         ensures none { IfNone result (standing self.new ≡ standing self.old) }
-        ensures in_log { StandsInLog (standing self.new) };
+        ensures in_log { StandsInLog (standing self.new) }
+        ensures looks { looks self.new ≡ looks self.old };
 
     /// Passes the entry that was fetched last. Its place may be reserved again once all nodes passed it.
     fn pass(&mut self)
         requires { IsSome (standing self.old).held }
-        ensures { standing self.new ≡ passed_on (standing self.old) };
+        ensures passed { standing self.new ≡ passed_on (standing self.old) }
+        ensures looks { looks self.new ≡ looks self.old };
 
     /// How many entries were reserved.
     fn tail(&mut self) -> u64
@@ -72,5 +75,6 @@ pub trait LogEnd {
     /// A token that keeps how this end stands now.
     fn token(&mut self) -> Self::Token
         ensures kept { kept_by result ≡ standing self.old }
-        ensures same { standing self.new ≡ standing self.old };
+        ensures same { standing self.new ≡ standing self.old }
+        ensures looks { looks self.new ≡ looks self.old };
 }

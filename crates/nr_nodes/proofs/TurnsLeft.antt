@@ -1,5 +1,5 @@
 -- What turns of a node leave: each that does something leaves less of the log to pass, so they end.
-use Rattle.std.proofs.Common.{◌≡◌, ℕ, suc, ◌+◌, ◌-◌, ◌*◌, ◌<◌, Bool, true, false, not, cond, inl, inr, List, [], ◌∷◌, drop, length, get_or, map, refl, ap, sym, ◌∙◌, subst, arith, ltb}
+use Rattle.std.proofs.Common.{◌≡◌, ℕ, suc, ◌+◌, ◌-◌, ◌*◌, ◌<◌, Bool, true, false, not, cond, List, [], ◌∷◌, length, get_or, map, refl, ap, sym, ◌∙◌, subst, arith}
 use Rattle.std.specs.Prelude.{◌||◌}
 use Rattle.std.specs.Bool.{OnTrue}
 use Rattle.std.proofs.lemmas.Bool.{not-false, ltb-true}
@@ -8,7 +8,7 @@ use Rattle.nr_model.specs.Connections.{Setup}
 use Rattle.nr_model.specs.Nodes.{Node, World, no_node, node_at, log_of, tail_of}
 use Rattle.nr_model.specs.Nodes.Steps.{Step, Fetch, Apply, Done, Refused, is_node, outcome, advanced, after_step}
 use Rattle.nr_model.specs.declared.reason.Reason.TheVariants.{NoSuch, Busy, Nothing}
-use Rattle.nr_model.specs.Nodes.Pasts.{Event, IsEvent, AreEvents, is_done, after_event}
+use Rattle.nr_model.specs.Nodes.Pasts.{Event, AreEvents, is_done, after_event}
 use Rattle.nr_model.specs.Nodes.Settling.{does, after_events}
 use Rattle.nr_model.proofs.NodesSteps.{AreSized, each_sized, node_here, step_sized}
 use Rattle.nr_model.proofs.NodesOwnPlaces.{ArePlaced, each_placed}
@@ -19,7 +19,6 @@ use Rattle.nr_model.proofs.NodesRoundsApplied.{idle_still}
 use Rattle.nr_nodes.specs.WorldState.{WorldState, Shows}
 use Rattle.nr_nodes.specs.Whole.{IsHeld}
 use Rattle.nr_nodes.specs.Logs.{log_seen}
-use Rattle.nr_nodes.specs.Served.{node_seen}
 use Rattle.nr_nodes.specs.Rounds.{RunsBy, left_to_pass, turns_left}
 
 -- so it is in a world

@@ -4,7 +4,6 @@ use Rattle.std.specs.Prelude.{Result, Ok, Err}
 use Rattle.std.specs.FinMap as map
 use Rattle.std.specs.Result.{IsErr, IsErrAnd}
 use Rattle.nr_model.specs.Bytes.{Bytes}
-use Rattle.nr_model.specs.Replies.{Reply}
 use Rattle.nr_model.specs.SortedSets.{Scores}
 use Rattle.nr_model.specs.Keyspace.{Key, key_of, Keyspace}
 use Rattle.nr_model.specs.Commands.Shape.{Effect, performed, staying}

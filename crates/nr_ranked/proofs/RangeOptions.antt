@@ -3,7 +3,6 @@ use Rattle.std.proofs.Common.{◌≡◌, List, [], ◌∷◌, refl, ap, ◌∙�
 use Rattle.std.specs.Prelude.{Some, Ok, Err}
 use Rattle.nr_model.specs.Bytes.{Bytes}
 use Rattle.nr_model.specs.SortedSets.{Limit}
-use Rattle.nr_model.specs.Replies.{Reply}
 use Rattle.nr_model.specs.Commands.Reading.{Read, read_then}
 use Rattle.nr_model.specs.Commands.Shape.{refusal}
 use Rattle.nr_model.specs.Commands.SortedSets.{RangeOptions, RangeWord, Surplus, Alone, Limiting, Options, range_word, range_options, all_read, stopped, half_limit, limit_of}

@@ -5,7 +5,7 @@ use Rattle.std.proofs.Math.Seq.{take-nil, drop-nil}
 use Rattle.std.specs.FinMap as finmap
 use Rattle.nr_model.specs.Keyspace.{byte_cmp}
 use Rattle.nr_model.specs.Replies.{array, Int}
-use Rattle.nr_model.specs.SortedSets.{Scores, Scored, ranked, told_in, counted, windowed, limited_to, Limit, Bounds, between, Ends, Places, Within, told_range}
+use Rattle.nr_model.specs.SortedSets.{Scores, Scored, ranked, told_in, windowed, limited_to, Limit, Bounds, between, Ends, Places, Within, told_range}
 use Rattle.nr_model.specs.Commands.SortedSets.{members_array, EndsRequest, ends_request, RangeOptions, RangeRequest, range_request, direction_of, sorted_at, count}
 use Rattle.nr_model.specs.Commands.SortedSets as sorted_sets
 use Rattle.nr_model.specs.Commands.Shape.{answered}

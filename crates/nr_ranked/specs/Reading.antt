@@ -1,6 +1,5 @@
 -- What commands on sorted sets read, as the definitions have it.
 use Rattle.std.specs.Prelude.{ℕ, List, ◌∷◌, ◌++◌, Option, None, Some, Ok, map, ℤ, pos, negsuc}
-use Rattle.nr_model.specs.Bytes.{Bytes}
 use Rattle.nr_model.specs.SortedSets as model
 use Rattle.nr_model.specs.SortedSets.{Scored}
 use Rattle.nr_model.specs.Commands.Reading.{Read, read_then}

@@ -104,6 +104,20 @@ impl Replica {
         self.applied
     }
 
+    /// The node whose replica it is.
+    pub fn node(&self) -> usize
+        ensures { result ≡ self.now.node }
+    {
+        self.node
+    }
+
+    /// How many connections were ever opened.
+    pub fn connections(&self) -> usize
+        ensures { result ≡ length self.now.members }
+    {
+        self.members.len()
+    }
+
     /// The worker that serves a connection.
     pub fn worker(&self, serial: usize) -> usize
         requires { serial < length self.now.members }
@@ -247,6 +261,15 @@ impl Replica {
         self.staging.clear();
         self.applied += 1;
         true
+    }
+
+    /// It falls: what waits is dropped, and it is never read again.
+    pub fn fall(&mut self)
+        ensures { self.new ≡ fallen self.old }
+    {
+        forget(&mut self.waiting, &mut self.staging);
+        self.is_down = true;
+        self.is_refused = false;
     }
 
     /// Runs the reads that lead, and hands them back. They change nothing but what waits for their connections, and one for which memory is

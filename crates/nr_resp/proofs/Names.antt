@@ -1,24 +1,10 @@
--- A look-up that compares with each name in turn.
-use Rattle.std.proofs.Common.{◌≡◌, Bool, true, false, cond, List, [], ◌∷◌, ◌++◌, Some, None, map, rules}
+-- A look-up in tables behind one another.
+use Rattle.std.proofs.Common.{◌≡◌, Bool, true, false, cond, List, [], ◌∷◌, ◌++◌, Some, None}
 use Rattle.std.specs.Prelude.{Option}
-use Rattle.std.specs.Bool.{IsTrue}
-use Rattle.std.specs.Char.{to_ascii_lowercase}
 use Rattle.std.specs.Str.{bytes_eq, str_to_ascii_lowercase}
 use Rattle.nr_model.specs.Bytes.{Bytes}
 use Rattle.nr_model.specs.Commands.{named, row_of}
 use Rattle.nr_model.specs.declared.command.Command.{Command}
-
-skipped : {A : Type 0} (met : Bool) (x y z : A) → met ≡ false → z ≡ y → z ≡ cond met x y
-skipped true x y z e h = absurd (cc e)
-skipped false x y z e h = h
-
-unmet : (name word shown : Bytes) → shown ≡ name → (map to_ascii_lowercase word ≡ map to_ascii_lowercase shown → IsTrue false) → bytes_eq (map to_ascii_lowercase name) (str_to_ascii_lowercase word) ≡ false
-unmet name word shown is differs = search rules
-
--- a row of another name
-pub another : {A : Type 0} (name word shown : Bytes) (x y z : A) → shown ≡ name → (map to_ascii_lowercase word ≡ map to_ascii_lowercase shown → IsTrue false) → z ≡ y
-    → z ≡ cond (bytes_eq (map to_ascii_lowercase name) (str_to_ascii_lowercase word)) x y
-another name word shown x y z is differs rest = skipped (bytes_eq (map to_ascii_lowercase name) (str_to_ascii_lowercase word)) x y z (unmet name word shown is differs) rest
 
 here_if : {A : Type 0} (b : Bool) (x c : A) (r s : Option A) → Some c ≡ cond b (Some x) r → (Some c ≡ r → Some c ≡ s) → Some c ≡ cond b (Some x) s
 here_if true x c r s e rest = e

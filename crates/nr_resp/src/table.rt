@@ -1,5 +1,6 @@
 // The one table of commands that are served: a macro holds each row once, and look-ups, names and counts of words are read from it.
-ghost use Rattle.std.specs.Prelude.{◌≡◌, option_map};
+ghost use Rattle.std.specs.Prelude.{◌≡◌, option_map, map, bytes_eq};
+ghost use Rattle.std.specs.Char.{to_ascii_lowercase};
 ghost use Rattle.nr_model.specs.Commands as table;
 ghost use Rattle.nr_model.specs.Commands.{named, served, row_of};
 ghost use Rattle.nr_model.specs.Commands.Shape as shape;
@@ -195,7 +196,7 @@ macro_rules! rows {
 
 macro_rules! find {
     ($section:ident, $word:ident; $($id:ident $(($($of:tt)+))?, $name:literal, $test:ident $count:literal);*) => {{
-        $(if $word.eq_ignore_ascii_case($name.as_bytes()) {
+        $(if is_name($word, $name) {
             return Some($section::$id $(($($of)+))?);
         })*
         None
@@ -225,6 +226,13 @@ macro_rules! arity_ok {
             $($section::$id $(($($of)+))? => is_count!($test $count, $words),)*
         }
     };
+}
+
+// Whether a word is a name, whatever the case of its ASCII letters.
+fn is_name(word: &[u8], name: &str) -> bool
+    ensures { result ≡ bytes_eq (map to_ascii_lowercase name.now) (str_to_ascii_lowercase word.now) }
+{
+    word.eq_ignore_ascii_case(name.as_bytes())
 }
 
 /// The command of a name, whatever the case of its ASCII letters. It compares lengths, and few of the bytes.

@@ -1,7 +1,7 @@
 -- What a server has done for its clients, from the bytes that their streams know to what one sequential Redis emits: the theorem of `serve_answered`.
 use Rattle.std.specs.Prelude.{ℕ, List, Option, IfSome, All}
 use Rattle.nr_model.specs.Bytes.{Bytes, IsBeginningOf}
-use Rattle.nr_model.specs.Items.{Connection, Sequence}
+use Rattle.nr_model.specs.Items.{Sequence}
 use Rattle.nr_model.specs.Sequential.{emitted_for}
 use Rattle.nr_model.specs.Connections.{Setup, fed_to}
 use Rattle.nr_model.specs.Nodes.{World}

@@ -185,6 +185,13 @@ pub no_score : (xs : List Scored) → slice_get xs 0 ≡ None → HaveOneScore x
 no_score [] none = tt
 no_score (x ∷ xs) none = absurd (cc)
 
+-- where all have one score, the first and another have it
+pub score_shared : (xs : List Scored) (k : ℕ) (first last : Scored) → slice_get xs 0 ≡ Some first → slice_get xs k ≡ Some last → HaveOneScore xs → first.1 ≡ last.1
+score_shared [] k first last at_first at_last one = absurd (cc)
+score_shared (x ∷ xs) zero first last at_first at_last one = ap (λ (z : Scored). z.1) (sym (same_Some x first at_first) ∙ same_Some x last at_last)
+score_shared (x ∷ xs) (suc k) first last at_first at_last one =
+    ap (λ (z : Scored). z.1) (sym (same_Some x first at_first)) ∙ sym (all_at (λ y. y.1 ≡ x.1) xs k last one at_last)
+
 -- what is left to look at from a place on, by what stands there
 pub next_between : (bounds : Bounds) (xs : List Scored) (place : ℕ) → place < length xs
     → between bounds (drop place xs) ≡ option_to_list (held_at bounds place xs) ++ between bounds (drop (place + 1) xs)

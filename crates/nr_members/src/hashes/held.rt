@@ -27,8 +27,8 @@ pub(super) fn hash_at<'k>(
     }
 }
 
-/// The value at a field, none where the field or the hash is missing. Logarithmic.
-pub(super) fn value_in<'k>(hash: Option<&'k Hash>, field: &Blob) -> Option<&'k Blob>
+/// The value at a field, none where the field or the hash is missing. Its cost is that of [`Hash::get`].
+pub(super) fn value_in<'k>(hash: Option<&'k Hash>, field: &Blob) -> Option<&'k [u8]>
     ensures { option_map (λ value. value.now) result ≡ map.get (hashes.or_none (option_map (λ hash. hash.now) hash.entry)) field.now }
 {
     match hash {
@@ -37,7 +37,7 @@ pub(super) fn value_in<'k>(hash: Option<&'k Hash>, field: &Blob) -> Option<&'k B
     }
 }
 
-/// Whether a field is there. Logarithmic.
+/// Whether a field is there. Its cost is that of [`Hash::contains`].
 pub(super) fn has_field(hash: Option<&Hash>, field: &Blob) -> bool
     ensures { result ≡ map.contains_key (hashes.or_none (option_map (λ hash. hash.now) hash.entry)) field.now }
 {

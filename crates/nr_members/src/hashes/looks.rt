@@ -35,11 +35,11 @@ pub fn hget<'k>(
 }
 
 // A value as a bulk, lent, and the null bulk for none.
-fn bulk_or_null<'k>(value: Option<&'k Blob>) -> Shown<'k>
+fn bulk_or_null<'k>(value: Option<&'k [u8]>) -> Shown<'k>
     ensures { shown_reply result ≡ strings.bulk_or_null (option_map (λ value. value.now) value.entry) }
 {
     match value {
-        Some(value) => Shown::Bulk(value.bytes()),
+        Some(value) => Shown::Bulk(value),
         None => Shown::Owned(Reply::NullBulk),
     }
 }
@@ -78,11 +78,11 @@ fn values_at<'k>(
     Ok(items)
 }
 
-fn item_of<'k>(value: Option<&'k Blob>) -> Item<'k>
+fn item_of<'k>(value: Option<&'k [u8]>) -> Item<'k>
     ensures { item_reply result ≡ strings.bulk_or_null (option_map (λ value. value.now) value.entry) }
 {
     match value {
-        Some(value) => Item::Bulk(value.bytes()),
+        Some(value) => Item::Bulk(value),
         None => Item::Null,
     }
 }
@@ -148,11 +148,11 @@ pub fn hstrlen<'k>(
 }
 
 // The bytes of a value, lent, and none of no value.
-fn bytes_of<'k>(value: Option<&'k Blob>) -> &'k [u8]
+fn bytes_of<'k>(value: Option<&'k [u8]>) -> &'k [u8]
     ensures { result.now ≡ strings.or_empty (option_map (λ value. value.now) value.entry) }
 {
     match value {
-        Some(value) => value.bytes(),
+        Some(value) => value,
         None => &[],
     }
 }
@@ -187,7 +187,7 @@ fn fields_of<'k>(alloc: Global, hash: &'k Hash) -> Result<Vec<Item<'k>>, Memory>
 {
     let mut items = Vec::with_capacity(alloc, hash.len())?;
     for field in hash.fields() {
-        items.push(Item::Bulk(field.bytes()))?;
+        items.push(Item::Bulk(field))?;
     }
     Ok(items)
 }
@@ -215,7 +215,7 @@ fn values_of<'k>(alloc: Global, hash: &'k Hash) -> Result<Vec<Item<'k>>, Memory>
 {
     let mut items = Vec::with_capacity(alloc, hash.len())?;
     for value in hash.values() {
-        items.push(Item::Bulk(value.bytes()))?;
+        items.push(Item::Bulk(value))?;
     }
     Ok(items)
 }
@@ -243,8 +243,8 @@ fn pairs_of<'k>(alloc: Global, hash: &'k Hash) -> Result<Vec<Item<'k>>, Memory>
 {
     let mut items = Vec::with_capacity(alloc, 2 * hash.len())?;
     for (field, value) in hash.pairs() {
-        items.push(Item::Bulk(field.bytes()))?;
-        items.push(Item::Bulk(value.bytes()))?;
+        items.push(Item::Bulk(field))?;
+        items.push(Item::Bulk(value))?;
     }
     Ok(items)
 }

@@ -77,7 +77,7 @@ impl<'k> HashEdit for Increment<'k> {
         match sum_in(hash, self.field, self.by) {
             Ok(sum) => {
                 let text = number(self.alloc, sum)?;
-                hash.insert(self.field.copy()?, text)?;
+                hash.insert(self.field, text.bytes())?;
                 Ok(Ok(sum))
             }
             Err(why) => Ok(Err(why)),
@@ -95,7 +95,7 @@ fn sum_in(hash: &Hash, field: &Blob, by: i64) -> Result<i64, Refused>
 }
 
 // The number that a value spells, 0 of no value.
-fn number_of(value: Option<&Blob>) -> Result<i64, Refused>
+fn number_of(value: Option<&[u8]>) -> Result<i64, Refused>
     ensures number { IfOk result (λ n. hashes.number_of (option_map (λ value. value.now) value.entry) ≡ Ok n) }
     ensures refused { IfErr result (λ why. hashes.number_of (option_map (λ value. value.now) value.entry) ≡ fault why) }
 {
@@ -105,11 +105,11 @@ fn number_of(value: Option<&Blob>) -> Result<i64, Refused>
     }
 }
 
-fn integer_of(value: &Blob) -> Result<i64, Refused>
+fn integer_of(value: &[u8]) -> Result<i64, Refused>
     ensures number { IfOk result (λ n. reading.integer_or refusals.HashNotAnInteger (int_value value.now) ≡ Ok n) }
     ensures refused { IfErr result (λ why. reading.integer_or refusals.HashNotAnInteger (int_value value.now) ≡ fault why) }
 {
-    match read_int(value.bytes()) {
+    match read_int(value) {
         Some(n) => Ok(n),
         None => Err(Refused::HashNotAnInteger),
     }

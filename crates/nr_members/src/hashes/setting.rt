@@ -159,8 +159,7 @@ fn insert_all(hash: &mut Hash, words: &[Blob]) -> Result<(), Memory>
 {
     let mut left = words;
     while let Some((field, value, others)) = first_pair(left) {
-        let value = value.copy()?;
-        hash.insert(field.copy()?, value)?;
+        hash.insert(field, value.bytes())?;
         left = others;
     }
     Ok(())
@@ -216,8 +215,7 @@ impl<'k> HashEdit for Pair<'k> {
     ghost edits = { λ edit old new given. (given ≡ Ok tt) × (new ≡ map.insert old edit.field.now edit.value.now) };
 
     fn edit(self, hash: &mut Hash) -> Result<Result<(), Refused>, Memory> {
-        let value = self.value.copy()?;
-        hash.insert(self.field.copy()?, value)?;
+        hash.insert(self.field, self.value.bytes())?;
         Ok(Ok(()))
     }
 }

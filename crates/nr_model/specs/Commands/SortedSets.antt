@@ -8,7 +8,7 @@ use Rattle.nr_model.specs.Replies.{Reply, Int, Bulk, NullBulk, array}
 use Rattle.nr_model.specs.SortedSets.{Scores, Scored, ranked, rank_of, as_score, score_value, score_bound, byte_bound, Bound, Bounds, ByScore, ByBytes, told_in, without, Limit, Ends, Places, Within, told_range, of_members, weighted, joined, are_scores}
 use Rattle.nr_model.specs.Keyspace as keyspaces
 use Rattle.nr_model.specs.Keyspace.{Key, key_of, Keyspace, Stored, Value, Text, Items, Fields}
-use Rattle.nr_model.specs.Commands.Shape.{Effect, unchanged, refusal, refused, answered, performed}
+use Rattle.nr_model.specs.Commands.Shape.{Effect, refusal, refused, answered, performed}
 use Rattle.nr_model.specs.Commands.Reading.{Read, fault, read_then, one_word, two_words, three_words, integer, integer_or, is_word}
 use Rattle.nr_model.specs.Commands.Held.{held_as, scores_at, kept_under}
 use Rattle.nr_model.specs.Commands.Keys.{Conditions, condition, unconditional, compatible}

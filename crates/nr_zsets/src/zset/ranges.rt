@@ -1,5 +1,5 @@
 // Members between bounds. Those stand behind one another, unless bounds of bytes are set where scores differ: then every member is looked at.
-ghost use Rattle.std.specs.Prelude.{◌≡◌, ◌+◌, ◌-◌, ◌≤◌, ◌<◌, ◌^◌, true, min, drop, length, map, IfSome, IfOk};
+ghost use Rattle.std.specs.Prelude.{◌≡◌, ◌+◌, ◌-◌, ◌≤◌, ◌<◌, ◌^◌, true, min, drop, length, map, IfSome, IfNone, IfOk};
 ghost use Rattle.std.specs.Option.{option_map};
 ghost use Rattle.std.specs.FinMap as finmap;
 ghost use Rattle.nr_model.specs.SortedSets.{ranked, told_in, between, without};
@@ -42,7 +42,8 @@ fn limited(count: Option<usize>, most: usize) -> usize
 impl Zset {
     // Whether all scores are equal.
     fn has_one_score(&self) -> bool
-        ensures { result ≡ true → HaveOneScore (ranked self.now) }
+        ensures one { result ≡ true → HaveOneScore (ranked self.now) }
+        ensures all { HaveOneScore (ranked self.now) → result ≡ true }
     {
         let Some((_, first)) = self.tree.get(0) else {
             return true;
@@ -55,7 +56,8 @@ impl Zset {
 
     // Whether those between the bounds are known to stand behind one another.
     fn stand_together(&self, bounds: &Bounds<'_>) -> bool
-        ensures { result ≡ true → StandTogether (seen_bounds bounds.now) (ranked self.now) }
+        ensures they_do { result ≡ true → StandTogether (seen_bounds bounds.now) (ranked self.now) }
+        ensures is_known { StandTogether (seen_bounds bounds.now) (ranked self.now) → result ≡ true }
     {
         match bounds {
             Bounds::ByScore(_, _) => true,
@@ -68,6 +70,7 @@ impl Zset {
         ensures between { IfSome result (λ ends. between (seen_bounds bounds.now) (ranked self.now) ≡ part ends.0 ends.1 (ranked self.now)) }
         ensures low { IfSome result (λ ends. ends.0 ≤ finmap.len self.now) }
         ensures high { IfSome result (λ ends. ends.1 ≤ finmap.len self.now) }
+        ensures none { IfNone result (StandTogether (seen_bounds bounds.now) (ranked self.now) → ⊥) }
     {
         if !self.stand_together(bounds) {
             return None;

@@ -1,4 +1,4 @@
-use Rattle.std.proofs.Common.{rules, ◌≡◌, ◌≤◌, ap, sym, ◌∙◌, None, length}
+use Rattle.std.proofs.Common.{rules, ap, sym, ◌∙◌, None, length}
 use Rattle.nr_model.specs.SortedSets.{told_range}
 use Rattle.nr_model.specs.declared.command.Direction.TheVariants.{Ascending}
 use Rattle.nr_ranked.specs.Reading.{ends_of}

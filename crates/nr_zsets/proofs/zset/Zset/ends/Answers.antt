@@ -9,7 +9,7 @@ pub returns-clause-between : goal.returns-clause-between
 returns-clause-between c =
     let together : c.stand_together.result ≡ true = search (c.if-not-stand_together.false) in
     between_part (seen_bounds c.args.bounds.now) c.self.inside.tree.0 c.args.self.now c.find-low.result c.find-high.result
-    (c.self.invariant ∙ ap ranked c.self.view_is) (c.stand_together.ensures together) c.find-low.ensures.place c.find-high.ensures.place
+    (c.self.invariant ∙ ap ranked c.self.view_is) (c.stand_together.ensures.they_do together) c.find-low.ensures.place c.find-high.ensures.place
 
 pub returns-clause-low : goal.returns-clause-low
 returns-clause-low c =

@@ -1,0 +1,10 @@
+use Rattle.std.proofs.Common.{ap, ◌∙◌}
+use Rattle.nr_hashes.specs.Packed.{Entries, entries_in}
+use Rattle.nr_hashes.specs.Placed.{from, value_first}
+use Rattle.nr_hashes.proofs.Placed.{found}
+use Rattle.nr_hashes.proofs.packed.Packed.get.Goals as goal
+
+pub returns : goal.returns
+returns c =
+    c.place_of.ensures.value ∙ ap (λ (es : Entries). value_first c.args.field.now (from c.args.field.now es)) (ap entries_in c.deref.ensures.value ∙ c.self.view_is)
+    ∙ found c.args.field.now c.args.self.now c.requires

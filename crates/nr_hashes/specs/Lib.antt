@@ -1,0 +1,5 @@
+pub mod Forms
+pub mod Listed
+pub mod Packed
+pub mod Orders
+pub mod Placed
