@@ -1,0 +1,304 @@
+-- A node goes on by entries, one after the other.
+use Rattle.std.proofs.Common.{◌≡◌, ℕ, ◌<◌, ◌≤◌, ◌+◌, ◌-◌, inl, inr, Bool, true, false, List, [], ◌∷◌, ◌++◌, length, map, refl, ap, sym, ◌∙◌, subst, arith, append_assoc}
+use Rattle.std.specs.Prelude.{◌⊎◌, ◌==◌, cond, Option, None}
+use Rattle.std.proofs.lemmas.List.{append-nil, length-append, map-append}
+use Rattle.nr_model.specs.Items.{Connection}
+use Rattle.nr_model.specs.Servers.{emitted_all}
+use Rattle.nr_model.specs.Entries.{Jobs, entry_items}
+use Rattle.nr_model.specs.Nodes.Steps.{texts_for}
+use Rattle.nr_entry.specs.Jobs.{items_of}
+use Rattle.nr_entry.specs.declared.entry.Entry.{Entry}
+use Rattle.nr_log_end.specs.declared.standing.Standing.{Standing}
+use Rattle.nr_log_end.specs.declared.standing.Turn.{Turn}
+use Rattle.nr_log_end.specs.declared.standing.Turn.TheVariants.{Applied}
+use Rattle.nr_log_end.specs.Standings.{applied_of, passed_of, StandsInLog, LooksOn, fetched_with, passed_on}
+use Rattle.nr_oplog.specs.declared.view.LogView.{LogView}
+use Rattle.nr_accounts.specs.Book.{Book}
+use Rattle.nr_replica.specs.Members.{worker_of}
+use Rattle.nr_replica.specs.Replicas.{ReplicaState, IsApplied, owed_from}
+use Rattle.nr_node.specs.declared.next.Next.{Next}
+use Rattle.nr_node.specs.Level.{unpassed, jobs_reserved, IsInOrder}
+use Rattle.nr_node.specs.Next.{jobs_next}
+use Rattle.nr_node.specs.Owing.{IsOwing, awaited, unexecuted}
+use Rattle.nr_node.specs.Advanced.{IsTakenIn, HasPassed, GoesOn, HaveGot}
+use Rattle.nr_node.proofs.Lists.{applied-append, still_in_log, reserved_passed}
+use Rattle.nr_node.proofs.Queues.{delivered_length}
+use Rattle.nr_node.proofs.Levels.{passed_level, same_level}
+use Rattle.nr_node.proofs.Got.{got_itself, got_on, got_received}
+use Rattle.nr_node.proofs.Owed.{workers_owing, passed_owing, received_workers, still_awaited_if}
+use Rattle.nr_node.proofs.Orders.{passed_order, passed_down, met_order}
+
+-- by none
+pub goes_none : (s : Standing) (replica : ReplicaState) (next : Option Next) → GoesOn [] s s replica replica next next
+goes_none s replica next = record {
+  passed = record { seen = omega arith; standing = λ i. record s { history = sym (append-nil s.history) i } };
+  level = λ l. l;
+  order = λ book o. o;
+  owing = λ l up o. o;
+  members = refl;
+  workers = λ c. refl;
+  owed = refl;
+  got = got_itself replica.members;
+  refused = λ up. refl;
+  up = λ up. (up, refl, refl);
+  after_is = inr refl;
+}
+
+passed_then : (es fs : List Entry) (s t u : Standing) → HasPassed es s t → HasPassed fs t u → HasPassed (es ++ fs) s u
+passed_then es fs s t u a b =
+    let seen : s.seen ≤ u.seen = omega (arith, a.seen, b.seen) in
+    let history : t.history ++ map Applied fs ≡ s.history ++ map Applied (es ++ fs) =
+    ap (λ (x : Standing). x.history ++ map Applied fs) a.standing ∙ append_assoc s.history (map Applied es) (map Applied fs)
+    ∙ ap (λ (h : List Turn). s.history ++ h) (sym (map-append Applied es fs)) in
+    record {
+      seen = seen;
+      standing = b.standing ∙ ap (λ (x : Standing). record x { history = t.history ++ map Applied fs; seen = u.seen }) a.standing
+          ∙ ap (λ (h : List Turn). record s { history = h; seen = u.seen }) history;
+    }
+
+-- by some, and then by others
+pub goes_then : (es fs : List Entry) (s t u : Standing) (a b c : ReplicaState) (n m k : Option Next) → GoesOn es s t a b n m → GoesOn fs t u b c m k
+    → GoesOn (es ++ fs) s u a c n k
+goes_then es fs s t u a b c n m k first last = record {
+  passed = passed_then es fs s t u first.passed last.passed;
+  level = λ l. last.level (first.level l);
+  order = λ book o. last.order book (first.order book o);
+  owing = λ l up o. last.owing (first.level l) up (first.owing l (last.up up).0 o);
+  members = last.members ∙ first.members;
+  workers = λ c. last.workers c ∙ first.workers c;
+  owed = last.owed ∙ first.owed;
+  got = got_on a.members b.members c.members first.got last.got;
+  refused = λ up. last.refused up ∙ first.refused (last.up up).0;
+  up = λ up.
+      let was = last.up up in
+      let before = first.up was.0 in
+      (before.0, was.1 ∙ before.1, was.2 ∙ before.2);
+  after_is = elim last.after_is [
+    | inl none ↦ inl none
+    | inr same ↦ elim first.after_is [ inl none ↦ inl (same ∙ none) | inr first_same ↦ inr (same ∙ first_same) ]
+  ];
+}
+
+-- what an entry leaves
+record Leaves (old new : ReplicaState) : Type 0 where
+  pub members : length new.members ≡ length old.members
+  pub workers : (c : Connection) → worker_of new.members c ≡ worker_of old.members c
+  pub owed : awaited new.owed ≡ awaited old.owed
+  pub got : HaveGot old.members new.members
+  pub refused : new.down ≡ false → new.refused ≡ old.refused
+  pub up : new.down ≡ false → (old.down ≡ false) × (new.waiting ≡ old.waiting)
+  pub waits : (new.waiting ≡ []) ⊎ (new.waiting ≡ old.waiting)
+
+leaves : (e : Entry) (old new : ReplicaState) → IsTakenIn e old new → Leaves old new
+leaves e old new taken = elim taken [
+  | inl down ↦ record {
+    members = ap (λ (r : ReplicaState). length r.members) down.1;
+    workers = λ c. ap (λ (r : ReplicaState). worker_of r.members c) down.1;
+    owed = ap (λ (r : ReplicaState). awaited r.owed) down.1;
+    got = subst (λ (r : ReplicaState). HaveGot old.members r.members) (sym down.1) (got_itself old.members);
+    refused = λ up. ap (λ (r : ReplicaState). r.refused) down.1;
+    up = λ up. absurd (cc (up, ap (λ (r : ReplicaState). r.down) down.1, down.0));
+    waits = inr (ap (λ (r : ReplicaState). r.waiting) down.1);
+  }
+  | inr up ↦ elim up.1 [
+    | inl applied ↦
+        let waiting : new.waiting ≡ old.waiting = ap (λ (r : ReplicaState). r.waiting) applied.state in
+        record {
+          members = delivered_length (emitted_all old.server (entry_items (items_of e.jobs.items))) old.members new.members applied.delivered;
+          workers = received_workers (λ c. texts_for c (emitted_all old.server (entry_items (items_of e.jobs.items)))) old.members new.members applied.delivered;
+          owed = ap (λ (r : ReplicaState). awaited r.owed) applied.state ∙ still_awaited_if (e.node == old.node) old.members (items_of e.jobs.items) old.owed;
+          got = got_received (λ c. texts_for c (emitted_all old.server (entry_items (items_of e.jobs.items)))) old.members new.members applied.delivered;
+          refused = λ _. ap (λ (r : ReplicaState). r.refused) applied.state;
+          up = λ _. (up.0, waiting);
+          waits = inr waiting;
+        }
+    | inr fell ↦ record {
+      members = ap (λ (r : ReplicaState). length r.members) fell;
+      workers = λ c. ap (λ (r : ReplicaState). worker_of r.members c) fell;
+      owed = ap (λ (r : ReplicaState). awaited r.owed) fell;
+      got = subst (λ (r : ReplicaState). HaveGot old.members r.members) (sym fell) (got_itself old.members);
+      refused = λ up. absurd (cc (up, ap (λ (r : ReplicaState). r.down) fell));
+      up = λ up. absurd (cc (up, ap (λ (r : ReplicaState). r.down) fell));
+      waits = inl (ap (λ (r : ReplicaState). r.waiting) fell);
+    }
+  ]
+]
+
+order_kept : (s t : Standing) (e : Entry) (old new : ReplicaState) (next after : Option Next) (b : Bool) → new.down ≡ b → t ≡ passed_on (fetched_with e s)
+    → StandsInLog (fetched_with e s) → Leaves old new → (b ≡ true → after ≡ None) → (b ≡ false → after ≡ next)
+    → (book : Book) → IsInOrder s old book (jobs_next next) → IsInOrder t new book (jobs_next after)
+order_kept s t e old new next after true is t_is stands leaves none same book o =
+    subst (λ (n : Option Next). IsInOrder t new book (jobs_next n)) (sym (none refl))
+    (passed_down s t e old new book (jobs_next next) t_is stands leaves.members is leaves.waits o)
+order_kept s t e old new next after false is t_is stands leaves none same book o =
+    subst (λ (n : Option Next). IsInOrder t new book (jobs_next n)) (sym (same refl))
+    (passed_order s t e old new book (jobs_next next) t_is stands leaves.members (λ up. (leaves.up up).0) (leaves.up is).1 o)
+
+-- what is owed once one was applied
+owing_kept : (s t : Standing) (e : Entry) (old new : ReplicaState) (next after : Option Next) → t ≡ passed_on (fetched_with e s) → StandsInLog (fetched_with e s)
+    → s.node ≡ old.node → IsApplied e old new → after ≡ next → IsOwing old.members old.owed (unexecuted s (jobs_next next) old.waiting)
+    → IsOwing new.members new.owed (unexecuted t (jobs_next after) new.waiting)
+owing_kept s t e old new next after t_is stands node applied same o =
+    let p = passed_on (fetched_with e s) in
+    let items = items_of e.jobs.items in
+    let later = jobs_reserved (unpassed p) in
+    let rest = items_of (jobs_next next) ++ items_of old.waiting in
+    let es = emitted_all old.server (entry_items items) in
+    let before : jobs_reserved (unpassed s) ≡ cond (e.node == old.node) (items ++ later) later =
+    reserved_passed s e stands ∙ ap (λ (n : ℕ). cond (e.node == n) (items ++ later) later) node in
+    let less = passed_owing (e.node == old.node) old.members old.owed items later rest
+    (subst (λ (js : Jobs). IsOwing old.members old.owed (js ++ rest)) before o) in
+    let owed : cond (e.node == old.node) (owed_from 0 old.members items old.owed) old.owed ≡ new.owed = sym (ap (λ (r : ReplicaState). r.owed) applied.state) in
+    let waiting : new.waiting ≡ old.waiting = ap (λ (r : ReplicaState). r.waiting) applied.state in
+    let jobs : later ++ rest ≡ unexecuted t (jobs_next after) new.waiting =
+    λ i. jobs_reserved (unpassed (sym t_is i)) ++ (items_of (jobs_next (sym same i)) ++ items_of (sym waiting i)) in
+    subst (IsOwing new.members new.owed) jobs
+    (subst (λ (os : List (Option ℕ)). IsOwing new.members os (later ++ rest)) owed
+    (workers_owing old.members new.members _ (later ++ rest) (delivered_length es old.members new.members applied.delivered)
+    (received_workers (λ c. texts_for c es) old.members new.members applied.delivered) less))
+
+owing_taken : (s t : Standing) (e : Entry) (old new : ReplicaState) (next after : Option Next) → t ≡ passed_on (fetched_with e s) → StandsInLog (fetched_with e s)
+    → s.node ≡ old.node → IsTakenIn e old new → after ≡ next → new.down ≡ false → IsOwing old.members old.owed (unexecuted s (jobs_next next) old.waiting)
+    → IsOwing new.members new.owed (unexecuted t (jobs_next after) new.waiting)
+owing_taken s t e old new next after t_is stands node taken same is_up o = elim taken [
+  | inl down ↦ absurd (cc (is_up, ap (λ (r : ReplicaState). r.down) down.1, down.0))
+  | inr up ↦ elim up.1 [
+    | inl applied ↦ owing_kept s t e old new next after t_is stands node applied same o
+    | inr fell ↦ absurd (cc (is_up, ap (λ (r : ReplicaState). r.down) fell))
+  ]
+]
+
+after_by : (b : Bool) (next after : Option Next) → (b ≡ true → after ≡ None) → (b ≡ false → after ≡ next) → (after ≡ None) ⊎ (after ≡ next)
+after_by true next after none same = inl (none refl)
+after_by false next after none same = inr (same refl)
+
+-- by one
+pub goes_by_entry : (s held t : Standing) (e : Entry) (old new : ReplicaState) (next after : Option Next) → s.held ≡ None → held ≡ fetched_with e s
+    → t ≡ passed_on held → StandsInLog held → IsTakenIn e old new → (new.down ≡ true → after ≡ None) → (new.down ≡ false → after ≡ next)
+    → GoesOn (e ∷ []) s t old new next after
+goes_by_entry s held t e old new next after idle fetched passed stands taken none same =
+    let l = leaves e old new taken in
+    let is : t ≡ passed_on (fetched_with e s) = passed ∙ ap passed_on fetched in
+    let log : StandsInLog (fetched_with e s) = subst StandsInLog fetched stands in
+    record {
+      passed = record {
+        seen = let seen = ap (λ (x : Standing). x.seen) is in omega (arith, seen);
+        standing = is ∙ (λ i. record s { history = s.history ++ Applied e ∷ []; held = sym idle i; seen = sym (ap (λ (x : Standing). x.seen) is) i });
+      };
+      level = λ lv. passed_level s t e old new is taken lv;
+      order = order_kept s t e old new next after new.down refl is log l none same;
+      owing = λ lv up o. owing_taken s t e old new next after is log lv.node taken (same up) up o;
+      members = l.members;
+      workers = l.workers;
+      owed = l.owed;
+      got = l.got;
+      refused = l.refused;
+      up = λ up. ((l.up up).0, same up, (l.up up).1);
+      after_is = after_by new.down next after none same;
+    }
+
+all_applied : (es : List Entry) → applied_of (map Applied es) ≡ es
+all_applied [] = refl
+all_applied (e ∷ es) = ap (λ (xs : List Entry). e ∷ xs) (all_applied es)
+
+-- how many entries are passed
+pub passed_by : (es : List Entry) (s t : Standing) → HasPassed es s t → passed_of t ≡ passed_of s + length es
+passed_by es s t h =
+    ap (λ (x : Standing). length (applied_of x.history)) h.standing ∙ ap length (applied-append s.history (map Applied es) ∙ ap (λ (xs : List Entry). applied_of s.history ++ xs) (all_applied es))
+    ∙ length-append (applied_of s.history) es
+
+-- a tail was met
+pub goes_tail : (s t : Standing) (replica : ReplicaState) (next : Option Next) → LooksOn s t → GoesOn [] s t replica replica next next
+goes_tail s t replica next looks = record {
+  passed = record { seen = looks.0; standing = looks.1 ∙ (λ i. record s { history = sym (append-nil s.history) i; seen = t.seen }) };
+  level = λ l. same_level s t replica replica (ap (λ (x : Standing). x.node) looks.1) (ap (λ (x : Standing). x.history) looks.1) refl refl refl refl refl l;
+  order = λ book o. met_order s t replica book (jobs_next next) (record { seen = looks.0; standing = looks.1 }) o;
+  owing = λ l up o. subst (λ (x : Standing). IsOwing replica.members replica.owed (unexecuted x (jobs_next next) replica.waiting)) (sym looks.1) o;
+  members = refl;
+  workers = λ c. refl;
+  owed = refl;
+  got = got_itself replica.members;
+  refused = λ up. refl;
+  up = λ up. (up, refl, refl);
+  after_is = inr refl;
+}
+
+-- the log stands behind an entry that was passed
+pub log_passed : (s held t : Standing) (e : Entry) → held ≡ fetched_with e s → t ≡ passed_on held → StandsInLog held → StandsInLog t
+log_passed s held t e fetched passed stands =
+    subst StandsInLog (sym (passed ∙ ap passed_on fetched)) (still_in_log s e (subst StandsInLog fetched stands))
+
+-- a loop that took so many entries in
+pub record WentOn (x : ℕ) (first now : LogView) (old new : ReplicaState) (next after : Option Next) : Type 0 where
+  pub idle : now.standing.held ≡ None
+  pub seen : now.standing.seen ≡ first.standing.seen
+  pub looks : now.looks ≡ first.looks
+  pub entries : List Entry
+  pub many : length entries ≡ x
+  pub goes : GoesOn entries first.standing now.standing old new next after
+
+pub went_none : (first : LogView) (replica : ReplicaState) (next : Option Next) → first.standing.held ≡ None → WentOn 0 first first replica replica next next
+went_none first replica next idle = record {
+  idle = idle;
+  seen = refl;
+  looks = refl;
+  entries = [];
+  many = refl;
+  goes = goes_none first.standing replica next;
+}
+
+pub went_more : (x : ℕ) (first now new : LogView) (a b c : ReplicaState) (n m k : Option Next) → WentOn x first now a b n m → new.standing.held ≡ None
+    → (new.standing.seen ≡ now.standing.seen) × (new.looks ≡ now.looks)
+    → ((entry : Entry) × GoesOn (entry ∷ []) now.standing new.standing b c m k) → WentOn (x + 1) first new a c n k
+went_more x first now new a b c n m k w idle met one = record {
+  idle = idle;
+  seen = met.0 ∙ w.seen;
+  looks = met.1 ∙ w.looks;
+  entries = w.entries ++ one.0 ∷ [];
+  many = length-append w.entries (one.0 ∷ []) ∙ ap (λ (k : ℕ). k + 1) w.many;
+  goes = goes_then w.entries (one.0 ∷ []) first.standing now.standing new.standing a b c n m k w.goes one.1;
+}
+
+-- it stops where the next entry isn't there
+pub went_fewer : (x count : ℕ) (first now new : LogView) (a b c : ReplicaState) (n m k : Option Next) → WentOn x first now a b n m → x < count
+    → (new.standing ≡ now.standing) × (c ≡ b) × (k ≡ m)
+    → (entries : List Entry) × (length entries < count) × GoesOn entries first.standing new.standing a c n k
+went_fewer x count first now new a b c n m k w few same =
+    let fewer : length w.entries < count = omega (arith, w.many) in (
+      w.entries,
+      fewer,
+      subst (λ (s : Standing). GoesOn w.entries first.standing s a c n k) (sym same.0)
+          (subst (λ (r : ReplicaState). GoesOn w.entries first.standing now.standing a r n k) (sym same.1)
+          (subst (GoesOn w.entries first.standing now.standing a b n) (sym same.2) w.goes)),
+    )
+
+-- one entry more, or none
+pub went_or_not : (b : Bool) (s t : Standing) (old new : ReplicaState) (next after : Option Next)
+    → (b ≡ true → (entry : Entry) × GoesOn (entry ∷ []) s t old new next after) → (b ≡ false → (t ≡ s) × (new ≡ old) × (after ≡ next))
+    → (entries : List Entry) × GoesOn entries s t old new next after
+went_or_not true s t old new next after some none = let one = some refl in (one.0 ∷ [], one.1)
+went_or_not false s t old new next after some none =
+    let same = none refl in (
+      [],
+      subst (λ (x : Standing). GoesOn [] s x old new next after) (sym same.0)
+          (subst (λ (r : ReplicaState). GoesOn [] s s old r next after) (sym same.1) (subst (GoesOn [] s s old old next) (sym same.2) (goes_none s old next))),
+    )
+
+same_passed : (s m : Standing) → LooksOn s m → passed_of m ≡ passed_of s
+same_passed s m looks = ap passed_of looks.1
+
+-- fewer were taken in than there were, or all
+pub behind_tail : (s m t : Standing) (es : List Entry) (count applied : ℕ) → LooksOn s m → HasPassed es m t → t.seen ≡ m.seen → length es < count
+    → count ≡ m.seen - applied → applied ≡ passed_of s → passed_of t < t.seen
+behind_tail s m t es count applied looks h seen few is at =
+    let a = same_passed s m looks in
+    let b = passed_by es m t h in
+    omega (arith, a, b, seen, few, is, at)
+
+pub reached_tail : (s m t u : Standing) (es fs : List Entry) (count applied : ℕ) → LooksOn s m → HasPassed es m t → HasPassed fs t u → u.seen ≡ m.seen → length es ≡ count
+    → count ≡ m.seen - applied → applied ≡ passed_of s → u.seen ≤ passed_of u
+reached_tail s m t u es fs count applied looks h k seen all is at =
+    let a = same_passed s m looks in
+    let b = passed_by es m t h in
+    let c = passed_by fs t u k in
+    omega (arith, a, b, c, seen, all, is, at)

@@ -1,0 +1,91 @@
+-- How far a node went on in a call.
+use Rattle.std.proofs.Common.{◌≡◌, ℕ, ◌<◌, ◌≤◌, true, false, List, [], ◌∷◌, ◌++◌, length, map, refl, ap, sym, ◌∙◌, append_assoc, arith}
+use Rattle.std.specs.Prelude.{Option, Some, None, is_some}
+use Rattle.std.proofs.lemmas.List.{append-nil}
+use Rattle.nr_model.specs.Servers.{emitted_all}
+use Rattle.nr_model.specs.Nodes.Steps.{texts_for}
+use Rattle.nr_model.specs.Entries.{read_jobs, left_by_reads}
+use Rattle.nr_entry.specs.Jobs.{items_of}
+use Rattle.nr_entry.specs.declared.entry.Entry.{Entry}
+use Rattle.nr_entry.specs.declared.job.Job.{Job}
+use Rattle.nr_log_end.specs.declared.standing.Standing.{Standing}
+use Rattle.nr_log_end.specs.declared.standing.Look.{Look}
+use Rattle.nr_log_end.specs.declared.standing.Look.TheVariants.{Tail}
+use Rattle.nr_log_end.specs.declared.standing.Turn.{Turn}
+use Rattle.nr_log_end.specs.declared.standing.Turn.TheVariants.{Applied, Ran}
+use Rattle.nr_log_end.specs.Standings.{passed_of}
+use Rattle.nr_replica.specs.Replicas.{ReplicaState}
+use Rattle.nr_replica.specs.Replicas as of_replica
+use Rattle.nr_node.specs.declared.next.Next.{Next}
+use Rattle.nr_node.specs.declared.next.Next.TheVariants as forms
+use Rattle.nr_node.specs.Level.{NodeState}
+use Rattle.nr_node.specs.Next.{jobs_shared, jobs_next, IsNextOf}
+use Rattle.nr_node.specs.Owing.{awaited}
+use Rattle.nr_node.specs.Advanced.{HasPassed, HasNoted, HaveGot}
+use Rattle.nr_node.specs.Steps.{GoesOnBy, HasRead}
+use Rattle.nr_node.proofs.Got.{got_on, got_received}
+use Rattle.nr_node.proofs.Levels.{applied_noted}
+use Rattle.nr_node.proofs.Taking.{shared_jobs}
+
+-- by entries alone
+pub caught_up : (n m : NodeState) (es : List Entry) → HasPassed es n.seat.standing m.seat.standing → m.seat.looks ≡ n.seat.looks ++ (Tail m.seat.standing.seen ∷ [])
+    → m.book ≡ n.book → awaited m.replica.owed ≡ awaited n.replica.owed → HaveGot n.replica.members m.replica.members
+    → (m.replica.down ≡ false → m.replica.refused ≡ n.replica.refused) → GoesOnBy es [] m.seat.standing.seen n m
+caught_up n m es passed looks book owed got refused = record {
+  history = ap (λ (s : Standing). s.history) passed.standing ∙ ap (λ (h : List Turn). n.seat.standing.history ++ h) (sym (append-nil (map Applied es)));
+  loaded = ([], looks);
+  book = book;
+  owed = owed;
+  got = got;
+  refused = refused;
+}
+
+-- reads give their connections bytes
+pub read_got : (old mid new : ReplicaState) → HaveGot old.members mid.members → of_replica.HasRead mid new → HaveGot old.members new.members
+read_got old mid new got read =
+    got_on old.members mid.members new.members got
+    (got_received (λ c. texts_for c (emitted_all mid.server (read_jobs (items_of mid.waiting)))) mid.members new.members read.delivered)
+
+-- by entries, and reads behind them
+pub read_on : (n m : NodeState) (t : Standing) (es : List Entry) (ran : List Job) (looks more : List Look) → HasPassed es n.seat.standing t → HasNoted ran t m.seat.standing
+    → looks ≡ n.seat.looks ++ (Tail t.seen ∷ []) → m.seat.looks ≡ looks ++ more → m.book ≡ n.book → awaited m.replica.owed ≡ awaited n.replica.owed
+    → HaveGot n.replica.members m.replica.members → (m.replica.down ≡ false → m.replica.refused ≡ n.replica.refused) → GoesOnBy es ran t.seen n m
+read_on n m t es ran looks more passed noted first last book owed got refused = record {
+  history = ap (λ (s : Standing). s.history) noted.standing ∙ ap (λ (s : Standing). s.history ++ map Ran ran) passed.standing
+      ∙ append_assoc n.seat.standing.history (map Applied es) (map Ran ran);
+  loaded = (more, last ∙ ap (λ (ls : List Look). ls ++ more) first ∙ append_assoc n.seat.looks (Tail t.seen ∷ []) more);
+  book = book;
+  owed = owed;
+  got = got;
+  refused = refused;
+}
+
+-- all entries that there were are passed, and the reads that led were run
+pub has_read : (n m : NodeState) (t : Standing) (r : ReplicaState) (ran : List Job) → HasNoted ran t m.seat.standing → of_replica.HasRead r m.replica → r.down ≡ false
+    → t.seen ≤ passed_of t → items_of ran ≡ read_jobs (items_of r.waiting) → r.waiting ≡ n.replica.waiting → n.next ≡ [] → m.next ≡ [] → HasRead ran t.seen n m
+has_read n m t r ran noted read up passed ran_is waits none still =
+    let same : passed_of m.seat.standing ≡ passed_of t = ap (λ (s : Standing). passed_of s) noted.standing ∙ ap length (applied_noted t.history ran) in
+    let behind : t.seen ≤ passed_of m.seat.standing = omega (arith, same, passed) in
+    record {
+      up = ap (λ (x : ReplicaState). x.down) read.state ∙ up;
+      passed = behind;
+      ran_is = ran_is ∙ ap (λ (js : List Job). read_jobs (items_of js)) waits;
+      left = read.left ∙ ap (λ (js : List Job). left_by_reads (items_of js)) waits;
+      next = (none, still);
+    }
+
+-- a node that has a next entry has jobs in it
+pub next_has : (next : Option Next) (node nodes : ℕ) → IsNextOf node nodes next → 0 < nodes → is_some next ≡ true → jobs_next next ≡ [] → ⊥
+next_has None node nodes q some is none = absurd (cc is)
+next_has (Some (forms.Whole e)) node nodes q some is none =
+    let long = e.some in
+    let short = ap length none in
+    absurd (omega (arith, long, short))
+next_has (Some (forms.Shared shares)) node nodes q some is none =
+    let long = q.0.some in
+    let short : length q.0.jobs.items ≡ 0 = ap length (sym (ap jobs_shared q.1 ∙ shared_jobs q.0 nodes some) ∙ none) in
+    absurd (omega (arith, long, short))
+
+pub none_of : {A : Type 0} (o : Option A) → is_some o ≡ false → o ≡ None
+none_of None e = refl
+none_of (Some x) e = absurd (cc e)

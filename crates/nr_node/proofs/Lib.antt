@@ -1,0 +1,12 @@
+pub mod Lists
+mod Queues
+mod Levels
+mod Orders
+mod Served
+pub mod Owed
+mod Got
+mod Advances
+mod Fresh
+mod Filled
+mod Taking
+mod Caught

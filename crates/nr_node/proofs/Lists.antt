@@ -1,0 +1,314 @@
+-- The record of a node, its entries in the log, and the numbers of a connection's jobs, where one more is done, passed or reserved.
+use Rattle.std.proofs.Common.{◌≡◌, ℕ, zero, suc, ◌+◌, ◌<◌, ◌≤◌, Bool, true, false, cond, inl, inr, List, [], ◌∷◌, ◌++◌, length, map, drop, Option, None, refl, ap, sym, ◌∙◌, subst, append_assoc, arith}
+use Rattle.std.specs.Prelude.{◌==◌, option_to_list, IsTrue}
+use Rattle.std.specs.List.{AllByRecursion, range_with_len}
+use Rattle.std.proofs.Math.Seq.{drop-append_seam}
+use Rattle.std.proofs.lemmas.Bool.{and_parts, eqb-true}
+use Rattle.std.proofs.lemmas.Bool.Decides.{eqb_tells}
+use Rattle.std.proofs.lemmas.Grind.{flat_map-append}
+use Rattle.std.proofs.lemmas.List.{append-nil, drop-append-le, length-append, map-append}
+use Rattle.std.proofs.lemmas.List.Elements.{filter-append}
+use Rattle.nr_model.specs.Items.{Connection, same_connection, Item}
+use Rattle.nr_model.specs.Entries.{Jobs, entry_items, entry_jobs, entry_moment, left_by_entry, read_jobs, left_by_reads}
+use Rattle.nr_model.specs.Asked.{own_jobs}
+use Rattle.nr_model.proofs.Choices.{entry_apart, reads_apart}
+use Rattle.nr_model.proofs.NodesOwnLists.{All-drop, none_own}
+use Rattle.nr_model.proofs.NodesPartsEmitted.{of_another}
+use Rattle.nr_entry.specs.Entry.{are_of}
+use Rattle.nr_entry.specs.Jobs.{item_of, items_of}
+use Rattle.nr_entry.specs.Shares.{shares_of}
+use Rattle.nr_entry.specs.declared.entry.Entry.{Entry}
+use Rattle.nr_entry.specs.declared.job.Job.{Job}
+use Rattle.nr_log_end.specs.declared.standing.Standing.{Standing}
+use Rattle.nr_log_end.specs.declared.standing.Turn.{Turn}
+use Rattle.nr_log_end.specs.declared.standing.Turn.TheVariants.{Applied, Ran}
+use Rattle.nr_log_end.specs.Standings.{applied_of, ran_from, ran_of, items_of_turn, record_of, passed_of, own_from, own_entries, StandsInLog, reservation, reserved_as, fetched_with, passed_on, noted_with}
+use Rattle.nr_accounts.specs.Held.{numbers_in}
+use Rattle.nr_node.specs.Level.{unpassed, jobs_reserved, logged}
+
+-- one history behind another
+pub record-append : (turns more : List Turn) → record_of (turns ++ more) ≡ record_of turns ++ record_of more
+record-append turns more = flat_map-append items_of_turn turns more
+
+pub applied-append : (turns more : List Turn) → applied_of (turns ++ more) ≡ applied_of turns ++ applied_of more
+applied-append [] more = refl
+applied-append (Applied entry ∷ turns) more = ap (λ (es : List Entry). entry ∷ es) (applied-append turns more)
+applied-append (Ran job ∷ turns) more = applied-append turns more
+
+-- what holds of the jobs that were run
+ran_anyhow : (P : Job → Type 0) (m n : ℕ) (turns : List Turn) → AllByRecursion (λ (r : Job × ℕ). P r.0) (ran_from m turns)
+    → AllByRecursion (λ (r : Job × ℕ). P r.0) (ran_from n turns)
+ran_anyhow P m n [] all = tt
+ran_anyhow P m n (Applied entry ∷ turns) all = ran_anyhow P (suc m) (suc n) turns all
+ran_anyhow P m n (Ran job ∷ turns) all = (all.0, ran_anyhow P m n turns all.1)
+
+ran_behind : (P : Job → Type 0) (n : ℕ) (turns more : List Turn) → AllByRecursion (λ (r : Job × ℕ). P r.0) (ran_from n turns)
+    → AllByRecursion (λ (r : Job × ℕ). P r.0) (ran_of more) → AllByRecursion (λ (r : Job × ℕ). P r.0) (ran_from n (turns ++ more))
+ran_behind P n [] more all both = ran_anyhow P 0 n more both
+ran_behind P n (Applied entry ∷ turns) more all both = ran_behind P (suc n) turns more all both
+ran_behind P n (Ran job ∷ turns) more all both = (all.0, ran_behind P n turns more all.1 both)
+
+pub ran-append : (P : Job → Type 0) (turns more : List Turn) → AllByRecursion (λ (r : Job × ℕ). P r.0) (ran_of turns)
+    → AllByRecursion (λ (r : Job × ℕ). P r.0) (ran_of more) → AllByRecursion (λ (r : Job × ℕ). P r.0) (ran_of (turns ++ more))
+ran-append P turns more all both = ran_behind P 0 turns more all both
+
+-- the entries of a node in one log behind another
+own_behind : (node n : ℕ) (log more : List Entry) → own_from node n (log ++ more) ≡ own_from node n log ++ own_from node (n + length log) more
+own_behind node n [] more =
+    let same : n ≡ n + 0 = omega arith in
+    ap (λ (k : ℕ). own_from node k more) same
+own_behind node n (entry ∷ log) more =
+    let same : suc n + length log ≡ n + suc (length log) = omega arith in
+    let rest = own_from node (suc n) log in
+    let behind = own_from node (n + suc (length log)) more in
+    let ih : own_from node (suc n) (log ++ more) ≡ rest ++ behind =
+    own_behind node (suc n) log more ∙ ap (λ (k : ℕ). rest ++ own_from node k more) same in
+    let all = own_from node (suc n) (log ++ more) in
+    elim (entry.node == node) as (λ own. cond own ((n, entry) ∷ all) all ≡ cond own ((n, entry) ∷ rest) rest ++ behind) [
+      | true ↦ ap (λ (rs : List (ℕ × Entry)). (n, entry) ∷ rs) ih
+      | false ↦ ih
+    ]
+
+pub own-append : (node : ℕ) (log more : List Entry) → own_entries node (log ++ more) ≡ own_entries node log ++ own_from node (length log) more
+own-append node log more =
+    let same : 0 + length log ≡ length log = omega arith in
+    own_behind node 0 log more ∙ ap (λ (k : ℕ). own_entries node log ++ own_from node k more) same
+
+-- the numbers of a connection's jobs
+abbrev number : Item → ℕ
+number job = job.number
+
+pub numbers-append : (c : Connection) (xs ys : Jobs) → numbers_in c (xs ++ ys) ≡ numbers_in c xs ++ numbers_in c ys
+numbers-append c xs ys =
+    ap (map number) (filter-append (λ (job : Item). same_connection job.connection c) xs ys) ∙ map-append number (own_jobs c xs) (own_jobs c ys)
+
+-- at another moment
+numbers_at : (c : Connection) (moment : ℕ) (jobs : Jobs) → numbers_in c (map {A = Item} (λ job. record job { moment = moment }) jobs) ≡ numbers_in c jobs
+numbers_at c moment [] = refl
+numbers_at c moment (job ∷ jobs) =
+    let more : Jobs = map {A = Item} (λ j. record j { moment = moment }) jobs in
+    let now : Item = record job { moment = moment } in
+    let ih = numbers_at c moment jobs in
+    elim (same_connection job.connection c) as (λ own. map number (cond own (now ∷ own_jobs c more) (own_jobs c more))
+    ≡ map number (cond own (job ∷ own_jobs c jobs) (own_jobs c jobs))) [
+      | true ↦ ap (λ (ns : List ℕ). job.number ∷ ns) ih
+      | false ↦ ih
+    ]
+
+pub numbers_entry : (c : Connection) (jobs : Jobs) → numbers_in c (entry_items jobs) ≡ numbers_in c jobs
+numbers_entry c jobs = numbers_at c (entry_moment jobs) jobs
+
+-- another node's jobs
+elsewhere : (c : Connection) (node : ℕ) (jobs : Jobs) → IsTrue (are_of node jobs) → (c.node ≡ node → ⊥)
+    → AllByRecursion (λ (job : Item). same_connection job.connection c ≡ false) jobs
+elsewhere c node [] own apart = tt
+elsewhere c node (job ∷ jobs) own apart =
+    let both = and_parts (job.connection.node == node) (are_of node jobs) own in
+    let here = eqb-true job.connection.node node both.0 in
+    (of_another job.connection c (λ e. apart (sym e ∙ here)), elsewhere c node jobs both.1 apart)
+
+pub numbers_other : (c : Connection) (node : ℕ) (jobs : Jobs) → IsTrue (are_of node jobs) → (c.node ≡ node → ⊥) → numbers_in c jobs ≡ []
+numbers_other c node jobs own apart = ap (map number) (none_own c jobs (elsewhere c node jobs own apart))
+
+-- the jobs that are taken, and those that are left
+pub numbers_left_by_entry : (c : Connection) (waiting : Jobs) → numbers_in c (entry_jobs waiting) ++ numbers_in c (left_by_entry waiting) ≡ numbers_in c waiting
+numbers_left_by_entry c waiting =
+    sym (map-append number (own_jobs c (entry_jobs waiting)) (own_jobs c (left_by_entry waiting))) ∙ ap (map number) (sym (entry_apart c waiting))
+
+pub numbers_left_by_reads : (c : Connection) (waiting : Jobs) → numbers_in c (read_jobs waiting) ++ numbers_in c (left_by_reads waiting) ≡ numbers_in c waiting
+numbers_left_by_reads c waiting =
+    sym (map-append number (own_jobs c (read_jobs waiting)) (own_jobs c (left_by_reads waiting))) ∙ ap (map number) (sym (reads_apart c waiting))
+
+-- what is behind the entries that are known
+behind_known : (node : ℕ) (known rest log : List Entry) → known ++ rest ≡ log
+    → own_entries node log ≡ own_entries node known ++ own_from node (length known) rest
+behind_known node known rest log e = ap (own_entries node) (sym e) ∙ own-append node known rest
+
+unpassed_behind : (node : ℕ) (known rest log : List Entry) (reservations : List (ℕ × Entry)) → known ++ rest ≡ log → reservations ≡ own_entries node log
+    → drop (length (own_entries node known)) reservations ≡ own_from node (length known) rest
+unpassed_behind node known rest log reservations e are =
+    ap (drop (length (own_entries node known))) (are ∙ behind_known node known rest log e)
+    ∙ drop-append_seam (own_entries node known) (own_from node (length known) rest)
+
+fewer_known : (node : ℕ) (known rest log : List Entry) (reservations : List (ℕ × Entry)) → known ++ rest ≡ log → reservations ≡ own_entries node log
+    → length (own_entries node known) ≤ length reservations
+fewer_known node known rest log reservations e are =
+    let all = ap length (are ∙ behind_known node known rest log e) in
+    let both = length-append (own_entries node known) (own_from node (length known) rest) in
+    omega (arith, all, both)
+
+-- one more is known
+known_more : (s : Standing) (e : Entry) → applied_of (passed_on (fetched_with e s)).history ≡ applied_of s.history ++ e ∷ []
+known_more s e = applied-append s.history (Applied e ∷ [])
+
+pub still_in_log : (s : Standing) (e : Entry) → StandsInLog (fetched_with e s) → StandsInLog (passed_on (fetched_with e s))
+still_in_log s e stands = (
+  stands.0,
+  (stands.1.0, ap (λ (known : List Entry). known ++ stands.1.0) (append-nil (applied_of (passed_on (fetched_with e s)).history) ∙ known_more s e) ∙ stands.1.1),
+  stands.2,
+  stands.3,
+)
+
+pub own_passed : (s : Standing) (e : Entry) → StandsInLog (fetched_with e s)
+    → length (own_entries s.node (applied_of (passed_on (fetched_with e s)).history)) ≤ length s.reservations
+own_passed s e stands =
+    fewer_known s.node (applied_of (passed_on (fetched_with e s)).history) stands.1.0 stands.0 s.reservations
+    (ap (λ (known : List Entry). known ++ stands.1.0) (known_more s e) ∙ stands.1.1) stands.3
+
+-- the entry that was fetched is the next of its own node, and of no other
+numbers_front : (c : Connection) (node n : ℕ) (e : Entry) (rest : List Entry) → c.node ≡ node
+    → numbers_in c (items_of e.jobs.items) ++ numbers_in c (jobs_reserved (own_from node (suc n) rest))
+    ≡ numbers_in c (jobs_reserved (own_from node n (e ∷ rest)))
+numbers_front c node n e rest here =
+    let more = own_from node (suc n) rest in
+    let items = items_of e.jobs.items in
+    let at = λ (own : Bool). numbers_in c (jobs_reserved (cond own ((n, e) ∷ more) more)) in
+    elim (eqb_tells e.node node) [
+      | inl own ↦ sym (numbers-append c items (jobs_reserved more)) ∙ sym (ap at own.0)
+      | inr other ↦ ap (λ (ns : List ℕ). ns ++ numbers_in c (jobs_reserved more)) (numbers_other c e.node items e.own (λ same. other.1 (sym same ∙ here)))
+          ∙ sym (ap at other.0)
+    ]
+
+-- the entries that the node has still to pass before one more is passed, and behind it
+before_passed : (s : Standing) (e : Entry) (stands : StandsInLog (fetched_with e s)) → unpassed s ≡ own_from s.node (passed_of s) (e ∷ stands.1.0)
+before_passed s e stands =
+    let known = applied_of s.history in
+    unpassed_behind s.node known (e ∷ stands.1.0) stands.0 s.reservations (sym (append_assoc known (e ∷ []) stands.1.0) ∙ stands.1.1) stands.3
+
+after_passed : (s : Standing) (e : Entry) (stands : StandsInLog (fetched_with e s))
+    → unpassed (passed_on (fetched_with e s)) ≡ own_from s.node (suc (passed_of s)) stands.1.0
+after_passed s e stands =
+    let known = applied_of s.history in
+    let rest = stands.1.0 in
+    let long : length (known ++ e ∷ []) ≡ suc (length known) = length-append known (e ∷ []) ∙ omega arith in
+    unpassed_behind s.node (applied_of (passed_on (fetched_with e s)).history) rest stands.0 s.reservations (ap (λ (es : List Entry). es ++ rest) (known_more s e) ∙ stands.1.1) stands.3
+    ∙ ap (λ (k : ℕ). own_from s.node k rest) (ap length (known_more s e) ∙ long)
+
+-- the jobs of one more that was reserved
+reserved_by : (own : Bool) (n : ℕ) (e : Entry) (more : List (ℕ × Entry))
+    → jobs_reserved (cond own ((n, e) ∷ more) more) ≡ cond own (items_of e.jobs.items ++ jobs_reserved more) (jobs_reserved more)
+reserved_by true n e more = refl
+reserved_by false n e more = refl
+
+-- an entry of the node is the first of those that it has still to pass, and another node's is none of them
+pub reserved_passed : (s : Standing) (e : Entry) → StandsInLog (fetched_with e s)
+    → jobs_reserved (unpassed s) ≡ cond (e.node == s.node) (items_of e.jobs.items ++ jobs_reserved (unpassed (passed_on (fetched_with e s)))) (jobs_reserved (unpassed (passed_on (fetched_with e s))))
+reserved_passed s e stands =
+    let later = own_from s.node (suc (passed_of s)) stands.1.0 in
+    ap jobs_reserved (before_passed s e stands) ∙ reserved_by (e.node == s.node) (passed_of s) e later
+    ∙ ap (λ (rs : List (ℕ × Entry)). cond (e.node == s.node) (items_of e.jobs.items ++ jobs_reserved rs) (jobs_reserved rs)) (sym (after_passed s e stands))
+
+pub logged_passed : (s : Standing) (e : Entry) (c : Connection) → StandsInLog (fetched_with e s) → c.node ≡ s.node
+    → numbers_in c (logged (passed_on (fetched_with e s))) ≡ numbers_in c (logged s)
+logged_passed s e c stands here =
+    let t = passed_on (fetched_with e s) in
+    let known = applied_of s.history in
+    let rest = stands.1.0 in
+    let items = items_of e.jobs.items in
+    let done = numbers_in c (record_of s.history) in
+    let later = own_from s.node (suc (length known)) rest in
+    let before = before_passed s e stands in
+    let after = after_passed s e stands in
+    let front : numbers_in c (record_of t.history) ≡ done ++ numbers_in c items =
+    ap (numbers_in c) (record-append s.history (Applied e ∷ []) ∙ ap (λ (is : Jobs). record_of s.history ++ is) (append-nil (entry_items items)))
+    ∙ numbers-append c (record_of s.history) (entry_items items) ∙ ap (λ (ns : List ℕ). done ++ ns) (numbers_entry c items) in
+    numbers-append c (record_of t.history) (jobs_reserved (unpassed t))
+    ∙ (λ i. front i ++ numbers_in c (jobs_reserved (after i)))
+    ∙ append_assoc done (numbers_in c items) (numbers_in c (jobs_reserved later))
+    ∙ ap (λ (ns : List ℕ). done ++ ns) (numbers_front c s.node (length known) e rest here ∙ ap (λ (rs : List (ℕ × Entry)). numbers_in c (jobs_reserved rs)) (sym before))
+    ∙ sym (numbers-append c (record_of s.history) (jobs_reserved (unpassed s)))
+
+-- entries that come later have numbers of their own
+later_on : (node least n : ℕ) (log : List Entry) → least ≤ n → AllByRecursion (λ (r : ℕ × Entry). least ≤ r.0) (own_from node n log)
+later_on node least n [] h = tt
+later_on node least n (entry ∷ log) h =
+    let more = later_on node least (suc n) log (omega (arith, h)) in
+    let rest = own_from node (suc n) log in
+    elim (entry.node == node) as (λ own. AllByRecursion (λ (r : ℕ × Entry). least ≤ r.0) (cond own ((n, entry) ∷ rest) rest)) [
+      | true ↦ (h, more)
+      | false ↦ more
+    ]
+
+numbered_on : (node n : ℕ) (log : List Entry) → AllByRecursion (λ (r : ℕ × Entry). n ≤ r.0) (own_from node n log)
+numbered_on node n log = later_on node n n log (omega arith)
+
+none_between : (least most : ℕ) (rs : List (ℕ × Entry)) → most ≤ least → AllByRecursion (λ (r : ℕ × Entry). least ≤ r.0) rs
+    → AllByRecursion (λ (r : ℕ × Entry). r.0 < most) rs → rs ≡ []
+none_between least most [] h above below = refl
+none_between least most (r ∷ rs) h above below =
+    let low = above.0 in
+    let high = below.0 in
+    absurd (omega (arith, h, low, high))
+
+pub none_unpassed : (s : Standing) → StandsInLog s → s.held ≡ None → s.seen ≤ passed_of s → AllByRecursion (λ (r : ℕ × Entry). r.0 < s.seen) s.reservations
+    → unpassed s ≡ []
+none_unpassed s stands idle all met =
+    let known = applied_of s.history in
+    let rest = stands.1.0 in
+    let begins : known ++ rest ≡ stands.0 =
+    ap (λ (es : List Entry). es ++ rest) (sym (append-nil known) ∙ ap (λ (held : Option Entry). known ++ option_to_list held) (sym idle)) ∙ stands.1.1 in
+    let left : unpassed s ≡ own_from s.node (length known) rest = unpassed_behind s.node known rest stands.0 s.reservations begins stands.3 in
+    none_between (length known) s.seen (unpassed s) all
+    (subst (AllByRecursion (λ (r : ℕ × Entry). length known ≤ r.0)) (sym left) (numbered_on s.node (length known) rest))
+    (All-drop (λ (r : ℕ × Entry). r.0 < s.seen) (length (own_entries s.node known)) s.reservations met)
+
+-- one more is reserved
+reserved-append : (rs more : List (ℕ × Entry)) → jobs_reserved (rs ++ more) ≡ jobs_reserved rs ++ jobs_reserved more
+reserved-append [] more = refl
+reserved-append (r ∷ rs) more =
+    let items = items_of r.1.jobs.items in
+    ap (λ (js : Jobs). items ++ js) (reserved-append rs more) ∙ sym (append_assoc items (jobs_reserved rs) (jobs_reserved more))
+
+one_reserved : (at nodes : ℕ) (entry : Entry) → 0 < nodes → reservation at (shares_of entry nodes) ≡ (at, entry) ∷ []
+one_reserved at zero entry some = absurd (omega (arith, some))
+one_reserved at (suc nodes) entry some = refl
+
+pub jobs_reserved_more : (s : Standing) (at : ℕ) (entry : Entry) → 0 < s.nodes → length (own_entries s.node (applied_of s.history)) ≤ length s.reservations
+    → jobs_reserved (unpassed (reserved_as at (shares_of entry s.nodes) s)) ≡ jobs_reserved (unpassed s) ++ items_of entry.jobs.items
+jobs_reserved_more s at entry some passed =
+    let count = length (own_entries s.node (applied_of s.history)) in
+    let items = items_of entry.jobs.items in
+    let left : drop count (s.reservations ++ reservation at (shares_of entry s.nodes)) ≡ unpassed s ++ (at, entry) ∷ [] =
+    ap (λ (rs : List (ℕ × Entry)). drop count (s.reservations ++ rs)) (one_reserved at s.nodes entry some)
+    ∙ drop-append-le count s.reservations ((at, entry) ∷ []) passed in
+    ap jobs_reserved left ∙ reserved-append (unpassed s) ((at, entry) ∷ []) ∙ ap (λ (js : Jobs). jobs_reserved (unpassed s) ++ js) (append-nil items)
+
+pub logged_reserved : (s : Standing) (at : ℕ) (entry : Entry) → 0 < s.nodes → length (own_entries s.node (applied_of s.history)) ≤ length s.reservations
+    → logged (reserved_as at (shares_of entry s.nodes) s) ≡ logged s ++ items_of entry.jobs.items
+logged_reserved s at entry some passed =
+    let done = record_of s.history in
+    ap (λ (js : Jobs). done ++ js) (jobs_reserved_more s at entry some passed) ∙ sym (append_assoc done (jobs_reserved (unpassed s)) (items_of entry.jobs.items))
+
+-- a read is noted
+pub logged_noted : (s : Standing) (job : Job) (seen : ℕ) → unpassed s ≡ []
+    → (logged (noted_with job seen s) ≡ logged s ++ item_of job ∷ []) × (unpassed (noted_with job seen s) ≡ [])
+logged_noted s job seen none =
+    let now = noted_with job seen s in
+    let same : applied_of now.history ≡ applied_of s.history = applied-append s.history (Ran job ∷ []) ∙ append-nil (applied_of s.history) in
+    let still : unpassed now ≡ [] = ap (λ (es : List Entry). drop (length (own_entries s.node es)) s.reservations) same ∙ none in (
+      ap (λ (rs : List (ℕ × Entry)). record_of now.history ++ jobs_reserved rs) still
+          ∙ append-nil (record_of now.history)
+          ∙ record-append s.history (Ran job ∷ [])
+          ∙ ap (λ (js : Jobs). js ++ item_of job ∷ []) (sym (append-nil (record_of s.history)) ∙ ap (λ (rs : List (ℕ × Entry)). record_of s.history ++ jobs_reserved rs) (sym none)),
+      still,
+    )
+
+-- the front of numbers that count up
+front_from : (n : ℕ) (xs ys : List ℕ) → xs ++ ys ≡ range_with_len n (length (xs ++ ys)) → xs ≡ range_with_len n (length xs)
+front_from n [] ys e = refl
+front_from n (x ∷ xs) ys e =
+    let first : x ≡ n = cc e in
+    let rest : xs ++ ys ≡ range_with_len (n + 1) (length (xs ++ ys)) = cc e in
+    let more = front_from (n + 1) xs ys rest in
+    λ i. first i ∷ more i
+
+pub counts_front : (xs ys : List ℕ) → xs ++ ys ≡ range_with_len 0 (length (xs ++ ys)) → xs ≡ range_with_len 0 (length xs)
+counts_front xs ys e = front_from 0 xs ys e
+
+-- no numbers, no jobs
+none_mapped : {A B : Type 0} (f : A → B) (xs : List A) → map f xs ≡ [] → xs ≡ []
+none_mapped f [] e = refl
+none_mapped f (x ∷ xs) e = absurd (cc e)
+
+pub no_numbers : (c : Connection) (jobs : Jobs) → numbers_in c jobs ≡ [] → own_jobs c jobs ≡ []
+no_numbers c jobs e = none_mapped number (own_jobs c jobs) e

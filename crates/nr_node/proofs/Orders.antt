@@ -1,0 +1,294 @@
+-- The jobs of a node's connections stay in their order, wherever they are.
+use Rattle.std.proofs.Common.{◌≡◌, ℕ, zero, suc, ◌<◌, ◌≤◌, ◌+◌, inl, inr, true, false, List, [], ◌∷◌, ◌++◌, length, refl, ap, sym, ◌∙◌, subst, arith, append_assoc}
+use Rattle.std.specs.Prelude.{◌⊎◌, Option, Some, None}
+use Rattle.std.specs.List.{AllByRecursion, range_with_len}
+use Rattle.std.specs.FinMap as finmap
+use Rattle.std.proofs.lemmas.List.{length-append}
+use Rattle.nr_model.specs.Items.{Connection, Item}
+use Rattle.nr_model.specs.Entries.{Jobs}
+use Rattle.nr_model.proofs.JobLists.{All-append}
+use Rattle.nr_model.proofs.NodesOwnLists.{All-weaker, All-left_by_entry}
+use Rattle.nr_entry.specs.Jobs.{item_of, items_of}
+use Rattle.nr_entry.specs.Shares.{shares_of}
+use Rattle.nr_entry.specs.declared.entry.Entry.{Entry}
+use Rattle.nr_entry.specs.declared.job.Job.{Job}
+use Rattle.nr_log_end.specs.declared.standing.Standing.{Standing}
+use Rattle.nr_log_end.specs.declared.standing.Turn.{Turn}
+use Rattle.nr_log_end.specs.declared.standing.Turn.TheVariants.{Applied}
+use Rattle.nr_log_end.specs.Standings.{applied_of, ran_of, record_of, passed_of, own_entries, StandsInLog, fetched_with, passed_on, reserved_as}
+use Rattle.nr_accounts.specs.declared.account.Account.{Account}
+use Rattle.nr_accounts.specs.Held.{numbers_in, CountsTo}
+use Rattle.nr_accounts.specs.Book.{Book}
+use Rattle.nr_replica.specs.Members.{Member}
+use Rattle.nr_replica.specs.Replicas.{ReplicaState, fallen}
+use Rattle.nr_node.specs.Level.{IsCount, IsReadOf, connection_at, unpassed, jobs_reserved, logged, all_jobs, IsInOrder}
+use Rattle.nr_node.specs.Sound.{IsSound}
+use Rattle.nr_node.specs.Reserved.{AreOfNode, due_jobs, left_jobs, LeavesWaiting, HasMet, IsReserved}
+use Rattle.nr_node.proofs.Lists.{ran-append, numbers-append, numbers_left_by_entry, own_passed, logged_passed, logged_reserved, counts_front}
+
+-- the numbers in lists behind one another
+joined : (c : Connection) (xs ys zs : Jobs) → numbers_in c (xs ++ (ys ++ zs)) ≡ numbers_in c xs ++ (numbers_in c ys ++ numbers_in c zs)
+joined c xs ys zs = numbers-append c xs (ys ++ zs) ∙ ap (λ (ns : List ℕ). numbers_in c xs ++ ns) (numbers-append c ys zs)
+
+pub no_parts : (xs ys : List ℕ) → xs ++ ys ≡ [] → (xs ≡ []) × (ys ≡ [])
+no_parts [] ys e = (refl, e)
+no_parts (x ∷ xs) ys e = absurd (cc e)
+
+length-range : (n count : ℕ) → length (range_with_len n count) ≡ count
+length-range n zero = refl
+length-range n (suc count) = ap suc (length-range (n + 1) count)
+
+counted : (count : Account → ℕ) (account : Option Account) (numbers : List ℕ) → CountsTo count account numbers → IsCount numbers
+counted count None numbers h = h
+counted count (Some a) numbers h = h ∙ ap (range_with_len 0) (sym (ap length h ∙ length-range 0 (count a)))
+
+-- all jobs of a node that is up are counted
+pub all_counted : (s : Standing) (old : ReplicaState) (book : Book) (next : List Job) → old.down ≡ false → IsInOrder s old book next
+    → (serial : ℕ) → IsCount (numbers_in (connection_at s.node serial) (all_jobs s next old.waiting))
+all_counted s old book next up o serial =
+    subst (λ (n : ℕ). IsCount (numbers_in (connection_at n serial) (all_jobs s next old.waiting))) o.book_is
+    (counted (λ (a : Account). a.next) (finmap.get book.held serial) _ (o.taken up serial))
+
+-- the first of these are counted
+pub first_counted : (c : Connection) (front back : Jobs) (all : Jobs) → numbers_in c front ++ numbers_in c back ≡ numbers_in c all → IsCount (numbers_in c all) → IsCount (numbers_in c front)
+first_counted c front back all is h =
+    counts_front (numbers_in c front) (numbers_in c back) (is ∙ h ∙ ap (λ (ns : List ℕ). range_with_len 0 (length ns)) (sym is))
+
+-- what a node in order hands out is sound
+pub is_sound : (s t : Standing) (old : ReplicaState) (book : Book) (next : List Job) → t ≡ s → IsInOrder s old book next → IsSound t
+is_sound s t old book next same o = subst IsSound (sym same) record {
+  reads = o.reads;
+  numbered = λ serial.
+      let c = connection_at s.node serial in
+      first_counted c (record_of s.history) (jobs_reserved (unpassed s)) (logged s) (sym (numbers-append c (record_of s.history) (jobs_reserved (unpassed s)))) (o.numbered serial);
+}
+
+-- nothing changed in the order of any connection's jobs
+pub same_order : (s t : Standing) (old new : ReplicaState) (book : Book) (next after : List Job) → t.node ≡ s.node → length new.members ≡ length old.members
+    → (new.down ≡ false → old.down ≡ false) → ((serial : ℕ) → IsCount (numbers_in (connection_at s.node serial) (logged t)))
+    → ((serial : ℕ) → numbers_in (connection_at s.node serial) (all_jobs t after new.waiting) ≡ numbers_in (connection_at s.node serial) (all_jobs s next old.waiting))
+    → AreOfNode s.node (items_of new.waiting) → AllByRecursion (λ (r : Job × ℕ). IsReadOf s.node (item_of r.0)) (ran_of t.history)
+    → length (own_entries t.node (applied_of t.history)) ≤ length t.reservations → AllByRecursion (λ (r : ℕ × Entry). r.0 < t.seen) t.reservations
+    → IsInOrder s old book next → IsInOrder t new book after
+same_order s t old new book next after node long was numbered all own reads passed met o = record {
+  book_is = o.book_is ∙ sym node;
+  own = subst (λ (n : ℕ). AreOfNode n (items_of new.waiting)) (sym node) own;
+  numbered = λ serial. subst (λ (n : ℕ). IsCount (numbers_in (connection_at n serial) (logged t))) (sym node) (numbered serial);
+  taken = λ up serial.
+      let n = all serial in
+      let here = subst (λ (n : ℕ). numbers_in (connection_at n serial) (all_jobs t after new.waiting) ≡ numbers_in (connection_at n serial) (all_jobs s next old.waiting)) (sym o.book_is) n in
+      subst (CountsTo (λ (a : Account). a.next) (finmap.get book.held serial)) (sym here) (o.taken (was up) serial);
+  unopened = λ serial past.
+      let before : length old.members ≤ serial = omega (arith, long) in
+      subst (λ (n : ℕ). numbers_in (connection_at n serial) (all_jobs t after new.waiting) ≡ []) (sym node) (all serial ∙ o.unopened serial before);
+  closed = λ serial past.
+      let before : length old.members ≤ serial = omega (arith, long) in
+      o.closed serial before;
+  reads = subst (λ (n : ℕ). AllByRecursion (λ (r : Job × ℕ). IsReadOf n (item_of r.0)) (ran_of t.history)) (sym node) reads;
+  passed = passed;
+  met = met;
+}
+
+-- the node is down, and what it had still to reserve is dropped
+pub dropped_order : (s t : Standing) (old new : ReplicaState) (book : Book) (next : List Job) → t.node ≡ s.node → length new.members ≡ length old.members
+    → new.down ≡ true → ((serial : ℕ) → numbers_in (connection_at s.node serial) (logged t) ≡ numbers_in (connection_at s.node serial) (logged s))
+    → ((new.waiting ≡ []) ⊎ (new.waiting ≡ old.waiting)) → AllByRecursion (λ (r : Job × ℕ). IsReadOf s.node (item_of r.0)) (ran_of t.history)
+    → length (own_entries t.node (applied_of t.history)) ≤ length t.reservations → AllByRecursion (λ (r : ℕ × Entry). r.0 < t.seen) t.reservations
+    → IsInOrder s old book next → IsInOrder t new book []
+dropped_order s t old new book next node long down same waits reads passed met o =
+    let own : AreOfNode s.node (items_of new.waiting) = elim waits [
+      | inl e ↦ subst (λ (js : List Job). AreOfNode s.node (items_of js)) (sym e) tt
+      | inr e ↦ subst (λ (js : List Job). AreOfNode s.node (items_of js)) (sym e) o.own
+    ] in
+    record {
+      book_is = o.book_is ∙ sym node;
+      own = subst (λ (n : ℕ). AreOfNode n (items_of new.waiting)) (sym node) own;
+      numbered = λ serial. subst (λ (n : ℕ). IsCount (numbers_in (connection_at n serial) (logged t))) (sym node) (subst IsCount (sym (same serial)) (o.numbered serial));
+      taken = λ up. absurd (cc (up, down));
+      unopened = λ serial past.
+          let before : length old.members ≤ serial = omega (arith, long) in
+          let c = connection_at s.node serial in
+          let parts = no_parts (numbers_in c (logged s)) _ (sym (joined c (logged s) (items_of next) (items_of old.waiting)) ∙ o.unopened serial before) in
+          let rest = no_parts (numbers_in c (items_of next)) (numbers_in c (items_of old.waiting)) parts.1 in
+          let none : numbers_in c (items_of new.waiting) ≡ [] = elim waits [
+            | inl e ↦ ap (λ (js : List Job). numbers_in c (items_of js)) e
+            | inr e ↦ ap (λ (js : List Job). numbers_in c (items_of js)) e ∙ rest.1
+          ] in
+          subst (λ (n : ℕ). numbers_in (connection_at n serial) (all_jobs t [] new.waiting) ≡ []) (sym node)
+          (numbers-append c (logged t) (items_of new.waiting) ∙ (λ i. (same serial ∙ parts.0) i ++ none i));
+      closed = λ serial past.
+          let before : length old.members ≤ serial = omega (arith, long) in
+          o.closed serial before;
+      reads = subst (λ (n : ℕ). AllByRecursion (λ (r : Job × ℕ). IsReadOf n (item_of r.0)) (ran_of t.history)) (sym node) reads;
+      passed = passed;
+      met = met;
+    }
+
+-- an entry was passed, and left what waits as it was
+pub passed_order : (s t : Standing) (e : Entry) (old new : ReplicaState) (book : Book) (next : List Job) → t ≡ passed_on (fetched_with e s) → StandsInLog (fetched_with e s)
+    → length new.members ≡ length old.members → (new.down ≡ false → old.down ≡ false) → new.waiting ≡ old.waiting
+    → IsInOrder s old book next → IsInOrder t new book next
+passed_order s t e old new book next is stands long was waits o =
+    let p = passed_on (fetched_with e s) in
+    let own = λ (r : Job × ℕ). IsReadOf s.node (item_of r.0) in
+    let same : (serial : ℕ) → numbers_in (connection_at s.node serial) (logged p) ≡ numbers_in (connection_at s.node serial) (logged s) =
+    λ serial. logged_passed s e (connection_at s.node serial) stands refl in
+    subst (λ (x : Standing). IsInOrder x new book next) (sym is)
+    (same_order s p old new book next next refl long was (λ serial. subst IsCount (sym (same serial)) (o.numbered serial))
+    (λ serial.
+    let c = connection_at s.node serial in
+    joined c (logged p) (items_of next) (items_of new.waiting)
+    ∙ (λ i. same serial i ++ (numbers_in c (items_of next) ++ numbers_in c (items_of (waits i))))
+    ∙ sym (joined c (logged s) (items_of next) (items_of old.waiting)))
+    (subst (λ (js : List Job). AreOfNode s.node (items_of js)) (sym waits) o.own)
+    (ran-append (λ (job : Job). IsReadOf s.node (item_of job)) s.history (Applied e ∷ []) o.reads tt)
+    (own_passed s e stands) o.met o)
+
+-- an entry was passed by a node that is down
+pub passed_down : (s t : Standing) (e : Entry) (old new : ReplicaState) (book : Book) (next : List Job) → t ≡ passed_on (fetched_with e s) → StandsInLog (fetched_with e s)
+    → length new.members ≡ length old.members → new.down ≡ true → ((new.waiting ≡ []) ⊎ (new.waiting ≡ old.waiting))
+    → IsInOrder s old book next → IsInOrder t new book []
+passed_down s t e old new book next is stands long down waits o =
+    let p = passed_on (fetched_with e s) in
+    subst (λ (x : Standing). IsInOrder x new book []) (sym is)
+    (dropped_order s p old new book next refl long down (λ serial. logged_passed s e (connection_at s.node serial) stands refl) waits
+    (ran-append (λ (job : Job). IsReadOf s.node (item_of job)) s.history (Applied e ∷ []) o.reads tt)
+    (own_passed s e stands) o.met o)
+
+-- what is due, and what is left behind it
+due_and_left : (c : Connection) (next waiting : List Job)
+    → numbers_in c (due_jobs next waiting) ++ numbers_in c (left_jobs next waiting) ≡ numbers_in c (items_of next) ++ numbers_in c (items_of waiting)
+due_and_left c [] waiting = numbers_left_by_entry c (items_of waiting)
+due_and_left c (job ∷ next) waiting = refl
+
+left_own : (node : ℕ) (next waiting : List Job) → AreOfNode node (items_of waiting) → AreOfNode node (left_jobs next waiting)
+left_own node [] waiting own = All-left_by_entry (λ (job : Item). job.connection.node ≡ node) (items_of waiting) own
+left_own node (job ∷ next) waiting own = own
+
+pub further : (n m : ℕ) (rs : List (ℕ × Entry)) → n ≤ m → AllByRecursion (λ (r : ℕ × Entry). r.0 < n) rs → AllByRecursion (λ (r : ℕ × Entry). r.0 < m) rs
+further n m rs h all = All-weaker (λ (r : ℕ × Entry). r.0 < n) (λ (r : ℕ × Entry). r.0 < m) (λ r b. omega arith) rs all
+
+-- shares of an entry are one reservation
+one_reservation : (at nodes : ℕ) (e : Entry) → 0 < nodes → Rattle.nr_log_end.specs.Standings.reservation at (shares_of e nodes) ≡ (at, e) ∷ []
+one_reservation at zero e h = absurd (omega arith)
+one_reservation at (suc nodes) e h = refl
+
+-- the entry that was due stands in the log
+pub reserved_order : (s t : Standing) (at : ℕ) (e : Entry) (old new : ReplicaState) (book : Book) (next : List Job) → 0 < s.nodes → IsReserved at (shares_of e s.nodes) s t
+    → items_of e.jobs.items ≡ due_jobs next old.waiting → LeavesWaiting (left_jobs next old.waiting) old new → old.down ≡ false
+    → IsInOrder s old book next → IsInOrder t new book []
+reserved_order s t at e old new book next some reserved due left up o =
+    let r = reserved_as at (shares_of e s.nodes) s in
+    let more : logged t ≡ logged s ++ items_of e.jobs.items = ap logged reserved.standing ∙ logged_reserved s at e some o.passed in
+    let apart : (serial : ℕ) → let c = connection_at s.node serial in
+    numbers_in c (logged t) ++ numbers_in c (items_of new.waiting) ≡ numbers_in c (all_jobs s next old.waiting) =
+    λ serial.
+    let c = connection_at s.node serial in
+    (λ i. (ap (numbers_in c) more ∙ numbers-append c (logged s) (items_of e.jobs.items)) i ++ numbers_in c (left.waiting i))
+    ∙ append_assoc (numbers_in c (logged s)) (numbers_in c (items_of e.jobs.items)) (numbers_in c (left_jobs next old.waiting))
+    ∙ ap (λ (ns : List ℕ). numbers_in c (logged s) ++ ns)
+    (ap (λ (js : Jobs). numbers_in c js ++ numbers_in c (left_jobs next old.waiting)) due ∙ due_and_left c next old.waiting)
+    ∙ sym (joined c (logged s) (items_of next) (items_of old.waiting)) in
+    let is_down : new.down ≡ old.down = ap (λ (x : ReplicaState). x.down) left.replica in
+    let seen : t.seen ≡ at + 1 = ap (λ (x : Standing). x.seen) reserved.standing in
+    let reservations : t.reservations ≡ s.reservations ++ (at, e) ∷ [] =
+    ap (λ (x : Standing). x.reservations) reserved.standing ∙ ap (λ (rs : List (ℕ × Entry)). s.reservations ++ rs) (one_reservation at s.nodes e some) in
+    let node : t.node ≡ s.node = ap (λ (x : Standing). x.node) reserved.standing in
+    let history : t.history ≡ s.history = ap (λ (x : Standing). x.history) reserved.standing in
+    let here : at < t.seen = omega (arith, seen) in
+    let on : s.seen ≤ t.seen = omega (arith, seen, reserved.seen) in
+    same_order s t old new book next [] node (ap (λ (x : ReplicaState). length x.members) left.replica) (λ u. sym is_down ∙ u)
+    (λ serial. first_counted (connection_at s.node serial) (logged t) (items_of new.waiting) (all_jobs s next old.waiting) (apart serial) (all_counted s old book next up o serial))
+    (λ serial. numbers-append (connection_at s.node serial) (logged t) (items_of new.waiting) ∙ apart serial)
+    (subst (AreOfNode s.node) (sym left.waiting) (left_own s.node next old.waiting o.own))
+    (subst (λ (h : List Turn). AllByRecursion (λ (x : Job × ℕ). IsReadOf s.node (item_of x.0)) (ran_of h)) (sym history) o.reads)
+    (let long = length-append s.reservations ((at, e) ∷ []) in
+    let passed : length (own_entries t.node (applied_of t.history)) ≡ length (own_entries s.node (applied_of s.history)) = λ i. length (own_entries (node i) (applied_of (history i))) in
+    omega (arith, passed, o.passed, ap length reservations, long))
+    (subst (λ (rs : List (ℕ × Entry)). AllByRecursion (λ (x : ℕ × Entry). x.0 < t.seen) rs) (sym reservations)
+    (All-append (λ (x : ℕ × Entry). x.0 < t.seen) s.reservations ((at, e) ∷ []) (further s.seen t.seen s.reservations on o.met) (here, tt)))
+    o
+
+-- a tail was met
+met_logged : (s t : Standing) → HasMet s t → logged t ≡ logged s
+met_logged s t met = ap logged met.standing
+
+-- the entry that is due goes on waiting
+pub due_order : (s t : Standing) (old new : ReplicaState) (book : Book) (next after : List Job) → HasMet s t → items_of after ≡ due_jobs next old.waiting
+    → LeavesWaiting (left_jobs next old.waiting) old new → IsInOrder s old book next → IsInOrder t new book after
+due_order s t old new book next after met due left o =
+    let same = met_logged s t met in
+    let is_down : new.down ≡ old.down = ap (λ (x : ReplicaState). x.down) left.replica in
+    let history : t.history ≡ s.history = ap (λ (x : Standing). x.history) met.standing in
+    same_order s t old new book next after (ap (λ (x : Standing). x.node) met.standing) (ap (λ (x : ReplicaState). length x.members) left.replica) (λ u. sym is_down ∙ u)
+    (λ serial. subst (λ (js : Jobs). IsCount (numbers_in (connection_at s.node serial) js)) (sym same) (o.numbered serial))
+    (λ serial.
+    let c = connection_at s.node serial in
+    joined c (logged t) (items_of after) (items_of new.waiting)
+    ∙ (λ i. numbers_in c (same i) ++ (numbers_in c (due i) ++ numbers_in c (left.waiting i)))
+    ∙ ap (λ (ns : List ℕ). numbers_in c (logged s) ++ ns) (due_and_left c next old.waiting)
+    ∙ sym (joined c (logged s) (items_of next) (items_of old.waiting)))
+    (subst (AreOfNode s.node) (sym left.waiting) (left_own s.node next old.waiting o.own))
+    (subst (λ (h : List Turn). AllByRecursion (λ (x : Job × ℕ). IsReadOf s.node (item_of x.0)) (ran_of h)) (sym history) o.reads)
+    (let passed : length (own_entries t.node (applied_of t.history)) ≡ length (own_entries s.node (applied_of s.history)) = λ i. length (own_entries (met.standing i).node (applied_of (met.standing i).history)) in
+    let same_length = ap (λ (x : Standing). length x.reservations) met.standing in
+    omega (arith, passed, o.passed, same_length))
+    (subst (λ (rs : List (ℕ × Entry)). AllByRecursion (λ (x : ℕ × Entry). x.0 < t.seen) rs) (sym (ap (λ (x : Standing). x.reservations) met.standing))
+    (further s.seen t.seen s.reservations met.seen o.met))
+    o
+
+-- the replica fell, and nothing happened at the log
+pub fallen_order : (s : Standing) (old new : ReplicaState) (book : Book) (next : List Job) → new ≡ fallen old → IsInOrder s old book next → IsInOrder s new book []
+fallen_order s old new book next is o =
+    dropped_order s s old new book next refl (ap (λ (x : ReplicaState). length x.members) is) (ap (λ (x : ReplicaState). x.down) is) (λ serial. refl)
+    (inl (ap (λ (x : ReplicaState). x.waiting) is)) o.reads o.passed o.met o
+
+-- nothing happened at the log but that a tail was met
+pub met_order : (s t : Standing) (old : ReplicaState) (book : Book) (next : List Job) → HasMet s t → IsInOrder s old book next → IsInOrder t old book next
+met_order s t old book next met o =
+    let same = met_logged s t met in
+    same_order s t old old book next next (ap (λ (x : Standing). x.node) met.standing) refl (λ u. u)
+    (λ serial. subst (λ (js : Jobs). IsCount (numbers_in (connection_at s.node serial) js)) (sym same) (o.numbered serial))
+    (λ serial. ap (λ (js : Jobs). numbers_in (connection_at s.node serial) (js ++ (items_of next ++ items_of old.waiting))) same)
+    o.own
+    (subst (λ (h : List Turn). AllByRecursion (λ (x : Job × ℕ). IsReadOf s.node (item_of x.0)) (ran_of h)) (sym (ap (λ (x : Standing). x.history) met.standing)) o.reads)
+    (let passed : length (own_entries t.node (applied_of t.history)) ≡ length (own_entries s.node (applied_of s.history)) = λ i. length (own_entries (met.standing i).node (applied_of (met.standing i).history)) in
+    let same_length = ap (λ (x : Standing). length x.reservations) met.standing in
+    omega (arith, passed, o.passed, same_length))
+    (subst (λ (rs : List (ℕ × Entry)). AllByRecursion (λ (x : ℕ × Entry). x.0 < t.seen) rs) (sym (ap (λ (x : Standing). x.reservations) met.standing))
+    (further s.seen t.seen s.reservations met.seen o.met))
+    o
+
+-- connections changed, and are as many
+pub members_order : (s : Standing) (old new : ReplicaState) (book : Book) (next : List Job) (members : List Member) → new ≡ record old { members = members }
+    → length members ≡ length old.members → IsInOrder s old book next → IsInOrder s new book next
+members_order s old new book next members is long o = subst (λ (r : ReplicaState). IsInOrder s r book next) (sym is) record {
+  book_is = o.book_is;
+  own = o.own;
+  numbered = o.numbered;
+  taken = o.taken;
+  unopened = λ serial past.
+      let before : length old.members ≤ serial = omega (arith, long) in
+      o.unopened serial before;
+  closed = λ serial past.
+      let before : length old.members ≤ serial = omega (arith, long) in
+      o.closed serial before;
+  reads = o.reads;
+  passed = o.passed;
+  met = o.met;
+}
+
+-- what is owed changed
+pub owed_order : (s : Standing) (old new : ReplicaState) (book : Book) (next : List Job) (owed : List (Option ℕ)) → new ≡ record old { owed = owed }
+    → IsInOrder s old book next → IsInOrder s new book next
+owed_order s old new book next owed is o = subst (λ (r : ReplicaState). IsInOrder s r book next) (sym is) record {
+  book_is = o.book_is;
+  own = o.own;
+  numbered = o.numbered;
+  taken = o.taken;
+  unopened = o.unopened;
+  closed = o.closed;
+  reads = o.reads;
+  passed = o.passed;
+  met = o.met;
+}

@@ -1,0 +1,20 @@
+use Rattle.std.proofs.Common.{subst}
+use Rattle.std.specs.Arc.{arc_value}
+use Rattle.nr_entry.specs.declared.entry.Entry.{Entry}
+use Rattle.nr_node.specs.Advanced.{IsTakenIn}
+use Rattle.nr_node.proofs.Advances.{log_passed, goes_by_entry}
+use Rattle.nr_node.proofs.advancing.advance.Goals as goal
+
+pub returns-clause-log : goal.returns-clause-log
+returns-clause-log g c =
+    log_passed c.args.end.now.standing c.fetch.new.self.standing c.pass.new.self.standing (arc_value c.in-Some.entry) c.in-Some.ensures.some c.pass.ensures.passed
+    c.in-Some.ensures.in_log
+
+pub returns-clause-some : goal.returns-clause-some
+returns-clause-some g c = λ _.
+    let taken = subst (λ (e : Entry). IsTakenIn e c.args.replica.now c.take_in.new.replica) c.deref.ensures c.take_in.ensures in (
+      arc_value c.in-Some.entry,
+      goes_by_entry c.args.end.now.standing c.fetch.new.self.standing c.pass.new.self.standing (arc_value c.in-Some.entry) c.args.replica.now c.take_in.new.replica
+          c.args.next.now c.drop_next.new.next c.requires.idle c.in-Some.ensures.some c.pass.ensures.passed c.in-Some.ensures.in_log taken c.drop_next.ensures.down
+          c.drop_next.ensures.up,
+    )

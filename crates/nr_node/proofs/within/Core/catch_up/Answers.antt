@@ -1,0 +1,67 @@
+use Rattle.std.proofs.Common.{◌≡◌, false, None, [], ap, sym, ◌∙◌, refl, subst, get_or}
+use Rattle.nr_log_end.specs.declared.standing.Standing.{Standing}
+use Rattle.nr_node.specs.Level.{NodeState}
+use Rattle.nr_node.specs.Next.{jobs_next}
+use Rattle.nr_node.specs.Steps.{GoesOnBy}
+use Rattle.nr_node.proofs.Taking.{goes_kept}
+use Rattle.nr_node.proofs.Caught.{caught_up}
+use Rattle.nr_node.proofs.within.Core.catch_up.Goals as goal
+use Rattle.nr_node.proofs.within.Core.catch_up.Goals.{then-reached, else-reached}
+
+pub invariant_of-self : goal.invariant_of-self
+invariant_of-self g c =
+    let keeps = c.self.invariant in
+    let inside = c.self.inside in
+    let went = c.catch_up-reached.ensures.goes in
+    let passed = went.1.passed.standing in (
+      goes_kept went.0 inside.end.standing c.catch_up-reached.new.end.standing inside.replica c.catch_up-reached.new.replica inside.accounts inside.next
+          c.catch_up-reached.new.next inside.nodes went.1 keeps.0,
+      c.catch_up-reached.ensures.idle,
+      λ node. ap (λ (s : Standing). get_or s.unfilled node None) passed ∙ keeps.2 node,
+      keeps.3 ∙ sym (ap (λ (s : Standing). s.nodes) passed),
+      keeps.4,
+    )
+
+pub returns-then-is_down-clause-goes : goal.returns-then-is_down-clause-goes
+returns-then-is_down-clause-goes g c =
+    let inside = c.self.inside in
+    let went = c.catch_up-reached.ensures.goes in
+    let v : NodeState = record { seat = inside.end; replica = inside.replica; book = inside.accounts; next = jobs_next inside.next } in
+    let m : NodeState = record { seat = c.catch_up-reached.new.end; replica = c.catch_up-reached.new.replica; book = inside.accounts; next = jobs_next c.catch_up-reached.new.next } in
+    let tail = c.catch_up-reached.new.end.standing.seen in
+    let by = subst (λ (n : NodeState). GoesOnBy went.0 [] tail n m) c.self.view_is (caught_up v m went.0 went.1.passed c.catch_up-reached.ensures.looks refl went.1.owed went.1.got went.1.refused) in
+    (went.0, (tail, by, λ e. absurd (cc e)))
+
+pub invariant_of-self-2 : goal.invariant_of-self-2
+invariant_of-self-2 g c =
+    let keeps = c.self.invariant in
+    let inside = c.self.inside in
+    let went = c.catch_up-reached.ensures.goes in
+    let passed = went.1.passed.standing in (
+      goes_kept went.0 inside.end.standing c.catch_up-reached.new.end.standing inside.replica c.catch_up-reached.new.replica inside.accounts inside.next
+          c.catch_up-reached.new.next inside.nodes went.1 keeps.0,
+      c.catch_up-reached.ensures.idle,
+      λ node. ap (λ (s : Standing). get_or s.unfilled node None) passed ∙ keeps.2 node,
+      keeps.3 ∙ sym (ap (λ (s : Standing). s.nodes) passed),
+      keeps.4,
+    )
+
+pub returns-clause-goes : goal.returns-clause-goes
+returns-clause-goes g c =
+    let inside = c.self.inside in
+    let went = c.catch_up-reached.ensures.goes in
+    let v : NodeState = record { seat = inside.end; replica = inside.replica; book = inside.accounts; next = jobs_next inside.next } in
+    let m : NodeState = record { seat = c.catch_up-reached.new.end; replica = c.catch_up-reached.new.replica; book = inside.accounts; next = jobs_next c.catch_up-reached.new.next } in
+    let tail = c.catch_up-reached.new.end.standing.seen in
+    let by = subst (λ (n : NodeState). GoesOnBy went.0 [] tail n m) c.self.view_is (caught_up v m went.0 went.1.passed c.catch_up-reached.ensures.looks refl went.1.owed went.1.got went.1.refused) in
+    let up : c.catch_up-reached.new.replica.down ≡ false = sym c.is_down.ensures ∙ c.if-is_down.false in (
+      went.0,
+      (
+        tail,
+        by,
+        elim c.if-reached.branch [
+          | then-reached w ↦ λ _. (c.catch_up-reached.ensures.reached w.if-reached.true up).0
+          | else-reached w ↦ λ e. absurd (cc (sym w.result-is ∙ e))
+        ],
+      ),
+    )

@@ -1,0 +1,189 @@
+use Rattle.std.proofs.Common.{◌≡◌, true, false, None, [], ap, sym, ◌∙◌, refl, subst, get_or}
+use Rattle.std.specs.Prelude.{is_some, is_err}
+use Rattle.nr_log_end.specs.declared.standing.Standing.{Standing}
+use Rattle.nr_oplog.specs.declared.view.LogView.{LogView}
+use Rattle.nr_replica.specs.Replicas.{ReplicaState}
+use Rattle.nr_node.specs.Advanced.{HaveGot}
+use Rattle.nr_node.specs.Kept.{IsKept}
+use Rattle.nr_node.specs.Level.{NodeState}
+use Rattle.nr_node.specs.Next.{jobs_next}
+use Rattle.nr_node.specs.Owing.{awaited}
+use Rattle.nr_node.specs.Steps.{GoesOnBy, HasRead}
+use Rattle.nr_node.proofs.Lists.{none_unpassed}
+use Rattle.nr_node.proofs.Taking.{goes_kept, noted_kept, read_awaited}
+use Rattle.nr_node.proofs.Caught.{caught_up, read_on, read_got, has_read, next_has, none_of}
+use Rattle.nr_node.proofs.within.Core.look.Goals as goal
+
+pub invariant_of-self : goal.invariant_of-self
+invariant_of-self g c =
+    let keeps = c.self.invariant in
+    let inside = c.self.inside in
+    let went = c.catch_up-reached.ensures.goes in
+    let passed = went.1.passed.standing in (
+      goes_kept went.0 inside.end.standing c.catch_up-reached.new.end.standing inside.replica c.catch_up-reached.new.replica inside.accounts inside.next
+          c.catch_up-reached.new.next inside.nodes went.1 keeps.0,
+      c.catch_up-reached.ensures.idle,
+      λ node. ap (λ (s : Standing). get_or s.unfilled node None) passed ∙ keeps.2 node,
+      keeps.3 ∙ sym (ap (λ (s : Standing). s.nodes) passed),
+      keeps.4,
+    )
+
+pub invariant_of-self-then-not-reached : goal.invariant_of-self-then-not-reached
+invariant_of-self-then-not-reached g c =
+    let keeps = c.self.invariant in
+    let inside = c.self.inside in
+    let went = c.catch_up-reached.ensures.goes in
+    let passed = went.1.passed.standing in (
+      goes_kept went.0 inside.end.standing c.catch_up-reached.new.end.standing inside.replica c.catch_up-reached.new.replica inside.accounts inside.next
+          c.catch_up-reached.new.next inside.nodes went.1 keeps.0,
+      c.catch_up-reached.ensures.idle,
+      λ node. ap (λ (s : Standing). get_or s.unfilled node None) passed ∙ keeps.2 node,
+      keeps.3 ∙ sym (ap (λ (s : Standing). s.nodes) passed),
+      keeps.4,
+    )
+
+pub invariant_of-self-then-is_some : goal.invariant_of-self-then-is_some
+invariant_of-self-then-is_some g c =
+    let keeps = c.self.invariant in
+    let inside = c.self.inside in
+    let went = c.catch_up-reached.ensures.goes in
+    let passed = went.1.passed.standing in (
+      goes_kept went.0 inside.end.standing c.catch_up-reached.new.end.standing inside.replica c.catch_up-reached.new.replica inside.accounts inside.next
+          c.catch_up-reached.new.next inside.nodes went.1 keeps.0,
+      c.catch_up-reached.ensures.idle,
+      λ node. ap (λ (s : Standing). get_or s.unfilled node None) passed ∙ keeps.2 node,
+      keeps.3 ∙ sym (ap (λ (s : Standing). s.nodes) passed),
+      keeps.4,
+    )
+
+pub returns-then-is_down-clause-goes : goal.returns-then-is_down-clause-goes
+returns-then-is_down-clause-goes g c =
+    let inside = c.self.inside in
+    let went = c.catch_up-reached.ensures.goes in
+    let v : NodeState = record { seat = inside.end; replica = inside.replica; book = inside.accounts; next = jobs_next inside.next } in
+    let m : NodeState = record { seat = c.catch_up-reached.new.end; replica = c.catch_up-reached.new.replica; book = inside.accounts; next = jobs_next c.catch_up-reached.new.next } in
+    let tail = c.catch_up-reached.new.end.standing.seen in
+    let by = subst (λ (n : NodeState). GoesOnBy went.0 [] tail n m) c.self.view_is (caught_up v m went.0 went.1.passed c.catch_up-reached.ensures.looks refl went.1.owed went.1.got went.1.refused) in
+    (went.0, ([], (tail, by, λ e. absurd (cc e))))
+
+pub returns-then-not-reached-clause-goes : goal.returns-then-not-reached-clause-goes
+returns-then-not-reached-clause-goes g c =
+    let inside = c.self.inside in
+    let went = c.catch_up-reached.ensures.goes in
+    let v : NodeState = record { seat = inside.end; replica = inside.replica; book = inside.accounts; next = jobs_next inside.next } in
+    let m : NodeState = record { seat = c.catch_up-reached.new.end; replica = c.catch_up-reached.new.replica; book = inside.accounts; next = jobs_next c.catch_up-reached.new.next } in
+    let tail = c.catch_up-reached.new.end.standing.seen in
+    let by = subst (λ (n : NodeState). GoesOnBy went.0 [] tail n m) c.self.view_is (caught_up v m went.0 went.1.passed c.catch_up-reached.ensures.looks refl went.1.owed went.1.got went.1.refused) in
+    (went.0, ([], (tail, by, λ e. absurd (cc e))))
+
+pub returns-then-is_some-clause-goes : goal.returns-then-is_some-clause-goes
+returns-then-is_some-clause-goes g c =
+    let inside = c.self.inside in
+    let went = c.catch_up-reached.ensures.goes in
+    let v : NodeState = record { seat = inside.end; replica = inside.replica; book = inside.accounts; next = jobs_next inside.next } in
+    let m : NodeState = record { seat = c.catch_up-reached.new.end; replica = c.catch_up-reached.new.replica; book = inside.accounts; next = jobs_next c.catch_up-reached.new.next } in
+    let tail = c.catch_up-reached.new.end.standing.seen in
+    let by = subst (λ (n : NodeState). GoesOnBy went.0 [] tail n m) c.self.view_is (caught_up v m went.0 went.1.passed c.catch_up-reached.ensures.looks refl went.1.owed went.1.got went.1.refused) in
+    (went.0, ([], (tail, by, λ e. absurd (cc e))))
+
+pub returns-then-is_some-clause-again : goal.returns-then-is_some-clause-again
+returns-then-is_some-clause-again g c = λ _ none.
+    let keeps = c.self.invariant in
+    let inside = c.self.inside in
+    let went = c.catch_up-reached.ensures.goes in
+    let up : c.catch_up-reached.new.replica.down ≡ false = sym c.is_down.ensures ∙ c.if-is_down.false in
+    let there : is_some inside.next ≡ true = ap is_some (sym (went.1.up up).1) ∙ sym c.is_some.ensures ∙ c.if-is_some.true in
+    next_has inside.next inside.end.standing.node inside.nodes keeps.0.next_is keeps.4 there (ap (λ (n : NodeState). n.next) c.self.view_is ∙ none)
+
+pub invariant_of-self-in_err-read : goal.invariant_of-self-in_err-read
+invariant_of-self-in_err-read g c =
+    let keeps = c.self.invariant in
+    let inside = c.self.inside in
+    let went = c.catch_up-reached.ensures.goes in
+    let passed = went.1.passed.standing in
+    let end = c.in_err-read.ensures.end in
+    let t = c.catch_up-reached.new.end.standing in
+    let next = c.catch_up-reached.new.next in
+    let kept = goes_kept went.0 inside.end.standing t inside.replica c.catch_up-reached.new.replica inside.accounts inside.next next inside.nodes went.1 keeps.0 in (
+      subst (λ (v : LogView). IsKept v.standing c.read.new.replica inside.accounts next inside.nodes) (sym end)
+          (subst (λ (r : ReplicaState). IsKept t r inside.accounts next inside.nodes) (sym c.in_err-read.ensures.replica) kept),
+      ap (λ (v : LogView). v.standing.held) end ∙ c.catch_up-reached.ensures.idle,
+      λ node. ap (λ (v : LogView). get_or v.standing.unfilled node None) end ∙ ap (λ (s : Standing). get_or s.unfilled node None) passed ∙ keeps.2 node,
+      keeps.3 ∙ sym (ap (λ (v : LogView). v.standing.nodes) end ∙ ap (λ (s : Standing). s.nodes) passed),
+      keeps.4,
+    )
+
+pub returns-in_err-read-clause-goes : goal.returns-in_err-read-clause-goes
+returns-in_err-read-clause-goes g c =
+    let inside = c.self.inside in
+    let went = c.catch_up-reached.ensures.goes in
+    let next = jobs_next c.catch_up-reached.new.next in
+    let v : NodeState = record { seat = inside.end; replica = inside.replica; book = inside.accounts; next = jobs_next inside.next } in
+    let m : NodeState = record { seat = c.catch_up-reached.new.end; replica = c.read.new.replica; book = inside.accounts; next = next } in
+    let tail = c.catch_up-reached.new.end.standing.seen in
+    let by = subst (λ (x : LogView). GoesOnBy went.0 [] tail v (record { seat = x; replica = c.read.new.replica; book = inside.accounts; next = next })) (sym c.in_err-read.ensures.end)
+    (caught_up v m went.0 went.1.passed c.catch_up-reached.ensures.looks refl (ap (λ (r : ReplicaState). awaited r.owed) c.in_err-read.ensures.replica ∙ went.1.owed)
+    (subst (λ (r : ReplicaState). HaveGot inside.replica.members r.members) (sym c.in_err-read.ensures.replica) went.1.got)
+    (subst (λ (r : ReplicaState). r.down ≡ false → r.refused ≡ inside.replica.refused) (sym c.in_err-read.ensures.replica) went.1.refused)) in (
+      went.0,
+      (
+        [],
+        (
+          tail,
+          subst (λ (n : NodeState). GoesOnBy went.0 [] tail n (record { seat = c.read.new.end; replica = c.read.new.replica; book = inside.accounts; next = next })) c.self.view_is by,
+          λ e. absurd (cc (sym c.from_residual.ensures.0 ∙ ap is_err e)),
+        ),
+      ),
+    )
+
+pub invariant_of-self-2 : goal.invariant_of-self-2
+invariant_of-self-2 g c =
+    let keeps = c.self.invariant in
+    let inside = c.self.inside in
+    let went = c.catch_up-reached.ensures.goes in
+    let passed = went.1.passed.standing in
+    let t = c.catch_up-reached.new.end.standing in
+    let next = c.catch_up-reached.new.next in
+    let kept = goes_kept went.0 inside.end.standing t inside.replica c.catch_up-reached.new.replica inside.accounts inside.next next inside.nodes went.1 keeps.0 in
+    let up : c.catch_up-reached.new.replica.down ≡ false = sym c.is_down.ensures ∙ c.if-is_down.false in
+    let all = c.catch_up-reached.ensures.reached c.if-not-reached.false up in
+    let none = none_unpassed t all.1 c.catch_up-reached.ensures.idle all.0 kept.order.met in
+    let noted = c.in_ok-read.ensures.noted in (
+      noted_kept t c.read.new.end.standing c.in_ok-read.field-0.items c.catch_up-reached.new.replica c.read.new.replica inside.accounts next inside.nodes noted none
+          c.in_ok-read.ensures.read c.in_ok-read.ensures.ran up (none_of next (sym c.is_some.ensures ∙ c.if-is_some.false)) kept,
+      ap (λ (s : Standing). s.held) noted.standing ∙ c.catch_up-reached.ensures.idle,
+      λ node. ap (λ (s : Standing). get_or s.unfilled node None) noted.standing ∙ ap (λ (s : Standing). get_or s.unfilled node None) passed ∙ keeps.2 node,
+      keeps.3 ∙ sym (ap (λ (s : Standing). s.nodes) noted.standing ∙ ap (λ (s : Standing). s.nodes) passed),
+      keeps.4,
+    )
+
+pub returns-clause-goes : goal.returns-clause-goes
+returns-clause-goes g c =
+    let inside = c.self.inside in
+    let went = c.catch_up-reached.ensures.goes in
+    let t = c.catch_up-reached.new.end.standing in
+    let next = c.catch_up-reached.new.next in
+    let ran = c.in_ok-read.field-0.items in
+    let v : NodeState = record { seat = inside.end; replica = inside.replica; book = inside.accounts; next = jobs_next inside.next } in
+    let m : NodeState = record { seat = c.read.new.end; replica = c.read.new.replica; book = inside.accounts; next = jobs_next next } in
+    let up : c.catch_up-reached.new.replica.down ≡ false = sym c.is_down.ensures ∙ c.if-is_down.false in
+    let all = c.catch_up-reached.ensures.reached c.if-not-reached.false up in
+    let same = went.1.up up in
+    let still = ap jobs_next (none_of next (sym c.is_some.ensures ∙ c.if-is_some.false)) in
+    let looks = c.in_ok-read.ensures.looks in
+    let by = read_on v m t went.0 ran c.catch_up-reached.new.end.looks looks.0 went.1.passed c.in_ok-read.ensures.noted c.catch_up-reached.ensures.looks looks.1 refl
+    (read_awaited c.catch_up-reached.new.replica c.read.new.replica c.in_ok-read.ensures.read ∙ went.1.owed)
+    (read_got inside.replica c.catch_up-reached.new.replica c.read.new.replica went.1.got c.in_ok-read.ensures.read)
+    (λ _. ap (λ (r : ReplicaState). r.refused) c.in_ok-read.ensures.read.state ∙ went.1.refused up) in
+    let read = has_read v m t c.catch_up-reached.new.replica ran c.in_ok-read.ensures.noted c.in_ok-read.ensures.read up all.0 c.in_ok-read.ensures.ran same.2
+    (ap jobs_next (sym same.1) ∙ still) still in (
+      went.0,
+      (
+        ran,
+        (
+          t.seen,
+          subst (λ (n : NodeState). GoesOnBy went.0 ran t.seen n m) c.self.view_is by,
+          λ _. subst (λ (n : NodeState). HasRead ran t.seen n m) c.self.view_is read,
+        ),
+      ),
+    )

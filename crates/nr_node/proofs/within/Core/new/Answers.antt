@@ -1,0 +1,15 @@
+use Rattle.std.proofs.Common.{◌+◌, None, ap, sym, ◌∙◌, get_or}
+use Rattle.nr_oplog.specs.declared.view.LogView.{LogView}
+use Rattle.nr_node.proofs.Fresh.{started_kept}
+use Rattle.nr_node.proofs.within.Core.new.Goals as goal
+
+pub invariant_of-result : goal.invariant_of-result
+invariant_of-result g c =
+    let shape = c.args.shape in (
+      started_kept c.args.end c.in_ok-new.field-0 c.in_ok-new-2.field-0 g.B.LogName.nodes g.B.LogName.places shape.node (shape.node + 1) shape.workers shape.nodes
+          c.requires.end c.in_ok-new.ensures c.in_ok-new-2.ensures.accounts,
+      ap (λ (v : LogView). v.standing.held) c.requires.end,
+      λ node. ap (λ (v : LogView). get_or v.standing.unfilled node None) c.requires.end,
+      c.requires.nodes.0 ∙ sym (ap (λ (v : LogView). v.standing.nodes) c.requires.end),
+      c.requires.nodes.1,
+    )

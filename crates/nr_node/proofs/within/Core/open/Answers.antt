@@ -1,0 +1,72 @@
+use Rattle.std.proofs.Common.{◌≡◌, ℕ, ◌≤◌, false, ap, sym, ◌∙◌, subst, arith, length}
+use Rattle.std.specs.Prelude.{is_err, None}
+use Rattle.std.specs.FinMap as finmap
+use Rattle.nr_model.specs.Items.{Connection}
+use Rattle.nr_accounts.specs.Account.{fresh_account}
+use Rattle.nr_accounts.specs.Book.{Book}
+use Rattle.nr_replica.specs.Replicas.{ReplicaState}
+use Rattle.nr_node.specs.Kept.{IsKept}
+use Rattle.nr_node.specs.Level.{NodeState}
+use Rattle.nr_node.specs.Next.{jobs_next}
+use Rattle.nr_node.specs.Steps.{opened_node}
+use Rattle.nr_node.proofs.Taking.{opened_kept, on_ok, forgotten_book}
+use Rattle.nr_node.proofs.within.Core.open.Goals as goal
+
+pub invariant_of-self-in-Ok : goal.invariant_of-self-in-Ok
+invariant_of-self-in-Ok g c =
+    let keeps = c.self.invariant in
+    let inside = c.self.inside in
+    let no_error : is_err c.open.result ≡ false = sym c.is_err.ensures.value ∙ c.if-is_err.false in
+    let book : c.open.new.self ≡ record inside.accounts { held = finmap.insert inside.accounts.held (length inside.replica.members) (fresh_account c.args.worker) } =
+    on_ok _ c.open.result no_error c.open.ensures.opened
+    ∙ ap (λ (n : ℕ). record inside.accounts { held = finmap.insert inside.accounts.held n (fresh_account c.args.worker) }) c.connections-serial.ensures in (
+      subst (λ (b : Book). IsKept inside.end.standing c.open-2.new.self b inside.next inside.nodes) (sym book)
+          (opened_kept inside.end.standing inside.replica c.open-2.new.self inside.accounts inside.next inside.nodes c.args.worker c.args.limit c.in-Ok.ensures.opened keeps.0),
+      keeps.1,
+      keeps.2,
+      keeps.3,
+      keeps.4,
+    )
+
+pub invariant_of-self-in-Err : goal.invariant_of-self-in-Err
+invariant_of-self-in-Err g c =
+    let keeps = c.self.invariant in
+    let inside = c.self.inside in
+    let no_error : is_err c.open.result ≡ false = sym c.is_err.ensures.value ∙ c.if-is_err.false in
+    let all : length inside.replica.members ≤ length inside.replica.members = omega arith in
+    let book = forgotten_book inside.accounts c.open.new.self c.forget.new.self c.connections-serial.result (length inside.replica.members) (fresh_account c.args.worker)
+    (on_ok _ c.open.result no_error c.open.ensures.opened) c.forget.ensures c.connections-serial.ensures (keeps.0.order.closed (length inside.replica.members) all) in (
+      subst (λ (b : Book). IsKept inside.end.standing c.open-2.new.self b inside.next inside.nodes) (sym book)
+          (subst (λ (r : ReplicaState). IsKept inside.end.standing r inside.accounts inside.next inside.nodes) (sym c.in-Err.ensures.unchanged) keeps.0),
+      keeps.1,
+      keeps.2,
+      keeps.3,
+      keeps.4,
+    )
+
+pub returns-in-Ok-clause-opened : goal.returns-in-Ok-clause-opened
+returns-in-Ok-clause-opened g c =
+    let inside = c.self.inside in
+    let no_error : is_err c.open.result ≡ false = sym c.is_err.ensures.value ∙ c.if-is_err.false in
+    let book : c.open.new.self ≡ record inside.accounts { held = finmap.insert inside.accounts.held (length inside.replica.members) (fresh_account c.args.worker) } =
+    on_ok _ c.open.result no_error c.open.ensures.opened
+    ∙ ap (λ (n : ℕ). record inside.accounts { held = finmap.insert inside.accounts.held n (fresh_account c.args.worker) }) c.connections-serial.ensures in
+    (λ i. record { seat = inside.end; replica = c.in-Ok.ensures.opened i; book = book i; next = jobs_next inside.next }) ∙ ap (opened_node c.args.limit c.args.worker) c.self.view_is
+
+pub returns-in-Err-clause-unchanged : goal.returns-in-Err-clause-unchanged
+returns-in-Err-clause-unchanged g c =
+    let keeps = c.self.invariant in
+    let inside = c.self.inside in
+    let no_error : is_err c.open.result ≡ false = sym c.is_err.ensures.value ∙ c.if-is_err.false in
+    let all : length inside.replica.members ≤ length inside.replica.members = omega arith in
+    let book = forgotten_book inside.accounts c.open.new.self c.forget.new.self c.connections-serial.result (length inside.replica.members) (fresh_account c.args.worker)
+    (on_ok _ c.open.result no_error c.open.ensures.opened) c.forget.ensures c.connections-serial.ensures (keeps.0.order.closed (length inside.replica.members) all) in
+    (λ i. record { seat = inside.end; replica = c.in-Err.ensures.unchanged i; book = book i; next = jobs_next inside.next }) ∙ c.self.view_is
+
+pub returns-in-Ok-clause-new : goal.returns-in-Ok-clause-new
+returns-in-Ok-clause-new g c =
+    let inside = c.self.inside in
+    let all : length inside.replica.members ≤ length inside.replica.members = omega arith in
+    let none : finmap.get inside.accounts.held c.in-Ok.conn.serial ≡ None =
+    ap (λ (x : Connection). finmap.get inside.accounts.held x.serial) c.in-Ok.ensures.conn ∙ c.self.invariant.0.order.closed (length inside.replica.members) all in
+    subst (λ (n : NodeState). finmap.get n.book.held c.in-Ok.conn.serial ≡ None) c.self.view_is none

@@ -1,0 +1,55 @@
+-- What an entry does to a replica, and how far a node has gone on.
+use Rattle.std.specs.Prelude.{◌≡◌, ◌⊎◌, ◌≤◌, true, false, List, ◌++◌, map, length, Option, None, [], ◌∷◌}
+use Rattle.nr_model.specs.Bytes.{Bytes}
+use Rattle.nr_model.specs.Items.{Connection}
+use Rattle.nr_entry.specs.declared.entry.Entry.{Entry}
+use Rattle.nr_entry.specs.declared.job.Job.{Job}
+use Rattle.nr_log_end.specs.declared.standing.Standing.{Standing}
+use Rattle.nr_log_end.specs.declared.standing.Turn.TheVariants.{Applied, Ran}
+use Rattle.nr_accounts.specs.Book.{Book}
+use Rattle.nr_replica.specs.Members.{Member, worker_of}
+use Rattle.nr_replica.specs.Replicas.{ReplicaState, IsApplied, fallen}
+use Rattle.nr_node.specs.declared.next.Next.{Next}
+use Rattle.nr_node.specs.Level.{IsLevel, IsInOrder}
+use Rattle.nr_node.specs.Next.{jobs_next}
+use Rattle.nr_node.specs.Owing.{IsOwing, awaited, unexecuted}
+
+-- it was applied, or the replica fell over it; one that is down leaves it
+abbrev pub IsTakenIn : Entry → ReplicaState → ReplicaState → Type 0
+IsTakenIn entry old new =
+    ((old.down ≡ true) × (new ≡ old)) ⊎ ((old.down ≡ false) × (IsApplied entry old new ⊎ (new ≡ fallen old)))
+
+-- these entries were passed, and a tail was met that is no less: nothing else changed at the end of the log
+pub record HasPassed (entries : List Entry) (s t : Standing) : Type 0 where
+  pub seen : s.seen ≤ t.seen
+  pub standing : t ≡ record s { history = s.history ++ map Applied entries; seen = t.seen }
+
+-- these reads were noted
+pub record HasNoted (ran : List Job) (s t : Standing) : Type 0 where
+  pub seen : s.seen ≤ t.seen
+  pub standing : t ≡ record s { history = s.history ++ map Ran ran; seen = t.seen }
+
+-- bytes came behind those that wait for a connection, or its queue was cut, and nothing else of it changed
+abbrev pub HasGot : Member → Member → Type 0
+HasGot old new = (more : Bytes) × (new ≡ record old { outbox = record old.outbox { waiting = old.outbox.waiting ++ more; cut = new.outbox.cut } })
+
+abbrev pub HaveGot : List Member → List Member → Type 0
+HaveGot [] [] = Unit {0}
+HaveGot [] (new ∷ news) = ⊥
+HaveGot (old ∷ olds) [] = ⊥
+HaveGot (old ∷ olds) (new ∷ news) = HasGot old new × HaveGot olds news
+
+-- a node went on by these entries: it is level, in order and owing if it was, and what waits is what waited unless it is down
+pub record GoesOn (entries : List Entry) (s t : Standing) (old new : ReplicaState) (next after : Option Next) : Type 0 where
+  pub passed : HasPassed entries s t
+  pub level : IsLevel s old → IsLevel t new
+  pub order : (book : Book) → IsInOrder s old book (jobs_next next) → IsInOrder t new book (jobs_next after)
+  pub owing : IsLevel s old → new.down ≡ false → IsOwing old.members old.owed (unexecuted s (jobs_next next) old.waiting)
+      → IsOwing new.members new.owed (unexecuted t (jobs_next after) new.waiting)
+  pub members : length new.members ≡ length old.members
+  pub workers : (c : Connection) → worker_of new.members c ≡ worker_of old.members c
+  pub owed : awaited new.owed ≡ awaited old.owed
+  pub got : HaveGot old.members new.members
+  pub refused : new.down ≡ false → new.refused ≡ old.refused
+  pub up : new.down ≡ false → (old.down ≡ false) × (after ≡ next) × (new.waiting ≡ old.waiting)
+  pub after_is : (after ≡ None) ⊎ (after ≡ next)

@@ -1,0 +1,9 @@
+pub mod Level
+pub mod Next
+pub mod Owing
+pub mod Advanced
+pub mod Reserved
+pub mod Batches
+pub mod Steps
+pub mod Sound
+pub mod Kept

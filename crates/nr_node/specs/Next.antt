@@ -1,0 +1,25 @@
+-- The entry that a node takes to the log next.
+use Rattle.std.specs.Prelude.{◌≡◌, ℕ, List, [], ◌∷◌, Option, Some, None}
+use Rattle.nr_entry.specs.declared.entry.Entry.{Entry}
+use Rattle.nr_entry.specs.declared.job.Job.{Job}
+use Rattle.nr_entry.specs.Shares.{shares_of}
+use Rattle.nr_node.specs.declared.next.Next.{Next}
+use Rattle.nr_node.specs.declared.next.Next.TheVariants as forms
+
+-- the jobs of the entry of these shares
+abbrev pub jobs_shared : List (Option Entry) → List Job
+jobs_shared [] = []
+jobs_shared (None ∷ shares) = []
+jobs_shared (Some entry ∷ shares) = entry.jobs.items
+
+-- its jobs
+abbrev pub jobs_next : Option Next → List Job
+jobs_next None = []
+jobs_next (Some (forms.Whole entry)) = entry.jobs.items
+jobs_next (Some (forms.Shared shares)) = jobs_shared shares
+
+-- it is an entry of the node, or shares of one for so many nodes
+abbrev pub IsNextOf : ℕ → ℕ → Option Next → Type 0
+IsNextOf node nodes None = Unit {0}
+IsNextOf node nodes (Some (forms.Whole entry)) = entry.node ≡ node
+IsNextOf node nodes (Some (forms.Shared shares)) = (entry : Entry) × (shares ≡ shares_of entry nodes) × (entry.node ≡ node)

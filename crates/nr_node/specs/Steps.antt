@@ -1,0 +1,123 @@
+-- What the calls of a node come to.
+use Rattle.std.specs.Prelude.{◌≡◌, ℕ, ◌≤◌, false, List, [], ◌∷◌, ◌++◌, map, length, slice_set, slice_index_or, replicate, Some, None}
+use Rattle.std.specs.FinMap as finmap
+use Rattle.nr_model.specs.Servers.{fresh}
+use Rattle.nr_model.specs.Entries.{read_jobs, left_by_reads}
+use Rattle.nr_entry.specs.Jobs.{items_of}
+use Rattle.nr_entry.specs.Shares.{shares_of}
+use Rattle.nr_entry.specs.declared.batch.Batch.{Batch}
+use Rattle.nr_entry.specs.declared.entry.Entry.{Entry}
+use Rattle.nr_entry.specs.declared.job.Job.{Job}
+use Rattle.nr_log_end.specs.declared.standing.Look.{Look}
+use Rattle.nr_log_end.specs.declared.standing.Look.TheVariants.{Tail}
+use Rattle.nr_log_end.specs.declared.standing.Turn.TheVariants.{Applied, Ran}
+use Rattle.nr_log_end.specs.Standings.{passed_of}
+use Rattle.nr_oplog.specs.declared.view.LogView.{LogView}
+use Rattle.nr_accounts.specs.Account.{fresh_account}
+use Rattle.nr_accounts.specs.Book.{with_batch}
+use Rattle.nr_replica.specs.Members.{Member, fresh_member, closed_member, handed_member}
+use Rattle.nr_replica.specs.Replicas.{fallen}
+use Rattle.nr_node.specs.Level.{NodeState, connection_at}
+use Rattle.nr_node.specs.Owing.{awaited}
+use Rattle.nr_node.specs.Advanced.{HaveGot}
+use Rattle.nr_node.specs.Reserved.{due_jobs, left_jobs, LeavesWaiting, HasMet, IsReserved}
+
+abbrev pub nobody : Member
+nobody = fresh_member (connection_at 0 0) 0 0
+
+-- one that has done nothing yet
+abbrev pub fresh_node : LogView → ℕ → ℕ → NodeState
+fresh_node seat node workers =
+    record {
+      seat = seat;
+      replica = record { node = node; members = []; owed = replicate workers None; waiting = []; applied = 0; server = fresh; down = false; refused = false };
+      book = record { node = node; held = finmap.empty; last = replicate workers None };
+      next = [];
+    }
+
+-- a connection more
+abbrev pub opened_node : ℕ → ℕ → NodeState → NodeState
+opened_node limit worker n =
+    record n {
+      replica = record n.replica { members = n.replica.members ++ fresh_member (connection_at n.replica.node (length n.replica.members)) worker limit ∷ [] };
+      book = record n.book { held = finmap.insert n.book.held (length n.replica.members) (fresh_account worker) };
+    }
+
+-- one was closed
+abbrev pub closed_node : ℕ → NodeState → NodeState
+closed_node serial n =
+    record n { replica = record n.replica { members = slice_set n.replica.members serial (closed_member (slice_index_or n.replica.members serial nobody)) } }
+
+-- a batch was taken: its jobs wait behind the others
+abbrev pub taken_node : Batch → NodeState → NodeState
+taken_node batch n =
+    record n {
+      replica = record n.replica { waiting = n.replica.waiting ++ batch.jobs.items; owed = slice_set n.replica.owed batch.worker (Some (length batch.jobs.items)) };
+      book = with_batch batch n.book;
+    }
+
+-- the jobs that are due stand in the log under this number, and wait no more
+pub record HasReserved (at : ℕ) (entry : Entry) (n m : NodeState) : Type 0 where
+  pub jobs : items_of entry.jobs.items ≡ due_jobs n.next n.replica.waiting
+  pub node : entry.node ≡ n.replica.node
+  pub reserved : IsReserved at (shares_of entry n.seat.standing.nodes) n.seat.standing m.seat.standing
+  pub next : m.next ≡ []
+  pub left : LeavesWaiting (left_jobs n.next n.replica.waiting) n.replica m.replica
+  pub book : m.book ≡ n.book
+
+-- they go on waiting, in front of all others
+pub record GoesOnWaiting (n m : NodeState) : Type 0 where
+  pub met : HasMet n.seat.standing m.seat.standing
+  pub next : items_of m.next ≡ due_jobs n.next n.replica.waiting
+  pub left : LeavesWaiting (left_jobs n.next n.replica.waiting) n.replica m.replica
+  pub book : m.book ≡ n.book
+
+-- none is due, and what waits goes on waiting
+pub record HasNoneDue (n m : NodeState) : Type 0 where
+  pub none : due_jobs n.next n.replica.waiting ≡ []
+  pub left : LeavesWaiting (left_jobs n.next n.replica.waiting) n.replica m.replica
+  pub same : m ≡ record n { replica = m.replica }
+
+-- the replica fell, since memory ran out; the accounts stay
+pub record HasFallen (n m : NodeState) : Type 0 where
+  pub replica : m.replica ≡ fallen n.replica
+  pub next : m.next ≡ []
+  pub book : m.book ≡ n.book
+  pub seat : m.seat ≡ n.seat
+
+-- the tail was loaded in the call, and was so
+abbrev pub HasLoaded : ℕ → List Look → List Look → Type 0
+HasLoaded tail looks after = (more : List Look) × (after ≡ looks ++ (Tail tail ∷ more))
+
+-- entries were passed, and then reads were run, behind all that was in the record; the same workers wait for an answer
+pub record GoesOnBy (entries : List Entry) (ran : List Job) (tail : ℕ) (n m : NodeState) : Type 0 where
+  pub history : m.seat.standing.history ≡ n.seat.standing.history ++ (map Applied entries ++ map Ran ran)
+  pub loaded : HasLoaded tail n.seat.looks m.seat.looks
+  pub book : m.book ≡ n.book
+  pub owed : awaited m.replica.owed ≡ awaited n.replica.owed
+  pub got : HaveGot n.replica.members m.replica.members
+  pub refused : m.replica.down ≡ false → m.replica.refused ≡ n.replica.refused
+
+-- all entries that there were when the call loaded the tail are passed; the reads that led were run, and no entry of the node was due before them
+pub record HasRead (ran : List Job) (tail : ℕ) (n m : NodeState) : Type 0 where
+  pub up : m.replica.down ≡ false
+  pub passed : tail ≤ passed_of m.seat.standing
+  pub ran_is : items_of ran ≡ read_jobs (items_of n.replica.waiting)
+  pub left : items_of m.replica.waiting ≡ left_by_reads (items_of n.replica.waiting)
+  pub next : (n.next ≡ []) × (m.next ≡ [])
+
+-- the end of the log knows no more, and nothing else changed
+pub record IsStill (n m : NodeState) : Type 0 where
+  pub standing : m.seat.standing ≡ n.seat.standing
+  pub looks : m.seat.looks ≡ n.seat.looks
+  pub replica : m.replica ≡ n.replica
+  pub book : m.book ≡ n.book
+  pub next : m.next ≡ n.next
+
+-- so many bytes were handed out
+pub record HasHandedOut (serial most : ℕ) (n m : NodeState) : Type 0 where
+  pub replica : m.replica ≡ record n.replica { members = slice_set n.replica.members serial (handed_member most (slice_index_or n.replica.members serial nobody)) }
+  pub standing : m.seat.standing ≡ n.seat.standing
+  pub looks : m.seat.looks ≡ n.seat.looks
+  pub book : m.book ≡ n.book
+  pub next : m.next ≡ n.next

@@ -1,0 +1,95 @@
+// A replica goes on along its end of the log.
+ghost use Rattle.std.specs.Prelude.{◌≡◌, ◌<◌, ◌≤◌, [], ◌∷◌, ◌++◌, length, true, false, None, List};
+ghost use Rattle.nr_entry.specs.declared.entry.Entry.{Entry};
+ghost use Rattle.nr_log_end.specs.Standings.{StandsInLog, passed_of};
+ghost use Rattle.nr_node.specs.Level.{IsLevel};
+ghost use Rattle.nr_node.specs.Advanced.{IsTakenIn, GoesOn};
+
+use crate::next::Next;
+use nr_entry::Entry;
+use nr_log_end::{LogEnd, Look};
+use nr_oplog::{End, LogName};
+use nr_replica::Replica;
+
+/// Takes all entries in that there are when it begins, and passes them, and the next one where that is there. False where one isn't there yet. Where the
+/// replica falls over one of them, or is down, the next entry of its own is dropped.
+pub(crate) fn catch_up<B: LogName>(
+    end: &mut End<B>,
+    replica: &mut Replica,
+    next: &mut Option<Next>,
+) -> bool
+    requires idle { end.old.standing.held ≡ None }
+    requires level { IsLevel end.old.standing replica.old }
+    ensures idle { end.new.standing.held ≡ None }
+    ensures goes { (entries : List Entry) × GoesOn entries end.old.standing end.new.standing replica.old replica.new next.old next.new }
+    ensures looks { end.new.looks ≡ end.old.looks ++ Look.Tail end.new.standing.seen ∷ [] }
+    ensures reached { result ≡ true → replica.new.down ≡ false → (end.new.standing.seen ≤ passed_of end.new.standing) × StandsInLog end.new.standing }
+    ensures behind { result ≡ false → replica.new.down ≡ false → passed_of end.new.standing < end.new.standing.seen }
+{
+    let tail = end.tail();
+    let count = tail.saturating_sub(replica.applied());
+    if !advance_by(end, replica, next, count) {
+        return false;
+    }
+    advance(end, replica, next);
+    true
+}
+
+// Takes so many entries in, one after the other. False where one isn't there yet.
+fn advance_by<B: LogName>(
+    end: &mut End<B>,
+    replica: &mut Replica,
+    next: &mut Option<Next>,
+    count: u64,
+) -> bool
+    requires idle { end.old.standing.held ≡ None }
+    ensures idle { end.new.standing.held ≡ None }
+    ensures met { (end.new.standing.seen ≡ end.old.standing.seen) × (end.new.looks ≡ end.old.looks) }
+    ensures all { result ≡ true → (entries : List Entry) × (length entries ≡ count) × GoesOn entries end.old.standing end.new.standing replica.old replica.new next.old next.new }
+    ensures fewer { result ≡ false → (entries : List Entry) × (length entries < count) × GoesOn entries end.old.standing end.new.standing replica.old replica.new next.old next.new }
+{
+    for _ in 0..count {
+        if !advance(end, replica, next) {
+            return false;
+        }
+    }
+    true
+}
+
+// Takes the next entry in, and passes it. False where it isn't there yet.
+fn advance<B: LogName>(end: &mut End<B>, replica: &mut Replica, next: &mut Option<Next>) -> bool
+    requires idle { end.old.standing.held ≡ None }
+    ensures idle { end.new.standing.held ≡ None }
+    ensures met { (end.new.standing.seen ≡ end.old.standing.seen) × (end.new.looks ≡ end.old.looks) }
+    ensures log { StandsInLog end.new.standing }
+    ensures some { result ≡ true → (entry : Entry) × GoesOn (entry ∷ []) end.old.standing end.new.standing replica.old replica.new next.old next.new }
+    ensures none { result ≡ false → (end.new.standing ≡ end.old.standing) × (replica.new ≡ replica.old) × (next.new ≡ next.old) }
+{
+    let Some(entry) = end.fetch() else {
+        return false;
+    };
+    take_in(replica, &entry);
+    end.pass();
+    drop_next(replica, next);
+    true
+}
+
+// Takes an entry in, unless the replica is down.
+fn take_in(replica: &mut Replica, entry: &Entry)
+    ensures { IsTakenIn entry.now replica.old replica.new }
+{
+    if replica.is_down() {
+        return;
+    }
+    replica.apply(entry);
+}
+
+// The entry that a node takes to the log next is dropped where its replica is down.
+fn drop_next(replica: &Replica, next: &mut Option<Next>)
+    ensures down { replica.now.down ≡ true → next.new ≡ None }
+    ensures up { replica.now.down ≡ false → next.new ≡ next.old }
+{
+    if replica.is_down() {
+        *next = None;
+    }
+}

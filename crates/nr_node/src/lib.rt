@@ -1,0 +1,12 @@
+//! A node over the running operation log: its replica, its end of the log, and the accounts of its batches, as one value for a lock.
+#![tactic(auto)]
+
+pub use answers::{OpenError, Round, TakeError};
+pub use within::{Core, Shape};
+
+mod advancing;
+mod answers;
+mod next;
+mod reading;
+mod reserving;
+mod within;

@@ -1,0 +1,104 @@
+// The updates that lead go into the log, in one entry.
+ghost use Rattle.std.specs.Prelude.{◌≡◌, ◌<◌, ◌≤◌, [], ◌++◌, true, false, None, Some, IfOk, OnErr, IfSome, IfNone, MatchOption, List};
+ghost use Rattle.nr_entry.specs.declared.entry.Entry.{Entry};
+ghost use Rattle.nr_entry.specs.Shares.{shares_of};
+ghost use Rattle.nr_log_end.specs.Standings.{IsSharesFor, IsAllFilled};
+ghost use Rattle.nr_log_end.specs.Reserves.{IfTaken, IfFull, IfLost};
+ghost use Rattle.nr_log_end.specs.Tries.{IsFull, IsLost};
+ghost use Rattle.nr_node.specs.Next.{IsNextOf};
+ghost use Rattle.nr_node.specs.declared.next.Next.TheVariants as forms;
+ghost use Rattle.nr_replica.specs.Replicas.{fallen};
+ghost use Rattle.nr_node.specs.Reserved.{AreTaken, AreNone, AreDue, IsReserved, HasMet, IsFresh, IsFilled};
+
+use crate::next::Next;
+use nr_blob::Memory;
+use nr_entry::{Entry, Shares};
+use nr_log_end::{LogEnd, Reserve};
+use nr_oplog::{End, LogName};
+use nr_replica::Replica;
+use std::alloc::Global;
+
+/// The shares of the next entry: of the one that found no place before, else of one of the updates that lead. `None` where there is none, or where the
+/// entry was lost, since memory ran out while its shares were made: then the replica falls. Where memory runs out else no job is lost.
+pub(crate) fn take_shares(
+    alloc: Global,
+    nodes: usize,
+    replica: &mut Replica,
+    next: &mut Option<Next>,
+) -> Result<Option<Shares>, Memory>
+    requires nodes { 0 < nodes }
+    requires up { replica.old.down ≡ false }
+    requires next { IsNextOf replica.old.node nodes next.old }
+    ensures some { IfOk result (λ shares. IfSome shares (λ shares. (entry : Entry) × (shares ≡ shares_of entry nodes) × (entry.node ≡ replica.old.node)
+        × AreTaken entry.jobs.items next.old replica.old next.new replica.new)) }
+    ensures none { IfOk result (λ shares. IfNone shares (AreNone next.old replica.old next.new replica.new)) }
+    ensures err { OnErr result (AreDue next.old replica.old next.new replica.new) }
+    ensures next { OnErr result (IsNextOf replica.old.node nodes next.new) }
+{
+    match next.take() {
+        Some(Next::Shared(shares)) => Ok(Some(shares)),
+        Some(Next::Whole(entry)) => share(alloc, nodes, entry, replica, next),
+        None => match replica.take_entry()? {
+            Some(entry) => share(alloc, nodes, entry, replica, next),
+            None => Ok(None),
+        },
+    }
+}
+
+// The shares of an entry. Where there is no memory it goes on waiting, or the replica falls where it is lost.
+fn share(
+    alloc: Global,
+    nodes: usize,
+    entry: Entry,
+    replica: &mut Replica,
+    next: &mut Option<Next>,
+) -> Result<Option<Shares>, Memory>
+    requires { 0 < nodes }
+    ensures some { IfOk result (λ shares. IfSome shares (λ shares. (shares ≡ shares_of entry nodes) × (next.new ≡ next.old) × (replica.new ≡ replica.old))) }
+    ensures none { IfOk result (λ shares. IfNone shares ((next.new ≡ next.old) × (replica.new ≡ fallen replica.old))) }
+    ensures err { OnErr result ((next.new ≡ Some (forms.Whole entry)) × (replica.new ≡ replica.old)) }
+{
+    match Shares::of(alloc, entry, nodes) {
+        Ok(shares) => Ok(Some(shares)),
+        Err(Some(entry)) => {
+            *next = Some(Next::Whole(entry));
+            Err(Memory)
+        }
+        Err(None) => {
+            replica.fall();
+            Ok(None)
+        }
+    }
+}
+
+/// Tries once to reserve a place for the entry of these shares, and fills all its cells where it got one.
+pub(crate) fn put_in<B: LogName>(end: &mut End<B>, nodes: usize, shares: Shares) -> Reserve
+    requires nodes { nodes ≡ end.old.standing.nodes }
+    requires shares { IsSharesFor end.old.standing shares }
+    requires filled { IsAllFilled end.old.standing }
+    ensures taken { IfTaken result (λ at. IsReserved at shares end.old.standing end.new.standing) }
+    ensures full { IfFull result (λ back. (back ≡ shares) × HasMet end.old.standing end.new.standing) }
+    ensures lost { IfLost result (λ back. (back ≡ shares) × HasMet end.old.standing end.new.standing) }
+    ensures met_full { IfFull result (λ _. IsFull end.old.standing end.old.looks B.places end.new.standing end.new.looks) }
+    ensures met_lost { IfLost result (λ _. IsLost end.old.standing end.old.looks end.new.standing end.new.looks) }
+    ensures filled { IsAllFilled end.new.standing }
+{
+    match end.reserve(shares) {
+        Reserve::Taken(at) => {
+            fill_all(end, nodes, at);
+            Reserve::Taken(at)
+        }
+        Reserve::Full(back) => Reserve::Full(back),
+        Reserve::Lost(back) => Reserve::Lost(back),
+    }
+}
+
+// Puts each node's share into its cell.
+fn fill_all<B: LogName>(end: &mut End<B>, nodes: usize, at: u64)
+    requires { IsFresh at nodes end.old.standing }
+    ensures { IsFilled end.old.standing end.new.standing }
+{
+    for node in 0..nodes {
+        end.fill(at, node);
+    }
+}

@@ -1,0 +1,329 @@
+// What all workers of a node share.
+ghost use Rattle.std.specs.Prelude.{◌≡◌, ◌≢◌, ◌↔◌, ◌⊎◌, ◌+◌, ◌<◌, ◌≤◌, [], ℕ, List, length, true, false, Ok, Err, Some, None, IfOk, IfErr, IfSome, IfNone, OnOk, OnErr, slice_index_or};
+ghost use Rattle.std.specs.FinMap as finmap;
+ghost use Rattle.nr_entry.specs.Jobs.{connection_of};
+ghost use Rattle.nr_entry.specs.declared.entry.Entry.{Entry};
+ghost use Rattle.nr_entry.specs.declared.job.Job.{Job};
+ghost use Rattle.nr_log_end.specs.Standings.{passed_of};
+ghost use Rattle.nr_log_end.specs.Tries.{IsFull, IsLost};
+ghost use Rattle.nr_oplog.specs.Rule.{opening_view};
+ghost use Rattle.nr_node.specs.Level.{connection_at, queue_at};
+ghost use Rattle.nr_node.specs.Batches.{AreSame, refusal, IsOpened, IsPiece};
+ghost use Rattle.nr_node.specs.Owing.{answer_of, answered_node, HasAllExecuted};
+ghost use Rattle.nr_node.specs.Sound.{IsSound};
+ghost use Rattle.nr_node.specs.Steps.{fresh_node, opened_node, closed_node, taken_node, HasReserved, GoesOnWaiting, HasNoneDue, HasFallen, GoesOnBy, HasRead, IsStill, HasHandedOut};
+
+use crate::advancing::catch_up;
+use crate::answers::{OpenError, Round, TakeError, take_error};
+use crate::next::Next;
+use crate::reading::read;
+use crate::reserving::{put_in, take_shares};
+use nr_accounts::Accounts;
+use nr_blob::Memory;
+use nr_entry::{Batch, ConnId, Outcome};
+use nr_log_end::{LogEnd, Reserve};
+use nr_oplog::{End, LogName, Token};
+use nr_replica::{Piece, Replica};
+use std::alloc::Global;
+use std::hash::RandomState;
+use std::marker::Model;
+
+/// Which node it is of how many, and how many workers it has.
+#[derive(Clone, Copy, Debug)]
+pub struct Shape {
+    pub node: usize,
+    pub nodes: usize,
+    pub workers: usize,
+}
+
+/// A node without its lock: its replica, its end of the operation log, and the accounts of its batches. Whatever other nodes do, between two calls the replica
+/// is the sequential Redis after the record of its end, or is down.
+#[derive(Drop)]
+pub struct Core<B: LogName> {
+    alloc: Global,
+    // How many nodes the log has.
+    nodes: usize,
+    end: End<B>,
+    replica: Replica,
+    accounts: Accounts,
+    next: Option<Next>,
+}
+
+impl<B: LogName> Model for Core<B> {
+    ghost use Rattle.std.specs.Prelude.{◌≡◌, ◌<◌, None};
+    ghost use Rattle.nr_log_end.specs.Standings.{IsAllFilled};
+    ghost use Rattle.nr_node.specs.Level.{NodeState, coded_node};
+    ghost use Rattle.nr_node.specs.Next.{jobs_next};
+    ghost use Rattle.nr_node.specs.Kept.{IsKept};
+
+    ghost Value = { NodeState };
+
+    ghost coded = { coded_node };
+
+    ghost view = { λ c. record { seat = c.end; replica = c.replica; book = c.accounts; next = jobs_next c.next } };
+
+    ghost invariant = { λ c. IsKept c.end.standing c.replica c.accounts c.next c.nodes × (c.end.standing.held ≡ None) × IsAllFilled c.end.standing
+        × (c.nodes ≡ c.end.standing.nodes) × (0 < c.nodes) };
+}
+
+impl<B: LogName> Core<B> {
+    /// A node of that number, with no key and no connection, of so many workers. Strangers choose the keys, so the hasher takes a seed of its own.
+    pub fn new(
+        alloc: Global,
+        keys: RandomState,
+        end: End<B>,
+        shape: Shape,
+    ) -> Result<Core<B>, Memory>
+        requires end { end ≡ opening_view B.nodes B.places shape.node (shape.node + 1) }
+        requires nodes { (shape.nodes ≡ B.nodes) × (0 < shape.nodes) }
+        ensures { IfOk result (λ core. core ≡ fresh_node end shape.node shape.workers) }
+    {
+        Ok(Core {
+            alloc,
+            nodes: shape.nodes,
+            end,
+            replica: Replica::new(alloc, keys, shape.node, shape.workers)?,
+            accounts: Accounts::new(alloc, shape.node, shape.workers)?,
+            next: None,
+        })
+    }
+
+    /// Whether the replica is down.
+    pub fn is_down(&self) -> bool
+        ensures { result ≡ self.now.replica.down }
+    {
+        self.replica.is_down()
+    }
+
+    /// Opens a connection that a worker serves, for which at most `limit` bytes wait. Logarithmic.
+    pub fn open(&mut self, worker: u8, limit: usize) -> Result<ConnId, OpenError>
+        ensures conn { IfOk result (λ conn. connection_of conn ≡ connection_at self.old.replica.node (length self.old.replica.members)) }
+        ensures opened { OnOk result (self.new ≡ opened_node limit worker self.old) }
+        ensures unchanged { OnErr result (self.new ≡ self.old) }
+        ensures new { IfOk result (λ conn. finmap.get self.old.book.held conn.serial ≡ None) }
+        ensures down { (result ≡ Err OpenError.Down) ↔ (self.old.replica.down ≡ true) }
+    {
+        if self.replica.is_down() {
+            return Err(OpenError::Down);
+        }
+        let serial = self.replica.connections() as u64;
+        if self.accounts.open(serial, worker).is_err() {
+            return Err(OpenError::Memory);
+        }
+        match self.replica.open(worker as usize, limit) {
+            Ok(conn) => Ok(conn),
+            Err(Memory) => {
+                self.accounts.forget(serial);
+                Err(OpenError::Memory)
+            }
+        }
+    }
+
+    /// Closes a connection: what waits for it is dropped, and it gets nothing more. One that isn't the node's is passed over. Logarithmic.
+    pub fn close(&mut self, conn: ConnId)
+        ensures closed { IsOpened self.old (connection_of conn) → self.new ≡ closed_node conn.serial self.old }
+        ensures other { (IsOpened self.old (connection_of conn) → ⊥) → self.new ≡ self.old }
+    {
+        if !self.has(conn) {
+            return;
+        }
+        self.replica.close(conn.serial as usize);
+    }
+
+    /// Takes in the batch of a worker that waits for no answer: its jobs wait behind the others. Logarithmic in the connections for each job. A batch that is
+    /// refused comes back, and nothing changes: that the replica is down is told first, then the others in the order of [`TakeError`]'s, and want of memory
+    /// last.
+    pub fn take_batch(&mut self, batch: Batch) -> Result<(), (Batch, TakeError)>
+        requires idle { slice_index_or self.old.replica.owed batch.worker None ≡ None }
+        ensures taken { OnOk result (self.new ≡ taken_node batch self.old) }
+        ensures due { OnOk result (refusal self.old batch ≡ None) }
+        ensures refused { IfErr result (λ r. (refusal self.old batch ≡ Some r.1) ⊎ ((refusal self.old batch ≡ None) × (r.1 ≡ TakeError.Memory))) }
+        ensures back { IfErr result (λ r. AreSame r.0 batch) }
+        ensures unchanged { OnErr result (self.new ≡ self.old) }
+    {
+        if self.replica.is_down() {
+            return Err((batch, TakeError::Down));
+        }
+        let before = match self.accounts.take(&batch) {
+            Ok(before) => before,
+            Err(why) => return Err((batch, take_error(why))),
+        };
+        let Batch {
+            node,
+            worker,
+            number,
+            jobs,
+        } = batch;
+        match self.replica.lift(worker, jobs) {
+            Ok(()) => Ok(()),
+            Err(jobs) => {
+                let batch = Batch {
+                    node,
+                    worker,
+                    number,
+                    jobs,
+                };
+                self.accounts.give_back(&batch, before);
+                Err((batch, TakeError::Memory))
+            }
+        }
+    }
+
+    /// What became of the batch that was taken last from a worker, once it is known, or `None` where a job of it is owed, or it was told before.
+    pub fn answer(&mut self, worker: usize) -> Option<Outcome>
+        requires { worker < length self.old.replica.owed }
+        ensures outcome { result ≡ answer_of self.old worker }
+        ensures answered { IfSome result (λ _. self.new ≡ answered_node worker self.old) }
+        ensures waits { IfNone result (self.new ≡ self.old) }
+        ensures executed { result ≡ Some Outcome.Executed → HasAllExecuted worker self.new }
+    {
+        let Some(outcome) = self.outcome(worker) else {
+            return None;
+        };
+        self.replica.answered(worker);
+        Some(outcome)
+    }
+
+    /// Puts the updates that lead into the log, at most 1,024 of them in one entry: first those of an entry that found no place before. Its cost is that of
+    /// [`Waiting::lend_updates`](nr_entry::Waiting::lend_updates), and some loads and stores for each node. Where memory runs out no job is lost.
+    pub fn reserve(&mut self) -> Result<Round, Memory>
+        ensures done { result ≡ Ok Round.Done → ((at : ℕ) × (entry : Entry) × HasReserved at entry self.old self.new) ⊎ HasNoneDue self.old self.new }
+        ensures full { result ≡ Ok Round.Full → GoesOnWaiting self.old self.new }
+        ensures again { result ≡ Ok Round.Again → GoesOnWaiting self.old self.new }
+        ensures met_full { result ≡ Ok Round.Full → IsFull self.old.seat.standing self.old.seat.looks B.places self.new.seat.standing self.new.seat.looks }
+        ensures met_lost { result ≡ Ok Round.Again → IsLost self.old.seat.standing self.old.seat.looks self.new.seat.standing self.new.seat.looks }
+        ensures not_yet { result ≢ Ok Round.NotYet }
+        ensures is_down { (result ≡ Ok Round.Down) ↔ (self.new.replica.down ≡ true) }
+        ensures down { result ≡ Ok Round.Down → ((self.old.replica.down ≡ true) × (self.new ≡ self.old)) ⊎ ((self.old.replica.down ≡ false) × HasFallen self.old self.new) }
+        ensures memory { OnErr result ((self.new ≡ self.old) ⊎ GoesOnWaiting self.old self.new) }
+    {
+        if self.replica.is_down() {
+            return Ok(Round::Down);
+        }
+        let shares = take_shares(self.alloc, self.nodes, &mut self.replica, &mut self.next)?;
+        let Some(shares) = shares else {
+            return Ok(self.up_or_down());
+        };
+        match put_in(&mut self.end, self.nodes, shares) {
+            Reserve::Taken(_) => Ok(Round::Done),
+            Reserve::Full(shares) => {
+                self.next = Some(Next::Shared(shares));
+                Ok(Round::Full)
+            }
+            Reserve::Lost(shares) => {
+                self.next = Some(Next::Shared(shares));
+                Ok(Round::Again)
+            }
+        }
+    }
+
+    /// Applies and passes all entries that there are when it begins, and the next one where that is there.
+    pub fn catch_up(&mut self) -> Round
+        ensures goes { (entries : List Entry) × ((tail : ℕ) × GoesOnBy entries [] tail self.old self.new × (result ≡ Round.Done → tail ≤ passed_of self.new.seat.standing)) }
+        ensures not_yet { result ≡ Round.NotYet → passed_of self.new.seat.standing < self.new.seat.standing.seen }
+        ensures never { (result ≢ Round.Full) × (result ≢ Round.Again) }
+        ensures down { (result ≡ Round.Down) ↔ (self.new.replica.down ≡ true) }
+        ensures waiting { self.new.replica.down ≡ false → (self.old.replica.down ≡ false) × (self.new.replica.waiting ≡ self.old.replica.waiting) × (self.new.next ≡ self.old.next) }
+    {
+        let reached = catch_up(&mut self.end, &mut self.replica, &mut self.next);
+        if self.replica.is_down() {
+            return Round::Down;
+        }
+        if reached { Round::Done } else { Round::NotYet }
+    }
+
+    /// Applies and passes all entries that there are when it begins, and then runs the reads that lead, each of which it notes behind them. They are run only
+    /// where all those entries are there, and where no entry of the node's own found no place: so none runs before an update of its connection. Where memory
+    /// runs out none is run.
+    pub fn look(&mut self) -> Result<Round, Memory>
+        ensures goes { (entries : List Entry) × ((ran : List Job) × ((tail : ℕ) × GoesOnBy entries ran tail self.old self.new × (result ≡ Ok Round.Done → HasRead ran tail self.old self.new))) }
+        ensures not_yet { result ≡ Ok Round.NotYet → passed_of self.new.seat.standing < self.new.seat.standing.seen }
+        ensures down { (result ≡ Ok Round.Down) ↔ (self.new.replica.down ≡ true) }
+        ensures waiting { result ≢ Ok Round.Done → self.new.replica.down ≡ false → (self.new.replica.waiting ≡ self.old.replica.waiting) × (self.new.next ≡ self.old.next) }
+        ensures again { result ≡ Ok Round.Again → self.old.next ≢ [] }
+        ensures never_full { result ≢ Ok Round.Full }
+    {
+        let reached = catch_up(&mut self.end, &mut self.replica, &mut self.next);
+        if self.replica.is_down() {
+            return Ok(Round::Down);
+        }
+        if !reached {
+            return Ok(Round::NotYet);
+        }
+        if self.next.is_some() {
+            return Ok(Round::Again);
+        }
+        read(&mut self.end, &mut self.replica)?;
+        Ok(Round::Done)
+    }
+
+    /// Hands out at most so many of the first bytes that wait for a connection, and at least one, with a token that keeps of which record they are; or `None`
+    /// where nothing waits, or the connection isn't the node's. Linear in them. Where memory runs out nothing changes.
+    pub fn take_piece(
+        &mut self,
+        conn: ConnId,
+        most: usize,
+    ) -> Result<Option<(Piece, Token<B>)>, Memory>
+        requires some { 0 < most }
+        ensures piece { IfOk result (λ taken. IfSome taken (λ t. IsPiece self.old (connection_of conn) most t.0 t.1.standing)) }
+        ensures none { IfOk result (λ taken. IfNone taken ((IsOpened self.old (connection_of conn) → (queue_at conn.serial self.old.replica.members).waiting ≡ []) × (self.new ≡ self.old))) }
+        ensures sound { IfOk result (λ taken. IfSome taken (λ t. IsSound t.1.standing)) }
+        ensures taken { IfOk result (λ taken. IfSome taken (λ t. HasHandedOut conn.serial most self.old self.new)) }
+        ensures unchanged { OnErr result (self.new ≡ self.old) }
+    {
+        if !self.has(conn) {
+            return Ok(None);
+        }
+        let Some(piece) = self.replica.take_piece(conn.serial as usize, most)? else {
+            return Ok(None);
+        };
+        let token = self.end.token();
+        Ok(Some((piece, token)))
+    }
+
+    /// A token that keeps how the node stands now.
+    pub fn token(&mut self) -> Token<B>
+        ensures kept { result.standing ≡ self.old.seat.standing }
+        ensures sound { IsSound result.standing }
+        ensures same { IsStill self.old self.new }
+    {
+        self.end.token()
+    }
+
+    // Whether a connection is the node's, and was opened.
+    fn has(&self, conn: ConnId) -> bool
+        ensures opened { result ≡ true → IsOpened self.now (connection_of conn) }
+        ensures other { result ≡ false → IsOpened self.now (connection_of conn) → ⊥ }
+    {
+        conn.node == self.replica.node() && conn.serial < self.replica.connections() as u64
+    }
+
+    // What became of the batch that was taken last from a worker.
+    fn outcome(&self, worker: usize) -> Option<Outcome>
+        requires { worker < length self.now.replica.owed }
+        ensures { result ≡ answer_of self.now worker }
+    {
+        let Some(owed) = self.replica.owed(worker) else {
+            return None;
+        };
+        if self.replica.is_down() {
+            return Some(Outcome::Down);
+        }
+        if owed > 0 {
+            return None;
+        }
+        Some(Outcome::Executed)
+    }
+
+    // What came of a step in which nothing was reserved.
+    fn up_or_down(&self) -> Round
+        ensures down { self.now.replica.down ≡ true → result ≡ Round.Down }
+        ensures up { self.now.replica.down ≡ false → result ≡ Round.Done }
+    {
+        if self.replica.is_down() {
+            Round::Down
+        } else {
+            Round::Done
+        }
+    }
+}

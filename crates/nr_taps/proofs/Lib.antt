@@ -1,0 +1,6 @@
+mod Accepts
+mod Longest
+mod Weave
+pub mod Explains
+mod Tapped
+pub mod Meetings
