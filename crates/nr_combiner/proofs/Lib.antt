@@ -1,0 +1,8 @@
+pub mod Grows
+pub mod Desks
+pub mod Lifts
+pub mod Turns
+pub mod Due
+pub mod Rounds
+pub mod Moves
+pub mod Handed

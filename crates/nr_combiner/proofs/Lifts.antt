@@ -1,0 +1,179 @@
+-- A batch was lifted and taken in, or handed back, or answered.
+use Rattle.std.proofs.Common.{◌≡◌, ℕ, suc, ◌+◌, ◌<◌, inl, inr, true, List, [], ◌∷◌, ◌++◌, length, length-set, Option, Some, None, refl, ap, sym, ◌∙◌, subst, arith, le_refl, get_or, set, get_or-set_same, get_or-set_other}
+use Rattle.std.specs.List.{AllByRecursion, range_with_len}
+use Rattle.std.specs.FinMap as finmap
+use Rattle.std.proofs.lemmas.Bool.Decides.{eqb_tells}
+use Rattle.std.proofs.lemmas.List.{length-append, set-get_or}
+use lib.Seq.{set-set}
+use Rattle.nr_model.specs.Bytes.{IsBeginningOf}
+use Rattle.nr_model.specs.Items.{Connection, Item, Sequence}
+use Rattle.nr_model.proofs.NodesExecutedGrows.{begins_itself}
+use Rattle.nr_entry.specs.Jobs.{items_of}
+use Rattle.nr_entry.specs.declared.batch.Batch.{Batch}
+use Rattle.nr_entry.specs.declared.batch.Answer.{Answer}
+use Rattle.nr_entry.specs.declared.batch.Outcome.TheVariants.{Executed}
+use Rattle.nr_log_end.specs.Standings.{record_of}
+use Rattle.nr_accounts.specs.declared.account.Account.{Account}
+use Rattle.nr_accounts.specs.Held.{numbers_in, takes_all, taken_all}
+use Rattle.nr_slots.specs.declared.view.Desk.{Desk}
+use Rattle.nr_slots.specs.Seats.{CombinerView, desk_of, with_lifted, with_answered}
+use Rattle.nr_slots.specs.Rule.{no_desk}
+use Rattle.nr_slots.specs.Names.{IsForLast}
+use Rattle.nr_node.specs.Level.{NodeState, connection_at}
+use Rattle.nr_node.specs.Steps.{taken_node}
+use Rattle.nr_combiner.specs.Served.{owed_at, IsTakenOf, HoldsBatch, IsDesk, StandIn, AreExecuted, IsServed}
+use Rattle.nr_combiner.proofs.Grows.{Grows, still_itself, desk_still, all_still}
+use Rattle.nr_combiner.proofs.Desks.{IsTakenIn, grown_all, all_taken, range_begins, executed_more, executed_front, executed_answered}
+
+-- at one worker's desk another one lies, and the numbers and what is owed are changed there alone
+pub at_desk : (n m : NodeState) (seat : CombinerView) (numbers : List ℕ) (worker number : ℕ) (desk : Desk) (owed : Option ℕ) (v : CombinerView)
+    → worker < length n.replica.owed → Grows n m → m.replica.owed ≡ set n.replica.owed worker owed → v.desks ≡ set seat.desks worker desk
+    → record_of m.seat.standing.history ≡ record_of n.seat.standing.history
+    → IsDesk m worker number desk owed → AreExecuted (record_of n.seat.standing.history) desk.lifted desk.answered
+    → IsServed n seat numbers → IsServed m v (set numbers worker number)
+at_desk n m seat numbers worker number desk owed v near grows owed_is desks_is same here executed s =
+    let near' : worker < length seat.desks = subst (λ k. worker < k) (sym s.workers) near in
+    let near'' : worker < length numbers = subst (λ k. worker < k) (sym s.numbered) near in
+    record {
+      workers = ap length desks_is ∙ length-set seat.desks worker desk ∙ s.workers ∙ sym grows.workers;
+      numbered = length-set numbers worker number ∙ s.numbered ∙ sym grows.workers;
+      desks = λ w w_near. elim (eqb_tells w worker) [
+        | inl e ↦ subst (λ k. IsDesk m k (get_or (set numbers worker number) k 0) (desk_of v k) (owed_at k m)) (sym e.1)
+            (subst (λ (x : ℕ × (Desk × Option ℕ)). IsDesk m worker x.0 x.1.0 x.1.1)
+            (λ i. (
+              sym (get_or-set_same numbers worker number 0 near'') i,
+              (
+                sym (ap (λ (ds : List Desk). get_or ds worker no_desk) desks_is ∙ get_or-set_same seat.desks worker desk no_desk near') i,
+                sym (ap (λ (os : List (Option ℕ)). get_or os worker None) owed_is ∙ get_or-set_same n.replica.owed worker owed None near) i,
+              ),
+            ))
+            here)
+        | inr e ↦ subst (λ (x : ℕ × (Desk × Option ℕ)). IsDesk m w x.0 x.1.0 x.1.1)
+            (λ i. (
+              sym (get_or-set_other numbers worker w number 0 e.1) i,
+              (
+                sym (ap (λ (ds : List Desk). get_or ds w no_desk) desks_is ∙ get_or-set_other seat.desks worker w desk no_desk e.1) i,
+                sym (ap (λ (os : List (Option ℕ)). get_or os w None) owed_is ∙ get_or-set_other n.replica.owed worker w owed None e.1) i,
+              ),
+            ))
+            (desk_still n m grows w (get_or numbers w 0) (desk_of seat w) (owed_at w n) (owed_at w n) (still_itself (owed_at w n))
+            (s.desks w (subst (λ k. w < k) grows.workers w_near)))
+      ];
+      executed = λ w w_near. subst (λ (r : Sequence). AreExecuted r (desk_of v w).lifted (desk_of v w).answered) (sym same) (elim (eqb_tells w worker) [
+        | inl e ↦ subst (λ k. AreExecuted (record_of n.seat.standing.history) (desk_of v k).lifted (desk_of v k).answered) (sym e.1)
+            (subst (λ (d : Desk). AreExecuted (record_of n.seat.standing.history) d.lifted d.answered)
+            (sym (ap (λ (ds : List Desk). get_or ds worker no_desk) desks_is ∙ get_or-set_same seat.desks worker desk no_desk near')) executed)
+        | inr e ↦ subst (λ (d : Desk). AreExecuted (record_of n.seat.standing.history) d.lifted d.answered)
+            (sym (ap (λ (ds : List Desk). get_or ds w no_desk) desks_is ∙ get_or-set_other seat.desks worker w desk no_desk e.1))
+            (s.executed w (subst (λ k. w < k) grows.workers w_near))
+      ]);
+    }
+
+-- a batch is taken in
+taken_grows : (n : NodeState) (batch : Batch) → Grows n (taken_node batch n)
+taken_grows n batch = record {
+  node = refl;
+  workers = length-set n.replica.owed batch.worker (Some (length batch.jobs.items));
+  accounts = grown_all n.book.held (items_of batch.jobs.items);
+  log = begins_itself (record_of n.seat.standing.history);
+}
+
+pub taken_served : (n : NodeState) (seat : CombinerView) (numbers : List ℕ) (batch : Batch) → batch.worker < length n.replica.owed → owed_at batch.worker n ≡ None
+    → batch.node ≡ n.book.node → takes_all n.book.node batch.worker n.book.held (items_of batch.jobs.items) ≡ true
+    → IsServed n seat numbers → IsServed (taken_node batch n) (with_lifted batch.worker batch seat) (set numbers batch.worker batch.number)
+taken_served n seat numbers batch near idle node all s =
+    let worker = batch.worker in
+    let old = desk_of seat worker in
+    let m = taken_node batch n in
+    let even : length old.lifted ≡ length old.answered = subst (IsDesk n worker (get_or numbers worker 0) old) idle (s.desks worker near) in
+    at_desk n m seat numbers worker batch.number record { lifted = old.lifted ++ batch ∷ []; answered = old.answered; grip = old.grip } (Some (length batch.jobs.items))
+    (with_lifted worker batch seat) near (taken_grows n batch) refl refl refl
+    record {
+      before = old.lifted;
+      batch = batch;
+      lifted = refl;
+      answered = sym even;
+      named = (node, refl, refl);
+      jobs = all_still (λ (job : Item). λ (t : IsTakenIn n.book.node worker (taken_all n.book.held (items_of batch.jobs.items)) job).
+          record { node = t.0; account = t.1; held = t.2; worker_is = t.3; below = t.4 })
+          (items_of batch.jobs.items) (all_taken n.book.node worker n.book.held (items_of batch.jobs.items) all);
+    }
+    (executed_more (record_of n.seat.standing.history) old.lifted batch old.answered (omega (arith, even)) (s.executed worker near)) s
+
+-- the node stays, and nothing is owed by it for another reason
+grows_itself : (n : NodeState) → Grows n n
+grows_itself n = record { node = refl; workers = refl; accounts = λ serial a at. (a, at, refl, le_refl a.next); log = begins_itself (record_of n.seat.standing.history) }
+
+-- one that was lifted is answered at once, and wasn't executed
+pub back_served : (n : NodeState) (seat : CombinerView) (numbers : List ℕ) (worker : ℕ) (batch : Batch) (answer : Answer) → worker < length n.replica.owed
+    → owed_at worker n ≡ None → (answer.outcome ≡ Executed → ⊥) → IsServed n seat numbers
+    → IsServed n (with_answered worker answer (with_lifted worker batch seat)) numbers
+back_served n seat numbers worker batch answer near idle other s =
+    let old = desk_of seat worker in
+    let near' : worker < length seat.desks = subst (λ k. worker < k) (sym s.workers) near in
+    let even : length old.lifted ≡ length old.answered = subst (IsDesk n worker (get_or numbers worker 0) old) idle (s.desks worker near) in
+    let mid : Desk = record { lifted = old.lifted ++ batch ∷ []; answered = old.answered; grip = old.grip } in
+    let desk : Desk = record { lifted = old.lifted ++ batch ∷ []; answered = old.answered ++ answer ∷ []; grip = old.grip } in
+    let v = with_answered worker answer (with_lifted worker batch seat) in
+    let there : desk_of (with_lifted worker batch seat) worker ≡ mid = get_or-set_same seat.desks worker mid no_desk near' in
+    let desks_is : v.desks ≡ set seat.desks worker desk =
+    ap (λ (d : Desk). set (set seat.desks worker mid) worker record { lifted = d.lifted; answered = d.answered ++ answer ∷ []; grip = d.grip }) there
+    ∙ set-set seat.desks worker mid desk in
+    subst (λ (ns : List ℕ). IsServed n v ns) (set-get_or numbers worker 0)
+    (at_desk n n seat numbers worker (get_or numbers worker 0) desk None v near (grows_itself n)
+    (sym (ap (set n.replica.owed worker) (sym idle) ∙ set-get_or n.replica.owed worker None)) desks_is refl
+    (length-append old.lifted (batch ∷ []) ∙ ap (λ k. k + 1) even ∙ sym (length-append old.answered (answer ∷ [])))
+    (executed_answered (record_of n.seat.standing.history) old.lifted batch old.answered answer (sym even) (λ e. absurd (other e)) (s.executed worker near)) s)
+
+-- the answer is for the batch that the desk holds
+pub is_last : (n : NodeState) (worker number : ℕ) (desk : Desk) (answer : Answer) → HoldsBatch n worker number desk
+    → answer.node ≡ n.book.node → answer.worker ≡ worker → answer.batch ≡ number → IsForLast answer desk.lifted desk.answered
+is_last n worker number desk answer h node named batch =
+    (h.before, h.batch, h.lifted, h.answered, (node ∙ sym h.named.0, named ∙ sym h.named.1, batch ∙ sym h.named.2))
+
+-- something is owed where a desk holds a batch
+pub holds_some : (n : NodeState) (seat : CombinerView) (numbers : List ℕ) (worker owed : ℕ) → worker < length n.replica.owed → owed_at worker n ≡ Some owed
+    → IsServed n seat numbers → HoldsBatch n worker (get_or numbers worker 0) (desk_of seat worker)
+holds_some n seat numbers worker owed near is s = subst (IsDesk n worker (get_or numbers worker 0) (desk_of seat worker)) is (s.desks worker near)
+
+-- all jobs that were taken from a worker's connections are in the record
+pub stand_all : (n : NodeState) (worker : ℕ) (jobs : List Item)
+    → ((serial : ℕ) (a : Account) → finmap.get n.book.held serial ≡ Some a → a.worker ≡ worker
+    → numbers_in (connection_at n.book.node serial) (record_of n.seat.standing.history) ≡ range_with_len 0 a.next)
+    → AllByRecursion (IsTakenOf n worker) jobs → StandIn (record_of n.seat.standing.history) jobs
+stand_all n worker jobs done all =
+    let r = record_of n.seat.standing.history in
+    all_still (λ (job : Item). λ (t : IsTakenOf n worker job).
+    let b = range_begins 0 (suc job.number) t.account.next (omega (arith, t.below)) in
+    let is : numbers_in (connection_at n.book.node job.connection.serial) r ≡ range_with_len 0 t.account.next = done job.connection.serial t.account t.held t.worker_is in
+    let own : connection_at n.book.node job.connection.serial ≡ job.connection = λ i. record { node = sym t.node i; serial = job.connection.serial } in
+    subst (λ (ns : List ℕ). IsBeginningOf (range_with_len 0 (suc job.number)) ns) (sym is ∙ ap (λ (c : Connection). numbers_in c r) own) b) jobs all
+
+-- it is answered
+pub answered_served : (n m : NodeState) (seat : CombinerView) (numbers : List ℕ) (worker owed : ℕ) (answer : Answer) → worker < length n.replica.owed
+    → owed_at worker n ≡ Some owed → m ≡ record n { replica = record n.replica { owed = set n.replica.owed worker None } }
+    → (answer.outcome ≡ Executed → (serial : ℕ) (a : Account) → finmap.get n.book.held serial ≡ Some a → a.worker ≡ worker
+    → numbers_in (connection_at n.book.node serial) (record_of n.seat.standing.history) ≡ range_with_len 0 a.next)
+    → IsServed n seat numbers → IsServed m (with_answered worker answer seat) numbers
+answered_served n m seat numbers worker owed answer near is m_is done s =
+    let r = record_of n.seat.standing.history in
+    let old = desk_of seat worker in
+    let h = holds_some n seat numbers worker owed near is s in
+    let desk : Desk = record { lifted = old.lifted; answered = old.answered ++ answer ∷ []; grip = old.grip } in
+    let v = with_answered worker answer seat in
+    let all : AreExecuted r (h.before ++ h.batch ∷ []) old.answered = subst (λ (bs : List Batch). AreExecuted r bs old.answered) h.lifted (s.executed worker near) in
+    let now : AreExecuted r old.lifted (old.answered ++ answer ∷ []) =
+    subst (λ (bs : List Batch). AreExecuted r bs (old.answered ++ answer ∷ [])) (sym h.lifted)
+    (executed_answered r h.before h.batch old.answered answer h.answered (λ e. stand_all n worker (items_of h.batch.jobs.items) (done e) h.jobs)
+    (executed_front r h.before h.batch old.answered (omega (arith, h.answered)) all)) in
+    let even : length old.lifted ≡ length (old.answered ++ answer ∷ []) =
+    ap length h.lifted ∙ length-append h.before (h.batch ∷ []) ∙ ap (λ k. k + 1) (sym h.answered) ∙ sym (length-append old.answered (answer ∷ [])) in
+    let grows : Grows n m = subst (Grows n) (sym m_is) record {
+      node = refl;
+      workers = length-set n.replica.owed worker None;
+      accounts = λ serial a at. (a, at, refl, le_refl a.next);
+      log = begins_itself r;
+    } in
+    subst (λ (ns : List ℕ). IsServed m v ns) (set-get_or numbers worker 0)
+    (at_desk n m seat numbers worker (get_or numbers worker 0) desk None v near grows (ap (λ (x : NodeState). x.replica.owed) m_is) refl
+    (ap (λ (x : NodeState). record_of x.seat.standing.history) m_is) even now s)

@@ -1,0 +1,109 @@
+-- Connections are opened and closed, and bytes are handed out: what was kept holds on.
+use Rattle.std.proofs.Common.{◌≡◌, ℕ, ◌<◌, inl, inr, ◌⊎◌, List, length, replicate, Option, Some, None, refl, ap, sym, ◌∙◌, subst, arith, le_refl, get_or}
+use Rattle.std.specs.Prelude.{Result, Ok, Err, OnOk, OnErr, IfOk, IfSome, IfNone}
+use Rattle.std.specs.FinMap as finmap
+use Rattle.std.proofs.lemmas.Bool.{cases_lt}
+use Rattle.std.proofs.lemmas.Bool.Decides.{eqb_tells}
+use Rattle.std.proofs.lemmas.List.{get_or-replicate}
+use lib.ListN.{length-replicate}
+use Rattle.nr_blob.specs.declared.memory.Memory.{Memory}
+use Rattle.nr_model.specs.Items.{Connection}
+use Rattle.nr_model.proofs.NodesExecutedGrows.{begins_itself}
+use Rattle.nr_entry.specs.Jobs.{connection_of}
+use Rattle.nr_entry.specs.declared.conn.ConnId.{ConnId}
+use Rattle.nr_log_end.specs.declared.standing.Standing.{Standing}
+use Rattle.nr_log_end.specs.Standings.{record_of}
+use Rattle.nr_accounts.specs.declared.account.Account.{Account}
+use Rattle.nr_accounts.specs.Account.{fresh_account}
+use Rattle.nr_accounts.specs.Book.{Book}
+use Rattle.nr_accounts.proofs.Strangers.{put_elsewhere}
+use Rattle.nr_replica.specs.Replicas.{ReplicaState}
+use Rattle.nr_slots.specs.declared.view.Desk.{Desk}
+use Rattle.nr_slots.specs.Rule.{no_desk}
+use Rattle.nr_slots.specs.Seats.{CombinerView, desk_of}
+use Rattle.nr_node.specs.Batches.{IsOpened}
+use Rattle.nr_node.specs.Level.{NodeState, connection_at}
+use Rattle.nr_node.specs.Steps.{opened_node, closed_node, HasHandedOut}
+use Rattle.nr_node.specs.declared.answers.OpenError.{OpenError}
+use Rattle.nr_combiner.specs.Served.{owed_at, IsDesk, AreExecuted, IsServed}
+use Rattle.nr_combiner.proofs.Grows.{HasGrown, Grows, still_itself, served_still}
+use Rattle.nr_combiner.proofs.Turns.{served_same}
+
+-- all is kept, and the node stays the same one
+abbrev pub GoesOn : NodeState → NodeState → CombinerView → List ℕ → Type 0
+GoesOn n m seat numbers = IsServed m seat numbers × (n.book.node ≡ m.book.node)
+
+same_on : (n m : NodeState) (seat : CombinerView) (numbers : List ℕ) → m ≡ n → IsServed n seat numbers → GoesOn n m seat numbers
+same_on n m seat numbers same s = (subst (λ (x : NodeState). IsServed x seat numbers) (sym same) s, ap (λ (x : NodeState). x.book.node) (sym same))
+
+-- an account more
+account_still : (n : NodeState) (serial worker : ℕ) → finmap.get n.book.held serial ≡ None → (k : ℕ) (a : Account) → finmap.get n.book.held k ≡ Some a
+    → HasGrown a (finmap.get (finmap.insert n.book.held serial (fresh_account worker)) k)
+account_still n serial worker none k a at = elim (eqb_tells k serial) [
+  | inl e ↦ absurd (cc (sym at ∙ ap (finmap.get n.book.held) e.1 ∙ none))
+  | inr e ↦ (a, put_elsewhere n.book.held serial k (fresh_account worker) e.1 ∙ at, refl, le_refl a.next)
+]
+
+opened_on : (n : NodeState) (seat : CombinerView) (numbers : List ℕ) (limit worker : ℕ) → finmap.get n.book.held (length n.replica.members) ≡ None
+    → IsServed n seat numbers → GoesOn n (opened_node limit worker n) seat numbers
+opened_on n seat numbers limit worker none s =
+    let grows : Grows n (opened_node limit worker n) = record {
+      node = refl;
+      workers = refl;
+      accounts = account_still n (length n.replica.members) worker none;
+      log = begins_itself (record_of n.seat.standing.history);
+    } in
+    (served_still n (opened_node limit worker n) seat numbers grows (λ w. still_itself (owed_at w n)) s, refl)
+
+pub opened_served : (r : Result ConnId OpenError) (n m : NodeState) (seat : CombinerView) (numbers : List ℕ) (limit worker : ℕ)
+    → IfOk r (λ conn. connection_of conn ≡ connection_at n.replica.node (length n.replica.members)) → OnOk r (m ≡ opened_node limit worker n) → OnErr r (m ≡ n)
+    → IfOk r (λ conn. finmap.get n.book.held conn.serial ≡ None) → IsServed n seat numbers → GoesOn n m seat numbers
+opened_served (Ok conn) n m seat numbers limit worker named opened unchanged none s =
+    let there : finmap.get n.book.held (length n.replica.members) ≡ None = ap (λ (c : Connection). finmap.get n.book.held c.serial) (sym named) ∙ none in
+    subst (λ (x : NodeState). GoesOn n x seat numbers) (sym opened) (opened_on n seat numbers limit worker there s)
+opened_served (Err why) n m seat numbers limit worker named opened unchanged none s = same_on n m seat numbers unchanged s
+
+-- one is closed, or passed over
+is_opened : (n : NodeState) (c : Connection) → IsOpened n c ⊎ (IsOpened n c → ⊥)
+is_opened n c = elim (eqb_tells c.node n.replica.node) [
+  | inr e ↦ inr (λ (o : IsOpened n c). e.1 o.0)
+  | inl e ↦ elim (cases_lt c.serial (length n.replica.members)) [
+    | inl near ↦ inl (e.1, near)
+    | inr past ↦ inr (λ (o : IsOpened n c). omega (arith, past, o.1))
+  ]
+]
+
+pub closed_served : (n m : NodeState) (seat : CombinerView) (numbers : List ℕ) (conn : ConnId) → (IsOpened n (connection_of conn) → m ≡ closed_node conn.serial n)
+    → ((IsOpened n (connection_of conn) → ⊥) → m ≡ n) → IsServed n seat numbers → GoesOn n m seat numbers
+closed_served n m seat numbers conn closed other s = elim (is_opened n (connection_of conn)) [
+  | inl o ↦ subst (λ (x : NodeState). GoesOn n x seat numbers) (sym (closed o)) (served_same n (closed_node conn.serial n) seat numbers refl refl refl s, refl)
+  | inr apart ↦ same_on n m seat numbers (other apart) s
+]
+
+-- bytes are handed out, or none
+pub handed_served : {A : Type 0} (r : Result (Option A) Memory) (n m : NodeState) (seat : CombinerView) (numbers : List ℕ) (serial most : ℕ) (P : Type 0)
+    → IfOk r (λ taken. IfNone taken (P × (m ≡ n))) → IfOk r (λ taken. IfSome taken (λ _. HasHandedOut serial most n m)) → OnErr r (m ≡ n)
+    → IsServed n seat numbers → GoesOn n m seat numbers
+handed_served (Ok None) n m seat numbers serial most P none some failed s = same_on n m seat numbers none.1 s
+handed_served (Ok (Some t)) n m seat numbers serial most P none some failed s = (
+  served_same n m seat numbers some.book (ap (λ (r : ReplicaState). r.owed) some.replica) (ap (λ (x : Standing). x.history) some.standing) s,
+  ap (λ (b : Book). b.node) (sym some.book),
+)
+handed_served (Err memory) n m seat numbers serial most P none some failed s = same_on n m seat numbers failed s
+
+-- nothing was lifted yet, and nothing is owed
+pub fresh_served : (n : NodeState) (seat : CombinerView) (numbers : List ℕ) (workers : ℕ) → n.replica.owed ≡ replicate workers None → seat.desks ≡ replicate workers no_desk
+    → length numbers ≡ workers → IsServed n seat numbers
+fresh_served n seat numbers workers owed desks long =
+    let owed_long : length n.replica.owed ≡ workers = ap length owed ∙ length-replicate {A = Option ℕ} workers None in
+    let idle : (w : ℕ) → w < length n.replica.owed → owed_at w n ≡ None =
+    λ w near. ap (λ (os : List (Option ℕ)). get_or os w None) owed ∙ get_or-replicate {A = Option ℕ} workers w None None (subst (λ (k : ℕ). w < k) owed_long near) in
+    let empty : (w : ℕ) → w < length n.replica.owed → desk_of seat w ≡ no_desk =
+    λ w near. ap (λ (ds : List Desk). get_or ds w no_desk) desks ∙ get_or-replicate {A = Desk} workers w no_desk no_desk (subst (λ (k : ℕ). w < k) owed_long near) in
+    record {
+      workers = ap length desks ∙ length-replicate {A = Desk} workers no_desk ∙ sym owed_long;
+      numbered = long ∙ sym owed_long;
+      desks = λ w near. subst (IsDesk n w (get_or numbers w 0) (desk_of seat w)) (sym (idle w near))
+          (subst (λ (d : Desk). length d.lifted ≡ length d.answered) (sym (empty w near)) refl);
+      executed = λ w near. subst (λ (d : Desk). AreExecuted (record_of n.seat.standing.history) d.lifted d.answered) (sym (empty w near)) tt;
+    }

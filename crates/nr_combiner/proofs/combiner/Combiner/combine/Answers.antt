@@ -1,0 +1,68 @@
+use Rattle.std.proofs.Common.{◌≡◌, ℕ, length, ap, sym, ◌∙◌, subst, arith}
+use Rattle.nr_accounts.specs.Book.{Book}
+use Rattle.nr_combiner.specs.Served.{CombinerState}
+use Rattle.nr_combiner.specs.Steps.{HasLiftedAll, HasCombined}
+use Rattle.nr_combiner.proofs.Turns.{tried_served, tried_book, looked_served}
+use Rattle.nr_combiner.proofs.Rounds.{lifted_all_long, answered_all_down}
+use Rattle.nr_combiner.proofs.combiner.Combiner.combine.Goals as goal
+
+pub invariant_of-self : goal.invariant_of-self
+invariant_of-self g c =
+    let inside = c.self-2.inside in
+    let keeps = c.self-2.invariant in
+    let tried = c.try_to_reserve-tried.new.core in
+    let looked = c.look-looked.new.self in
+    let goes = c.look-looked.ensures.goes in
+    let book : looked.book ≡ inside.core.book = goes.1.1.1.book ∙ tried_book inside.core tried c.try_to_reserve-tried.ensures.tried in (
+      looked_served goes.0 goes.1.0 goes.1.1.0 tried looked inside.seat inside.numbers.items goes.1.1.1
+          (tried_served inside.core tried inside.seat inside.numbers.items c.try_to_reserve-tried.ensures.tried keeps.0),
+      keeps.1,
+      keeps.2 ∙ ap (λ (b : Book). b.node) (sym book),
+    )
+
+pub lift_all-requires : goal.lift_all-requires
+lift_all-requires g c =
+    let inside = c.self.inside in
+    let served = c.self.invariant.0 in
+    let count : c.len-workers.result ≡ length inside.numbers.items = omega (arith, c.len-workers.ensures, inside.numbers.ok.0) in
+    count ∙ served.numbered ∙ sym served.workers ∙ ap (λ (x : CombinerState). length x.seat.desks) c.self.view_is
+
+pub answer_all-requires : goal.answer_all-requires
+answer_all-requires g c =
+    let inside = c.self.inside in
+    let served = c.self.invariant.0 in
+    let count : c.len-workers.result ≡ length inside.numbers.items = omega (arith, c.len-workers.ensures, inside.numbers.ok.0) in
+    let before : c.len-workers.result ≡ length c.args.self.now.seat.desks =
+    count ∙ served.numbered ∙ sym served.workers ∙ ap (λ (x : CombinerState). length x.seat.desks) c.self.view_is in
+    let same = lifted_all_long c.len-workers.result c.args.self.now c.lift_all.new.combiner c.lift_all.ensures in
+    before ∙ sym same ∙ ap (λ (x : CombinerState). length x.seat.desks) (sym c.self-2.view_is)
+
+pub returns-clause-combined : goal.returns-clause-combined
+returns-clause-combined g c =
+    let inside = c.self.inside in
+    let served = c.self.invariant.0 in
+    let count : c.len-workers.result ≡ length inside.numbers.items = omega (arith, c.len-workers.ensures, inside.numbers.ok.0) in
+    let before : c.len-workers.result ≡ length c.args.self.now.seat.desks =
+    count ∙ served.numbered ∙ sym served.workers ∙ ap (λ (x : CombinerState). length x.seat.desks) c.self.view_is in
+    let lifted : CombinerState = record { node = c.self-2.inside.core; seat = c.self-2.inside.seat } in
+    let goes = c.look-looked.ensures.goes in
+    subst (λ (k : ℕ). HasCombined c.outcome.result k c.args.self.now c.answer_all.new.combiner) before record {
+      lifted = lifted;
+      has_lifted = subst (λ (x : CombinerState). HasLiftedAll c.len-workers.result c.args.self.now x) (sym c.self-2.view_is) c.lift_all.ensures;
+      tried = c.try_to_reserve-tried.new.core;
+      has_tried = c.try_to_reserve-tried.ensures.tried;
+      has_put = λ e. c.try_to_reserve-tried.ensures.put (c.outcome.ensures.done e).0;
+      looked = c.look-looked.new.self;
+      entries = goes.0;
+      ran = goes.1.0;
+      tail = goes.1.1.0;
+      has_looked = goes.1.1.1;
+      has_read = λ e. goes.1.1.2 (c.outcome.ensures.done e).1;
+      has_answered = c.answer_all.ensures;
+    }
+
+pub returns-clause-down : goal.returns-clause-down
+returns-clause-down g c =
+    let looked : CombinerState = record { node = c.look-looked.new.self; seat = c.self-2.inside.seat } in
+    let same = answered_all_down c.len-workers.result looked c.answer_all.new.combiner c.answer_all.ensures in
+    (λ e. same ∙ c.look-looked.ensures.down.0 (c.outcome.ensures.down.0 e), λ e. c.outcome.ensures.down.1 (c.look-looked.ensures.down.1 (sym same ∙ e)))

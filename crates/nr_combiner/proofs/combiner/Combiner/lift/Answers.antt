@@ -1,0 +1,78 @@
+use Rattle.std.proofs.Common.{◌<◌, inl, inr, length, ap, sym, ◌∙◌, subst}
+use Rattle.nr_slots.specs.Seats.{CombinerView}
+use Rattle.nr_node.specs.Level.{NodeState}
+use Rattle.nr_combiner.specs.Served.{CombinerState}
+use Rattle.nr_combiner.specs.Steps.{HasLifted}
+use Rattle.nr_combiner.proofs.Due.{idle_at, lifted_served, back_kept, hands_back, none_kept, found_slots}
+use Rattle.nr_combiner.proofs.combiner.Combiner.lift.Goals as goal
+
+pub take_in-requires : goal.take_in-requires
+take_in-requires g c =
+    let inside = c.self.inside in
+    let near : c.args.worker < length inside.seat.desks = subst (λ (x : CombinerState). c.args.worker < length x.seat.desks) (sym c.self.view_is) c.requires in
+    record {
+      idle = idle_at inside.core inside.seat c.lift.new.self inside.numbers.items c.args.worker c.in-Some.batch near c.in-Some.ensures.lifted
+          c.in-Some.ensures.unanswered c.self.invariant.0;
+    }
+
+pub hand_back-requires-clause-last : goal.hand_back-requires-clause-last
+hand_back-requires-clause-last g c = (c.in-Some.batch, c.in-Err.ensures.back, c.in-Some.ensures.unanswered)
+
+pub invariant_of-self : goal.invariant_of-self
+invariant_of-self g c =
+    let inside = c.self.inside in (
+      none_kept inside.core inside.seat c.lift.new.self inside.numbers.items c.args.worker c.in_default.ensures.lifted c.self.invariant.0,
+      found_slots inside.seat c.lift.new.self c.args.worker c.in_default.ensures.lifted ∙ c.self.invariant.1,
+      c.self.invariant.2,
+    )
+
+pub invariant_of-self-in_default-take_in : goal.invariant_of-self-in_default-take_in
+invariant_of-self-in_default-take_in g c =
+    let inside = c.self.inside in
+    let near : c.args.worker < length inside.seat.desks = subst (λ (x : CombinerState). c.args.worker < length x.seat.desks) (sym c.self.view_is) c.requires in
+    let idle = idle_at inside.core inside.seat c.lift.new.self inside.numbers.items c.args.worker c.in-Some.batch near c.in-Some.ensures.lifted
+    c.in-Some.ensures.unanswered c.self.invariant.0 in
+    let taken = c.in_default-take_in.ensures.taken in (
+      lifted_served inside.core c.take_in.new.core inside.seat c.lift.new.self inside.numbers.items c.args.worker c.in-Some.batch near idle
+          c.in_default-take_in.ensures.due taken c.in-Some.ensures.lifted c.self.invariant.0,
+      ap (λ (v : CombinerView). v.slots) c.in-Some.ensures.lifted ∙ c.self.invariant.1,
+      c.self.invariant.2 ∙ sym (ap (λ (n : NodeState). n.book.node) taken),
+    )
+
+pub returns-in_default-take_in : goal.returns-in_default-take_in
+returns-in_default-take_in g c =
+    let new : CombinerState = record { node = c.take_in.new.core; seat = c.lift.new.self } in
+    record {
+      lifted = subst (λ (x : CombinerState). HasLifted c.args.worker x new) c.self.view_is
+          (inr (inl (c.in-Some.batch, record { due = c.in_default-take_in.ensures.due; node = c.in_default-take_in.ensures.taken; seat = c.in-Some.ensures.lifted })));
+    }
+
+pub invariant_of-self-2 : goal.invariant_of-self-2
+invariant_of-self-2 g c =
+    let inside = c.self.inside in
+    let near : c.args.worker < length inside.seat.desks = subst (λ (x : CombinerState). c.args.worker < length x.seat.desks) (sym c.self.view_is) c.requires in
+    let idle = idle_at inside.core inside.seat c.lift.new.self inside.numbers.items c.args.worker c.in-Some.batch near c.in-Some.ensures.lifted
+    c.in-Some.ensures.unanswered c.self.invariant.0 in
+    let told = c.hand_back.ensures in (
+      back_kept inside.core c.take_in.new.core inside.seat c.lift.new.self c.hand_back.new.seat inside.numbers.items c.args.worker c.in-Some.batch c.in-Err.batch c.in-Err.why
+          told.0 near idle c.in-Err.ensures.unchanged c.in-Some.ensures.lifted told.3 told.2 c.self.invariant.0,
+      ap (λ (v : CombinerView). v.slots) told.3 ∙ ap (λ (v : CombinerView). v.slots) c.in-Some.ensures.lifted ∙ c.self.invariant.1,
+      c.self.invariant.2 ∙ sym (ap (λ (n : NodeState). n.book.node) c.in-Err.ensures.unchanged),
+    )
+
+pub returns : goal.returns
+returns g c =
+    let inside = c.self.inside in
+    let told = c.hand_back.ensures in
+    let old : CombinerState = record { node = inside.core; seat = inside.seat } in
+    let new : CombinerState = record { node = c.take_in.new.core; seat = c.hand_back.new.seat } in
+    record {
+      lifted = subst (λ (x : CombinerState). HasLifted c.args.worker x new) c.self.view_is
+          (inr (inr (
+            c.in-Some.batch,
+            told.0,
+            c.in-Err.why,
+            hands_back old new c.lift.new.self c.args.worker c.in-Some.batch c.in-Err.batch c.in-Err.why told.0 c.in-Err.ensures.refused c.in-Err.ensures.back
+                c.in-Err.ensures.unchanged c.in-Some.ensures.lifted told.3 told.1 told.2,
+          )));
+    }

@@ -1,0 +1,73 @@
+-- What a combiner keeps of its node and of the batches that it lifted.
+use Rattle.std.specs.Prelude.{◌≡◌, ℕ, suc, ◌<◌, List, [], ◌∷◌, ◌++◌, length, Option, Some, None, slice_index_or, refl}
+use Rattle.std.specs.List.{AllByRecursion, range_with_len}
+use Rattle.std.specs.FinMap as finmap
+use Rattle.std.specs.Coded.{Coded, code_by, coded×}
+use Rattle.nr_model.specs.Bytes.{IsBeginningOf}
+use Rattle.nr_model.specs.Items.{Item, Sequence}
+use Rattle.nr_entry.specs.Jobs.{items_of}
+use Rattle.nr_entry.specs.declared.batch.Batch.{Batch}
+use Rattle.nr_entry.specs.declared.batch.Answer.{Answer}
+use Rattle.nr_entry.specs.declared.batch.Outcome.TheVariants.{Executed}
+use Rattle.nr_log_end.specs.Standings.{record_of}
+use Rattle.nr_accounts.specs.declared.account.Account.{Account}
+use Rattle.nr_accounts.specs.Held.{numbers_in}
+use Rattle.nr_slots.specs.declared.view.Desk.{Desk}
+use Rattle.nr_slots.specs.Seats.{CombinerView, desk_of}
+use Rattle.nr_slots.specs.Codes.{combiner_code}
+use Rattle.nr_node.specs.Level.{NodeState, coded_node}
+
+-- the node, and the combiner's seat at its workers' slots
+pub record CombinerState : Type 0 where
+  pub node : NodeState
+  pub seat : CombinerView
+
+abbrev pub coded_combiner : Coded CombinerState
+coded_combiner =
+    code_by (NodeState × CombinerView) (coded× coded_node combiner_code) (λ c. (c.node, c.seat)) (λ p. record { node = p.0; seat = p.1 }) (λ _. refl)
+
+-- how many jobs of a worker's batch are neither applied nor run, where one was taken and isn't answered
+abbrev pub owed_at : ℕ → NodeState → Option ℕ
+owed_at worker n = slice_index_or n.replica.owed worker None
+
+-- a job that was taken from a worker's connection
+pub record IsTakenOf (n : NodeState) (worker : ℕ) (job : Item) : Type 0 where
+  pub node : job.connection.node ≡ n.book.node
+  pub account : Account
+  pub held : finmap.get n.book.held job.connection.serial ≡ Some account
+  pub worker_is : account.worker ≡ worker
+  pub below : job.number < account.next
+
+-- the batch that was lifted last is the only one that isn't answered; it names the worker and this number, and its jobs were taken
+pub record HoldsBatch (n : NodeState) (worker number : ℕ) (desk : Desk) : Type 0 where
+  pub before : List Batch
+  pub batch : Batch
+  pub lifted : desk.lifted ≡ before ++ batch ∷ []
+  pub answered : length desk.answered ≡ length before
+  pub named : (batch.node ≡ n.book.node) × (batch.worker ≡ worker) × (batch.number ≡ number)
+  pub jobs : AllByRecursion (IsTakenOf n worker) (items_of batch.jobs.items)
+
+-- a worker's desk: all batches are answered where nothing is owed
+abbrev pub IsDesk : NodeState → ℕ → ℕ → Desk → Option ℕ → Type 0
+IsDesk n worker number desk None = length desk.lifted ≡ length desk.answered
+IsDesk n worker number desk (Some owed) = HoldsBatch n worker number desk
+
+-- each job stands in the record, behind those of its connection with lower numbers
+abbrev pub StandIn : Sequence → List Item → Type 0
+StandIn done jobs = AllByRecursion (λ (job : Item). IsBeginningOf (range_with_len 0 (suc job.number)) (numbers_in job.connection done)) jobs
+
+-- so do those of each batch that was answered as executed
+abbrev pub AreExecuted : Sequence → List Batch → List Answer → Type 0
+AreExecuted done [] answers = Unit {0}
+AreExecuted done (batch ∷ batches) [] = Unit {0}
+AreExecuted done (batch ∷ batches) (answer ∷ answers) =
+    (answer.outcome ≡ Executed → StandIn done (items_of batch.jobs.items)) × AreExecuted done batches answers
+
+-- Between two calls a desk has no batch without an answer but the one whose jobs the node is about to execute; and each job of a batch that was
+-- answered as executed is in the node's record.
+pub record IsServed (n : NodeState) (seat : CombinerView) (numbers : List ℕ) : Type 0 where
+  pub workers : length seat.desks ≡ length n.replica.owed
+  pub numbered : length numbers ≡ length n.replica.owed
+  pub desks : (worker : ℕ) → worker < length n.replica.owed → IsDesk n worker (slice_index_or numbers worker 0) (desk_of seat worker) (owed_at worker n)
+  pub executed : (worker : ℕ) → worker < length n.replica.owed
+      → AreExecuted (record_of n.seat.standing.history) (desk_of seat worker).lifted (desk_of seat worker).answered

@@ -1,0 +1,50 @@
+// A batch that is refused is answered at once.
+ghost use Rattle.std.specs.Prelude.{◌≡◌, ◌<◌, length};
+ghost use Rattle.nr_node.specs.Batches.{AreSame};
+ghost use Rattle.nr_slots.specs.Names.{IsUnanswered, Names};
+ghost use Rattle.nr_slots.specs.Seats.{desk_of, with_answered};
+ghost use Rattle.nr_combiner.specs.Steps.{IsOutcomeOf};
+
+use nr_entry::{Answer, Batch, Job, Outcome, Refusal};
+use nr_node::TakeError;
+use nr_slots::{CombinerSeat, Slots};
+
+/// Answers the batch that was lifted last from a worker's slot, which was refused.
+pub(crate) fn hand_back(
+    seat: &mut CombinerSeat,
+    slots: &Slots,
+    worker: usize,
+    batch: Batch,
+    why: TakeError,
+)
+    requires slots { seat.old.slots ≡ slots.now.id }
+    requires worker { worker < length seat.old.desks }
+    requires last { (lifted : Batch) × AreSame batch lifted × IsUnanswered lifted (desk_of seat.old worker).lifted (desk_of seat.old worker).answered }
+    ensures { (answer : Answer) × Names answer batch × IsOutcomeOf why batch.jobs.items answer.outcome × (seat.new ≡ with_answered worker answer seat.old) }
+{
+    let Batch {
+        node,
+        worker: named,
+        number,
+        jobs,
+    } = batch;
+    let answer = Answer {
+        node,
+        worker: named,
+        batch: number,
+        outcome: refused(why, jobs),
+    };
+    seat.answer(slots, worker, answer);
+}
+
+// What a batch is answered that was refused.
+fn refused(why: TakeError, jobs: Vec<Job>) -> Outcome
+    ensures { IsOutcomeOf why jobs.items result }
+{
+    match why {
+        TakeError::Stranger => Outcome::Refused(Refusal::Stranger, jobs),
+        TakeError::WrongNumber => Outcome::Refused(Refusal::WrongNumber, jobs),
+        TakeError::Memory => Outcome::Refused(Refusal::Memory, jobs),
+        TakeError::Down => Outcome::Down,
+    }
+}

@@ -1,0 +1,96 @@
+// A node as all its workers share it: behind a lock, with the log and the slots beside it.
+ghost use Rattle.std.specs.Prelude.{◌≡◌, ◌<◌, IfOk, IfSome};
+ghost use Rattle.std.specs.Arc.{arc_value};
+ghost use Rattle.nr_entry.specs.Jobs.{connection_of};
+ghost use Rattle.nr_combiner.specs.Pieces.{IsPieceOf};
+
+use crate::combiner::Combiner;
+use nr_blob::Memory;
+use nr_entry::ConnId;
+use nr_node::{OpenError, Round};
+use nr_oplog::{LogName, Oplog, Token};
+use nr_replica::Piece;
+use nr_slots::Slots;
+use std::alloc::Global;
+use std::marker::Model;
+use std::sync::{Arc, Mutex, Wait};
+
+/// A node, as its workers share it. Each call takes its lock once, for as long as its work takes. Contracts see which its slots are: what stands behind the
+/// lock changes between any two calls, so what they say of it is what was handed out.
+#[derive(Drop)]
+pub struct Node<B: LogName> {
+    combiner: Mutex<Combiner<B>>,
+    log: Arc<Oplog<B>, Global>,
+    slots: Arc<Slots, Global>,
+    // How many bytes wait for a connection at most.
+    limit: usize,
+}
+
+impl<B: LogName> Model for Node<B> {
+    ghost use Rattle.std.specs.Arc.{arc_value};
+    ghost use Rattle.nr_slots.specs.Seats.{SlotsView};
+
+    ghost Value = { SlotsView };
+
+    ghost view = { λ n. arc_value n.slots };
+}
+
+impl<B: LogName> Node<B> {
+    /// A node behind its lock, with its slots and the log beside it, for each connection of which at most `limit` bytes wait.
+    pub fn new(
+        combiner: Combiner<B>,
+        log: Arc<Oplog<B>, Global>,
+        slots: Arc<Slots, Global>,
+        limit: usize,
+    ) -> Node<B>
+        requires { combiner.seat.slots ≡ (arc_value slots).id }
+        ensures { result ≡ arc_value slots }
+    {
+        Node {
+            combiner: Mutex::new(combiner),
+            log,
+            slots,
+            limit,
+        }
+    }
+
+    /// The log that all nodes share.
+    pub fn log(&self) -> &Oplog<B> {
+        &self.log
+    }
+
+    /// The slots in which its workers hand in their batches.
+    pub fn slots(&self) -> &Slots
+        ensures { result.now ≡ self.now }
+    {
+        &self.slots
+    }
+
+    /// [`Combiner::open`] behind the lock.
+    pub fn open<R: Wait>(&self, rt: &R, worker: u8) -> Result<ConnId, OpenError> {
+        self.combiner.lock(rt).open(worker, self.limit)
+    }
+
+    /// [`Combiner::close`] behind the lock.
+    pub fn close<R: Wait>(&self, rt: &R, conn: ConnId) {
+        self.combiner.lock(rt).close(conn);
+    }
+
+    /// [`Combiner::combine`] behind the lock.
+    pub fn combine<R: Wait>(&self, rt: &R) -> Result<Round, Memory> {
+        self.combiner.lock(rt).combine()
+    }
+
+    /// [`Combiner::take_piece`] behind the lock. Its token keeps of which record the bytes are.
+    pub fn take_piece<R: Wait>(
+        &self,
+        rt: &R,
+        conn: ConnId,
+        most: usize,
+    ) -> Result<Option<(Piece, Token<B>)>, Memory>
+        requires { 0 < most }
+        ensures { IfOk result (λ taken. IfSome taken (λ t. IsPieceOf (connection_of conn) t.0 t.1.standing)) }
+    {
+        self.combiner.lock(rt).take_piece(conn, most)
+    }
+}
