@@ -90,6 +90,7 @@ impl<B: LogName> Tap<B> {
         requires node { (connection_of piece.conn).node ≡ token.standing.node }
         ensures accepted { OnOk result (self.new ≡ with_piece piece.bytes.items token.standing self.old) }
         ensures due { OnOk result (refusal self.old (connection_of piece.conn) piece.from ≡ None) }
+        ensures met { OnOk result (HaveMet self.old.standing (Some token.standing)) }
         ensures refused { IfErr result (λ r. (refusal self.old (connection_of piece.conn) piece.from ≡ Some r.2) ⊎ ((refusal self.old (connection_of piece.conn) piece.from ≡ None) × (r.2 ≡ Refused.Memory))) }
         ensures taken_over { self.old.pending ≡ [] → refusal self.old (connection_of piece.conn) piece.from ≡ None → piece.from + length piece.bytes.items < 2 ^ 64 → IsOk result }
         ensures back { IfErr result (λ r. IsSamePiece r.0 piece × (r.1.standing ≡ token.standing)) }
