@@ -1,3 +1,4 @@
 pub mod Served
 pub mod Steps
 pub mod Pieces
+pub mod Shared

@@ -15,8 +15,8 @@ use std::alloc::Global;
 use std::marker::Model;
 use std::sync::{Arc, Mutex, Wait};
 
-/// A node, as its workers share it. Each call takes its lock once, for as long as its work takes. Contracts see which its slots are: what stands behind the
-/// lock changes between any two calls, so what they say of it is what was handed out.
+/// A node, as its workers share it. Each call takes its lock once, for as long as its work takes. Contracts see which its slots are, and the limit of its
+/// queues: what stands behind the lock changes between any two calls, so what they say of it is what was handed out.
 #[derive(Drop)]
 pub struct Node<B: LogName> {
     combiner: Mutex<Combiner<B>>,
@@ -28,11 +28,11 @@ pub struct Node<B: LogName> {
 
 impl<B: LogName> Model for Node<B> {
     ghost use Rattle.std.specs.Arc.{arc_value};
-    ghost use Rattle.nr_slots.specs.Seats.{SlotsView};
+    ghost use Rattle.nr_combiner.specs.Shared.{NodeView};
 
-    ghost Value = { SlotsView };
+    ghost Value = { NodeView };
 
-    ghost view = { λ n. arc_value n.slots };
+    ghost view = { λ n. record { slots = arc_value n.slots; limit = n.limit } };
 }
 
 impl<B: LogName> Node<B> {
@@ -44,7 +44,7 @@ impl<B: LogName> Node<B> {
         limit: usize,
     ) -> Node<B>
         requires { combiner.seat.slots ≡ (arc_value slots).id }
-        ensures { result ≡ arc_value slots }
+        ensures { result ≡ record { slots = arc_value slots; limit = limit } }
     {
         Node {
             combiner: Mutex::new(combiner),
@@ -61,7 +61,7 @@ impl<B: LogName> Node<B> {
 
     /// The slots in which its workers hand in their batches.
     pub fn slots(&self) -> &Slots
-        ensures { result.now ≡ self.now }
+        ensures { result.now ≡ self.now.slots }
     {
         &self.slots
     }
