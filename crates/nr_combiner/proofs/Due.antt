@@ -107,13 +107,14 @@ back_kept n m seat after last numbers worker batch back why answer near idle m_i
 
 pub hands_back : (c d : CombinerState) (after : CombinerView) (worker : ℕ) (batch back : Batch) (why : TakeError) (answer : Answer)
     → IsRefusedFor worker c.node batch why → AreSame back batch → d.node ≡ c.node → after ≡ with_lifted worker batch c.seat → d.seat ≡ with_answered worker answer after
-    → Names answer back → IsOutcomeOf why back.jobs.items answer.outcome → HandsBack worker batch answer why c d
-hands_back c d after worker batch back why answer refused same node is last names told = record {
+    → d.taken ≡ c.taken → Names answer back → IsOutcomeOf why back.jobs.items answer.outcome → HandsBack worker batch answer why c d
+hands_back c d after worker batch back why answer refused same node is last taken names told = record {
   refused = refused;
   names = (names.0 ∙ same.0, names.1 ∙ same.1, names.2 ∙ same.2);
   outcome = subst (λ (jobs : List Job). IsOutcomeOf why jobs answer.outcome) same.3 told;
   node = node;
   seat = last ∙ ap (with_answered worker answer) is;
+  taken = taken;
 }
 
 -- nothing was lifted

@@ -6,3 +6,6 @@ pub mod Due
 pub mod Rounds
 pub mod Moves
 pub mod Handed
+pub mod Crossing
+pub mod Seated
+pub mod Rooms

@@ -2,3 +2,4 @@ pub mod Served
 pub mod Steps
 pub mod Pieces
 pub mod Shared
+pub mod Workers

@@ -2,7 +2,7 @@
 use Rattle.std.specs.Prelude.{◌≡◌, ℕ, suc, ◌<◌, List, [], ◌∷◌, ◌++◌, length, Option, Some, None, slice_index_or, refl}
 use Rattle.std.specs.List.{AllByRecursion, range_with_len}
 use Rattle.std.specs.FinMap as finmap
-use Rattle.std.specs.Coded.{Coded, code_by, coded×}
+use Rattle.std.specs.Coded.{Coded, code_by, coded×, coded_ℕ}
 use Rattle.nr_model.specs.Bytes.{IsBeginningOf}
 use Rattle.nr_model.specs.Items.{Item, Sequence}
 use Rattle.nr_entry.specs.Jobs.{items_of}
@@ -17,14 +17,16 @@ use Rattle.nr_slots.specs.Seats.{CombinerView, desk_of}
 use Rattle.nr_slots.specs.Codes.{combiner_code}
 use Rattle.nr_node.specs.Level.{NodeState, coded_node}
 
--- the node, and the combiner's seat at its workers' slots
+-- the node, the combiner's seat at its workers' slots, and how many connections aren't closed
 pub record CombinerState : Type 0 where
   pub node : NodeState
   pub seat : CombinerView
+  pub taken : ℕ
 
 abbrev pub coded_combiner : Coded CombinerState
 coded_combiner =
-    code_by (NodeState × CombinerView) (coded× coded_node combiner_code) (λ c. (c.node, c.seat)) (λ p. record { node = p.0; seat = p.1 }) (λ _. refl)
+    code_by (NodeState × (CombinerView × ℕ)) (coded× coded_node (coded× combiner_code coded_ℕ)) (λ c. (c.node, (c.seat, c.taken)))
+    (λ p. record { node = p.0; seat = p.1.0; taken = p.1.1 }) (λ _. refl)
 
 -- how many jobs of a worker's batch are neither applied nor run, where one was taken and isn't answered
 abbrev pub owed_at : ℕ → NodeState → Option ℕ

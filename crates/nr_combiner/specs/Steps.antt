@@ -1,5 +1,5 @@
 -- What a combiner's calls come to.
-use Rattle.std.specs.Prelude.{◌≡◌, ◌⊎◌, ◌==◌, ℕ, zero, suc, if◌then◌else◌, List, Option, Some, None, Result, Ok}
+use Rattle.std.specs.Prelude.{◌≡◌, ◌≢◌, ◌↔◌, ◌⊎◌, ◌==◌, ◌-◌, ◌<◌, ℕ, zero, suc, true, false, if◌then◌else◌, List, [], Option, Some, None, Result, Ok, Err}
 use Rattle.nr_blob.specs.declared.memory.Memory.{Memory}
 use Rattle.nr_entry.specs.declared.batch.Batch.{Batch}
 use Rattle.nr_entry.specs.declared.batch.Answer.{Answer}
@@ -7,17 +7,37 @@ use Rattle.nr_entry.specs.declared.batch.Outcome.{Outcome}
 use Rattle.nr_entry.specs.declared.batch.Outcome.TheVariants as outcomes
 use Rattle.nr_entry.specs.declared.entry.Entry.{Entry}
 use Rattle.nr_entry.specs.declared.job.Job.{Job}
+use Rattle.nr_log_end.specs.Standings.{passed_of}
+use Rattle.nr_log_end.specs.Tries.{IsFull, IsLost}
 use Rattle.nr_slots.specs.Names.{Names, IsForLast}
 use Rattle.nr_slots.specs.Seats.{FoundNone, desk_of, with_lifted, with_answered}
-use Rattle.nr_node.specs.Level.{NodeState}
+use Rattle.nr_node.specs.Level.{NodeState, is_closed_at}
 use Rattle.nr_node.specs.Owing.{answer_of, answered_node}
 use Rattle.nr_node.specs.Batches.{refusal, take_error}
-use Rattle.nr_node.specs.Steps.{taken_node, HasReserved, HasNoneDue, GoesOnWaiting, HasFallen, GoesOnBy, HasRead}
+use Rattle.nr_node.specs.Steps.{opened_node, closed_node, taken_node, HasReserved, HasNoneDue, GoesOnWaiting, HasFallen, GoesOnBy, HasRead}
 use Rattle.nr_node.specs.declared.answers.Round.{Round}
 use Rattle.nr_node.specs.declared.answers.Round.TheVariants as rounds
 use Rattle.nr_node.specs.declared.answers.TakeError.{TakeError}
 use Rattle.nr_node.specs.declared.answers.TakeError.TheVariants as errors
+use Rattle.nr_node.specs.declared.answers.OpenError as node_errors
+use Rattle.nr_node.specs.declared.answers.OpenError.TheVariants as node_error
+use Rattle.nr_combiner.specs.declared.answering.OpenError.{OpenError}
+use Rattle.nr_combiner.specs.declared.answering.OpenError.TheVariants as open_errors
 use Rattle.nr_combiner.specs.Served.{CombinerState}
+
+-- a connection more
+abbrev pub opened_combiner : ℕ → ℕ → CombinerState → CombinerState
+opened_combiner limit worker c = record c { node = opened_node limit worker c.node; taken = suc c.taken }
+
+-- one was closed: one fewer, unless it was closed before
+abbrev pub closed_combiner : ℕ → CombinerState → CombinerState
+closed_combiner serial c =
+    record c { node = closed_node serial c.node; taken = if is_closed_at serial c.node.replica.members then c.taken else c.taken - 1 }
+
+-- why no connection was opened, where there is room
+abbrev pub open_error : node_errors.OpenError → OpenError
+open_error node_error.Down = open_errors.Down
+open_error node_error.Memory = open_errors.Memory
 
 -- what a batch in a worker's slot is refused for, where there is memory
 abbrev pub refusal_at : ℕ → NodeState → Batch → Option TakeError
@@ -39,6 +59,7 @@ pub record TakesIn (worker : ℕ) (batch : Batch) (c d : CombinerState) : Type 0
   pub due : refusal_at worker c.node batch ≡ None
   pub node : d.node ≡ taken_node batch c.node
   pub seat : d.seat ≡ with_lifted worker batch c.seat
+  pub taken : d.taken ≡ c.taken
 
 -- one was lifted and refused, and this was answered
 pub record HandsBack (worker : ℕ) (batch : Batch) (answer : Answer) (why : TakeError) (c d : CombinerState) : Type 0 where
@@ -47,9 +68,10 @@ pub record HandsBack (worker : ℕ) (batch : Batch) (answer : Answer) (why : Tak
   pub outcome : IsOutcomeOf why batch.jobs.items answer.outcome
   pub node : d.node ≡ c.node
   pub seat : d.seat ≡ with_answered worker answer (with_lifted worker batch c.seat)
+  pub taken : d.taken ≡ c.taken
 
 abbrev pub HasLifted : ℕ → CombinerState → CombinerState → Type 0
-HasLifted worker c d = (FoundNone worker c.seat d.seat × (d.node ≡ c.node))
+HasLifted worker c d = (FoundNone worker c.seat d.seat × (d.node ≡ c.node) × (d.taken ≡ c.taken))
     ⊎ (((batch : Batch) × TakesIn worker batch c d) ⊎ ((batch : Batch) × (answer : Answer) × (why : TakeError) × HandsBack worker batch answer why c d))
 
 -- so it was done at the slots of so many workers, one after the other
@@ -63,6 +85,7 @@ pub record Answers (worker : ℕ) (answer : Answer) (c d : CombinerState) : Type
   pub outcome : answer_of c.node worker ≡ Some answer.outcome
   pub node : d.node ≡ answered_node worker c.node
   pub seat : d.seat ≡ with_answered worker answer c.seat
+  pub taken : d.taken ≡ c.taken
 
 abbrev pub HasAnswered : ℕ → CombinerState → CombinerState → Type 0
 HasAnswered worker c d = ((answer_of c.node worker ≡ None) × (d ≡ c)) ⊎ ((answer : Answer) × Answers worker answer c d)
@@ -75,22 +98,57 @@ HasAnsweredAll (suc workers) c d = (mid : CombinerState) × HasAnsweredAll worke
 abbrev pub HasPut : NodeState → NodeState → Type 0
 HasPut n m = ((at : ℕ) × (entry : Entry) × HasReserved at entry n m) ⊎ HasNoneDue n m
 
--- a try to reserve came to one of these
-abbrev pub HasTried : NodeState → NodeState → Type 0
-HasTried n m = (m ≡ n) ⊎ (HasPut n m ⊎ (GoesOnWaiting n m ⊎ HasFallen n m))
+-- What a try to reserve comes to: the updates that were due stand in the log, or there were none; or they go on waiting, since the log was full as the try met
+-- it, or another node's entry was there first; or the replica is down, or falls. Where memory runs out no job is lost.
+abbrev pub HasTried : ℕ → Result Round Memory → NodeState → NodeState → Type 0
+HasTried places (Ok rounds.Done) n m = HasPut n m
+HasTried places (Ok rounds.Full) n m = GoesOnWaiting n m × IsFull n.seat.standing n.seat.looks places m.seat.standing m.seat.looks
+HasTried places (Ok rounds.Again) n m = GoesOnWaiting n m × IsLost n.seat.standing n.seat.looks m.seat.standing m.seat.looks
+HasTried places (Ok rounds.NotYet) n m = ⊥
+HasTried places (Ok rounds.Down) n m = ((n.replica.down ≡ true) × (m ≡ n)) ⊎ ((n.replica.down ≡ false) × HasFallen n m)
+HasTried places (Err memory) n m = (m ≡ n) ⊎ GoesOnWaiting n m
 
--- A turn of the combiner: the batches that are offered, a try to reserve, a look, and the answers. Where it is done all updates that were due stand in
--- the log, and the reads that led were run behind all entries that there were as the look loaded the tail.
-pub record HasCombined (round : Result Round Memory) (workers : ℕ) (c d : CombinerState) : Type 0 where
+-- What a look comes to: entries were passed up to the tail that it loaded, or, where one of them isn't filled yet, up to there; and reads were run only where it is
+-- done, and then all that led.
+pub record HasLooked (looked : Result Round Memory) (entries : List Entry) (ran : List Job) (tail : ℕ) (n m : NodeState) : Type 0 where
+  pub by : GoesOnBy entries ran tail n m
+  pub read : looked ≡ Ok rounds.Done → HasRead ran tail n m
+  pub none : looked ≢ Ok rounds.Done → ran ≡ []
+  pub not_yet : looked ≡ Ok rounds.NotYet → passed_of m.seat.standing < m.seat.standing.seen
+  pub again : looked ≡ Ok rounds.Again → n.next ≢ []
+  pub never : looked ≢ Ok rounds.Full
+  pub down : (looked ≡ Ok rounds.Down) ↔ (m.replica.down ≡ true)
+
+-- what a turn comes to, by its try and by its look
+abbrev pub by_try : Result Round Memory → Round → Result Round Memory
+by_try (Err memory) looked = Err memory
+by_try (Ok rounds.Done) looked = Ok looked
+by_try (Ok rounds.Full) looked = Ok rounds.Full
+by_try (Ok rounds.Again) looked = Ok rounds.Again
+by_try (Ok rounds.NotYet) looked = Ok rounds.Again
+by_try (Ok rounds.Down) looked = Ok rounds.Again
+
+abbrev pub outcome_of : Result Round Memory → Result Round Memory → Result Round Memory
+outcome_of tried (Err memory) = Err memory
+outcome_of tried (Ok rounds.Down) = Ok rounds.Down
+outcome_of tried (Ok rounds.Done) = by_try tried rounds.Done
+outcome_of tried (Ok rounds.Full) = by_try tried rounds.Full
+outcome_of tried (Ok rounds.Again) = by_try tried rounds.Again
+outcome_of tried (Ok rounds.NotYet) = by_try tried rounds.NotYet
+
+-- A turn of the combiner at a log of so many places: the batches that are offered, a try to reserve, a look, and the answers. So where it is done all updates
+-- that were due stand in the log, and the reads that led were run behind all entries that there were as the look loaded the tail.
+pub record HasCombined (places : ℕ) (round : Result Round Memory) (workers : ℕ) (c d : CombinerState) : Type 0 where
   pub lifted : CombinerState
   pub has_lifted : HasLiftedAll workers c lifted
+  pub try_is : Result Round Memory
   pub tried : NodeState
-  pub has_tried : HasTried lifted.node tried
-  pub has_put : round ≡ Ok rounds.Done → HasPut lifted.node tried
+  pub has_tried : HasTried places try_is lifted.node tried
+  pub look_is : Result Round Memory
   pub looked : NodeState
   pub entries : List Entry
   pub ran : List Job
   pub tail : ℕ
-  pub has_looked : GoesOnBy entries ran tail tried looked
-  pub has_read : round ≡ Ok rounds.Done → HasRead ran tail tried looked
-  pub has_answered : HasAnsweredAll workers (record { node = looked; seat = lifted.seat }) d
+  pub has_looked : HasLooked look_is entries ran tail tried looked
+  pub round_is : round ≡ outcome_of try_is look_is
+  pub has_answered : HasAnsweredAll workers (record { node = looked; seat = lifted.seat; taken = lifted.taken }) d

@@ -1,13 +1,34 @@
-// A batch that is refused is answered at once.
+// What is refused: a batch, which is answered at once, and a connection.
 ghost use Rattle.std.specs.Prelude.{◌≡◌, ◌<◌, length};
 ghost use Rattle.nr_node.specs.Batches.{AreSame};
 ghost use Rattle.nr_slots.specs.Names.{IsUnanswered, Names};
 ghost use Rattle.nr_slots.specs.Seats.{desk_of, with_answered};
-ghost use Rattle.nr_combiner.specs.Steps.{IsOutcomeOf};
+ghost use Rattle.nr_combiner.specs.Steps.{IsOutcomeOf, open_error};
 
 use nr_entry::{Answer, Batch, Job, Outcome, Refusal};
-use nr_node::TakeError;
+use nr_node::{OpenError as NodeError, TakeError};
 use nr_slots::{CombinerSeat, Slots};
+
+/// Why a connection wasn't opened. The reasons are told in this order.
+#[derive(Clone, Copy, Debug, PartialEq, Eq)]
+pub enum OpenError {
+    /// All connections that there may be are in use.
+    TooMany,
+    /// The replica is down.
+    Down,
+    /// There was no memory.
+    Memory,
+}
+
+/// Why one wasn't opened where there is room.
+pub(crate) fn open_error(why: NodeError) -> OpenError
+    ensures { result ≡ open_error why }
+{
+    match why {
+        NodeError::Down => OpenError::Down,
+        NodeError::Memory => OpenError::Memory,
+    }
+}
 
 /// Answers the batch that was lifted last from a worker's slot, which was refused.
 pub(crate) fn hand_back(

@@ -1,19 +1,19 @@
 // What stands behind a node's lock: the node, and its combiner's seat at the slots.
-ghost use Rattle.std.specs.Prelude.{◌≡◌, ◌≢◌, ◌↔◌, ◌⊎◌, ◌<◌, ◌≤◌, ◌++◌, [], ℕ, length, replicate, true, false, Ok, Err, None, IfOk, IfErr, IfSome, IfNone, OnOk, OnErr};
+ghost use Rattle.std.specs.Prelude.{if◌then◌else◌, ◌-◌, ◌≡◌, ◌≢◌, ◌↔◌, ◌⊎◌, ◌<◌, ◌≤◌, ◌++◌, [], ℕ, length, replicate, true, false, Ok, Err, None, IfOk, IfErr, IfSome, IfNone, OnOk, OnErr};
 ghost use Rattle.std.specs.Arc.{arc_value};
 ghost use Rattle.nr_entry.specs.Jobs.{connection_of};
 ghost use Rattle.nr_slots.specs.Seats.{new_combiner};
 ghost use Rattle.nr_node.specs.Level.{connection_at, queue_at};
 ghost use Rattle.nr_node.specs.Batches.{AreSame, IsOpened, IsPiece};
 ghost use Rattle.nr_node.specs.Sound.{IsSound};
-ghost use Rattle.nr_node.specs.Steps.{opened_node, closed_node, taken_node, HasHandedOut};
+ghost use Rattle.nr_node.specs.Steps.{taken_node, HasHandedOut};
 ghost use Rattle.nr_combiner.specs.Served.{owed_at};
-ghost use Rattle.nr_combiner.specs.Steps.{refusal_at, IsRefusedFor, HasLifted, HasLiftedAll, HasAnswered, HasAnsweredAll, HasTried, HasPut, HasCombined};
+ghost use Rattle.nr_combiner.specs.Steps.{opened_combiner, closed_combiner, refusal_at, IsRefusedFor, HasLifted, HasLiftedAll, HasAnswered, HasAnsweredAll, HasTried, HasCombined, outcome_of};
 
-use crate::answering::hand_back;
+use crate::answering::{OpenError, hand_back, open_error};
 use nr_blob::Memory;
 use nr_entry::{Answer, Batch, ConnId};
-use nr_node::{Core, OpenError, Round, Shape, TakeError};
+use nr_node::{Core, Round, Shape, TakeError};
 use nr_oplog::{LogName, Token};
 use nr_replica::Piece;
 use nr_slots::{CombinerSeat, Slots};
@@ -31,6 +31,8 @@ pub struct Combiner<B: LogName> {
     // For each worker the number of the batch that was taken last.
     numbers: Vec<u64>,
     node: usize,
+    // How many connections aren't closed.
+    taken: usize,
 }
 
 impl<B: LogName> Model for Combiner<B> {
@@ -42,7 +44,7 @@ impl<B: LogName> Model for Combiner<B> {
 
     ghost coded = { coded_combiner };
 
-    ghost view = { λ c. record { node = c.core; seat = c.seat } };
+    ghost view = { λ c. record { node = c.core; seat = c.seat; taken = c.taken } };
 
     ghost invariant = { λ c. IsServed c.core c.seat c.numbers.items × (c.seat.slots ≡ (arc_value c.slots).id) × (c.node ≡ c.core.book.node) };
 }
@@ -59,7 +61,7 @@ impl<B: LogName> Combiner<B> {
         requires node { core.book.node ≡ shape.node }
         requires owed { core.replica.owed ≡ replicate shape.workers None }
         requires seat { seat ≡ new_combiner (arc_value slots).id shape.workers }
-        ensures { IfOk result (λ combiner. combiner ≡ record { node = core; seat = seat }) }
+        ensures { IfOk result (λ combiner. combiner ≡ record { node = core; seat = seat; taken = 0 }) }
     {
         let mut numbers = Vec::with_capacity(alloc, shape.workers)?;
         numbers.resize(shape.workers, 0)?;
@@ -69,6 +71,7 @@ impl<B: LogName> Combiner<B> {
             slots,
             numbers,
             node: shape.node,
+            taken: 0,
         })
     }
 
@@ -79,21 +82,32 @@ impl<B: LogName> Combiner<B> {
         self.core.is_down()
     }
 
-    /// Opens a connection that a worker serves, for which at most `limit` bytes wait. Logarithmic.
-    pub fn open(&mut self, worker: u8, limit: usize) -> Result<ConnId, OpenError>
+    /// Opens a connection that a worker serves, for which at most `limit` bytes wait, unless `most` connections aren't closed. Logarithmic.
+    pub fn open(&mut self, worker: u8, limit: usize, most: usize) -> Result<ConnId, OpenError>
         ensures conn { IfOk result (λ conn. connection_of conn ≡ connection_at self.old.node.replica.node (length self.old.node.replica.members)) }
-        ensures opened { OnOk result (self.new ≡ record { node = opened_node limit worker self.old.node; seat = self.old.seat }) }
+        ensures opened { OnOk result (self.new ≡ opened_combiner limit worker self.old) }
         ensures unchanged { OnErr result (self.new ≡ self.old) }
-        ensures down { (result ≡ Err OpenError.Down) ↔ (self.old.node.replica.down ≡ true) }
+        ensures too_many { (result ≡ Err OpenError.TooMany) ↔ (most ≤ self.old.taken) }
+        ensures down { (result ≡ Err OpenError.Down) ↔ ((self.old.taken < most) × (self.old.node.replica.down ≡ true)) }
     {
-        self.core.open(worker, limit)
+        if self.taken >= most {
+            return Err(OpenError::TooMany);
+        }
+        match self.core.open(worker, limit) {
+            Ok(conn) => {
+                self.taken += 1;
+                Ok(conn)
+            }
+            Err(why) => Err(open_error(why)),
+        }
     }
 
     /// Closes a connection: what waits for it is dropped, and it gets nothing more. One that isn't the node's is passed over. Logarithmic.
     pub fn close(&mut self, conn: ConnId)
-        ensures closed { IsOpened self.old.node (connection_of conn) → self.new ≡ record { node = closed_node conn.serial self.old.node; seat = self.old.seat } }
+        ensures closed { IsOpened self.old.node (connection_of conn) → self.new ≡ closed_combiner conn.serial self.old }
         ensures other { (IsOpened self.old.node (connection_of conn) → ⊥) → self.new ≡ self.old }
     {
+        self.taken = left_open(self.taken, self.core.is_open(conn));
         self.core.close(conn);
     }
 
@@ -108,7 +122,7 @@ impl<B: LogName> Combiner<B> {
         ensures piece { IfOk result (λ taken. IfSome taken (λ t. IsPiece self.old.node (connection_of conn) most t.0 t.1.standing)) }
         ensures sound { IfOk result (λ taken. IfSome taken (λ t. IsSound t.1.standing)) }
         ensures none { IfOk result (λ taken. IfNone taken ((IsOpened self.old.node (connection_of conn) → (queue_at conn.serial self.old.node.replica.members).waiting ≡ []) × (self.new ≡ self.old))) }
-        ensures taken { IfOk result (λ taken. IfSome taken (λ t. HasHandedOut conn.serial most self.old.node self.new.node × (self.new.seat ≡ self.old.seat))) }
+        ensures taken { IfOk result (λ taken. IfSome taken (λ t. HasHandedOut conn.serial most self.old.node self.new.node × (self.new.seat ≡ self.old.seat) × (self.new.taken ≡ self.old.taken))) }
         ensures unchanged { OnErr result (self.new ≡ self.old) }
     {
         self.core.take_piece(conn, most)
@@ -121,7 +135,7 @@ impl<B: LogName> Combiner<B> {
     /// and no read was run before them; [`Round::NotYet`] where an entry isn't filled yet; [`Round::Down`] where the replica is down. Where memory runs out no
     /// job is lost. Its cost is that of its steps: two loads for each worker, and then for each job and each entry what it costs there.
     pub fn combine(&mut self) -> Result<Round, Memory>
-        ensures combined { HasCombined result (length self.old.seat.desks) self.old self.new }
+        ensures combined { HasCombined B.places result (length self.old.seat.desks) self.old self.new }
         ensures down { (result ≡ Ok Round.Down) ↔ (self.new.node.replica.down ≡ true) }
     {
         let workers = self.numbers.len();
@@ -163,6 +177,17 @@ impl<B: LogName> Combiner<B> {
             outcome,
         };
         self.seat.answer(&self.slots, worker, answer);
+    }
+}
+
+// How many connections aren't closed once one was, which was open or not.
+fn left_open(taken: usize, was_open: bool) -> usize
+    ensures { result ≡ (if was_open then taken - 1 else taken) }
+{
+    if was_open {
+        taken.saturating_sub(1)
+    } else {
+        taken
     }
 }
 
@@ -210,16 +235,14 @@ fn take_in<B: LogName>(
 
 // Tries to put the updates that lead into the log.
 fn try_to_reserve<B: LogName>(core: &mut Core<B>) -> Result<Round, Memory>
-    ensures tried { HasTried core.old core.new }
-    ensures put { result ≡ Ok Round.Done → HasPut core.old core.new }
+    ensures { HasTried B.places result core.old core.new }
 {
     core.reserve()
 }
 
 // What a turn came to: the replica is down; or else memory ran out; or updates go on waiting; or what the look came to.
 fn outcome(tried: Result<Round, Memory>, looked: Result<Round, Memory>) -> Result<Round, Memory>
-    ensures down { (result ≡ Ok Round.Down) ↔ (looked ≡ Ok Round.Down) }
-    ensures done { result ≡ Ok Round.Done → (tried ≡ Ok Round.Done) × (looked ≡ Ok Round.Done) }
+    ensures { result ≡ outcome_of tried looked }
 {
     let looked = looked?;
     if matches!(looked, Round::Down) {

@@ -4,10 +4,11 @@ ghost use Rattle.std.specs.Arc.{arc_value};
 ghost use Rattle.nr_entry.specs.Jobs.{connection_of};
 ghost use Rattle.nr_combiner.specs.Pieces.{IsPieceOf};
 
+use crate::answering::OpenError;
 use crate::combiner::Combiner;
 use nr_blob::Memory;
 use nr_entry::ConnId;
-use nr_node::{OpenError, Round};
+use nr_node::Round;
 use nr_oplog::{LogName, Oplog, Token};
 use nr_replica::Piece;
 use nr_slots::Slots;
@@ -15,14 +16,14 @@ use std::alloc::Global;
 use std::marker::Model;
 use std::sync::{Arc, Mutex, Wait};
 
-/// A node, as its workers share it. Each call takes its lock once, for as long as its work takes. Contracts see which its slots are, and the limit of its
-/// queues: what stands behind the lock changes between any two calls, so what they say of it is what was handed out.
+/// A node, as its workers share it. Each call takes its lock once, for as long as its work takes. Contracts see which its slots are, and its limits: what stands behind the lock changes between any two calls, so what they say of it is what was handed out.
 #[derive(Drop)]
 pub struct Node<B: LogName> {
     combiner: Mutex<Combiner<B>>,
     log: Arc<Oplog<B>, Global>,
     slots: Arc<Slots, Global>,
-    // How many bytes wait for a connection at most.
+    // How many connections are open at most, and how many bytes wait for one at most.
+    connections: usize,
     limit: usize,
 }
 
@@ -32,24 +33,27 @@ impl<B: LogName> Model for Node<B> {
 
     ghost Value = { NodeView };
 
-    ghost view = { λ n. record { slots = arc_value n.slots; limit = n.limit } };
+    ghost view = { λ n. record { slots = arc_value n.slots; connections = n.connections; limit = n.limit } };
 }
 
 impl<B: LogName> Node<B> {
-    /// A node behind its lock, with its slots and the log beside it, for each connection of which at most `limit` bytes wait.
+    /// A node behind its lock, with its slots and the log beside it, of which at most so many connections are open, and for each of which at most `limit` bytes
+    /// wait.
     pub fn new(
         combiner: Combiner<B>,
         log: Arc<Oplog<B>, Global>,
         slots: Arc<Slots, Global>,
+        connections: usize,
         limit: usize,
     ) -> Node<B>
         requires { combiner.seat.slots ≡ (arc_value slots).id }
-        ensures { result ≡ record { slots = arc_value slots; limit = limit } }
+        ensures { result ≡ record { slots = arc_value slots; connections = connections; limit = limit } }
     {
         Node {
             combiner: Mutex::new(combiner),
             log,
             slots,
+            connections,
             limit,
         }
     }
@@ -66,9 +70,13 @@ impl<B: LogName> Node<B> {
         &self.slots
     }
 
-    /// [`Combiner::open`] behind the lock.
-    pub fn open<R: Wait>(&self, rt: &R, worker: u8) -> Result<ConnId, OpenError> {
-        self.combiner.lock(rt).open(worker, self.limit)
+    /// [`Combiner::open`] behind the lock, of a connection that one of its workers serves.
+    pub fn open<R: Wait>(&self, rt: &R, worker: u8) -> Result<ConnId, OpenError>
+        requires { worker < self.now.slots.workers }
+    {
+        self.combiner
+            .lock(rt)
+            .open(worker, self.limit, self.connections)
     }
 
     /// [`Combiner::close`] behind the lock.
@@ -89,7 +97,7 @@ impl<B: LogName> Node<B> {
         most: usize,
     ) -> Result<Option<(Piece, Token<B>)>, Memory>
         requires { 0 < most }
-        ensures { IfOk result (λ taken. IfSome taken (λ t. IsPieceOf (connection_of conn) t.0 t.1.standing)) }
+        ensures { IfOk result (λ taken. IfSome taken (λ t. IsPieceOf (connection_of conn) most t.0 t.1.standing)) }
     {
         self.combiner.lock(rt).take_piece(conn, most)
     }

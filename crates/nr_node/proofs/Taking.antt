@@ -1,6 +1,6 @@
 -- What is kept of a node: the next entry, and each step of it.
 use Rattle.std.proofs.Common.{◌≡◌, ℕ, zero, suc, ◌<◌, inl, inr, Bool, true, false, List, [], ◌∷◌, ◌++◌, length, refl, ap, sym, ◌∙◌, subst, arith, length-set, slice_set, take, drop, ◌+◌, ◌≤◌, append_assoc}
-use Rattle.std.specs.Prelude.{slice_index_or, Option, Some, None, IfOk, IfSome, IfNone, OnOk, is_err, Result, Ok, Err}
+use Rattle.std.specs.Prelude.{◌≢◌, slice_index_or, Option, Some, None, IfOk, IfSome, IfNone, OnOk, is_err, Result, Ok, Err}
 use Rattle.std.specs.FinMap as finmap
 use Rattle.std.specs.List.{AllByRecursion, range_with_len}
 use Rattle.std.proofs.lemmas.List.{append-nil, length-map, map-append}
@@ -20,7 +20,7 @@ use Rattle.nr_entry.specs.declared.batch.Outcome.TheVariants as outcomes
 use Rattle.nr_entry.specs.declared.entry.Entry.{Entry}
 use Rattle.nr_entry.specs.declared.job.Job.{Job}
 use Rattle.nr_log_end.specs.declared.standing.Standing.{Standing}
-use Rattle.nr_log_end.specs.Standings.{record_of, applied_of, own_entries}
+use Rattle.nr_log_end.specs.Standings.{IsAllFilled, record_of, applied_of, own_entries}
 use Rattle.nr_accounts.specs.declared.account.Account.{Account}
 use Rattle.nr_accounts.specs.Account.{fresh_account}
 use Rattle.nr_accounts.specs.Held.{Held, numbers_in, CountsTo, taken_all}
@@ -84,6 +84,26 @@ none_led next after old new gone is due left rest = (
     record { waiting = left ∙ sym (ap (λ (n : Option Next). left_jobs (jobs_next n) old.waiting) is); replica = rest },
   ),
 )
+
+-- an entry has jobs, so where it was lost there were some that were due
+some_items : (jobs : List Job) → 0 < length jobs → items_of jobs ≢ []
+some_items [] some none = absurd (omega arith)
+some_items (job ∷ jobs) some none = absurd (cc none)
+
+pub lost_with : (e : Entry) (next after last : Option Next) (old mid new : ReplicaState) → AreTaken e.jobs.items next old after mid → last ≡ after → new ≡ fallen mid
+    → AreNone next old last new
+lost_with e next after last old mid new taken same fell = (
+  same ∙ taken.none,
+  inr (
+    λ none. some_items e.jobs.items e.some (taken.due ∙ none),
+    fell ∙ ap fallen taken.left.replica,
+  ),
+)
+
+pub ok_none : {S E : Type 0} (P Q : Type 0) (r : Result (Option S) E) → IfOk r (λ o. IfNone o P) → (P → Q) → IfOk r (λ o. IfNone o Q)
+ok_none P Q (Ok (Some x)) h f = tt
+ok_none P Q (Ok None) h f = f h
+ok_none P Q (Err e) h f = tt
 
 pub ok_some : {S E : Type 0} (P Q : S → Type 0) (r : Result (Option S) E) → IfOk r (λ o. IfSome o P) → ((x : S) → P x → Q x) → IfOk r (λ o. IfSome o Q)
 ok_some P Q (Ok (Some x)) h f = f x h
@@ -155,7 +175,7 @@ pub none_kept : (s : Standing) (old new : ReplicaState) (book : Book) (next afte
 none_kept s old new book next after nodes none k =
     subst (λ (n : Option Next). IsKept s new book n nodes) (sym none.0) (elim none.1 [
       | inl d ↦ due_kept s s old new book next None nodes (same_met s) (sym d.0) d.1 tt k
-      | inr fell ↦ record {
+      | inr (_, fell) ↦ record {
         level = fell_level s old new fell k.level;
         order = fallen_order s old new book (jobs_next next) fell k.order;
         next_is = tt;
@@ -390,6 +410,20 @@ noted_owing s t ran old new noted none read o =
     let jobs : left_by_reads waiting ≡ unexecuted t [] new.waiting =
     λ i. jobs_reserved (sym (unpassed_noted s t ran noted none) i) ++ sym read.left i in
     subst (IsOwing new.members new.owed) jobs (subst (λ (os : List (Option ℕ)). IsOwing new.members os (left_by_reads waiting)) owed less)
+
+-- what holds of a node between two calls
+abbrev pub IsWithin : Standing → ReplicaState → Book → Option Next → ℕ → Type 0
+IsWithin s replica book next nodes = IsKept s replica book next nodes × (s.held ≡ None) × IsAllFilled s × (nodes ≡ s.nodes) × (0 < nodes)
+
+pub goes_within : (es : List Entry) (s t : Standing) (old new : ReplicaState) (book : Book) (next after : Option Next) (nodes : ℕ) → GoesOn es s t old new next after
+    → t.held ≡ None → IsWithin s old book next nodes → IsWithin t new book after nodes
+goes_within es s t old new book next after nodes g idle w = (
+  goes_kept es s t old new book next after nodes g w.0,
+  idle,
+  λ node. ap (λ (x : Standing). slice_index_or x.unfilled node None) g.passed.standing ∙ w.2 node,
+  w.3 ∙ sym (ap (λ (x : Standing). x.nodes) g.passed.standing),
+  w.4,
+)
 
 -- the reads that led were run
 pub noted_kept : (s t : Standing) (ran : List Job) (old new : ReplicaState) (book : Book) (next : Option Next) (nodes : ℕ) → HasNoted ran s t → unpassed s ≡ []

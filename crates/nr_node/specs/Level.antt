@@ -1,5 +1,5 @@
 -- What a node keeps, and how its replica agrees with its end of the operation log.
-use Rattle.std.specs.Prelude.{◌≡◌, ℕ, ◌<◌, ◌≤◌, false, List, [], ◌∷◌, ◌++◌, length, drop, None, slice_index_or, refl}
+use Rattle.std.specs.Prelude.{◌≡◌, ℕ, ◌<◌, ◌≤◌, Bool, false, List, [], ◌∷◌, ◌++◌, length, drop, None, slice_index_or, refl}
 use Rattle.std.specs.List.{AllByRecursion, range_with_len}
 use Rattle.std.specs.FinMap as finmap
 use Rattle.std.specs.Coded.{Coded, code_by, coded×, coded_list}
@@ -45,6 +45,10 @@ connection_at node serial = record { node = node; serial = serial }
 -- what waits for it
 abbrev pub queue_at : ℕ → List Member → Queue
 queue_at serial members = (slice_index_or members serial (fresh_member (connection_at 0 0) 0 0)).outbox
+
+-- whether it was closed
+abbrev pub is_closed_at : ℕ → List Member → Bool
+is_closed_at serial members = (slice_index_or members serial (fresh_member (connection_at 0 0) 0 0)).is_closed
 
 -- the entries that the node reserved and hasn't passed, and their jobs
 abbrev pub unpassed : Standing → List (ℕ × Entry)

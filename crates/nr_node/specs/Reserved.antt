@@ -1,5 +1,5 @@
 -- What the updates that lead come to: an entry that is taken, and a place for it in the log.
-use Rattle.std.specs.Prelude.{◌≡◌, ◌⊎◌, ℕ, ◌≤◌, List, [], ◌∷◌, Option, None}
+use Rattle.std.specs.Prelude.{◌≡◌, ◌≢◌, ◌⊎◌, ℕ, ◌≤◌, List, [], ◌∷◌, Option, None}
 use Rattle.std.specs.List.{AllByRecursion}
 use Rattle.nr_model.specs.Items.{Connection, Item}
 use Rattle.nr_model.specs.Entries.{Jobs, entry_jobs, left_by_entry}
@@ -42,9 +42,10 @@ pub record AreTaken (jobs : List Job) (next : Option Next) (old : ReplicaState) 
   pub none : after ≡ None
   pub left : LeavesWaiting (left_jobs (jobs_next next) old.waiting) old new
 
--- nothing leads; or the entry was lost, and the replica fell
+-- nothing leads; or there was an entry, which was lost, and the replica fell
 abbrev pub AreNone : Option Next → ReplicaState → Option Next → ReplicaState → Type 0
-AreNone next old after new = (after ≡ None) × (((due_jobs (jobs_next next) old.waiting ≡ []) × LeavesWaiting (left_jobs (jobs_next next) old.waiting) old new) ⊎ (new ≡ fallen old))
+AreNone next old after new = (after ≡ None) × (((due_jobs (jobs_next next) old.waiting ≡ []) × LeavesWaiting (left_jobs (jobs_next next) old.waiting) old new)
+    ⊎ ((due_jobs (jobs_next next) old.waiting ≢ []) × (new ≡ fallen old)))
 
 -- nothing changed, or the next entry is due
 abbrev pub AreDue : Option Next → ReplicaState → Option Next → ReplicaState → Type 0

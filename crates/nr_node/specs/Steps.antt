@@ -1,5 +1,5 @@
 -- What the calls of a node come to.
-use Rattle.std.specs.Prelude.{◌≡◌, ℕ, ◌≤◌, false, List, [], ◌∷◌, ◌++◌, map, length, slice_set, slice_index_or, replicate, Some, None}
+use Rattle.std.specs.Prelude.{◌≡◌, ◌≢◌, ℕ, ◌≤◌, false, List, [], ◌∷◌, ◌++◌, map, length, slice_set, slice_index_or, replicate, Some, None}
 use Rattle.std.specs.FinMap as finmap
 use Rattle.nr_model.specs.Servers.{fresh}
 use Rattle.nr_model.specs.Entries.{read_jobs, left_by_reads}
@@ -78,8 +78,9 @@ pub record HasNoneDue (n m : NodeState) : Type 0 where
   pub left : LeavesWaiting (left_jobs n.next n.replica.waiting) n.replica m.replica
   pub same : m ≡ record n { replica = m.replica }
 
--- the replica fell, since memory ran out; the accounts stay
+-- the replica fell, since memory ran out while updates were due, which are lost; the accounts stay
 pub record HasFallen (n m : NodeState) : Type 0 where
+  pub due : due_jobs n.next n.replica.waiting ≢ []
   pub replica : m.replica ≡ fallen n.replica
   pub next : m.next ≡ []
   pub book : m.book ≡ n.book

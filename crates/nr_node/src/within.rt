@@ -7,7 +7,7 @@ ghost use Rattle.nr_entry.specs.declared.job.Job.{Job};
 ghost use Rattle.nr_log_end.specs.Standings.{passed_of};
 ghost use Rattle.nr_log_end.specs.Tries.{IsFull, IsLost};
 ghost use Rattle.nr_oplog.specs.Rule.{opening_view};
-ghost use Rattle.nr_node.specs.Level.{connection_at, queue_at};
+ghost use Rattle.nr_node.specs.Level.{connection_at, queue_at, is_closed_at};
 ghost use Rattle.nr_node.specs.Batches.{AreSame, refusal, IsOpened, IsPiece};
 ghost use Rattle.nr_node.specs.Owing.{answer_of, answered_node, HasAllExecuted};
 ghost use Rattle.nr_node.specs.Sound.{IsSound};
@@ -117,6 +117,13 @@ impl<B: LogName> Core<B> {
                 Err(OpenError::Memory)
             }
         }
+    }
+
+    /// Whether a connection is the node's, was opened, and isn't closed. Logarithmic.
+    pub fn is_open(&self, conn: ConnId) -> bool
+        ensures { (result ≡ true) ↔ (IsOpened self.now (connection_of conn) × (is_closed_at conn.serial self.now.replica.members ≡ false)) }
+    {
+        self.has(conn) && !self.replica.is_closed(conn.serial as usize)
     }
 
     /// Closes a connection: what waits for it is dropped, and it gets nothing more. One that isn't the node's is passed over. Logarithmic.
@@ -236,7 +243,7 @@ impl<B: LogName> Core<B> {
     /// where all those entries are there, and where no entry of the node's own found no place: so none runs before an update of its connection. Where memory
     /// runs out none is run.
     pub fn look(&mut self) -> Result<Round, Memory>
-        ensures goes { (entries : List Entry) × ((ran : List Job) × ((tail : ℕ) × GoesOnBy entries ran tail self.old self.new × (result ≡ Ok Round.Done → HasRead ran tail self.old self.new))) }
+        ensures goes { (entries : List Entry) × ((ran : List Job) × ((tail : ℕ) × GoesOnBy entries ran tail self.old self.new × (result ≡ Ok Round.Done → HasRead ran tail self.old self.new) × (result ≢ Ok Round.Done → ran ≡ []))) }
         ensures not_yet { result ≡ Ok Round.NotYet → passed_of self.new.seat.standing < self.new.seat.standing.seen }
         ensures down { (result ≡ Ok Round.Down) ↔ (self.new.replica.down ≡ true) }
         ensures waiting { result ≢ Ok Round.Done → self.new.replica.down ≡ false → (self.new.replica.waiting ≡ self.old.replica.waiting) × (self.new.next ≡ self.old.next) }

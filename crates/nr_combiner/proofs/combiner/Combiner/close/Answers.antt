@@ -1,5 +1,7 @@
-use Rattle.std.proofs.Common.{◌∙◌}
+use Rattle.std.proofs.Common.{◌∙◌, subst}
+use Rattle.nr_combiner.specs.Served.{CombinerState}
 use Rattle.nr_combiner.proofs.Moves.{closed_served}
+use Rattle.nr_combiner.proofs.Rooms.{HasClosed, closed_room}
 use Rattle.nr_combiner.proofs.combiner.Combiner.close.Goals as goal
 
 pub invariant_of-self : goal.invariant_of-self
@@ -7,3 +9,12 @@ invariant_of-self g c =
     let inside = c.self.inside in
     let there = closed_served inside.core c.close.new.self inside.seat inside.numbers.items c.args.conn c.close.ensures.closed c.close.ensures.other c.self.invariant.0 in
     (there.0, c.self.invariant.1, c.self.invariant.2 ∙ there.1)
+
+pub returns : goal.returns
+returns g c =
+    let inside = c.self.inside in
+    let old : CombinerState = record { node = inside.core; seat = inside.seat; taken = inside.taken } in
+    let new : CombinerState = record { node = c.close.new.self; seat = inside.seat; taken = c.left_open-self-inside.result } in
+    let both = closed_room old c.close.new.self c.args.conn c.is_open.result c.left_open-self-inside.result c.is_open.ensures c.left_open-self-inside.ensures c.close.ensures.closed c.close.ensures.other in
+    let there = subst (λ (x : CombinerState). HasClosed c.args.conn x new) c.self.view_is both in
+    record { closed = there.closed; other = there.other }

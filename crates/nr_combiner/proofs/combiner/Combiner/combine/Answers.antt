@@ -1,8 +1,8 @@
 use Rattle.std.proofs.Common.{◌≡◌, ℕ, length, ap, sym, ◌∙◌, subst, arith}
 use Rattle.nr_accounts.specs.Book.{Book}
 use Rattle.nr_combiner.specs.Served.{CombinerState}
-use Rattle.nr_combiner.specs.Steps.{HasLiftedAll, HasCombined}
-use Rattle.nr_combiner.proofs.Turns.{tried_served, tried_book, looked_served}
+use Rattle.nr_combiner.specs.Steps.{HasLiftedAll, HasCombined, outcome_of}
+use Rattle.nr_combiner.proofs.Turns.{tried_served, tried_book, looked_served, down_looked}
 use Rattle.nr_combiner.proofs.Rounds.{lifted_all_long, answered_all_down}
 use Rattle.nr_combiner.proofs.combiner.Combiner.combine.Goals as goal
 
@@ -13,9 +13,9 @@ invariant_of-self g c =
     let tried = c.try_to_reserve-tried.new.core in
     let looked = c.look-looked.new.self in
     let goes = c.look-looked.ensures.goes in
-    let book : looked.book ≡ inside.core.book = goes.1.1.1.book ∙ tried_book inside.core tried c.try_to_reserve-tried.ensures.tried in (
+    let book : looked.book ≡ inside.core.book = goes.1.1.1.book ∙ tried_book g.B.LogName.places c.try_to_reserve-tried.result inside.core tried c.try_to_reserve-tried.ensures in (
       looked_served goes.0 goes.1.0 goes.1.1.0 tried looked inside.seat inside.numbers.items goes.1.1.1
-          (tried_served inside.core tried inside.seat inside.numbers.items c.try_to_reserve-tried.ensures.tried keeps.0),
+          (tried_served g.B.LogName.places c.try_to_reserve-tried.result inside.core tried inside.seat inside.numbers.items c.try_to_reserve-tried.ensures keeps.0),
       keeps.1,
       keeps.2 ∙ ap (λ (b : Book). b.node) (sym book),
     )
@@ -44,25 +44,36 @@ returns-clause-combined g c =
     let count : c.len-workers.result ≡ length inside.numbers.items = omega (arith, c.len-workers.ensures, inside.numbers.ok.0) in
     let before : c.len-workers.result ≡ length c.args.self.now.seat.desks =
     count ∙ served.numbered ∙ sym served.workers ∙ ap (λ (x : CombinerState). length x.seat.desks) c.self.view_is in
-    let lifted : CombinerState = record { node = c.self-2.inside.core; seat = c.self-2.inside.seat } in
+    let lifted : CombinerState = record { node = c.self-2.inside.core; seat = c.self-2.inside.seat; taken = c.self-2.inside.taken } in
     let goes = c.look-looked.ensures.goes in
-    subst (λ (k : ℕ). HasCombined c.outcome.result k c.args.self.now c.answer_all.new.combiner) before record {
+    subst (λ (k : ℕ). HasCombined g.B.LogName.places c.outcome.result k c.args.self.now c.answer_all.new.combiner) before record {
       lifted = lifted;
       has_lifted = subst (λ (x : CombinerState). HasLiftedAll c.len-workers.result c.args.self.now x) (sym c.self-2.view_is) c.lift_all.ensures;
+      try_is = c.try_to_reserve-tried.result;
       tried = c.try_to_reserve-tried.new.core;
-      has_tried = c.try_to_reserve-tried.ensures.tried;
-      has_put = λ e. c.try_to_reserve-tried.ensures.put (c.outcome.ensures.done e).0;
+      has_tried = c.try_to_reserve-tried.ensures;
+      look_is = c.look-looked.result;
       looked = c.look-looked.new.self;
       entries = goes.0;
       ran = goes.1.0;
       tail = goes.1.1.0;
-      has_looked = goes.1.1.1;
-      has_read = λ e. goes.1.1.2 (c.outcome.ensures.done e).1;
+      has_looked = record {
+        by = goes.1.1.1;
+        read = goes.1.1.2;
+        none = goes.1.1.3;
+        not_yet = c.look-looked.ensures.not_yet;
+        again = c.look-looked.ensures.again;
+        never = c.look-looked.ensures.never_full;
+        down = c.look-looked.ensures.down;
+      };
+      round_is = c.outcome.ensures;
       has_answered = c.answer_all.ensures;
     }
 
 pub returns-clause-down : goal.returns-clause-down
 returns-clause-down g c =
-    let looked : CombinerState = record { node = c.look-looked.new.self; seat = c.self-2.inside.seat } in
-    let same = answered_all_down c.len-workers.result looked c.answer_all.new.combiner c.answer_all.ensures in
-    (λ e. same ∙ c.look-looked.ensures.down.0 (c.outcome.ensures.down.0 e), λ e. c.outcome.ensures.down.1 (c.look-looked.ensures.down.1 (sym same ∙ e)))
+    let looked : CombinerState = record { node = c.look-looked.new.self; seat = c.self-2.inside.seat; taken = c.self-2.inside.taken } in
+    let same = answered_all_down c.len-workers.result looked c.answer_all.new.combiner c.answer_all.ensures in (
+      λ e. same ∙ c.look-looked.ensures.down.0 (down_looked c.try_to_reserve-tried.result c.look-looked.result (sym c.outcome.ensures ∙ e)),
+      λ e. c.outcome.ensures ∙ ap (outcome_of c.try_to_reserve-tried.result) (c.look-looked.ensures.down.1 (sym same ∙ e)),
+    )

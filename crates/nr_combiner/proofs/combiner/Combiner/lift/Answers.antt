@@ -1,4 +1,4 @@
-use Rattle.std.proofs.Common.{◌<◌, inl, inr, length, ap, sym, ◌∙◌, subst}
+use Rattle.std.proofs.Common.{◌<◌, inl, inr, length, refl, ap, sym, ◌∙◌, subst}
 use Rattle.nr_slots.specs.Seats.{CombinerView}
 use Rattle.nr_node.specs.Level.{NodeState}
 use Rattle.nr_combiner.specs.Served.{CombinerState}
@@ -41,10 +41,11 @@ invariant_of-self-in_default-take_in g c =
 
 pub returns-in_default-take_in : goal.returns-in_default-take_in
 returns-in_default-take_in g c =
-    let new : CombinerState = record { node = c.take_in.new.core; seat = c.lift.new.self } in
+    let inside = c.self.inside in
+    let new : CombinerState = record { node = c.take_in.new.core; seat = c.lift.new.self; taken = inside.taken } in
     record {
       lifted = subst (λ (x : CombinerState). HasLifted c.args.worker x new) c.self.view_is
-          (inr (inl (c.in-Some.batch, record { due = c.in_default-take_in.ensures.due; node = c.in_default-take_in.ensures.taken; seat = c.in-Some.ensures.lifted })));
+          (inr (inl (c.in-Some.batch, record { due = c.in_default-take_in.ensures.due; node = c.in_default-take_in.ensures.taken; seat = c.in-Some.ensures.lifted; taken = refl })));
     }
 
 pub invariant_of-self-2 : goal.invariant_of-self-2
@@ -64,8 +65,8 @@ pub returns : goal.returns
 returns g c =
     let inside = c.self.inside in
     let told = c.hand_back.ensures in
-    let old : CombinerState = record { node = inside.core; seat = inside.seat } in
-    let new : CombinerState = record { node = c.take_in.new.core; seat = c.hand_back.new.seat } in
+    let old : CombinerState = record { node = inside.core; seat = inside.seat; taken = inside.taken } in
+    let new : CombinerState = record { node = c.take_in.new.core; seat = c.hand_back.new.seat; taken = inside.taken } in
     record {
       lifted = subst (λ (x : CombinerState). HasLifted c.args.worker x new) c.self.view_is
           (inr (inr (
@@ -73,6 +74,6 @@ returns g c =
             told.0,
             c.in-Err.why,
             hands_back old new c.lift.new.self c.args.worker c.in-Some.batch c.in-Err.batch c.in-Err.why told.0 c.in-Err.ensures.refused c.in-Err.ensures.back
-                c.in-Err.ensures.unchanged c.in-Some.ensures.lifted told.3 told.1 told.2,
+                c.in-Err.ensures.unchanged c.in-Some.ensures.lifted told.3 refl told.1 told.2,
           )));
     }

@@ -1,26 +1,18 @@
-use Rattle.std.proofs.Common.{◌≡◌, false, None, [], ap, sym, ◌∙◌, refl, subst, get_or}
-use Rattle.nr_log_end.specs.declared.standing.Standing.{Standing}
+use Rattle.std.proofs.Common.{◌≡◌, false, [], sym, ◌∙◌, refl, subst}
 use Rattle.nr_node.specs.Level.{NodeState}
 use Rattle.nr_node.specs.Next.{jobs_next}
 use Rattle.nr_node.specs.Steps.{GoesOnBy}
-use Rattle.nr_node.proofs.Taking.{goes_kept}
+use Rattle.nr_node.proofs.Taking.{goes_within}
 use Rattle.nr_node.proofs.Caught.{caught_up}
 use Rattle.nr_node.proofs.within.Core.catch_up.Goals as goal
 use Rattle.nr_node.proofs.within.Core.catch_up.Goals.{then-reached, else-reached}
 
 pub invariant_of-self : goal.invariant_of-self
 invariant_of-self g c =
-    let keeps = c.self.invariant in
     let inside = c.self.inside in
     let went = c.catch_up-reached.ensures.goes in
-    let passed = went.1.passed.standing in (
-      goes_kept went.0 inside.end.standing c.catch_up-reached.new.end.standing inside.replica c.catch_up-reached.new.replica inside.accounts inside.next
-          c.catch_up-reached.new.next inside.nodes went.1 keeps.0,
-      c.catch_up-reached.ensures.idle,
-      λ node. ap (λ (s : Standing). get_or s.unfilled node None) passed ∙ keeps.2 node,
-      keeps.3 ∙ sym (ap (λ (s : Standing). s.nodes) passed),
-      keeps.4,
-    )
+    goes_within went.0 inside.end.standing c.catch_up-reached.new.end.standing inside.replica c.catch_up-reached.new.replica inside.accounts inside.next
+    c.catch_up-reached.new.next inside.nodes went.1 c.catch_up-reached.ensures.idle c.self.invariant
 
 pub returns-then-is_down-clause-goes : goal.returns-then-is_down-clause-goes
 returns-then-is_down-clause-goes g c =
@@ -34,17 +26,10 @@ returns-then-is_down-clause-goes g c =
 
 pub invariant_of-self-2 : goal.invariant_of-self-2
 invariant_of-self-2 g c =
-    let keeps = c.self.invariant in
     let inside = c.self.inside in
     let went = c.catch_up-reached.ensures.goes in
-    let passed = went.1.passed.standing in (
-      goes_kept went.0 inside.end.standing c.catch_up-reached.new.end.standing inside.replica c.catch_up-reached.new.replica inside.accounts inside.next
-          c.catch_up-reached.new.next inside.nodes went.1 keeps.0,
-      c.catch_up-reached.ensures.idle,
-      λ node. ap (λ (s : Standing). get_or s.unfilled node None) passed ∙ keeps.2 node,
-      keeps.3 ∙ sym (ap (λ (s : Standing). s.nodes) passed),
-      keeps.4,
-    )
+    goes_within went.0 inside.end.standing c.catch_up-reached.new.end.standing inside.replica c.catch_up-reached.new.replica inside.accounts inside.next
+    c.catch_up-reached.new.next inside.nodes went.1 c.catch_up-reached.ensures.idle c.self.invariant
 
 pub returns-clause-goes : goal.returns-clause-goes
 returns-clause-goes g c =

@@ -10,51 +10,30 @@ use Rattle.nr_node.specs.Next.{jobs_next}
 use Rattle.nr_node.specs.Owing.{awaited}
 use Rattle.nr_node.specs.Steps.{GoesOnBy, HasRead}
 use Rattle.nr_node.proofs.Lists.{none_unpassed}
-use Rattle.nr_node.proofs.Taking.{goes_kept, noted_kept, read_awaited}
+use Rattle.nr_node.proofs.Taking.{goes_kept, goes_within, noted_kept, read_awaited}
 use Rattle.nr_node.proofs.Caught.{caught_up, read_on, read_got, has_read, next_has, none_of}
 use Rattle.nr_node.proofs.within.Core.look.Goals as goal
 
 pub invariant_of-self : goal.invariant_of-self
 invariant_of-self g c =
-    let keeps = c.self.invariant in
     let inside = c.self.inside in
     let went = c.catch_up-reached.ensures.goes in
-    let passed = went.1.passed.standing in (
-      goes_kept went.0 inside.end.standing c.catch_up-reached.new.end.standing inside.replica c.catch_up-reached.new.replica inside.accounts inside.next
-          c.catch_up-reached.new.next inside.nodes went.1 keeps.0,
-      c.catch_up-reached.ensures.idle,
-      λ node. ap (λ (s : Standing). get_or s.unfilled node None) passed ∙ keeps.2 node,
-      keeps.3 ∙ sym (ap (λ (s : Standing). s.nodes) passed),
-      keeps.4,
-    )
+    goes_within went.0 inside.end.standing c.catch_up-reached.new.end.standing inside.replica c.catch_up-reached.new.replica inside.accounts inside.next
+    c.catch_up-reached.new.next inside.nodes went.1 c.catch_up-reached.ensures.idle c.self.invariant
 
 pub invariant_of-self-then-not-reached : goal.invariant_of-self-then-not-reached
 invariant_of-self-then-not-reached g c =
-    let keeps = c.self.invariant in
     let inside = c.self.inside in
     let went = c.catch_up-reached.ensures.goes in
-    let passed = went.1.passed.standing in (
-      goes_kept went.0 inside.end.standing c.catch_up-reached.new.end.standing inside.replica c.catch_up-reached.new.replica inside.accounts inside.next
-          c.catch_up-reached.new.next inside.nodes went.1 keeps.0,
-      c.catch_up-reached.ensures.idle,
-      λ node. ap (λ (s : Standing). get_or s.unfilled node None) passed ∙ keeps.2 node,
-      keeps.3 ∙ sym (ap (λ (s : Standing). s.nodes) passed),
-      keeps.4,
-    )
+    goes_within went.0 inside.end.standing c.catch_up-reached.new.end.standing inside.replica c.catch_up-reached.new.replica inside.accounts inside.next
+    c.catch_up-reached.new.next inside.nodes went.1 c.catch_up-reached.ensures.idle c.self.invariant
 
 pub invariant_of-self-then-is_some : goal.invariant_of-self-then-is_some
 invariant_of-self-then-is_some g c =
-    let keeps = c.self.invariant in
     let inside = c.self.inside in
     let went = c.catch_up-reached.ensures.goes in
-    let passed = went.1.passed.standing in (
-      goes_kept went.0 inside.end.standing c.catch_up-reached.new.end.standing inside.replica c.catch_up-reached.new.replica inside.accounts inside.next
-          c.catch_up-reached.new.next inside.nodes went.1 keeps.0,
-      c.catch_up-reached.ensures.idle,
-      λ node. ap (λ (s : Standing). get_or s.unfilled node None) passed ∙ keeps.2 node,
-      keeps.3 ∙ sym (ap (λ (s : Standing). s.nodes) passed),
-      keeps.4,
-    )
+    goes_within went.0 inside.end.standing c.catch_up-reached.new.end.standing inside.replica c.catch_up-reached.new.replica inside.accounts inside.next
+    c.catch_up-reached.new.next inside.nodes went.1 c.catch_up-reached.ensures.idle c.self.invariant
 
 pub returns-then-is_down-clause-goes : goal.returns-then-is_down-clause-goes
 returns-then-is_down-clause-goes g c =
@@ -64,7 +43,7 @@ returns-then-is_down-clause-goes g c =
     let m : NodeState = record { seat = c.catch_up-reached.new.end; replica = c.catch_up-reached.new.replica; book = inside.accounts; next = jobs_next c.catch_up-reached.new.next } in
     let tail = c.catch_up-reached.new.end.standing.seen in
     let by = subst (λ (n : NodeState). GoesOnBy went.0 [] tail n m) c.self.view_is (caught_up v m went.0 went.1.passed c.catch_up-reached.ensures.looks refl went.1.owed went.1.got went.1.refused) in
-    (went.0, ([], (tail, by, λ e. absurd (cc e))))
+    (went.0, ([], (tail, by, λ e. absurd (cc e), λ _. refl)))
 
 pub returns-then-not-reached-clause-goes : goal.returns-then-not-reached-clause-goes
 returns-then-not-reached-clause-goes g c =
@@ -74,7 +53,7 @@ returns-then-not-reached-clause-goes g c =
     let m : NodeState = record { seat = c.catch_up-reached.new.end; replica = c.catch_up-reached.new.replica; book = inside.accounts; next = jobs_next c.catch_up-reached.new.next } in
     let tail = c.catch_up-reached.new.end.standing.seen in
     let by = subst (λ (n : NodeState). GoesOnBy went.0 [] tail n m) c.self.view_is (caught_up v m went.0 went.1.passed c.catch_up-reached.ensures.looks refl went.1.owed went.1.got went.1.refused) in
-    (went.0, ([], (tail, by, λ e. absurd (cc e))))
+    (went.0, ([], (tail, by, λ e. absurd (cc e), λ _. refl)))
 
 pub returns-then-is_some-clause-goes : goal.returns-then-is_some-clause-goes
 returns-then-is_some-clause-goes g c =
@@ -84,7 +63,7 @@ returns-then-is_some-clause-goes g c =
     let m : NodeState = record { seat = c.catch_up-reached.new.end; replica = c.catch_up-reached.new.replica; book = inside.accounts; next = jobs_next c.catch_up-reached.new.next } in
     let tail = c.catch_up-reached.new.end.standing.seen in
     let by = subst (λ (n : NodeState). GoesOnBy went.0 [] tail n m) c.self.view_is (caught_up v m went.0 went.1.passed c.catch_up-reached.ensures.looks refl went.1.owed went.1.got went.1.refused) in
-    (went.0, ([], (tail, by, λ e. absurd (cc e))))
+    (went.0, ([], (tail, by, λ e. absurd (cc e), λ _. refl)))
 
 pub returns-then-is_some-clause-again : goal.returns-then-is_some-clause-again
 returns-then-is_some-clause-again g c = λ _ none.
@@ -132,6 +111,7 @@ returns-in_err-read-clause-goes g c =
           tail,
           subst (λ (n : NodeState). GoesOnBy went.0 [] tail n (record { seat = c.read.new.end; replica = c.read.new.replica; book = inside.accounts; next = next })) c.self.view_is by,
           λ e. absurd (cc (sym c.from_residual.ensures.0 ∙ ap is_err e)),
+          λ _. refl,
         ),
       ),
     )
@@ -184,6 +164,7 @@ returns-clause-goes g c =
           t.seen,
           subst (λ (n : NodeState). GoesOnBy went.0 ran t.seen n m) c.self.view_is by,
           λ _. subst (λ (n : NodeState). HasRead ran t.seen n m) c.self.view_is read,
+          λ undone. absurd (undone refl),
         ),
       ),
     )

@@ -1,0 +1,47 @@
+-- Seats that are given away one after the other, and what is made of them.
+use Rattle.std.specs.Option.{unwrap_or}
+use Rattle.std.proofs.Common.{◌≡◌, inl, inr, ◌⊎◌, ℕ, zero, suc, ◌+◌, ◌<◌, List, [], ◌∷◌, ◌++◌, length, slice_get, Some, refl, ap, sym, ◌∙◌, subst, arith, append_assoc, length-append}
+use Rattle.nr_combiner.specs.Shared.{NodeView}
+use Rattle.nr_combiner.specs.Workers.{WorkerState, fresh_worker, fresh_workers}
+
+-- what holds of each that is left holds of the first
+pub first_is : {A : Type 0} (xs ys : List A) (x : A) (f : ℕ → A) (n : ℕ) → xs ≡ x ∷ ys → ((k : ℕ) → k < length xs → slice_get xs k ≡ Some (f (n + k))) → x ≡ f n
+first_is xs ys x f n is all =
+    let some : 0 < length xs = subst (λ l. 0 < length l) (sym is) (omega arith) in
+    let plain : n + 0 ≡ n = omega arith in
+    ap (λ p. unwrap_or p x) (ap (λ l. slice_get l 0) (sym is) ∙ all 0 some ∙ ap (λ k. Some (f k)) plain)
+
+-- and of the others
+pub others_are : {A : Type 0} (xs ys : List A) (x : A) (f : ℕ → A) (n m : ℕ) → xs ≡ x ∷ ys → m ≡ n + 1 → ((k : ℕ) → k < length xs → slice_get xs k ≡ Some (f (n + k)))
+    → (k : ℕ) → k < length ys → slice_get ys k ≡ Some (f (m + k))
+others_are xs ys x f n m is more all k near =
+    let long : length xs ≡ suc (length ys) = ap length is in
+    let same : n + suc k ≡ m + k = omega (arith, more) in
+    ap (λ l. slice_get l (suc k)) (sym is) ∙ all (suc k) (omega (arith, long, near)) ∙ ap (λ j. Some (f j)) same
+
+-- a list with one more at its end
+at_end : {A : Type 0} (xs : List A) (x : A) (k : ℕ) (a : A) → slice_get (xs ++ x ∷ []) k ≡ Some a → (slice_get xs k ≡ Some a) ⊎ ((k ≡ length xs) × (x ≡ a))
+at_end [] x zero a e = inr (refl, cc e)
+at_end [] x (suc k) a e = absurd (cc e)
+at_end (y ∷ ys) x zero a e = inl e
+at_end (y ∷ ys) x (suc k) a e = elim (at_end ys x k a e) [ inl h ↦ inl h | inr h ↦ inr (ap suc h.0, h.1) ]
+
+pub one_added : {A : Type 0} (xs ys : List A) (x : A) (P : ℕ → A → Type 0) → ys ≡ xs ++ x ∷ [] → P (length xs) x → ((k : ℕ) (a : A) → slice_get xs k ≡ Some a → P k a)
+    → (k : ℕ) (a : A) → slice_get ys k ≡ Some a → P k a
+one_added xs ys x P is last all k a e = elim (at_end xs x k a (ap (λ l. slice_get l k) (sym is) ∙ e)) [
+  | inl h ↦ all k a h
+  | inr h ↦ subst (λ b. P k b) h.1 (subst (λ j. P j x) (sym h.0) last)
+]
+
+-- workers that were made, and those that are to be made, are all
+pub one_made : (shared : NodeView) (node whole : ℕ) (ws vs : List WorkerState) (w : WorkerState) (count left : ℕ) → vs ≡ ws ++ w ∷ [] → w ≡ fresh_worker shared node (length ws)
+    → count ≡ suc left → ws ++ fresh_workers shared node (length ws) count ≡ fresh_workers shared node 0 whole
+    → vs ++ fresh_workers shared node (length vs) left ≡ fresh_workers shared node 0 whole
+one_made shared node whole ws vs w count left more is fewer all =
+    let long : length vs ≡ suc (length ws) = omega (arith, ap length more, length-append ws (w ∷ [])) in
+    ap (λ n. vs ++ fresh_workers shared node n left) long
+    ∙ ap (λ l. l ++ fresh_workers shared node (suc (length ws)) left) more
+    ∙ append_assoc ws (w ∷ []) (fresh_workers shared node (suc (length ws)) left)
+    ∙ ap (λ v. ws ++ v ∷ fresh_workers shared node (suc (length ws)) left) is
+    ∙ ap (λ n. ws ++ fresh_workers shared node (length ws) n) (sym fewer)
+    ∙ all

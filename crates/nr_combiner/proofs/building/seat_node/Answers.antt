@@ -1,0 +1,11 @@
+use Rattle.std.proofs.Common.{◌≡◌, ℕ, ◌<◌, Some, ap, sym, ◌∙◌, subst}
+use Rattle.std.specs.Arc.{arc_value}
+use Rattle.nr_slots.specs.Seats.{SlotsView, new_worker}
+use Rattle.nr_combiner.specs.Shared.{NodeView}
+use Rattle.nr_combiner.proofs.building.seat_node.Goals as goal
+
+pub workers_of-requires-clause-seats : goal.workers_of-requires-clause-seats
+workers_of-requires-clause-seats g c =
+    let same : (arc_value c.in-Ok-new-2.shared).slots.id ≡ c.in-Ok.slots.id =
+    ap (λ (v : NodeView). v.slots.id) (c.in-Ok-new-2.ensures.ok ∙ c.new-3.ensures) ∙ ap (λ (s : SlotsView). s.id) c.in-Ok-new.ensures.ok in
+    λ worker near. c.in-Ok.ensures.seats.1 worker (subst (λ (n : ℕ). worker < n) c.in-Ok.ensures.seats.0 near) ∙ ap (λ id. Some (new_worker id worker)) (sym same)

@@ -1,0 +1,11 @@
+//! Tests of nodes behind their locks, of their workers and of taps: what no contract says of them.
+#![tactic(auto)]
+
+#[cfg(test)]
+mod client;
+#[cfg(test)]
+mod counting;
+#[cfg(test)]
+mod in_turn;
+#[cfg(test)]
+mod limits;
