@@ -109,11 +109,12 @@ HasTried places (Ok rounds.Down) n m = ((n.replica.down ≡ true) × (m ≡ n)) 
 HasTried places (Err memory) n m = (m ≡ n) ⊎ GoesOnWaiting n m
 
 -- What a look comes to: entries were passed up to the tail that it loaded, or, where one of them isn't filled yet, up to there; and reads were run only where it is
--- done, and then all that led.
+-- done, and then all that led, while else all that waits goes on waiting.
 pub record HasLooked (looked : Result Round Memory) (entries : List Entry) (ran : List Job) (tail : ℕ) (n m : NodeState) : Type 0 where
   pub by : GoesOnBy entries ran tail n m
   pub read : looked ≡ Ok rounds.Done → HasRead ran tail n m
   pub none : looked ≢ Ok rounds.Done → ran ≡ []
+  pub waiting : looked ≢ Ok rounds.Done → m.replica.down ≡ false → (m.replica.waiting ≡ n.replica.waiting) × (m.next ≡ n.next)
   pub not_yet : looked ≡ Ok rounds.NotYet → passed_of m.seat.standing < m.seat.standing.seen
   pub again : looked ≡ Ok rounds.Again → n.next ≢ []
   pub never : looked ≢ Ok rounds.Full

@@ -16,7 +16,8 @@ use std::alloc::Global;
 use std::marker::Model;
 use std::sync::{Arc, Mutex, Wait};
 
-/// A node, as its workers share it. Each call takes its lock once, for as long as its work takes. Contracts see which its slots are, and its limits: what stands behind the lock changes between any two calls, so what they say of it is what was handed out.
+/// A node, as its workers share it. Each call takes its lock once, for as long as its work takes. Contracts see which its slots are, and its limits: what stands
+/// behind the lock changes between any two calls, so what they say of it is what was handed out.
 #[derive(Drop)]
 pub struct Node<B: LogName> {
     combiner: Mutex<Combiner<B>>,

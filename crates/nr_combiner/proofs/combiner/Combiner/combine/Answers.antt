@@ -61,6 +61,7 @@ returns-clause-combined g c =
         by = goes.1.1.1;
         read = goes.1.1.2;
         none = goes.1.1.3;
+        waiting = c.look-looked.ensures.waiting;
         not_yet = c.look-looked.ensures.not_yet;
         again = c.look-looked.ensures.again;
         never = c.look-looked.ensures.never_full;
