@@ -1,7 +1,8 @@
-//! What the figures of the first page come from. Without an argument it does each thing once and says how often: entries through the operation
-//! log, a message to a thousand connections, keys with a deadline. With one it measures: `log` how many entries a second go through the log,
-//! `messages` how long a PUBLISH takes beside as many replies of its size, `expiry` how long a SET takes before a million keys are gone, and after.
-//! `memory BYTES KEYS` stores so many keys with values of so many bytes, a million where no number is given, and waits for a line.
+//! What the figures of the pages come from. Without an argument it does each thing once and says how often: commands at nodes behind their locks, a message to
+//! a thousand connections, keys with a deadline. With one it measures: `nodes` how many commands a second nodes behind their locks execute, each worker on a
+//! thread of its own, beside one thread over the server of several nodes in one value; `messages` how long a PUBLISH takes beside as many replies of its size;
+//! `expiry` how long a SET takes before a million keys are gone, and after. `memory BYTES KEYS` stores so many keys with values of so many bytes, a million
+//! where no number is given, and waits for a line.
 #![tactic(auto)]
 
 mod bench;
@@ -9,8 +10,8 @@ mod expiry;
 mod held;
 mod jobs;
 mod keys;
-mod log;
 mod messages;
+mod nodes;
 mod queue;
 
 use nr_blob::Memory;
@@ -18,6 +19,7 @@ use std::env;
 use std::hash::RandomState;
 use std::io::{self, ErrorKind};
 use std::rt::Runtime;
+use std::sync::Wait;
 use std::thread::Threads;
 
 /// How many keys are stored where no argument says it and their size is read.
@@ -34,15 +36,18 @@ pub(crate) fn no_memory(_memory: Memory) -> io::Error {
 }
 
 // Each thing once.
-fn say_counts(rt: &HostRuntime, threads: &(impl Runtime + Threads + Sync)) -> io::Result<()> {
+fn say_counts(
+    rt: &HostRuntime,
+    threads: &(impl Runtime + Threads + Wait + Sync),
+) -> io::Result<()> {
     let alloc = rt.alloc();
-    log::say_entries(threads, alloc, false)?;
+    nodes::say_counts(threads, alloc, RandomState::new(rt)?)?;
     messages::say_count(rt, alloc, RandomState::new(rt)?)?;
     held::say_counts(rt, alloc, RandomState::new(rt)?)
 }
 
 // The runtime lends its threads to `main` alone, which hands them on.
-fn perform(rt: &HostRuntime, threads: &(impl Runtime + Threads + Sync)) -> io::Result<()> {
+fn perform(rt: &HostRuntime, threads: &(impl Runtime + Threads + Wait + Sync)) -> io::Result<()> {
     let alloc = rt.alloc();
     let mut words = env::args(rt)?.skip(1);
     let task = words.next();
@@ -50,7 +55,7 @@ fn perform(rt: &HostRuntime, threads: &(impl Runtime + Threads + Sync)) -> io::R
     let keys = words.next().and_then(|word| word.as_str().parse().ok());
     let hasher = RandomState::new(rt)?;
     match task {
-        Some(word) if word.as_str() == "log" => log::say_entries(threads, alloc, true),
+        Some(word) if word.as_str() == "nodes" => nodes::say_times(threads, alloc, hasher),
         Some(word) if word.as_str() == "messages" => messages::say_times(rt, alloc, hasher),
         Some(word) if word.as_str() == "expiry" => expiry::say_times(rt, alloc, hasher),
         Some(word) if word.as_str() == "memory" => held::hold(

@@ -1,18 +1,26 @@
 -- What is handed out, as it stands once the lock is free again.
-use Rattle.std.proofs.Common.{ℕ, Option, Some, None, length, drop, arith, ap, sym, subst, ◌∙◌}
+use Rattle.std.proofs.Common.{ℕ, inl, inr, List, [], ◌∷◌, Option, Some, None, length, drop, arith, ap, sym, subst, ◌∙◌, append-nil}
 use Rattle.std.specs.Prelude.{Result, Ok, Err, IfOk, IfSome}
-use Rattle.nr_blob.specs.declared.memory.Memory.{Memory}
+use Rattle.std.specs.List.{AllByRecursion}
+use Rattle.std.proofs.lemmas.Bool.{cases_lt}
 use Rattle.std.proofs.lemmas.List.{length-take}
+use Rattle.nr_blob.specs.declared.memory.Memory.{Memory}
 use Rattle.nr_model.specs.Bytes.{Bytes, IsBeginningOf}
 use Rattle.nr_model.specs.Items.{Connection}
 use Rattle.nr_model.specs.Sequential.{emitted_for}
+use Rattle.nr_entry.specs.Jobs.{connection_of}
 use Rattle.nr_log_end.specs.declared.standing.Standing.{Standing}
 use Rattle.nr_log_end.specs.Standings.{record_of}
+use Rattle.nr_oplog.specs.declared.view.LogView.{LogView}
 use Rattle.nr_replica.specs.declared.outbox.Piece.{Piece}
 use Rattle.nr_node.specs.Batches.{IsPiece}
-use Rattle.nr_node.specs.Level.{NodeState, queue_at}
+use Rattle.nr_node.specs.Collected.{AreHanded}
+use Rattle.nr_node.specs.Level.{NodeState, connection_at, queue_at}
 use Rattle.nr_node.specs.Sound.{IsSound}
-use Rattle.nr_combiner.specs.Pieces.{IsPieceOf}
+use Rattle.nr_node.specs.declared.answers.Round.{Round}
+use Rattle.nr_combiner.specs.Pieces.{IsPieceOf, HasAdded}
+use Rattle.nr_combiner.specs.Served.{CombinerState}
+use Rattle.nr_combiner.specs.Turned.{HasTurned}
 
 piece_of : (n : NodeState) (c : Connection) (most : ℕ) (piece : Piece) (s : Standing) → IsPiece n c most piece s → IsSound s → IsPieceOf c most piece s
 piece_of n c most piece s p sound = record {
@@ -30,3 +38,24 @@ pub pieces_of : {A : Type 0} (f : A → Piece) (g : A → Standing) (r : Result 
 pieces_of f g (Ok None) n c most piece sound = piece
 pieces_of f g (Ok (Some t)) n c most piece sound = piece_of n c most (f t) (g t) piece sound
 pieces_of f g (Err memory) n c most piece sound = piece
+
+-- pieces for one connection after the other
+all_of : (most : ℕ) (serials : List ℕ) (pieces : List (Piece × LogView)) (n m : NodeState) → AreHanded most serials pieces n m
+    → AllByRecursion (λ (one : Piece × LogView). IsPieceOf (connection_of one.0.conn) most one.0 one.1.standing) pieces
+all_of most [] [] n m h = tt
+all_of most [] (one ∷ pieces) n m h = absurd h
+all_of most (serial ∷ serials) [] n m h = absurd h
+all_of most (serial ∷ serials) (one ∷ pieces) n m (mid, first, rest) = (
+  subst (λ (c : Connection). IsPieceOf c most one.0 one.1.standing) (sym first.piece.connection)
+      (piece_of n (connection_at n.replica.node serial) most one.0 one.1.standing first.piece first.sound),
+  all_of most serials pieces mid m rest,
+)
+
+pub turned_added : (places worker most : ℕ) (old new : List (Piece × LogView)) (r : Result Round Memory) (c d : CombinerState) → HasTurned places worker most old new r c d
+    → HasAdded most old new
+turned_added places worker most old new r c d t = elim (cases_lt worker (length t.combined.seat.desks)) [
+  | inl near ↦
+      let there = t.has_collected.own near in
+      record { pieces = there.pieces; behind = there.behind; all = all_of most there.serials there.pieces t.combined.node d.node there.handed }
+  | inr past ↦ record { pieces = []; behind = (t.has_collected.stranger past).1 ∙ sym (append-nil old); all = tt }
+]

@@ -1,5 +1,5 @@
 -- Connections are opened and closed, and bytes are handed out: what was kept holds on.
-use Rattle.std.proofs.Common.{◌≡◌, ℕ, ◌<◌, inl, inr, ◌⊎◌, List, length, replicate, Option, Some, None, refl, ap, sym, ◌∙◌, subst, arith, le_refl, get_or}
+use Rattle.std.proofs.Common.{◌≡◌, ℕ, ◌<◌, inl, inr, ◌⊎◌, List, [], ◌∷◌, length, replicate, Option, Some, None, refl, ap, sym, ◌∙◌, subst, arith, le_refl, get_or}
 use Rattle.std.specs.Prelude.{Result, Ok, Err, OnOk, OnErr, IfOk, IfSome, IfNone}
 use Rattle.std.specs.FinMap as finmap
 use Rattle.std.proofs.lemmas.Bool.{cases_lt}
@@ -17,11 +17,14 @@ use Rattle.nr_accounts.specs.declared.account.Account.{Account}
 use Rattle.nr_accounts.specs.Account.{fresh_account}
 use Rattle.nr_accounts.specs.Book.{Book}
 use Rattle.nr_accounts.proofs.Strangers.{put_elsewhere}
+use Rattle.nr_oplog.specs.declared.view.LogView.{LogView}
+use Rattle.nr_replica.specs.declared.outbox.Piece.{Piece}
 use Rattle.nr_replica.specs.Replicas.{ReplicaState}
 use Rattle.nr_slots.specs.declared.view.Desk.{Desk}
 use Rattle.nr_slots.specs.Rule.{no_desk}
 use Rattle.nr_slots.specs.Seats.{CombinerView, desk_of}
 use Rattle.nr_node.specs.Batches.{IsOpened}
+use Rattle.nr_node.specs.Collected.{AreHanded}
 use Rattle.nr_node.specs.Level.{NodeState, connection_at}
 use Rattle.nr_node.specs.Steps.{opened_node, closed_node, HasHandedOut}
 use Rattle.nr_node.specs.declared.answers.OpenError.{OpenError}
@@ -80,16 +83,31 @@ closed_served n m seat numbers conn closed other s = elim (is_opened n (connecti
   | inr apart ↦ same_on n m seat numbers (other apart) s
 ]
 
--- bytes are handed out, or none
+-- bytes are handed out
+handed_on : (n m : NodeState) (seat : CombinerView) (numbers : List ℕ) (serial most : ℕ) → HasHandedOut serial most n m → IsServed n seat numbers → GoesOn n m seat numbers
+handed_on n m seat numbers serial most h s = (
+  served_same n m seat numbers h.book (ap (λ (r : ReplicaState). r.owed) h.replica) (ap (λ (x : Standing). x.history) h.standing) s,
+  ap (λ (b : Book). b.node) (sym h.book),
+)
+
+-- so they are, or none
 pub handed_served : {A : Type 0} (r : Result (Option A) Memory) (n m : NodeState) (seat : CombinerView) (numbers : List ℕ) (serial most : ℕ) (P : Type 0)
     → IfOk r (λ taken. IfNone taken (P × (m ≡ n))) → IfOk r (λ taken. IfSome taken (λ _. HasHandedOut serial most n m)) → OnErr r (m ≡ n)
     → IsServed n seat numbers → GoesOn n m seat numbers
 handed_served (Ok None) n m seat numbers serial most P none some failed s = same_on n m seat numbers none.1 s
-handed_served (Ok (Some t)) n m seat numbers serial most P none some failed s = (
-  served_same n m seat numbers some.book (ap (λ (r : ReplicaState). r.owed) some.replica) (ap (λ (x : Standing). x.history) some.standing) s,
-  ap (λ (b : Book). b.node) (sym some.book),
-)
+handed_served (Ok (Some t)) n m seat numbers serial most P none some failed s = handed_on n m seat numbers serial most some s
 handed_served (Err memory) n m seat numbers serial most P none some failed s = same_on n m seat numbers failed s
+
+-- so they are for one connection after the other
+pub all_handed_on : (most : ℕ) (serials : List ℕ) (pieces : List (Piece × LogView)) (n m : NodeState) (seat : CombinerView) (numbers : List ℕ)
+    → AreHanded most serials pieces n m → IsServed n seat numbers → GoesOn n m seat numbers
+all_handed_on most [] [] n m seat numbers same s = same_on n m seat numbers same s
+all_handed_on most [] (one ∷ pieces) n m seat numbers h s = absurd h
+all_handed_on most (serial ∷ serials) [] n m seat numbers h s = absurd h
+all_handed_on most (serial ∷ serials) (one ∷ pieces) n m seat numbers (mid, first, rest) s =
+    let there = handed_on n mid seat numbers serial most first.handed s in
+    let on = all_handed_on most serials pieces mid m seat numbers rest there.0 in
+    (on.0, there.1 ∙ on.1)
 
 -- nothing was lifted yet, and nothing is owed
 pub fresh_served : (n : NodeState) (seat : CombinerView) (numbers : List ℕ) (workers : ℕ) → n.replica.owed ≡ replicate workers None → seat.desks ≡ replicate workers no_desk

@@ -23,7 +23,7 @@ use Rattle.nr_node.specs.declared.answers.Round.TheVariants as rounds
 use Rattle.nr_node.proofs.Lists.{record-append}
 use Rattle.nr_node.proofs.Owed.{as_many}
 use Rattle.nr_combiner.specs.Served.{owed_at, IsServed}
-use Rattle.nr_combiner.specs.Steps.{HasPut, HasTried, by_try, outcome_of}
+use Rattle.nr_combiner.specs.Steps.{HasPut, ComesTo, by_try, outcome_of}
 use Rattle.nr_combiner.proofs.Grows.{IsStill, still_itself, Grows, served_still}
 
 -- what is owed at one worker
@@ -63,7 +63,7 @@ waiting_served : (n m : NodeState) (seat : CombinerView) (numbers : List ℕ) �
 waiting_served n m seat numbers h s =
     served_same n m seat numbers h.book (ap (λ (r : ReplicaState). r.owed) h.left.replica) (ap (λ (x : Standing). x.history) h.met.standing) s
 
-pub tried_served : (places : ℕ) (r : Result Round Memory) (n m : NodeState) (seat : CombinerView) (numbers : List ℕ) → HasTried places r n m
+pub tried_served : (places : ℕ) (r : Result Round Memory) (n m : NodeState) (seat : CombinerView) (numbers : List ℕ) → ComesTo places r n m
     → IsServed n seat numbers → IsServed m seat numbers
 tried_served places (Ok rounds.Done) n m seat numbers (inl (at, entry, h)) s =
     served_same n m seat numbers h.book (ap (λ (r : ReplicaState). r.owed) h.left.replica) (ap (λ (x : Standing). x.history) h.reserved.standing) s
@@ -78,7 +78,7 @@ tried_served places (Ok rounds.Down) n m seat numbers (inr (up, h)) s =
 tried_served places (Err memory) n m seat numbers (inl same) s = still_served n m seat numbers same s
 tried_served places (Err memory) n m seat numbers (inr h) s = waiting_served n m seat numbers h s
 
-pub tried_book : (places : ℕ) (r : Result Round Memory) (n m : NodeState) → HasTried places r n m → m.book ≡ n.book
+pub tried_book : (places : ℕ) (r : Result Round Memory) (n m : NodeState) → ComesTo places r n m → m.book ≡ n.book
 tried_book places (Ok rounds.Done) n m (inl (at, entry, h)) = h.book
 tried_book places (Ok rounds.Done) n m (inr h) = ap (λ (x : NodeState). x.book) h.same
 tried_book places (Ok rounds.Full) n m h = h.0.book
@@ -105,7 +105,7 @@ pub tried_by : (places : ℕ) (r : Result Round Memory) (n m : NodeState) → (r
     → (r ≡ Ok rounds.Full → IsFull n.seat.standing n.seat.looks places m.seat.standing m.seat.looks)
     → (r ≡ Ok rounds.Again → IsLost n.seat.standing n.seat.looks m.seat.standing m.seat.looks) → (r ≡ Ok rounds.NotYet → ⊥)
     → (r ≡ Ok rounds.Down → ((n.replica.down ≡ true) × (m ≡ n)) ⊎ ((n.replica.down ≡ false) × HasFallen n m))
-    → OnErr r ((m ≡ n) ⊎ GoesOnWaiting n m) → HasTried places r n m
+    → OnErr r ((m ≡ n) ⊎ GoesOnWaiting n m) → ComesTo places r n m
 tried_by places (Ok rounds.Done) n m done full again met_full met_lost never down failed = done refl
 tried_by places (Ok rounds.Full) n m done full again met_full met_lost never down failed = (full refl, met_full refl)
 tried_by places (Ok rounds.Again) n m done full again met_full met_lost never down failed = (again refl, met_lost refl)

@@ -3,3 +3,4 @@ pub mod Steps
 pub mod Pieces
 pub mod Shared
 pub mod Workers
+pub mod Turned

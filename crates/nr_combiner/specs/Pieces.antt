@@ -1,11 +1,13 @@
 -- What a node hands out, as it stands once the lock is free again.
-use Rattle.std.specs.Prelude.{◌≡◌, ℕ, ◌<◌, ◌≤◌, length, drop}
+use Rattle.std.specs.Prelude.{◌≡◌, ℕ, ◌<◌, ◌≤◌, List, ◌++◌, length, drop}
+use Rattle.std.specs.List.{AllByRecursion}
 use Rattle.nr_model.specs.Bytes.{IsBeginningOf}
 use Rattle.nr_model.specs.Items.{Connection}
 use Rattle.nr_model.specs.Sequential.{emitted_for}
 use Rattle.nr_entry.specs.Jobs.{connection_of}
 use Rattle.nr_log_end.specs.declared.standing.Standing.{Standing}
 use Rattle.nr_log_end.specs.Standings.{record_of}
+use Rattle.nr_oplog.specs.declared.view.LogView.{LogView}
 use Rattle.nr_replica.specs.declared.outbox.Piece.{Piece}
 use Rattle.nr_node.specs.Sound.{IsSound}
 
@@ -17,3 +19,9 @@ pub record IsPieceOf (c : Connection) (most : ℕ) (piece : Piece) (s : Standing
   pub few : length piece.bytes.items ≤ most
   pub emitted : IsBeginningOf piece.bytes.items (drop piece.from (emitted_for (connection_of piece.conn) (record_of s.history)))
   pub sound : IsSound s
+
+-- what was taken before stays in front, and each piece behind it is so, with its token
+pub record HasAdded (most : ℕ) (old new : List (Piece × LogView)) : Type 0 where
+  pub pieces : List (Piece × LogView)
+  pub behind : new ≡ old ++ pieces
+  pub all : AllByRecursion (λ (one : Piece × LogView). IsPieceOf (connection_of one.0.conn) most one.0 one.1.standing) pieces

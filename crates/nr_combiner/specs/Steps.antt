@@ -1,5 +1,5 @@
 -- What a combiner's calls come to.
-use Rattle.std.specs.Prelude.{◌≡◌, ◌≢◌, ◌↔◌, ◌⊎◌, ◌==◌, ◌-◌, ◌<◌, ℕ, zero, suc, true, false, if◌then◌else◌, List, [], Option, Some, None, Result, Ok, Err}
+use Rattle.std.specs.Prelude.{◌≡◌, ◌≢◌, ◌↔◌, ◌⊎◌, ◌==◌, ◌-◌, ◌<◌, ℕ, zero, suc, true, false, if◌then◌else◌, List, [], ◌++◌, Option, Some, None, Result, Ok, Err}
 use Rattle.nr_blob.specs.declared.memory.Memory.{Memory}
 use Rattle.nr_entry.specs.declared.batch.Batch.{Batch}
 use Rattle.nr_entry.specs.declared.batch.Answer.{Answer}
@@ -7,6 +7,7 @@ use Rattle.nr_entry.specs.declared.batch.Outcome.{Outcome}
 use Rattle.nr_entry.specs.declared.batch.Outcome.TheVariants as outcomes
 use Rattle.nr_entry.specs.declared.entry.Entry.{Entry}
 use Rattle.nr_entry.specs.declared.job.Job.{Job}
+use Rattle.nr_log_end.specs.declared.standing.Look.{Look}
 use Rattle.nr_log_end.specs.Standings.{passed_of}
 use Rattle.nr_log_end.specs.Tries.{IsFull, IsLost}
 use Rattle.nr_slots.specs.Names.{Names, IsForLast}
@@ -100,13 +101,18 @@ HasPut n m = ((at : ℕ) × (entry : Entry) × HasReserved at entry n m) ⊎ Has
 
 -- What a try to reserve comes to: the updates that were due stand in the log, or there were none; or they go on waiting, since the log was full as the try met
 -- it, or another node's entry was there first; or the replica is down, or falls. Where memory runs out no job is lost.
-abbrev pub HasTried : ℕ → Result Round Memory → NodeState → NodeState → Type 0
-HasTried places (Ok rounds.Done) n m = HasPut n m
-HasTried places (Ok rounds.Full) n m = GoesOnWaiting n m × IsFull n.seat.standing n.seat.looks places m.seat.standing m.seat.looks
-HasTried places (Ok rounds.Again) n m = GoesOnWaiting n m × IsLost n.seat.standing n.seat.looks m.seat.standing m.seat.looks
-HasTried places (Ok rounds.NotYet) n m = ⊥
-HasTried places (Ok rounds.Down) n m = ((n.replica.down ≡ true) × (m ≡ n)) ⊎ ((n.replica.down ≡ false) × HasFallen n m)
-HasTried places (Err memory) n m = (m ≡ n) ⊎ GoesOnWaiting n m
+abbrev pub ComesTo : ℕ → Result Round Memory → NodeState → NodeState → Type 0
+ComesTo places (Ok rounds.Done) n m = HasPut n m
+ComesTo places (Ok rounds.Full) n m = GoesOnWaiting n m × IsFull n.seat.standing n.seat.looks places m.seat.standing m.seat.looks
+ComesTo places (Ok rounds.Again) n m = GoesOnWaiting n m × IsLost n.seat.standing n.seat.looks m.seat.standing m.seat.looks
+ComesTo places (Ok rounds.NotYet) n m = ⊥
+ComesTo places (Ok rounds.Down) n m = ((n.replica.down ≡ true) × (m ≡ n)) ⊎ ((n.replica.down ≡ false) × HasFallen n m)
+ComesTo places (Err memory) n m = (m ≡ n) ⊎ GoesOnWaiting n m
+
+-- so it came out, and the loads that the node's end had made before stay in front of those that it made
+pub record HasTried (places : ℕ) (r : Result Round Memory) (n m : NodeState) : Type 0 where
+  pub comes : ComesTo places r n m
+  pub looks : (more : List Look) × (m.seat.looks ≡ n.seat.looks ++ more)
 
 -- What a look comes to: entries were passed up to the tail that it loaded, or, where one of them isn't filled yet, up to there; and reads were run only where it is
 -- done, and then all that led, while else all that waits goes on waiting.

@@ -9,6 +9,7 @@ ghost use Rattle.nr_node.specs.Sound.{IsSound};
 ghost use Rattle.nr_node.specs.Steps.{taken_node, HasHandedOut};
 ghost use Rattle.nr_combiner.specs.Served.{owed_at};
 ghost use Rattle.nr_combiner.specs.Steps.{opened_combiner, closed_combiner, refusal_at, IsRefusedFor, HasLifted, HasLiftedAll, HasAnswered, HasAnsweredAll, HasTried, HasCombined, outcome_of};
+ghost use Rattle.nr_combiner.specs.Turned.{HasCollectedFor, HasTurned, both_of};
 
 use crate::answering::{OpenError, hand_back, open_error};
 use nr_blob::Memory;
@@ -126,6 +127,38 @@ impl<B: LogName> Combiner<B> {
         ensures unchanged { OnErr result (self.new ≡ self.old) }
     {
         self.core.take_piece(conn, most)
+    }
+
+    /// [`Core::collect`], of a worker that the node has. Any other gets nothing.
+    pub fn collect(
+        &mut self,
+        worker: usize,
+        most: usize,
+        taken: &mut Vec<(Piece, Token<B>)>,
+    ) -> Result<(), Memory>
+        requires { 0 < most }
+        ensures { HasCollectedFor worker most taken.old.items taken.new.items result self.old self.new }
+    {
+        if worker >= self.numbers.len() {
+            return Ok(());
+        }
+        self.core.collect(worker, most, taken)
+    }
+
+    /// A turn for a worker: [`Combiner::combine`], and then, whatever came of it, [`Combiner::collect`]. It answers what the first did, or where that is no error
+    /// the second's.
+    pub fn turn(
+        &mut self,
+        worker: usize,
+        most: usize,
+        taken: &mut Vec<(Piece, Token<B>)>,
+    ) -> Result<Round, Memory>
+        requires { 0 < most }
+        ensures { HasTurned B.places worker most taken.old.items taken.new.items result self.old self.new }
+    {
+        let combined = self.combine();
+        let collected = self.collect(worker, most, taken);
+        both(combined, collected)
     }
 
     /// A turn of the combiner: it lifts the batches that its workers offer, one each, and takes in their jobs; puts the updates that lead into the log, in one
@@ -253,4 +286,13 @@ fn outcome(tried: Result<Round, Memory>, looked: Result<Round, Memory>) -> Resul
         Round::Full => Ok(Round::Full),
         Round::Again | Round::NotYet | Round::Down => Ok(Round::Again),
     }
+}
+
+// What a turn for a worker came to: what the combiner's did, or where that is no error want of memory for what was collected.
+fn both(combined: Result<Round, Memory>, collected: Result<(), Memory>) -> Result<Round, Memory>
+    ensures { result ≡ both_of combined collected }
+{
+    let round = combined?;
+    collected?;
+    Ok(round)
 }

@@ -2,7 +2,7 @@
 ghost use Rattle.std.specs.Prelude.{◌≡◌, ◌<◌, IfOk, IfSome};
 ghost use Rattle.std.specs.Arc.{arc_value};
 ghost use Rattle.nr_entry.specs.Jobs.{connection_of};
-ghost use Rattle.nr_combiner.specs.Pieces.{IsPieceOf};
+ghost use Rattle.nr_combiner.specs.Pieces.{IsPieceOf, HasAdded};
 
 use crate::answering::OpenError;
 use crate::combiner::Combiner;
@@ -101,5 +101,19 @@ impl<B: LogName> Node<B> {
         ensures { IfOk result (λ taken. IfSome taken (λ t. IsPieceOf (connection_of conn) most t.0 t.1.standing)) }
     {
         self.combiner.lock(rt).take_piece(conn, most)
+    }
+
+    /// [`Combiner::turn`] behind the lock, which it takes once.
+    pub fn turn<R: Wait>(
+        &self,
+        rt: &R,
+        worker: usize,
+        most: usize,
+        taken: &mut Vec<(Piece, Token<B>)>,
+    ) -> Result<Round, Memory>
+        requires { 0 < most }
+        ensures { HasAdded most taken.old.items taken.new.items }
+    {
+        self.combiner.lock(rt).turn(worker, most, taken)
     }
 }

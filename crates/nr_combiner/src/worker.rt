@@ -2,12 +2,16 @@
 ghost use Rattle.std.specs.Prelude.{◌≡◌, ◌↔◌, ◌+◌, ◌^◌, ◌<◌, length, IsOk, IfErr, IfSome, IfNone, OnOk, OnErr};
 ghost use Rattle.std.specs.Arc.{arc_value};
 ghost use Rattle.nr_slots.specs.Seats.{new_worker};
+ghost use Rattle.nr_combiner.specs.Pieces.{HasAdded};
 ghost use Rattle.nr_combiner.specs.Workers.{fresh_worker, shared_of, HasPosted, HasCollected};
 
 use crate::answering::OpenError;
 use crate::node::Node;
+use nr_blob::Memory;
 use nr_entry::{Batch, ConnId, Job, Outcome};
-use nr_oplog::LogName;
+use nr_node::Round;
+use nr_oplog::{LogName, Token};
+use nr_replica::Piece;
 use nr_slots::WorkerSeat;
 use std::alloc::Global;
 use std::marker::Model;
@@ -69,6 +73,19 @@ impl<B: LogName> Worker<B> {
     /// Opens a connection that this worker serves.
     pub fn open<R: Wait>(&self, rt: &R) -> Result<ConnId, OpenError> {
         self.shared.open(rt, self.worker as u8)
+    }
+
+    /// A turn at its node, which takes the lock once: [`Combiner::turn`](crate::Combiner::turn) for this worker.
+    pub fn turn<R: Wait>(
+        &self,
+        rt: &R,
+        most: usize,
+        taken: &mut Vec<(Piece, Token<B>)>,
+    ) -> Result<Round, Memory>
+        requires { 0 < most }
+        ensures { HasAdded most taken.old.items taken.new.items }
+    {
+        self.shared.turn(rt, self.worker, most, taken)
     }
 
     /// Hands these jobs in as its next batch: one load and one store. They come back while the answer to the last batch wasn't collected, and once a u64

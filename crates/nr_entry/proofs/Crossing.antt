@@ -1,4 +1,4 @@
--- By which lemmas jobs, entries, shares, batches and answers go to another thread. A reply holds replies, so the toolchain keeps no such
+-- By which lemmas jobs, entries, shares, batches, answers and jobs that wait go to another thread. A reply holds replies, so the toolchain keeps no such
 -- lemma of what holds one, and its own search ends too early: whoever sends something that holds a job searches this set, deeper.
 use denote.Param.Send.{IsSend, IsSync, sendable}
 use Rattle.std.proofs.Crossing.{crosses}
@@ -14,6 +14,8 @@ use Rattle.nr_entry.specs.contracts.job.Job as Job
 use Rattle.nr_entry.specs.contracts.job.JobKind as Kind
 use Rattle.nr_entry.specs.contracts.job.Read as Read
 use Rattle.nr_entry.specs.contracts.job.Update as Update
+use Rattle.nr_entry.specs.contracts.run.Run as Run
+use Rattle.nr_entry.specs.contracts.waiting.Waiting as Waiting
 use Rattle.nr_model.specs.contracts.command.Change as Change
 
 pub ruleset parts = (blob.the_send, blob.the_sync, reply.send-Reply, reply.sync-Reply, look.the_send, look.the_sync, change.the_send, change.the_sync, operation.the_send, operation.the_sync, conn.the_send, conn.the_sync, transaction.the_send, transaction.the_sync, refusal.the_send, refusal.the_sync, sendable, crosses)
@@ -55,3 +57,9 @@ pub job_shared : IsSync (Job.the_field).row
 job_shared = search jobs depth 60 fits 100000
 
 pub ruleset sent = (parts, job_sent, job_shared)
+
+run_sent : IsSend (Run.the_field).row
+run_sent = search jobs depth 60 fits 100000
+
+pub waiting_sent : IsSend Waiting.the_row
+waiting_sent = search (sent, run_sent) depth 60 fits 100000

@@ -18,3 +18,4 @@ pub mod Redated
 pub mod Touching
 pub mod Kept
 pub mod Leaving
+pub mod Crossing

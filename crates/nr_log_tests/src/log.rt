@@ -1,6 +1,4 @@
-use nr_exchange::{Move, Outcome, exchange, exchange_in_pairs, play};
-use std::alloc::Global;
-use std::process::Abort;
+use crate::moves::{Move, Outcome, play};
 use std::test::Fail;
 
 // Two nodes go round a circle of four places in turn.
@@ -50,52 +48,5 @@ fn with_65536_places(rt: HostRuntime) -> Result<(), Fail> {
     let outcomes = play(rt.alloc(), 2, 65_536, &moves).expect(&rt, "memory");
     assert!(&rt; outcomes.get(0) == Some(&Outcome::At(0)));
     assert!(&rt; outcomes.get(1) == Some(&Outcome::Took(50)));
-    Ok(())
-}
-
-// Whether each node took the same entries in the same order.
-fn agree(lists: &[Vec<u64>]) -> bool {
-    lists.iter().all(|list| Some(list) == lists.first())
-}
-
-// The numbers of the entries of four nodes, sorted.
-fn all_numbers(rt: &impl Abort, alloc: Global, each: u64) -> Vec<u64> {
-    let mut numbers = Vec::new(alloc);
-    for node in 0..4u64 {
-        for number in 0..each {
-            numbers.push((node << 32) | number).expect(rt, "memory");
-        }
-    }
-    numbers
-}
-
-// Each of four nodes that appended so many entries took all of them, each once, in one order.
-fn four_nodes_agree(rt: &impl Abort, alloc: Global, mut lists: Vec<Vec<u64>>, each: u32) {
-    assert!(rt; lists.len() == 4);
-    assert!(rt; agree(&lists));
-    let mut numbers = lists.pop().expect(rt, "node 3");
-    numbers.sort_unstable();
-    assert!(rt; numbers == all_numbers(rt, alloc, u64::from(each)));
-}
-
-#[test]
-fn through_64_places(rt: HostRuntime) -> Result<(), Fail> {
-    let lists = exchange(&rt, rt.alloc(), 4, 64, 25_000).expect(&rt, "memory");
-    four_nodes_agree(&rt, rt.alloc(), lists, 25_000);
-    Ok(())
-}
-
-#[test]
-fn through_2_places(rt: HostRuntime) -> Result<(), Fail> {
-    let lists = exchange_in_pairs(&rt, rt.alloc(), 4, 2, 25_000).expect(&rt, "memory");
-    four_nodes_agree(&rt, rt.alloc(), lists, 25_000);
-    Ok(())
-}
-
-// With two places each entry waits for each thread to be scheduled, so with a thread for each node there are fewer.
-#[test]
-fn through_2_places_on_four_threads(rt: HostRuntime) -> Result<(), Fail> {
-    let lists = exchange(&rt, rt.alloc(), 4, 2, 2_500).expect(&rt, "memory");
-    four_nodes_agree(&rt, rt.alloc(), lists, 2_500);
     Ok(())
 }

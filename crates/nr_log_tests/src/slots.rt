@@ -1,7 +1,6 @@
 ghost use Rattle.std.specs.Prelude.{◌≡◌, ◌<◌, length};
 
 use nr_entry::{Answer, Batch, Outcome};
-use nr_exchange::hand_over;
 use nr_slots::{CombinerSeat, OpenError, Slots, WorkerSeat};
 use std::alloc::Global;
 use std::process::Abort;
@@ -148,13 +147,5 @@ fn opens_for_1_to_16(rt: HostRuntime) -> Result<(), Fail> {
     for workers in [1, 16] {
         assert!(rt; Slots::open(rt.alloc(), workers).is_ok());
     }
-    Ok(())
-}
-
-// A worker and a combiner on two threads hand batches over and back, each answer naming its batch.
-#[test]
-fn over_and_back(rt: HostRuntime) -> Result<(), Fail> {
-    let counts = hand_over(&rt, rt.alloc(), 10_000).expect(&rt, "memory");
-    assert!(&rt; counts == (10_000, 10_000));
     Ok(())
 }

@@ -3,3 +3,4 @@ pub mod DatabasesKept
 pub mod Entries
 pub mod Transactions
 pub mod Watched
+pub mod Crossing

@@ -10,3 +10,6 @@ mod Fresh
 mod Filled
 mod Taking
 mod Caught
+mod Ready
+mod Collected
+pub mod Crossing

@@ -7,3 +7,4 @@ pub mod Batches
 pub mod Steps
 pub mod Sound
 pub mod Kept
+pub mod Collected

@@ -6,6 +6,7 @@ pub use within::{Core, Shape};
 
 mod advancing;
 mod answers;
+mod collecting;
 mod next;
 mod reading;
 mod reserving;

@@ -13,7 +13,7 @@ ghost use Rattle.nr_node.specs.Reserved.{AreTaken, AreNone, AreDue, IsReserved, 
 use crate::next::Next;
 use nr_blob::Memory;
 use nr_entry::{Entry, Shares};
-use nr_log_end::{LogEnd, Reserve};
+use nr_log_end::{LogEnd, Look, Reserve};
 use nr_oplog::{End, LogName};
 use nr_replica::Replica;
 use std::alloc::Global;
@@ -82,6 +82,7 @@ pub(crate) fn put_in<B: LogName>(end: &mut End<B>, nodes: usize, shares: Shares)
     ensures met_full { IfFull result (λ _. IsFull end.old.standing end.old.looks B.places end.new.standing end.new.looks) }
     ensures met_lost { IfLost result (λ _. IsLost end.old.standing end.old.looks end.new.standing end.new.looks) }
     ensures filled { IsAllFilled end.new.standing }
+    ensures looks { (more : List Look) × (end.new.looks ≡ end.old.looks ++ more) }
 {
     match end.reserve(shares) {
         Reserve::Taken(at) => {
@@ -96,7 +97,8 @@ pub(crate) fn put_in<B: LogName>(end: &mut End<B>, nodes: usize, shares: Shares)
 // Puts each node's share into its cell.
 fn fill_all<B: LogName>(end: &mut End<B>, nodes: usize, at: u64)
     requires { IsFresh at nodes end.old.standing }
-    ensures { IsFilled end.old.standing end.new.standing }
+    ensures filled { IsFilled end.old.standing end.new.standing }
+    ensures looks { end.new.looks ≡ end.old.looks }
 {
     for node in 0..nodes {
         end.fill(at, node);

@@ -1,5 +1,5 @@
 // What all workers of a node share.
-ghost use Rattle.std.specs.Prelude.{◌≡◌, ◌≢◌, ◌↔◌, ◌⊎◌, ◌+◌, ◌<◌, ◌≤◌, [], ℕ, List, length, true, false, Ok, Err, Some, None, IfOk, IfErr, IfSome, IfNone, OnOk, OnErr, slice_index_or};
+ghost use Rattle.std.specs.Prelude.{◌≡◌, ◌≢◌, ◌↔◌, ◌⊎◌, ◌+◌, ◌++◌, ◌<◌, ◌≤◌, [], ℕ, List, length, true, false, Ok, Err, Some, None, IfOk, IfErr, IfSome, IfNone, OnOk, OnErr, slice_index_or};
 ghost use Rattle.std.specs.FinMap as finmap;
 ghost use Rattle.nr_entry.specs.Jobs.{connection_of};
 ghost use Rattle.nr_entry.specs.declared.entry.Entry.{Entry};
@@ -7,6 +7,7 @@ ghost use Rattle.nr_entry.specs.declared.job.Job.{Job};
 ghost use Rattle.nr_log_end.specs.Standings.{passed_of};
 ghost use Rattle.nr_log_end.specs.Tries.{IsFull, IsLost};
 ghost use Rattle.nr_oplog.specs.Rule.{opening_view};
+ghost use Rattle.nr_replica.specs.Members.{next_ready};
 ghost use Rattle.nr_node.specs.Level.{connection_at, queue_at, is_closed_at};
 ghost use Rattle.nr_node.specs.Batches.{AreSame, refusal, IsOpened, IsPiece};
 ghost use Rattle.nr_node.specs.Owing.{answer_of, answered_node, HasAllExecuted};
@@ -21,7 +22,7 @@ use crate::reserving::{put_in, take_shares};
 use nr_accounts::Accounts;
 use nr_blob::Memory;
 use nr_entry::{Batch, ConnId, Outcome};
-use nr_log_end::{LogEnd, Reserve};
+use nr_log_end::{LogEnd, Look, Reserve};
 use nr_oplog::{End, LogName, Token};
 use nr_replica::{Piece, Replica};
 use std::alloc::Global;
@@ -203,6 +204,7 @@ impl<B: LogName> Core<B> {
         ensures is_down { (result ≡ Ok Round.Down) ↔ (self.new.replica.down ≡ true) }
         ensures down { result ≡ Ok Round.Down → ((self.old.replica.down ≡ true) × (self.new ≡ self.old)) ⊎ ((self.old.replica.down ≡ false) × HasFallen self.old self.new) }
         ensures memory { OnErr result ((self.new ≡ self.old) ⊎ GoesOnWaiting self.old self.new) }
+        ensures looks { (more : List Look) × (self.new.seat.looks ≡ self.old.seat.looks ++ more) }
     {
         if self.replica.is_down() {
             return Ok(Round::Down);
@@ -288,6 +290,27 @@ impl<B: LogName> Core<B> {
         Ok(Some((piece, token)))
     }
 
+    /// How many connections were ever opened.
+    pub(crate) fn connections(&self) -> u64
+        ensures { result ≡ length self.now.replica.members }
+    {
+        self.replica.connections() as u64
+    }
+
+    /// The first connection that a worker serves and for which bytes wait, by serial from `from` on. Its cost is that of [`Replica::next_ready`].
+    pub(crate) fn next_ready(&self, worker: usize, from: u64) -> Option<ConnId>
+        requires { worker < length self.now.replica.owed }
+        ensures node { IfSome result (λ conn. conn.node ≡ self.now.replica.node) }
+        ensures some { IfSome result (λ conn. next_ready worker from self.now.replica.members ≡ Some conn.serial) }
+        ensures none { IfNone result (next_ready worker from self.now.replica.members ≡ None) }
+    {
+        let serial = self.replica.next_ready(worker, from as usize)?;
+        Some(ConnId {
+            node: self.replica.node(),
+            serial: serial as u64,
+        })
+    }
+
     /// A token that keeps how the node stands now.
     pub fn token(&mut self) -> Token<B>
         ensures kept { result.standing ≡ self.old.seat.standing }
@@ -302,7 +325,7 @@ impl<B: LogName> Core<B> {
         ensures opened { result ≡ true → IsOpened self.now (connection_of conn) }
         ensures other { result ≡ false → IsOpened self.now (connection_of conn) → ⊥ }
     {
-        conn.node == self.replica.node() && conn.serial < self.replica.connections() as u64
+        conn.node == self.replica.node() && conn.serial < self.connections()
     }
 
     // What became of the batch that was taken last from a worker.

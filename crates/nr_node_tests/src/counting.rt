@@ -16,22 +16,21 @@ use std::test::Fail;
 use std::thread;
 use std::thread::Threads;
 
-/// How many INCRs a batch has.
-const BATCH: usize = 250;
-
-/// How many batches each worker hands in.
-const BATCHES: usize = 100;
-
 /// How often a worker looks in vain before it gives up.
 const MOST_VAIN: u64 = 20_000_000;
 
-// How many numbers each worker is told.
-const EACH: usize = BATCH * BATCHES;
+/// How many workers a node has, how many INCRs a batch, and how many batches each worker hands in.
+#[derive(Clone, Copy)]
+struct Counting {
+    workers: usize,
+    batch: usize,
+    batches: usize,
+}
 
 // The INCRs of a batch.
-fn requests(rt: &impl Abort, alloc: Global) -> Vec<u8> {
+fn requests(rt: &impl Abort, alloc: Global, batch: usize) -> Vec<u8> {
     let mut sent = Vec::new(alloc);
-    for _ in 0..BATCH {
+    for _ in 0..batch {
         assert!(rt; sent.extend_from_slice(b"INCR n\r\n").is_ok());
     }
     sent
@@ -52,35 +51,39 @@ fn waits_for_answer<B: LogName, R: Wait + Abort>(rt: &R, worker: &mut Worker<B>)
     panic!(rt; "no answer came");
 }
 
-// The numbers that integer replies tell, behind the others.
+// The numbers that replies tell, behind the others: integers, and the lengths and digits of bulks.
 fn read_numbers(rt: &impl Abort, replies: &[u8], numbers: &mut Vec<u64>) {
     let mut number = 0u64;
     for byte in replies {
         match *byte {
-            b':' => number = 0,
             digit @ b'0'..=b'9' => {
                 number = number
                     .saturating_mul(10)
                     .saturating_add(u64::from(digit - b'0'));
             }
-            b'\r' => assert!(rt; numbers.push(number).is_ok()),
-            other => assert!(rt; other == b'\n'),
+            b'\r' => {
+                assert!(rt; numbers.push(number).is_ok());
+                number = 0;
+            }
+            other => assert!(rt; b":$\n".contains(&other)),
         }
     }
 }
 
-// Hands in batches of INCRs, each once the last one was answered, and goes on passing the others' entries until all workers have ended. What it was told.
+// Hands in batches of INCRs, each once the last one was answered, goes on passing the others' entries until all workers have ended, and then asks how far all
+// counted. What it was told.
 fn counts<B: LogName, R: Wait + Abort>(
     rt: &R,
     alloc: Global,
     mut worker: Worker<B>,
+    counting: Counting,
     ended: &AtomicUsize,
     workers: usize,
 ) -> Vec<u64> {
-    let sent = requests(rt, alloc);
+    let sent = requests(rt, alloc, counting.batch);
     let mut numbers = Vec::new(alloc);
     let mut client = Client::open(rt, alloc, &worker);
-    for _ in 0..BATCHES {
+    for _ in 0..counting.batches {
         let jobs = client.jobs(rt, alloc, &sent);
         assert!(rt; worker.post(jobs).is_ok());
         waits_for_answer(rt, &mut worker);
@@ -90,6 +93,9 @@ fn counts<B: LogName, R: Wait + Abort>(
     }
     ended.fetch_add(1, Ordering::SeqCst);
     goes_on_passing(rt, &worker, ended, workers);
+    client.sends(rt, alloc, &mut worker, b"GET n\r\n");
+    assert!(rt; client.takes(rt, &worker, MANY));
+    read_numbers(rt, client.tap.pending(), &mut numbers);
     numbers
 }
 
@@ -131,13 +137,14 @@ fn count_up<B: LogName + Send + Sync, R: Threads + Wait + Abort + Sync>(
     alloc: Global,
     keys: RandomState,
     opened: Opened,
+    counting: Counting,
 ) -> Result<Vec<Vec<u64>>, Memory>
     requires name { name_of opened ≡ B.log }
     requires shape { (nodes_of opened ≡ B.nodes) × (places_of opened ≡ B.places) }
 {
     let plan = Plan {
-        workers: 2,
-        connections: 2,
+        workers: counting.workers,
+        connections: counting.workers,
         limit: MANY,
     };
     let Ok(nodes) = build::<B>(alloc, keys, opened, plan) else {
@@ -149,29 +156,74 @@ fn count_up<B: LogName + Send + Sync, R: Threads + Wait + Abort + Sync>(
     Ok(thread::map_vec(
         rt,
         workers,
-        &|worker| counts(rt, alloc, worker, &ended, many),
+        &|worker| counts(rt, alloc, worker, counting, &ended, many),
     )?)
 }
 
-// Four workers of two nodes, each on a thread of its own, are told each number from 1 to 100,000 once, and each of them greater and greater ones. The log is so
-// small that it is often full.
-#[test]
-fn count_to_100000(rt: HostRuntime) -> Result<(), Fail> {
-    let keys = RandomState::new(&rt)?;
-    let Ok(opened) = Opened::open(rt.alloc(), 2, 4) else {
-        panic!(&rt; "no log was opened");
+// Each worker of a new log's nodes, on a thread of its own, is told greater and greater numbers, and all of them together each number from 1 on once. Then each
+// node has counted as far as all.
+fn count_together<R: Threads + Wait + Abort + Sync>(
+    rt: &R,
+    alloc: Global,
+    keys: RandomState,
+    (nodes, places): (usize, usize),
+    counting: Counting,
+) {
+    let Ok(opened) = Opened::open(alloc, nodes, places) else {
+        panic!(rt; "no log was opened");
     };
-    let told = count_up::<Brand, HostRuntime>(&rt, rt.alloc(), keys, opened).expect(&rt, "memory");
-    assert!(&rt; told.len() == 4);
-    let mut all = Vec::new(rt.alloc());
-    for numbers in told {
-        assert!(&rt; numbers.len() == EACH && numbers.is_sorted());
-        all.extend_from_slice(&numbers)?;
+    let told = count_up::<Brand, R>(rt, alloc, keys, opened, counting).expect(rt, "memory");
+    let each = counting.batch.saturating_mul(counting.batches);
+    let total = each.saturating_mul(told.len()) as u64;
+    let mut all = Vec::new(alloc);
+    for mut numbers in told {
+        assert!(rt; numbers.pop() == Some(total));
+        assert!(rt; numbers.pop().is_some());
+        assert!(rt; numbers.len() == each && numbers.is_sorted());
+        assert!(rt; all.extend_from_slice(&numbers).is_ok());
     }
     all.sort_unstable();
     for (place, number) in all.iter().enumerate() {
-        assert!(&rt; *number == place as u64 + 1);
+        assert!(rt; *number == place as u64 + 1);
     }
-    assert!(&rt; all.len() == 100_000);
+    assert!(rt; all.len() as u64 == total && total > 0);
+}
+
+// The log is so small that it is often full.
+#[test]
+fn two_nodes_of_two_workers_count_to_100000(rt: HostRuntime) -> Result<(), Fail> {
+    let counting = Counting {
+        workers: 2,
+        batch: 250,
+        batches: 100,
+    };
+    let keys = RandomState::new(&rt)?;
+    count_together(&rt, rt.alloc(), keys, (2, 4), counting);
+    Ok(())
+}
+
+// Each INCR takes an entry of its own, of which two find a place.
+#[test]
+fn through_2_places(rt: HostRuntime) -> Result<(), Fail> {
+    let counting = Counting {
+        workers: 2,
+        batch: 1,
+        batches: 25_000,
+    };
+    let keys = RandomState::new(&rt)?;
+    count_together(&rt, rt.alloc(), keys, (2, 2), counting);
+    Ok(())
+}
+
+// Entries of one INCR, of four nodes.
+#[test]
+fn four_nodes_through_64_places(rt: HostRuntime) -> Result<(), Fail> {
+    let counting = Counting {
+        workers: 1,
+        batch: 1,
+        batches: 25_000,
+    };
+    let keys = RandomState::new(&rt)?;
+    count_together(&rt, rt.alloc(), keys, (4, 64), counting);
     Ok(())
 }

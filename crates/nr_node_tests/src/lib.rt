@@ -9,3 +9,7 @@ mod counting;
 mod in_turn;
 #[cfg(test)]
 mod limits;
+#[cfg(test)]
+mod stopped;
+#[cfg(test)]
+mod turning;

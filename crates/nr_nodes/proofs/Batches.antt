@@ -26,10 +26,8 @@ use Rattle.nr_nodes.specs.WorldState.{WorldState, Shows}
 use Rattle.nr_nodes.specs.Whole.{ArePaired, IsWhole, IsHeld}
 use Rattle.nr_nodes.specs.Taken.{IsTaken, Takes}
 use Rattle.nr_nodes.specs.Collected.{emptied, emptied_member}
-use Rattle.nr_nodes.specs.Listed.{lists_of}
 use Rattle.nr_nodes.specs.Batches.{may_collect, executed_in, IsCollected, HasWorker}
 use Rattle.nr_nodes.proofs.Sides.{get_or-both}
-use Rattle.nr_nodes.proofs.Listed.{emptied_later, listed_later, listed_same, lists_long}
 use Rattle.nr_nodes.proofs.Shown.{nodes_many, node_is, shows_changed, takes_nothing}
 use Rattle.nr_nodes.proofs.Standing.{shows_made, Makes, state, comes_to_no_such, has_there, held_at}
 
@@ -44,17 +42,16 @@ worker_is node w worker h k at =
 -- a node with the same connections, and as many workers, stays whole
 pub whole_kept : (n : ℕ) (old new : Node) → new.replica.node ≡ old.replica.node → new.sessions ≡ old.sessions
     → new.replica.members ≡ old.replica.members
-    → length new.replica.owed ≡ length old.replica.owed → lists_of new.workers.items ≡ lists_of old.workers.items → new.in_use ≡ old.in_use → IsWhole n old
+    → length new.replica.owed ≡ length old.replica.owed → length new.workers.items ≡ length old.workers.items → new.in_use ≡ old.in_use → IsWhole n old
     → IsWhole n new
 whole_kept n old new node sessions members owed workers used whole = record {
   number = node ∙ whole.number;
   pairs = subst (λ (ss : List SessionState). ArePaired n 0 ss new.replica.members) (sym sessions)
       (subst (λ (ms : List Member). ArePaired n 0 old.sessions ms) (sym members) whole.pairs);
-  owed = owed ∙ whole.owed ∙ sym (lists_long old.workers.items new.workers.items workers);
+  owed = owed ∙ whole.owed ∙ sym workers;
   counted = used ∙ whole.counted
       ∙ ap (λ (clients : List nodes.Client). length (filter (λ (client : nodes.Client). not client.closed) clients))
       (sym (λ i. clients_seen (sessions i) (members i)));
-  listed = listed_same (lists_of old.workers.items) (lists_of new.workers.items) old.replica.members new.replica.members workers members whole.listed;
 }
 
 -- and where what waits was handed out
@@ -90,7 +87,7 @@ in_use_emptied w (x ∷ sessions) (m ∷ members) =
 
 pub whole_collected : (n w : ℕ) (old new : Node) → new.replica ≡ record old.replica { members = map (emptied_member w) old.replica.members }
     → new.sessions ≡ old.sessions
-    → lists_of new.workers.items ≡ lists_of old.workers.items → new.in_use ≡ old.in_use → IsWhole n old → IsWhole n new
+    → length new.workers.items ≡ length old.workers.items → new.in_use ≡ old.in_use → IsWhole n old → IsWhole n new
 whole_collected n w old new replica sessions workers used whole =
     let members = ap (λ (r : ReplicaState). r.members) replica in
     record {
@@ -98,14 +95,10 @@ whole_collected n w old new replica sessions workers used whole =
       pairs = subst (λ (ss : List SessionState). ArePaired n 0 ss new.replica.members) (sym sessions)
           (subst (λ (ms : List Member). ArePaired n 0 old.sessions ms) (sym members)
           (paired_emptied n 0 w old.sessions old.replica.members whole.pairs));
-      owed = ap (λ (r : ReplicaState). length r.owed) replica ∙ whole.owed ∙ sym (lists_long old.workers.items new.workers.items workers);
+      owed = ap (λ (r : ReplicaState). length r.owed) replica ∙ whole.owed ∙ sym workers;
       counted = used ∙ whole.counted ∙ sym (in_use_emptied w old.sessions old.replica.members)
           ∙ ap (λ (clients : List nodes.Client). length (filter (λ (client : nodes.Client). not client.closed) clients))
           (sym (λ i. clients_seen (sessions i) (members i)));
-      listed = listed_same (lists_of old.workers.items) (lists_of new.workers.items) (map (emptied_member w) old.replica.members) new.replica.members workers
-          members
-          (listed_later (lists_of old.workers.items) old.replica.members (map (emptied_member w) old.replica.members) (emptied_later w old.replica.members)
-          whole.listed);
     }
 
 -- a collect that hands out nothing and takes no answer changes nothing
@@ -253,7 +246,7 @@ by_worker node w worker f outcome h k at up is =
 -- a node of whose batches more or fewer jobs are owed
 pub whole_owing : (n w : ℕ) (owed : Option ℕ) (waiting : List Job) (old new : Node)
     → new.replica ≡ record old.replica { waiting = waiting; owed = set old.replica.owed w owed }
-    → new.sessions ≡ old.sessions → lists_of new.workers.items ≡ lists_of old.workers.items → new.in_use ≡ old.in_use → IsWhole n old
+    → new.sessions ≡ old.sessions → length new.workers.items ≡ length old.workers.items → new.in_use ≡ old.in_use → IsWhole n old
     → IsWhole n new
 whole_owing n w owed waiting old new replica sessions workers used whole =
     whole_kept n old new (ap (λ (r : ReplicaState). r.node) replica) sessions (ap (λ (r : ReplicaState). r.members) replica)

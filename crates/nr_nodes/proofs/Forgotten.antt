@@ -6,7 +6,6 @@ use Rattle.nr_entry.specs.Jobs.{items_of}
 use Rattle.nr_nodes.specs.declared.worker.Worker.{Worker}
 use Rattle.nr_nodes.specs.Workers.{slot_seen, worker_seen}
 use Rattle.nr_nodes.specs.Served.{workers_seen}
-use Rattle.nr_nodes.specs.Listed.{lists_of}
 use Rattle.nr_nodes.specs.Forgotten.{IsForgotten, AreForgotten}
 
 first_one : (ws : List Worker) (x d : Worker) → 0 < length ws → IsForgotten (get_or ws 0 d) x → AreForgotten 1 ws (set ws 0 x)
@@ -33,16 +32,6 @@ same_length (suc n) [] [] h = refl
 same_length (suc n) [] (new ∷ news) h = absurd h
 same_length (suc n) (old ∷ olds) [] h = absurd h
 same_length (suc n) (old ∷ olds) (new ∷ news) h = ap suc (same_length n olds news h.1)
-
-pub same_lists : (n : ℕ) (olds news : List Worker) → AreForgotten n olds news → lists_of news ≡ lists_of olds
-same_lists zero olds news h = ap lists_of (sym h)
-same_lists (suc n) [] [] h = refl
-same_lists (suc n) [] (new ∷ news) h = absurd h
-same_lists (suc n) (old ∷ olds) [] h = absurd h
-same_lists (suc n) (old ∷ olds) (new ∷ news) h =
-    let first = h.0.serials in
-    let more = same_lists n olds news h.1 in
-    λ i. first i ∷ more i
 
 -- once all are, it is what the definitions say
 pub forgotten_all : (n : ℕ) (olds news : List Worker) (owed : List (Option ℕ)) → length olds ≤ n → AreForgotten n olds news

@@ -17,9 +17,7 @@ use Rattle.nr_nodes.specs.declared.worker.Worker.{Worker}
 use Rattle.nr_nodes.specs.declared.node.Node.{Node}
 use Rattle.nr_nodes.specs.Served.{client_seen, clients_seen}
 use Rattle.nr_nodes.specs.Whole.{ArePaired, IsWhole}
-use Rattle.nr_nodes.specs.Listed.{lists_of, AreListed}
 use Rattle.nr_nodes.proofs.Changed.{seen_by}
-use Rattle.nr_nodes.proofs.Listed.{received_later, listed_later, listed_same, lists_long}
 
 pub pairs_kept : (texts : Connection → List Bytes) (n serial : ℕ) (sessions : List SessionState) (olds news : List Member) → AreReceived texts olds news
     → ArePaired n serial sessions olds → ArePaired n serial sessions news
@@ -75,17 +73,12 @@ owed_by : (own : Bool) (members : List Member) (jobs : Jobs) (owed : List (Optio
 owed_by true members jobs owed = owed_long 0 members jobs owed
 owed_by false members jobs owed = refl
 
-listed_received : (texts : Connection → List Bytes) (lists : List (List ℕ)) (olds news : List Member) → AreReceived texts olds news → AreListed lists olds
-    → AreListed lists news
-listed_received texts lists olds news r h = listed_later lists olds news (received_later texts olds news r) h
-
 -- a node with another replica and other workers is whole
 pub record IsKept (n : ℕ) (node : Node) (replica : ReplicaState) (workers : List Worker) : Type 0 where
   pub number : replica.node ≡ n
   pub pairs : ArePaired n 0 node.sessions replica.members
   pub owed : length replica.owed ≡ length workers
   pub counted : node.in_use ≡ in_use (seen_by node replica workers)
-  pub listed : AreListed (lists_of workers) replica.members
 
 pub kept_applied : (n : ℕ) (node : Node) (entry : Entry) (replica : ReplicaState) → IsApplied entry node.replica replica → IsWhole n node
     → IsKept n node replica node.workers.items
@@ -97,25 +90,22 @@ kept_applied n node entry replica a w =
       owed = ap (λ (r : ReplicaState). length r.owed) a.state
           ∙ owed_by (entry.node == node.replica.node) node.replica.members (items_of entry.jobs.items) node.replica.owed ∙ w.owed;
       counted = w.counted ∙ sym (open_kept (λ c. texts_for c es) node.sessions node.replica.members replica.members a.delivered);
-      listed = listed_received (λ c. texts_for c es) (lists_of node.workers.items) node.replica.members replica.members a.delivered w.listed;
     }
 
 pub kept_fallen : (n : ℕ) (node : Node) (replica : ReplicaState) (workers : List Worker) → replica ≡ fallen node.replica
-    → lists_of workers ≡ lists_of node.workers.items → IsWhole n node → IsKept n node replica workers
-kept_fallen n node replica workers e lists w = record {
+    → length workers ≡ length node.workers.items → IsWhole n node → IsKept n node replica workers
+kept_fallen n node replica workers e as_many w = record {
   number = ap (λ (r : ReplicaState). r.node) e ∙ w.number;
   pairs = subst (λ (r : ReplicaState). ArePaired n 0 node.sessions r.members) (sym e) w.pairs;
-  owed = ap (λ (r : ReplicaState). length r.owed) e ∙ w.owed ∙ sym (lists_long node.workers.items workers lists);
+  owed = ap (λ (r : ReplicaState). length r.owed) e ∙ w.owed ∙ sym as_many;
   counted = w.counted ∙ ap (λ (r : ReplicaState). count_open (clients_seen node.sessions r.members)) (sym e);
-  listed = listed_same (lists_of node.workers.items) (lists_of workers) node.replica.members replica.members lists
-      (ap (λ (r : ReplicaState). r.members) e) w.listed;
 }
 
 -- with the workers as they are written back
 pub kept_refilled : (n : ℕ) (node : Node) (replica : ReplicaState) (workers back : List Worker) → replica ≡ fallen node.replica
-    → lists_of workers ≡ lists_of node.workers.items → back ≡ workers → IsWhole n node → IsKept n node replica back
-kept_refilled n node replica workers back e lists is w =
-    subst (λ (ws : List Worker). IsKept n node replica ws) (sym is) (kept_fallen n node replica workers e lists w)
+    → length workers ≡ length node.workers.items → back ≡ workers → IsWhole n node → IsKept n node replica back
+kept_refilled n node replica workers back e as_many is w =
+    subst (λ (ws : List Worker). IsKept n node replica ws) (sym is) (kept_fallen n node replica workers e as_many w)
 
 pub kept_read : (n : ℕ) (node : Node) (replica : ReplicaState) → HasRead node.replica replica → IsWhole n node → IsKept n node replica node.workers.items
 kept_read n node replica a w =
@@ -126,7 +116,6 @@ kept_read n node replica a w =
       pairs = pairs_kept (λ c. texts_for c es) n 0 node.sessions node.replica.members replica.members a.delivered w.pairs;
       owed = ap (λ (r : ReplicaState). length r.owed) a.state ∙ owed_long 0 node.replica.members jobs node.replica.owed ∙ w.owed;
       counted = w.counted ∙ sym (open_kept (λ c. texts_for c es) node.sessions node.replica.members replica.members a.delivered);
-      listed = listed_received (λ c. texts_for c es) (lists_of node.workers.items) node.replica.members replica.members a.delivered w.listed;
     }
 
 -- its connections have their names

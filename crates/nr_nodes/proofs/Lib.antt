@@ -20,6 +20,5 @@ pub mod Rounds
 pub mod TurnsLeft
 pub mod Joined
 pub mod Kept
-pub mod Listed
 pub mod BySerial
 pub mod Replayed

@@ -1,7 +1,7 @@
 -- The connections of a node side by side, and how many of them aren't closed, where one is opened, fed or closed.
 use Rattle.std.proofs.Common.{◌≡◌, ℕ, zero, suc, ◌+◌, ◌<◌, Bool, true, false, cond, List, [], ◌∷◌, ◌++◌, length, get_or, set, refl, ap, sym, ◌∙◌, subst, arith}
 use Rattle.std.specs.Prelude.{filter, not, ◌||◌}
-use Rattle.std.proofs.lemmas.List.{length-append, length-set}
+use Rattle.std.proofs.lemmas.List.{length-append}
 use Rattle.std.proofs.lemmas.List.Elements.{filter-append}
 use Rattle.std.proofs.lemmas.List.Sums.{sum_by-set, get_or-le-sum_by, length-filter}
 use Rattle.nr_model.specs.Nodes as nodes
@@ -12,8 +12,6 @@ use Rattle.nr_nodes.specs.declared.node.Node.{Node}
 use Rattle.nr_nodes.specs.Served.{client_seen, clients_seen}
 use Rattle.nr_nodes.specs.BySerial.{closed_session}
 use Rattle.nr_nodes.specs.Whole.{IsPair, ArePaired, IsWhole}
-use Rattle.nr_nodes.specs.Listed.{lists_of, without}
-use Rattle.nr_nodes.proofs.Listed.{listed_opened, listed_closed, listed_same, lists_many, lists_long}
 use Rattle.nr_nodes.proofs.Sides.{length-both, get_or-both, both-set_left, both-set, both-push}
 
 -- there are as many sessions as members, and those of one number are a pair
@@ -104,20 +102,12 @@ not_either true c e = absurd (cc e)
 not_either false c e = sym e
 
 -- one was opened
-pub whole_opened : (n w : ℕ) (old new : Node) (session : SessionState) (member : Member) → IsWhole n old
+pub whole_opened : (n : ℕ) (old new : Node) (session : SessionState) (member : Member) → IsWhole n old
     → new.replica ≡ record old.replica { members = old.replica.members ++ member ∷ [] } → new.sessions ≡ old.sessions ++ session ∷ []
-    → lists_of new.workers.items ≡ set (lists_of old.workers.items) w (get_or (lists_of old.workers.items) w [] ++ length old.replica.members ∷ [])
-    → w < length old.workers.items → member.worker ≡ w → new.in_use ≡ old.in_use + 1
+    → length new.workers.items ≡ length old.workers.items → new.in_use ≡ old.in_use + 1
     → session.connection ≡ record { node = old.replica.node; serial = length old.replica.members } → session.ended ≡ false → session.gave_end ≡ false
     → member.is_closed ≡ false → IsWhole n new
-whole_opened n at old new session member w replica sessions workers there own counted named ended gave closed =
-    let lists = lists_of old.workers.items in
-    let longer = length-set lists at (get_or lists at [] ++ length old.replica.members ∷ []) in
-    let before = lists_many old.workers.items in
-    let after = lists_many new.workers.items in
-    let same = ap length workers in
-    let as_many : length new.workers.items ≡ length old.workers.items = omega arith in
-    let listed = listed_opened lists old.replica.members member at (omega arith) own closed w.listed in
+whole_opened n old new session member w replica sessions workers counted named ended gave closed =
     let many = paired_many n 0 old.sessions old.replica.members w.pairs in
     let last : length old.replica.members ≡ 0 + length old.sessions = omega arith in
     let seen = clients_seen old.sessions old.replica.members in
@@ -137,16 +127,14 @@ whole_opened n at old new session member w replica sessions workers there own co
             named = λ open_one. named ∙ (λ i. record { node = w.number i; serial = last i });
             ended = ended ∙ sym (or_false session.gave_end member.is_closed closed ∙ gave);
           }) w.pairs));
-      owed = ap (λ (r : ReplicaState). length r.owed) replica ∙ w.owed ∙ sym as_many;
+      owed = ap (λ (r : ReplicaState). length r.owed) replica ∙ w.owed ∙ sym workers;
       counted = counted ∙ ap (λ k. k + 1) w.counted ∙ sym count;
-      listed = listed_same (set lists at (get_or lists at [] ++ length old.replica.members ∷ [])) (lists_of new.workers.items)
-          (old.replica.members ++ member ∷ []) new.replica.members workers (ap (λ (r : ReplicaState). r.members) replica) listed;
     }
 
 -- one was fed
 pub whole_fed : (n : ℕ) (old new : Node) (i : ℕ) (session before : SessionState) (d : Member) → IsWhole n old
     → new.replica ≡ old.replica → new.sessions ≡ set old.sessions i session
-    → lists_of new.workers.items ≡ lists_of old.workers.items → new.in_use ≡ old.in_use
+    → length new.workers.items ≡ length old.workers.items → new.in_use ≡ old.in_use
     → i < length old.sessions → before ≡ get_or old.sessions i before → before.ended ≡ false
     → session.connection ≡ before.connection → session.ended ≡ session.gave_end → IsWhole n new
 whole_fed n old new i session before d w replica sessions workers counted h at going named ended =
@@ -174,30 +162,20 @@ whole_fed n old new i session before d w replica sessions workers counted h at g
             named = λ open_one. named ∙ ap (λ (s : SessionState). s.connection) at ∙ pair.named open_one;
             ended = ended ∙ sym (or_false session.gave_end member.is_closed unclosed);
           }) w.pairs));
-      owed = ap (λ (r : ReplicaState). length r.owed) replica ∙ w.owed ∙ sym (lists_long old.workers.items new.workers.items workers);
+      owed = ap (λ (r : ReplicaState). length r.owed) replica ∙ w.owed ∙ sym workers;
       counted = counted ∙ w.counted ∙ (let e : length (filter is_open seen) ≡ length (filter is_open (clients_seen new.sessions new.replica.members))
           = omega arith in e);
-      listed = listed_same (lists_of old.workers.items) (lists_of new.workers.items) old.replica.members new.replica.members workers
-          (ap (λ (r : ReplicaState). r.members) replica) w.listed;
     }
 
 -- one was closed
-pub whole_closed : (n at_worker : ℕ) (old new : Node) (i : ℕ) (session before : SessionState) (d : Member) → IsWhole n old
+pub whole_closed : (n : ℕ) (old new : Node) (i : ℕ) (session before : SessionState) (d : Member) → IsWhole n old
     → new.replica ≡ record old.replica { members = set old.replica.members i (closed_member (get_or old.replica.members i d)) }
     → new.sessions ≡ set old.sessions i session
-    → lists_of new.workers.items ≡ set (lists_of old.workers.items) at_worker (without i (get_or (lists_of old.workers.items) at_worker []))
-    → at_worker < length old.workers.items → at_worker ≡ (get_or old.replica.members i d).worker → new.in_use + 1 ≡ old.in_use
+    → length new.workers.items ≡ length old.workers.items → new.in_use + 1 ≡ old.in_use
     → i < length old.sessions → before ≡ get_or old.sessions i before → session ≡ closed_session
     → (get_or old.replica.members i d).is_closed ≡ false → IsWhole n new
-whole_closed n at_worker old new i session before d w replica sessions workers there own counted h at ended unclosed =
-    let lists = lists_of old.workers.items in
-    let longer = length-set lists at_worker (without i (get_or lists at_worker [])) in
-    let lists_before = lists_many old.workers.items in
-    let lists_after = lists_many new.workers.items in
-    let same = ap length workers in
-    let as_many : length new.workers.items ≡ length old.workers.items = omega arith in
+whole_closed n old new i session before d w replica sessions workers counted h at ended unclosed =
     let many = paired_many n 0 old.sessions old.replica.members w.pairs in
-    let listed = listed_closed lists old.replica.members i at_worker d (omega arith) own (omega arith) w.listed in
     let seen = clients_seen old.sessions old.replica.members in
     let member = get_or old.replica.members i d in
     let all : clients_seen new.sessions new.replica.members ≡ set seen i (client_seen session (closed_member member)) =
@@ -220,9 +198,7 @@ whole_closed n at_worker old new i session before d w replica sessions workers t
             named = λ open_one. absurd (cc open_one);
             ended = ap (λ (s : SessionState). s.ended) ended ∙ or_true session.gave_end true refl;
           }) w.pairs));
-      owed = ap (λ (r : ReplicaState). length r.owed) replica ∙ w.owed ∙ sym as_many;
-      listed = listed_same (set lists at_worker (without i (get_or lists at_worker []))) (lists_of new.workers.items)
-          (set old.replica.members i (closed_member member)) new.replica.members workers (ap (λ (r : ReplicaState). r.members) replica) listed;
+      owed = ap (λ (r : ReplicaState). length r.owed) replica ∙ w.owed ∙ sym workers;
       counted = let e : new.in_use ≡ length (filter is_open (clients_seen new.sessions new.replica.members)) = omega arith in e;
     }
 

@@ -7,7 +7,6 @@ pub record IsForgotten (old new : Worker) : Type 0 where
   pub pending : new.pending.items ≡ []
   pub batches : new.batches ≡ old.batches
   pub slot : new.slot ≡ old.slot
-  pub serials : new.serials.items ≡ old.serials.items
 
 -- those of the first of these, and the others are as they were
 abbrev pub AreForgotten : ℕ → List Worker → List Worker → Type 0

@@ -8,7 +8,6 @@ pub mod Dropped
 pub mod Forgotten
 pub mod Advanced
 pub mod Logs
-pub mod Listed
 pub mod Collected
 pub mod Batches
 pub mod WorldState

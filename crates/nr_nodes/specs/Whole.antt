@@ -8,7 +8,6 @@ use Rattle.nr_replica.specs.Members.{Member}
 use Rattle.nr_nodes.specs.declared.node.Node.{Node}
 use Rattle.nr_nodes.specs.Served.{node_seen}
 use Rattle.nr_nodes.specs.Logs.{log_seen}
-use Rattle.nr_nodes.specs.Listed.{lists_of, AreListed}
 use Rattle.nr_nodes.specs.WorldState.{WorldState, Shows}
 
 -- the session of a connection that isn't closed has its name, and takes no bytes exactly where they asked for its end or it was closed
@@ -29,7 +28,6 @@ pub record IsWhole (n : ℕ) (node : Node) : Type 0 where
   pub pairs : ArePaired n 0 node.sessions node.replica.members
   pub owed : length node.replica.owed ≡ length node.workers.items
   pub counted : node.in_use ≡ in_use (node_seen node)
-  pub listed : AreListed (lists_of node.workers.items) node.replica.members
 
 -- node n is the first of these, and each is whole
 abbrev pub AreWhole : ℕ → List Node → Type 0

@@ -115,7 +115,7 @@ impl World {
     }
 
     /// A worker of a node takes the answer to its batch, and hands out all bytes that wait for its connections. Linear in those of its
-    /// connections that aren't closed, and the bytes.
+    /// connections for which bytes wait, and the bytes.
     pub fn collect(&mut self, node: usize, worker: usize) -> Result<Happened, Memory>
         ensures taken { IfOk result (λ happened. Takes self.old self.new (steps.Collect node worker)
             (outcome_seen happened.outcome) (map handed_seen happened.handed.items) (option_map answer_seen happened.answer)) }

@@ -18,7 +18,6 @@ ghost use Rattle.nr_nodes.specs.Batches.{may_post, may_lift, may_answer, execute
 ghost use Rattle.nr_nodes.specs.Taken.{idle_or};
 ghost use Rattle.nr_nodes.specs.Whole.{IsWhole, ArePaired};
 ghost use Rattle.nr_nodes.specs.Connected.{takes_none};
-ghost use Rattle.nr_nodes.specs.Listed.{lists_of, AreListed};
 ghost use Rattle.nr_nodes.specs.Served.{node_seen, entry_seen, opened_node, posted_node, reserved_node, filled_node, fetched_node, answered_node, refused_node, workers_seen};
 
 use crate::pending_jobs::drop_pending;
@@ -53,7 +52,6 @@ pub struct Node {
 fn fresh_workers(alloc: Global, count: usize) -> Result<Vec<Worker>, Memory>
     ensures seen { IfOk result (λ workers. workers_seen workers.items (replicate count None) ≡ replicate count nodes.fresh_worker) }
     ensures count { IfOk result (λ workers. length workers.items ≡ count) }
-    ensures serials { IfOk result (λ workers. lists_of workers.items ≡ replicate count []) }
 {
     let mut workers = Vec::with_capacity(alloc, count)?;
     for _ in 0..count {
@@ -64,7 +62,6 @@ fn fresh_workers(alloc: Global, count: usize) -> Result<Vec<Worker>, Memory>
 
 impl Node {
     /// No connection and no key. Strangers choose the keys, so the hasher takes a seed of its own.
-    #[tactic(auto, using(crate::proofs::Listed::listed_none))]
     pub(crate) fn new(
         alloc: Global,
         keys: RandomState,
@@ -105,7 +102,6 @@ impl Node {
     {
         let conn = self.replica.open(worker, limit)?;
         self.sessions.open(alloc, conn)?;
-        self.workers[worker].serials.push(conn.serial as usize)?;
         self.in_use += 1;
         Ok(conn)
     }
@@ -259,7 +255,7 @@ impl Node {
         Ok(())
     }
 
-    /// Closes a connection. Linear in the jobs that its worker hasn't posted, and in the worker's connections that aren't closed.
+    /// Closes a connection. Linear in the jobs that its worker hasn't posted.
     pub(crate) fn close(&mut self, conn: ConnId, moment: u64) -> Result<(), Memory>
         requires clients { length self.old.sessions ≡ length self.old.replica.members }
         requires owed { length self.old.replica.owed ≡ length self.old.workers.items }
@@ -273,10 +269,9 @@ impl Node {
             → OnOk result (IsWhole n self.new) }
     {
         let serial = conn.serial as usize;
-        let at = self.replica.worker(serial);
-        let worker = &mut self.workers[at];
-        self.sessions.close(conn, moment, &mut worker.pending)?;
-        worker.forget(serial);
+        let worker = self.replica.worker(serial);
+        let pending = &mut self.workers[worker].pending;
+        self.sessions.close(conn, moment, pending)?;
         self.replica.close(serial);
         self.in_use -= 1;
         Ok(())
@@ -354,7 +349,7 @@ impl Node {
     }
 
     /// A worker takes the answer to its batch, where there is one, and all bytes that wait for its connections are handed out. Linear in
-    /// those of its connections that aren't closed, and the bytes.
+    /// those of its connections for which bytes wait, and the bytes.
     pub(crate) fn collect(
         &mut self,
         worker: usize,
@@ -364,15 +359,13 @@ impl Node {
         requires owed { length self.old.replica.owed ≡ length self.old.workers.items }
         requires clients { length self.old.sessions ≡ length self.old.replica.members }
         requires numbered { AreNumbered self.old.replica.node 0 self.old.replica.members }
-        requires listed { AreListed (lists_of self.old.workers.items) self.old.replica.members }
         ensures node { OnOk result (node_seen self.new ≡ collected_node worker (node_seen self.old)) }
         ensures handed { OnOk result (map handed_seen handed.new.items ≡ map handed_seen handed.old.items ++ collected worker (node_seen self.old).clients) }
         ensures answer { IfOk result (λ answer. answer ≡ executed_in (nodes.worker_at worker (node_seen self.old)).slot) }
         ensures whole { (n : ℕ) → IsWhole n self.old → OnOk result (IsWhole n self.new) }
     {
-        let worker = &mut self.workers[worker];
-        collect(&mut self.replica, &worker.serials, handed)?;
-        let answer = worker.collect();
+        collect(&mut self.replica, worker, handed)?;
+        let answer = self.workers[worker].collect();
         Ok(answer)
     }
 }

@@ -7,7 +7,6 @@ ghost use Rattle.nr_entry.specs.Jobs.{items_of};
 ghost use Rattle.nr_nodes.specs.Workers.{slot_seen, worker_seen};
 ghost use Rattle.nr_nodes.specs.Batches.{post_outcome, lift_outcome, answer_outcome, executed_in};
 ghost use Rattle.nr_nodes.specs.Taken.{idle_or};
-ghost use Rattle.nr_nodes.specs.Listed.{without};
 ghost use Rattle.nr_nodes.specs.declared.worker.Slot.TheVariants as slots;
 
 use nr_blob::Memory;
@@ -29,14 +28,12 @@ pub(crate) enum Slot {
     Answered(bool),
 }
 
-/// A worker: the jobs of its connections that it hasn't posted, how many batches it has posted, its slot, and the serials of its
-/// connections that aren't closed, in order.
+/// A worker: the jobs of its connections that it hasn't posted, how many batches it has posted, and its slot.
 #[derive(Drop)]
 pub(crate) struct Worker {
     pub pending: Vec<Job>,
     pub batches: u64,
     pub slot: Slot,
-    pub serials: Vec<usize>,
 }
 
 impl Slot {
@@ -61,14 +58,12 @@ impl Slot {
 
 impl Worker {
     pub(crate) fn new(alloc: Global) -> Worker
-        ensures seen { (owed : Option ℕ) → worker_seen result owed ≡ nodes.fresh_worker }
-        ensures serials { result.serials.items ≡ [] }
+        ensures { (owed : Option ℕ) → worker_seen result owed ≡ nodes.fresh_worker }
     {
         Worker {
             pending: Vec::new(alloc),
             batches: 0,
             slot: Slot::Empty,
-            serials: Vec::new(alloc),
         }
     }
 
@@ -110,8 +105,7 @@ impl Worker {
 
     /// Posts its first jobs as a batch. Linear in the jobs that it keeps, where there are any. A worker posts at most 2^64 - 1 batches.
     pub(crate) fn post(&mut self, alloc: Global) -> Result<(), Memory>
-        ensures posted { (owed : Option ℕ) → OnOk result (worker_seen self.new owed ≡ posted_worker (worker_seen self.old owed)) }
-        ensures serials { OnOk result (self.new.serials.items ≡ self.old.serials.items) }
+        ensures { (owed : Option ℕ) → OnOk result (worker_seen self.new owed ≡ posted_worker (worker_seen self.old owed)) }
     {
         if self.batches == u64::MAX {
             return Err(Memory);
@@ -128,7 +122,6 @@ impl Worker {
         ensures slot { self.new.slot ≡ slots.Lifted }
         ensures pending { self.new.pending ≡ self.old.pending }
         ensures batches { self.new.batches ≡ self.old.batches }
-        ensures serials { self.new.serials.items ≡ self.old.serials.items }
     {
         match mem::replace(&mut self.slot, Slot::Lifted) {
             Slot::Posted(jobs) => jobs,
@@ -138,8 +131,7 @@ impl Worker {
 
     /// Answers its batch.
     pub(crate) fn answer(&mut self, executed: bool)
-        ensures answered { (owed other : Option ℕ) → worker_seen self.new other ≡ record (worker_seen self.old owed) { slot = nodes.Answered executed } }
-        ensures serials { self.new.serials.items ≡ self.old.serials.items }
+        ensures { (owed other : Option ℕ) → worker_seen self.new other ≡ record (worker_seen self.old owed) { slot = nodes.Answered executed } }
     {
         self.slot = Slot::Answered(executed);
     }
@@ -148,23 +140,12 @@ impl Worker {
     pub(crate) fn collect(&mut self) -> Option<bool>
         ensures worker { (owed : Option ℕ) → worker_seen self.new owed ≡ record (worker_seen self.old owed) { slot = cleared (worker_seen self.old owed).slot } }
         ensures answer { (owed : Option ℕ) → result ≡ executed_in (slot_seen self.old.slot owed) }
-        ensures serials { self.new.serials.items ≡ self.old.serials.items }
     {
         if let Slot::Answered(executed) = self.slot {
             self.slot = Slot::Empty;
             return Some(executed);
         }
         None
-    }
-
-    /// Takes a connection out of those that aren't closed. Linear in them.
-    pub(crate) fn forget(&mut self, serial: usize)
-        ensures serials { self.new.serials.items ≡ without serial self.old.serials.items }
-        ensures pending { self.new.pending ≡ self.old.pending }
-        ensures batches { self.new.batches ≡ self.old.batches }
-        ensures slot { self.new.slot ≡ self.old.slot }
-    {
-        self.serials.retain(|other| *other != serial);
     }
 }
 

@@ -1,5 +1,5 @@
 -- What an emission gives to the members of its node.
-use Rattle.std.proofs.Common.{◌≡◌, ℕ, ◌+◌, ◌<◌, Bool, true, false, cond, inl, inr, List, [], ◌∷◌, ◌++◌, length, take, get_or, refl, ap, sym, ◌∙◌, subst, arith, append_assoc, add-one}
+use Rattle.std.proofs.Common.{◌≡◌, ℕ, ◌+◌, ◌<◌, ◌≤◌, Bool, true, false, cond, inl, inr, List, [], ◌∷◌, ◌++◌, length, take, get_or, refl, ap, sym, ◌∙◌, subst, arith, append_assoc, add-one}
 use Rattle.std.specs.Prelude.{Option, Some, None, ◌==◌}
 use Rattle.std.proofs.lemmas.Bool.{cases_Bool}
 use Rattle.std.proofs.lemmas.Bool.Decides.{nat_tests}
@@ -17,7 +17,7 @@ use Rattle.nr_replica.specs.declared.outbox.Put.{Put}
 use Rattle.nr_replica.specs.declared.outbox.Put.TheVariants as outcomes
 use Rattle.nr_replica.specs.Members.{Member, Queues, queue_at, members_of, AreNumbered, AreReceived, AreDelivered, AreGiven, texts_of}
 use Rattle.nr_replica.proofs.Listed.{IsPut}
-use Rattle.nr_replica.proofs.Reached.{reached_open, reached_closed, reached_elsewhere}
+use Rattle.nr_replica.proofs.Reached.{unreached, reached_open, reached_closed, reached_elsewhere}
 use Rattle.nr_replica.proofs.Received.{both_received, same_received, alike, one_text, of_another}
 
 -- what became of a text is that it was received
@@ -34,11 +34,11 @@ put_received outcomes.Full old new text was =
 put_received outcomes.Memory old new text was = let memory = was.2 refl in (Some 0, memory.1)
 
 -- a reply or a message to one of them that is open
-pub given_open : (node : ℕ) (to : Connection) (text : Bytes) (workers : List ℕ) (old new : Queues) (at queue : Queue) (result : Put)
-    → AreNumbered node 0 (members_of node workers old) → to.node ≡ node → Some at ≡ queue_at to.serial old → IsPut to.serial (Some queue) old new
-    → WasPut result at text queue → AreGiven (record { connection = to; bytes = text } ∷ []) (members_of node workers old) (members_of node workers new)
-given_open node to text workers old new at queue result numbered own found put was =
-    let got = put_received result at queue text was in
+pub given_open : (node : ℕ) (to : Connection) (text : Bytes) (workers : List ℕ) (old new : Queues) (at queue : Queue) → AreNumbered node 0 (members_of node workers old)
+    → to.node ≡ node → Some at ≡ queue_at to.serial old → IsPut to.serial (Some queue) old new
+    → ((refused : Option ℕ) × (queue ≡ received refused at (text ∷ [])))
+    → AreGiven (record { connection = to; bytes = text } ∷ []) (members_of node workers old) (members_of node workers new)
+given_open node to text workers old new at queue numbered own found put got =
     reached_open node to text workers old new at queue got.0 numbered own found put got.1
 
 -- to one of them that was closed, and to none of them
@@ -48,6 +48,10 @@ pub given_closed : (node : ℕ) (to : Connection) (text : Bytes) (workers : List
 given_closed node to text workers old new numbered own none same =
     subst (λ (queues : Queues). AreReceived (one_text to text) (members_of node workers old) (members_of node workers queues)) (sym same)
     (reached_closed node to text workers old numbered own none)
+
+pub given_past : (node : ℕ) (to : Connection) (text : Bytes) (workers : List ℕ) (queues : Queues) → AreNumbered node 0 (members_of node workers queues)
+    → length workers ≤ to.serial → AreGiven (record { connection = to; bytes = text } ∷ []) (members_of node workers queues) (members_of node workers queues)
+given_past node to text workers queues numbered past = unreached node to text workers queues numbered past
 
 pub given_elsewhere : (node : ℕ) (to : Connection) (text : Bytes) (workers : List ℕ) (queues : Queues) → AreNumbered node 0 (members_of node workers queues)
     → (to.node ≡ node → ⊥) → AreGiven (record { connection = to; bytes = text } ∷ []) (members_of node workers queues) (members_of node workers queues)

@@ -1,5 +1,8 @@
+pub mod First
 pub mod Serials
 pub mod Listed
+pub mod Marked
+pub mod Waiting
 pub mod Received
 pub mod Reached
 pub mod Giving
@@ -8,3 +11,4 @@ pub mod Looked
 pub mod Kept
 pub mod Told
 pub mod Stepped
+pub mod Crossing

@@ -1,5 +1,5 @@
 -- What reads emit: each one reply, to its own connection.
-use Rattle.std.proofs.Common.{◌≡◌, ℕ, zero, suc, ◌+◌, ◌<◌, true, false, cond, List, [], ◌∷◌, ◌++◌, length, take, get_or, refl, ap, sym, ◌∙◌, subst, arith, append_assoc, add-one}
+use Rattle.std.proofs.Common.{◌≡◌, ℕ, zero, suc, ◌+◌, ◌<◌, ◌≤◌, true, false, cond, List, [], ◌∷◌, ◌++◌, length, take, get_or, refl, ap, sym, ◌∙◌, subst, arith, append_assoc, add-one}
 use Rattle.std.specs.Prelude.{Option, Some, None}
 use Rattle.std.proofs.lemmas.Bool.Decides.{nat_tests}
 use Rattle.std.proofs.lemmas.List.{append-nil}
@@ -23,7 +23,7 @@ use Rattle.nr_entry.specs.declared.job.JobKind.{JobKind}
 use Rattle.nr_entry.specs.declared.job.Job.{Job}
 use Rattle.nr_replica.specs.Members.{Member, Queues, queue_at, members_of, AreNumbered, AreReceived, AreDelivered, AreReads}
 use Rattle.nr_replica.proofs.Listed.{IsPut}
-use Rattle.nr_replica.proofs.Reached.{reached_open, reached_closed, reached_elsewhere}
+use Rattle.nr_replica.proofs.Reached.{unreached, reached_open, reached_closed, reached_elsewhere}
 use Rattle.nr_replica.proofs.Received.{alike, one_text}
 use Rattle.nr_replica.proofs.Giving.{delivered_more}
 
@@ -123,6 +123,13 @@ read_closed node s item workers old new numbered read own none same =
     subst (λ (queues : Queues). AreDelivered (emitted_in s item) (members_of node workers old) (members_of node workers queues)) (sym same)
     (as_read s item read (members_of node workers old) (members_of node workers old)
     (reached_closed node item.connection (read_text s item read) workers old numbered own none))
+
+pub read_past : (node : ℕ) (s : Server) (item : Item) (workers : List ℕ) (queues : Queues) → AreNumbered node 0 (members_of node workers queues)
+    → is_update item.deed ≡ false → length workers ≤ item.connection.serial
+    → AreDelivered (emitted_in s item) (members_of node workers queues) (members_of node workers queues)
+read_past node s item workers queues numbered read past =
+    as_read s item read (members_of node workers queues) (members_of node workers queues)
+    (unreached node item.connection (read_text s item read) workers queues numbered past)
 
 pub read_elsewhere : (node : ℕ) (s : Server) (item : Item) (workers : List ℕ) (queues : Queues) → AreNumbered node 0 (members_of node workers queues)
     → is_update item.deed ≡ false → (item.connection.node ≡ node → ⊥)

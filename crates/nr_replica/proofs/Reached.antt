@@ -21,7 +21,8 @@ placed i n = elim (cases_Bool (ltb i n)) [
 abbrev Reaches : ℕ → Connection → Bytes → List ℕ → Queues → Queues → Type 0
 Reaches node to text workers old new = AreReceived (one_text to text) (members_of node workers old) (members_of node workers new)
 
-unreached : (node : ℕ) (to : Connection) (text : Bytes) (workers : List ℕ) (queues : Queues) → AreNumbered node 0 (members_of node workers queues)
+-- one that was never opened
+pub unreached : (node : ℕ) (to : Connection) (text : Bytes) (workers : List ℕ) (queues : Queues) → AreNumbered node 0 (members_of node workers queues)
     → length workers ≤ to.serial → Reaches node to text workers queues queues
 unreached node to text workers queues numbered past =
     none_given node to text (members_of node workers queues) numbered

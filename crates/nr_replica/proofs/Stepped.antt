@@ -9,6 +9,7 @@ use Rattle.nr_entry.specs.Jobs.{connection_of}
 use Rattle.nr_replica.specs.declared.outbox.Piece.{Piece}
 use Rattle.nr_replica.specs.Members.{Member, Queues, queue_at, member_with, members_of, AreNumbered, fresh_queue, fresh_member, closed_member, handed_member}
 use Rattle.nr_replica.proofs.Kept.{numbered_at}
+use Rattle.nr_replica.proofs.Marked.{on_err}
 use Rattle.nr_replica.proofs.Listed.{IsPut, members_length, members_put, members_unseen, members_more, open_at, closed_at, worker_at}
 use Rattle.nr_replica.proofs.Told.{piece_taken}
 
@@ -21,17 +22,16 @@ opened_is c worker limit workers all queue old new next more fresh put =
     ∙ members_more c.node worker workers queue old new (subst (λ (s : ℕ). IsPut s (Some queue) old new) next put)
     ∙ ap (λ (q : Queue). members_of c.node workers old ++ record { worker = worker; outbox = q; is_closed = false } ∷ []) fresh
 
-on_err : {T E : Type 0} {P : Type 0} (result : Result T E) → P → OnErr result P
-on_err (Ok x) p = tt
-on_err (Err e) p = p
+pub unopened : (c : Connection) (workers all : List ℕ) (queue : Queue) (old new : Queues) → c.serial ≡ length workers → all ≡ workers
+    → IsPut c.serial (Some queue) old new → members_of c.node all new ≡ members_of c.node workers old
+unopened c workers all queue old new next same put =
+    ap (λ (ws : List ℕ). members_of c.node ws new) same
+    ∙ members_unseen c.node c.serial workers (Some queue) old new put (omega (arith, next))
 
 pub unopened_is : {T E : Type 0} (result : Result T E) (c : Connection) (workers all : List ℕ) (queue : Queue) (old new : Queues) → c.serial ≡ length workers
     → all ≡ workers → IsPut c.serial (Some queue) old new
     → OnErr result (members_of c.node all new ≡ members_of c.node workers old)
-unopened_is result c workers all queue old new next same put =
-    on_err result
-    (ap (λ (ws : List ℕ). members_of c.node ws new) same
-    ∙ members_unseen c.node c.serial workers (Some queue) old new put (omega (arith, next)))
+unopened_is result c workers all queue old new next same put = on_err result (unopened c workers all queue old new next same put)
 
 -- one fewer
 pub closed_is : (node s : ℕ) (workers : List ℕ) (old new : Queues) (d : Member) → s < length workers → IsPut s None old new

@@ -1,10 +1,11 @@
 -- The connections of a node, as its replica keeps them, and what is delivered to them.
-use Rattle.std.specs.Prelude.{◌≡◌, ℕ, suc, Bool, true, false, cond, ◌==◌, List, [], ◌∷◌, map, length, filter, Option, Some, None, slice_index_or, refl}
+use Rattle.std.specs.Prelude.{◌≡◌, ℕ, suc, Bool, true, false, cond, ◌==◌, ◌&&◌, nat_le, List, [], ◌∷◌, map, length, filter, Option, Some, None, slice_index_or, refl}
 use Rattle.std.specs.Coded.{Coded, code_by, coded×, coded_ℕ, coded_bool}
-use Rattle.std.specs.List.{range_with_len}
+use Rattle.std.specs.List.{find, range_with_len}
 use Rattle.std.specs.Map.{lookup}
 use Rattle.std.specs.Ordering.{eq_by_cmp, nat_cmp}
 use Rattle.nr_model.specs.Bytes.{Bytes}
+use Rattle.nr_model.specs.Connections.{is_some_bytes}
 use Rattle.nr_model.specs.Items.{Connection, same_connection, is_update}
 use Rattle.nr_model.specs.Entries.{Jobs}
 use Rattle.nr_model.specs.Queues.{Queue, coded_queue, received, handing, closed_queue}
@@ -69,6 +70,22 @@ worker_of members c = (slice_index_or members c.serial (fresh_member c 0 0)).wor
 
 abbrev pub jobs_of_worker : ℕ → List Member → Jobs → Jobs
 jobs_of_worker w members jobs = filter (λ job. worker_of members job.connection == w) jobs
+
+-- what stands for a connection that was never opened
+abbrev pub nobody : Member
+nobody = fresh_member (record { node = 0; serial = 0 }) 0 0
+
+-- bytes wait for a connection of a worker
+abbrev pub is_ready : ℕ → Member → Bool
+is_ready worker member = member.worker == worker && is_some_bytes member.outbox.waiting
+
+-- the serials of a worker's connections for which bytes wait, in order
+abbrev pub ready_of : ℕ → List Member → List ℕ
+ready_of worker members = filter (λ serial. is_ready worker (slice_index_or members serial nobody)) (range_with_len 0 (length members))
+
+-- the first of them from one on
+abbrev pub next_ready : ℕ → ℕ → List Member → Option ℕ
+next_ready worker from members = find (nat_le from) (ready_of worker members)
 
 abbrev pub AreReads : Jobs → Type 0
 AreReads [] = Unit {0}

@@ -8,6 +8,7 @@ mod delivering;
 mod members;
 mod outbox;
 mod reading;
+mod ready;
 mod replica;
 mod settling;
 mod steps;

@@ -1,32 +1,39 @@
 // The connections of a node, as its replica keeps them.
-ghost use Rattle.std.specs.Prelude.{◌≡◌, ◌<◌, ◌++◌, ◌∷◌, ℕ, [], length, take, slice_index_or, slice_set, IfOk, OnOk, OnErr, IfSome, IfNone, Some, None};
+ghost use Rattle.std.specs.Prelude.{◌≡◌, ◌<◌, ◌≤◌, ◌++◌, ◌∷◌, ℕ, [], length, take, slice_index_or, slice_set, IfOk, OnOk, OnErr, IfSome, IfNone, Some, None};
 ghost use Rattle.std.specs.Option.{option_copied};
+ghost use Rattle.nr_model.specs.Connections.{is_some_bytes};
+ghost use Rattle.nr_model.specs.Queues.{handing};
 ghost use Rattle.nr_entry.specs.Jobs.{connection_of};
-ghost use Rattle.nr_replica.specs.Members.{Member, AreNumbered, fresh_member, closed_member, handed_member, queue_at, members_seen};
+ghost use Rattle.nr_replica.specs.Members.{Member, AreNumbered, fresh_member, closed_member, handed_member, next_ready, queue_at, members_seen};
+ghost use Rattle.nr_replica.specs.Ready.{has_serial, IsMarked, AreReady};
 
 use crate::outbox::{Outbox, Piece};
+use crate::ready::Ready;
 use nr_blob::Memory;
 use nr_entry::ConnId;
 use std::alloc::Global;
 use std::collections::BTreeMap;
 
 /// The connections of a node, by serial: of each that was ever opened the worker that serves it, a byte, and of those that aren't closed
-/// what waits for them.
+/// what waits for them; and for each worker those for which bytes wait.
 #[derive(Drop)]
 pub(crate) struct Members {
     pub(crate) workers: Vec<u8>,
     // One past the workers is of nobody, and gives way to the next that is opened.
     pub(crate) outboxes: BTreeMap<u64, Outbox>,
+    pub(crate) ready: Ready,
 }
 
 impl Members {
     /// None yet. They take no memory.
     pub(crate) fn new(alloc: Global) -> Members
-        ensures { result.workers.items ≡ [] }
+        ensures workers { result.workers.items ≡ [] }
+        ensures ready { result.ready.sets.items ≡ [] }
     {
         Members {
             workers: Vec::new(alloc),
             outboxes: BTreeMap::new(alloc),
+            ready: Ready::new(alloc),
         }
     }
 
@@ -78,6 +85,24 @@ impl Members {
         }
     }
 
+    /// The worker that serves one, or `None` where so many were never opened.
+    pub(crate) fn find_worker(&self, serial: u64) -> Option<usize>
+        ensures there { IfSome result (λ worker. (serial < length self.now.workers.items) × (worker ≡ slice_index_or self.now.workers.items serial 0)) }
+        ensures past { IfNone result (length self.now.workers.items ≤ serial) }
+    {
+        if serial >= self.workers.len() as u64 {
+            return None;
+        }
+        Some(self.workers[serial as usize] as usize)
+    }
+
+    /// The first one, by serial from `from` on, that a worker serves and for which bytes wait. Logarithmic.
+    pub(crate) fn next_ready(&self, worker: usize, from: usize) -> Option<usize>
+        ensures { (node : ℕ) → AreReady self.now.ready.sets.items (members_seen node self.now) → result ≡ next_ready worker from (members_seen node self.now) }
+    {
+        self.ready.next(worker, from)
+    }
+
     // What waits for one, or `None` where it was closed.
     fn get(&self, serial: usize) -> Option<&Outbox>
         ensures { option_copied result ≡ queue_at serial self.now.outboxes.entries }
@@ -97,6 +122,7 @@ impl Members {
         requires next { conn.serial ≡ length self.old.workers.items }
         ensures opened { OnOk result (members_seen conn.node self.new ≡ members_seen conn.node self.old ++ fresh_member (connection_of conn) worker limit ∷ []) }
         ensures unchanged { OnErr result (members_seen conn.node self.new ≡ members_seen conn.node self.old) }
+        ensures ready { AreReady self.old.ready.sets.items (members_seen conn.node self.old) → AreReady self.new.ready.sets.items (members_seen conn.node self.new) }
     {
         self.outboxes
             .insert(conn.serial, Outbox::new(alloc, conn, limit))?;
@@ -107,10 +133,13 @@ impl Members {
     /// Closes one: what waits for it is dropped. Logarithmic.
     pub(crate) fn close(&mut self, serial: usize)
         requires { serial < length self.old.workers.items }
-        ensures { (node : ℕ) (d : Member) → AreNumbered node 0 (members_seen node self.old)
+        ensures closed { (node : ℕ) (d : Member) → AreNumbered node 0 (members_seen node self.old)
             → members_seen node self.new ≡ slice_set (members_seen node self.old) serial (closed_member (slice_index_or (members_seen node self.old) serial d)) }
+        ensures ready { (node : ℕ) → AreReady self.old.ready.sets.items (members_seen node self.old) → AreReady self.new.ready.sets.items (members_seen node self.new) }
     {
+        let worker = self.worker(serial);
         self.outboxes.remove(&(serial as u64));
+        self.ready.remove(worker, serial as u64);
     }
 
     /// Hands out at most so many of the first bytes that wait for one, and at least one, or `None` where nothing waits. Where memory runs out
@@ -131,10 +160,37 @@ impl Members {
         ensures left { (node : ℕ) (d : Member) → OnOk result (members_seen node self.new
             ≡ slice_set (members_seen node self.old) serial (handed_member most (slice_index_or (members_seen node self.old) serial d))) }
         ensures unchanged { (node : ℕ) → OnErr result (members_seen node self.new ≡ members_seen node self.old) }
+        ensures ready { (node : ℕ) → AreReady self.old.ready.sets.items (members_seen node self.old) → AreReady self.new.ready.sets.items (members_seen node self.new) }
     {
+        let worker = self.worker(serial);
         match self.outboxes.get_mut(&(serial as u64)) {
-            Some(outbox) => outbox.take_piece(alloc, most),
+            Some(outbox) => {
+                take_piece(alloc, most, worker, serial as u64, outbox, &mut self.ready)
+            }
             None => Ok(None),
         }
     }
+}
+
+// The same from its queue.
+fn take_piece(
+    alloc: Global,
+    most: usize,
+    worker: usize,
+    serial: u64,
+    outbox: &mut Outbox,
+    ready: &mut Ready,
+) -> Result<Option<Piece>, Memory>
+    requires { 0 < most }
+    ensures piece { IfOk result (λ piece. IfSome piece (λ piece. (connection_of piece.conn ≡ outbox.old.connection) × (piece.from ≡ outbox.old.handed) × (piece.bytes.items ≡ take most outbox.old.waiting))) }
+    ensures some { IfOk result (λ piece. IfSome piece (λ piece. 0 < length piece.bytes.items)) }
+    ensures none { IfOk result (λ piece. IfNone piece (outbox.old.waiting ≡ [])) }
+    ensures left { OnOk result (outbox.new ≡ handing most outbox.old) }
+    ensures unchanged { OnErr result (outbox.new ≡ outbox.old) }
+    ensures marked { has_serial ready.old.sets.items worker serial ≡ is_some_bytes outbox.old.waiting
+        → IsMarked worker serial (is_some_bytes outbox.new.waiting) ready.old.sets.items ready.new.sets.items }
+{
+    let piece = outbox.take_piece(alloc, most)?;
+    ready.withdraw(worker, serial, outbox);
+    Ok(piece)
 }

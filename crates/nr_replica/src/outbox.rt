@@ -1,6 +1,7 @@
 // A connection's queue: replies and messages are written behind one another into one buffer, and handed out from its front.
-ghost use Rattle.std.specs.Prelude.{◌≡◌, ◌<◌, ◌≤◌, ◌+◌, true, false, [], take, drop, length, IfOk, OnErr, IfSome, IfNone, OnOk, IsErr, nat_le, ◌&&◌};
+ghost use Rattle.std.specs.Prelude.{◌≡◌, ◌<◌, ◌≤◌, ◌+◌, true, false, not, [], take, drop, length, IfOk, OnErr, IfSome, IfNone, OnOk, IsErr, nat_le, ◌&&◌};
 ghost use Rattle.std.specs.Arc.{arc_value};
+ghost use Rattle.nr_model.specs.Connections.{is_some_bytes};
 ghost use Rattle.nr_model.specs.Replies.{reply_text};
 ghost use Rattle.nr_resp.specs.Shown.{shown_reply};
 ghost use Rattle.nr_entry.specs.Jobs.{connection_of};
@@ -206,6 +207,13 @@ impl Outbox {
         ensures { result ≡ length self.now.waiting }
     {
         self.buffer.len() - self.start
+    }
+
+    /// Whether no bytes wait.
+    pub fn is_empty(&self) -> bool
+        ensures { result ≡ not (is_some_bytes self.now.waiting) }
+    {
+        self.len() == 0
     }
 
     /// Whether it takes no more.

@@ -1,5 +1,6 @@
 // The reads that a node runs, each at its own moment. A reply is written once, into its connection's queue.
 ghost use Rattle.std.specs.Prelude.{◌≡◌, ℕ, false, Option};
+ghost use Rattle.nr_model.specs.Connections.{is_some_bytes};
 ghost use Rattle.nr_model.specs.Items.{is_update};
 ghost use Rattle.nr_model.specs.Nodes.Steps.{texts_for};
 ghost use Rattle.nr_model.specs.Queues.{received};
@@ -7,9 +8,11 @@ ghost use Rattle.nr_model.specs.Servers.{emitted_all, emitted_in};
 ghost use Rattle.nr_entry.specs.Jobs.{connection_of, item_of, items_of};
 ghost use Rattle.nr_entry.specs.Kinds.{deed_of};
 ghost use Rattle.nr_replica.specs.Members.{AreNumbered, AreDelivered, AreReads, members_seen};
+ghost use Rattle.nr_replica.specs.Ready.{has_serial, IsMarked, AreReady};
 
 use crate::members::Members;
 use crate::outbox::Outbox;
+use crate::ready::Ready;
 use nr_blob::Memory;
 use nr_entry::{Job, JobKind};
 use nr_machine::Machine;
@@ -23,7 +26,9 @@ pub(crate) fn run_reads<'k>(
 )
     requires reads { AreReads (items_of reads.now) }
     requires numbered { AreNumbered node 0 (members_seen node members.old) }
-    ensures { AreDelivered (emitted_all machine.now.state (items_of reads.now)) (members_seen node members.old) (members_seen node members.new) }
+    requires ready { AreReady members.old.ready.sets.items (members_seen node members.old) }
+    ensures delivered { AreDelivered (emitted_all machine.now.state (items_of reads.now)) (members_seen node members.old) (members_seen node members.new) }
+    ensures ready { AreReady members.new.ready.sets.items (members_seen node members.new) }
 {
     for job in reads {
         run_read(machine, job, node, members);
@@ -34,12 +39,37 @@ pub(crate) fn run_reads<'k>(
 fn run_read<'k>(machine: &'k Machine, job: &'k Job, node: usize, members: &mut Members)
     requires read { is_update (deed_of job.now.kind) ≡ false }
     requires numbered { AreNumbered node 0 (members_seen node members.old) }
-    ensures { AreDelivered (emitted_in machine.now.state (item_of job.now)) (members_seen node members.old) (members_seen node members.new) }
+    requires ready { AreReady members.old.ready.sets.items (members_seen node members.old) }
+    ensures delivered { AreDelivered (emitted_in machine.now.state (item_of job.now)) (members_seen node members.old) (members_seen node members.new) }
+    ensures ready { AreReady members.new.ready.sets.items (members_seen node members.new) }
 {
     if job.conn.node == node {
+        let Some(worker) = members.find_worker(job.conn.serial) else {
+            return;
+        };
         if let Some(outbox) = members.outboxes.get_mut(&job.conn.serial) {
-            reply(machine, job, outbox);
+            answer(machine, job, worker, outbox, &mut members.ready);
         }
+    }
+}
+
+// The reply to a read, to its queue.
+fn answer<'k>(
+    machine: &'k Machine,
+    job: &'k Job,
+    worker: usize,
+    outbox: &mut Outbox,
+    ready: &mut Ready,
+)
+    requires read { is_update (deed_of job.now.kind) ≡ false }
+    requires ready { has_serial ready.old.sets.items worker job.now.conn.serial ≡ is_some_bytes outbox.old.waiting }
+    ensures received { (refused : Option ℕ) × (outbox.new
+        ≡ received refused outbox.old (texts_for (connection_of job.now.conn) (emitted_in machine.now.state (item_of job.now)))) }
+    ensures marked { IsMarked worker job.now.conn.serial (is_some_bytes outbox.new.waiting) ready.old.sets.items ready.new.sets.items }
+{
+    if ready.announce(worker, job.conn.serial, outbox) {
+        reply(machine, job, outbox);
+        ready.withdraw(worker, job.conn.serial, outbox);
     }
 }
 

@@ -5,7 +5,7 @@ ghost use Rattle.nr_model.specs.Entries.{entry_jobs, left_by_entry, read_jobs};
 ghost use Rattle.nr_entry.specs.Entry.{are_of};
 ghost use Rattle.nr_entry.specs.Jobs.{connection_of, items_of};
 ghost use Rattle.nr_entry.specs.Waiting.{has_some};
-ghost use Rattle.nr_replica.specs.Members.{Member, fresh_member, closed_member, handed_member};
+ghost use Rattle.nr_replica.specs.Members.{Member, fresh_member, closed_member, handed_member, next_ready};
 ghost use Rattle.nr_replica.specs.Replicas.{IsApplied, HasRead, fallen};
 
 use crate::delivering::deliver;
@@ -44,6 +44,7 @@ impl Model for Replica {
     ghost use Rattle.nr_entry.specs.Entry.{are_of};
     ghost use Rattle.nr_entry.specs.Jobs.{items_of};
     ghost use Rattle.nr_replica.specs.Members.{AreNumbered, members_seen};
+    ghost use Rattle.nr_replica.specs.Ready.{AreReady};
     ghost use Rattle.nr_replica.specs.Replicas.{ReplicaState, coded_replica};
 
     ghost Value = { ReplicaState };
@@ -52,7 +53,7 @@ impl Model for Replica {
 
     ghost view = { λ r. record { node = r.node; members = members_seen r.node r.members; owed = r.owed.items; waiting = r.waiting.jobs; applied = r.applied; server = cond r.is_down fresh r.machine.state; down = r.is_down; refused = r.is_refused } };
 
-    ghost invariant = { λ r. (r.staging ≡ []) × (r.waiting.gaps ≡ []) × AreNumbered r.node 0 (members_seen r.node r.members) × (r.is_down ≡ false → r.machine.failed ≡ false) × IsTrue (are_of r.node (items_of r.waiting.jobs)) };
+    ghost invariant = { λ r. (r.staging ≡ []) × (r.waiting.gaps ≡ []) × AreNumbered r.node 0 (members_seen r.node r.members) × (r.is_down ≡ false → r.machine.failed ≡ false) × IsTrue (are_of r.node (items_of r.waiting.jobs)) × AreReady r.members.ready.sets.items (members_seen r.node r.members) };
 }
 
 impl Replica {
@@ -148,6 +149,15 @@ impl Replica {
         ensures { (d : Member) → result ≡ length (slice_index_or self.now.members serial d).outbox.waiting }
     {
         self.members.waiting(serial)
+    }
+
+    /// The first connection, by serial from `from` on, that a worker serves and for which bytes wait. Logarithmic in the worker's connections for
+    /// which bytes wait.
+    pub fn next_ready(&self, worker: usize, from: usize) -> Option<usize>
+        requires { worker < length self.now.owed }
+        ensures { result ≡ next_ready worker from self.now.members }
+    {
+        self.members.next_ready(worker, from)
     }
 
     /// Opens a connection that a worker serves, for which at most `limit` bytes wait. Logarithmic. A byte of it stays once it is closed: the

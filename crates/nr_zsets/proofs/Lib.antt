@@ -7,3 +7,4 @@ pub mod Parts
 pub mod Sorted
 pub mod Ranked
 pub mod Ranges
+pub mod Crossing

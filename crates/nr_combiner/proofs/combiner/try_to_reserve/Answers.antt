@@ -3,5 +3,8 @@ use Rattle.nr_combiner.proofs.combiner.try_to_reserve.Goals as goal
 
 pub returns : goal.returns
 returns g c =
-    tried_by g.B.LogName.places c.reserve.result c.args.core.now c.reserve.new.self c.reserve.ensures.done c.reserve.ensures.full c.reserve.ensures.again c.reserve.ensures.met_full
-    c.reserve.ensures.met_lost c.reserve.ensures.not_yet c.reserve.ensures.down c.reserve.ensures.memory
+    record {
+      comes = tried_by g.B.LogName.places c.reserve.result c.args.core.now c.reserve.new.self c.reserve.ensures.done c.reserve.ensures.full c.reserve.ensures.again c.reserve.ensures.met_full
+          c.reserve.ensures.met_lost c.reserve.ensures.not_yet c.reserve.ensures.down c.reserve.ensures.memory;
+      looks = c.reserve.ensures.looks;
+    }

@@ -1,12 +1,10 @@
-use Rattle.std.proofs.Common.{◌≡◌, None, [], replicate, length}
+use Rattle.std.proofs.Common.{◌≡◌, None, replicate, length}
 use Rattle.nr_model.specs.Nodes as nodes
 use Rattle.nr_nodes.specs.Served.{workers_seen}
-use Rattle.nr_nodes.specs.Listed.{lists_of}
 use Rattle.nr_nodes.proofs.node.fresh_workers.Given as goal
 
 abbrev pub invariant-loop : goal.invariant-loop
 invariant-loop l = record {
   count : length l.workers.items ≡ l.counter;
   fresh : workers_seen l.workers.items (replicate l.counter None) ≡ replicate l.counter nodes.fresh_worker;
-  serials : lists_of l.workers.items ≡ replicate l.counter [];
 }

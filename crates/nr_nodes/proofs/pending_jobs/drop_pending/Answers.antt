@@ -8,5 +8,5 @@ loop-worker-preserved c =
     let item : Worker = get_or c.loop-worker.workers c.loop-worker.worker-index c.worker-item.result in
     let within : c.loop-worker.worker-index < length c.loop-worker.workers = omega arith in
     forgotten_step c.loop-worker.worker-index c.args.workers.now c.loop-worker.workers
-    (record { pending = c.clear.new.self; batches = item.batches; slot = item.slot; serials = item.serials }) c.worker-item.result
-    c.loop-worker.invariant within (record { pending = c.clear.ensures.items; batches = refl; slot = refl; serials = refl })
+    (record { pending = c.clear.new.self; batches = item.batches; slot = item.slot }) c.worker-item.result
+    c.loop-worker.invariant within (record { pending = c.clear.ensures.items; batches = refl; slot = refl })

@@ -1,18 +1,17 @@
-use Rattle.std.proofs.Common.{arith, ◌≡◌, ◌≤◌, List, length, ◌++◌, get_or, ap, sym, ◌∙◌}
+use Rattle.std.proofs.Common.{arith, ◌≤◌, List, length, ◌++◌, get_or, ap, sym, ◌∙◌}
 use Rattle.std.specs.Prelude.{map}
 use Rattle.std.proofs.lemmas.List.{map-append}
 use Rattle.nr_model.specs.Connections as traffic
 use Rattle.nr_entry.specs.Jobs.{connection_of}
-use Rattle.nr_replica.specs.Members.{Member}
+use Rattle.nr_replica.specs.Members.{Member, nobody}
 use Rattle.nr_nodes.specs.Seen.{handed_seen}
-use Rattle.nr_nodes.proofs.Collected.{some_waits, none_there}
+use Rattle.nr_nodes.proofs.Collected.{some_waits, some_bytes}
 use Rattle.nr_nodes.proofs.waiting_bytes.hand_out.Goals as goal
 
-pub returns-then-waiting-eq0-clause-members : goal.returns-then-waiting-eq0-clause-members
-returns-then-waiting-eq0-clause-members c = λ d.
-    let none : length (get_or c.args.replica.now.members c.args.serial d).outbox.waiting ≡ 0 =
-    omega (arith, c.waiting-waiting.ensures d, c.if-waiting-eq0.true) in
-    none_there c.args.replica.now c.args.serial d none
+pub take_piece-requires-clause-some : goal.take_piece-requires-clause-some
+take_piece-requires-clause-some c =
+    let some = some_bytes (get_or c.args.replica.now.members c.args.serial nobody).outbox.waiting (c.requires.waits nobody) in
+    omega (arith, c.waiting-waiting.ensures nobody, some)
 
 pub returns-clause-handed : goal.returns-clause-handed
 returns-clause-handed c = λ d.

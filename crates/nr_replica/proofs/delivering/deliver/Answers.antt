@@ -7,7 +7,7 @@ use Rattle.nr_replica.proofs.Giving.{given_next}
 use Rattle.nr_replica.proofs.delivering.deliver.Goals as goal
 
 pub loop-index-init : goal.loop-index-init
-loop-index-init c = (c.requires, nothing_received (members_seen c.args.node c.args.members.now))
+loop-index-init c = (c.requires.numbered, c.requires.ready, nothing_received (members_seen c.args.node c.args.members.now))
 
 pub loop-index-preserved : goal.loop-index-preserved
 loop-index-preserved c =
@@ -15,6 +15,7 @@ loop-index-preserved c =
     let olds = members_seen c.args.node c.args.members.now in
     let mids = members_seen c.args.node c.loop-index.members in
     let news = members_seen c.args.node c.give.new.members in (
-      received_numbered c.args.node 0 (λ k. texts_of k (one ∷ [])) mids news c.loop-index.invariant.0 c.give.ensures,
-      given_next c.args.staging.now c.loop-index.index one one olds mids news (omega arith) (c.get.ensures one) c.loop-index.invariant.1 c.give.ensures,
+      received_numbered c.args.node 0 (λ k. texts_of k (one ∷ [])) mids news c.loop-index.invariant.0 c.give.ensures.given,
+      c.give.ensures.ready,
+      given_next c.args.staging.now c.loop-index.index one one olds mids news (omega arith) (c.get.ensures one) c.loop-index.invariant.2 c.give.ensures.given,
     )

@@ -10,7 +10,7 @@ use Rattle.nr_replica.proofs.Looked.{read_at, reads_next}
 use Rattle.nr_replica.proofs.reading.run_reads.Goals as goal
 
 pub loop-job-init : goal.loop-job-init
-loop-job-init c = (c.requires.numbered, nothing_received (members_seen c.args.node c.args.members.now))
+loop-job-init c = (c.requires.numbered, c.requires.ready, nothing_received (members_seen c.args.node c.args.members.now))
 
 pub run_read-requires-clause-read : goal.run_read-requires-clause-read
 run_read-requires-clause-read c =
@@ -24,6 +24,7 @@ loop-job-preserved c =
     let olds = members_seen c.args.node c.args.members.now in
     let mids = members_seen c.args.node c.loop-job.members in
     let news = members_seen c.args.node c.run_read.new.members in (
-      received_numbered c.args.node 0 (λ k. texts_for k (emitted_in state (item_of job))) mids news c.loop-job.invariant.0 c.run_read.ensures,
-      reads_next state c.args.reads.now c.loop-job.job-index job job olds mids news c.requires.reads c.loop-job-test.true c.job-item.is c.loop-job.invariant.1 c.run_read.ensures,
+      received_numbered c.args.node 0 (λ k. texts_for k (emitted_in state (item_of job))) mids news c.loop-job.invariant.0 c.run_read.ensures.delivered,
+      c.run_read.ensures.ready,
+      reads_next state c.args.reads.now c.loop-job.job-index job job olds mids news c.requires.reads c.loop-job-test.true c.job-item.is c.loop-job.invariant.2 c.run_read.ensures.delivered,
     )

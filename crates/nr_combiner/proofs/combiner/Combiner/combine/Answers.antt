@@ -13,9 +13,9 @@ invariant_of-self g c =
     let tried = c.try_to_reserve-tried.new.core in
     let looked = c.look-looked.new.self in
     let goes = c.look-looked.ensures.goes in
-    let book : looked.book ≡ inside.core.book = goes.1.1.1.book ∙ tried_book g.B.LogName.places c.try_to_reserve-tried.result inside.core tried c.try_to_reserve-tried.ensures in (
+    let book : looked.book ≡ inside.core.book = goes.1.1.1.book ∙ tried_book g.B.LogName.places c.try_to_reserve-tried.result inside.core tried c.try_to_reserve-tried.ensures.comes in (
       looked_served goes.0 goes.1.0 goes.1.1.0 tried looked inside.seat inside.numbers.items goes.1.1.1
-          (tried_served g.B.LogName.places c.try_to_reserve-tried.result inside.core tried inside.seat inside.numbers.items c.try_to_reserve-tried.ensures keeps.0),
+          (tried_served g.B.LogName.places c.try_to_reserve-tried.result inside.core tried inside.seat inside.numbers.items c.try_to_reserve-tried.ensures.comes keeps.0),
       keeps.1,
       keeps.2 ∙ ap (λ (b : Book). b.node) (sym book),
     )

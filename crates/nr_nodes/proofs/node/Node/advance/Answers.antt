@@ -4,7 +4,7 @@ use Rattle.nr_nodes.specs.Forgotten.{AreForgotten}
 use Rattle.nr_nodes.specs.Served.{node_seen, entry_seen}
 use Rattle.nr_nodes.specs.Advanced.{IsAdvanced}
 use Rattle.nr_nodes.proofs.Changed.{seen_by}
-use Rattle.nr_nodes.proofs.Forgotten.{same_length, same_lists}
+use Rattle.nr_nodes.proofs.Forgotten.{same_length}
 use Rattle.nr_nodes.proofs.Sides.{refill}
 use Rattle.nr_nodes.proofs.Advanced.{advanced_is, fallen_is, not_true}
 use Rattle.nr_nodes.proofs.Kept.{kept_applied, kept_refilled, numbered_applied, numbered_fallen}
@@ -19,7 +19,7 @@ returns-then-apply-clause-advanced c =
 pub returns-then-apply-clause-whole : goal.returns-then-apply-clause-whole
 returns-then-apply-clause-whole c = λ n w.
     let k = kept_applied n c.args.self.now c.args.entry.now c.apply.new.self (c.apply.ensures.applied c.if-apply.true) w in
-    record { number = k.number; pairs = k.pairs; owed = k.owed; counted = k.counted; listed = k.listed }
+    record { number = k.number; pairs = k.pairs; owed = k.owed; counted = k.counted }
 
 pub returns-then-apply-clause-numbered : goal.returns-then-apply-clause-numbered
 returns-then-apply-clause-numbered c = λ n k.
@@ -45,9 +45,8 @@ returns-clause-whole c = λ n w.
     let same = same_length (length c.args.self.now.workers.items) c.args.self.now.workers.items c.drop_pending.new.workers forgotten in
     let count : c.args.self.now.workers.len ≡ length c.args.self.now.workers.items = omega (arith, c.args.self.now.workers.ok.0) in
     let items = refill c.args.self.now.workers.len c.drop_pending.new.workers c.args.self.now.workers.items same count in
-    let lists = same_lists (length c.args.self.now.workers.items) c.args.self.now.workers.items c.drop_pending.new.workers forgotten in
-    let k = kept_refilled n c.args.self.now c.apply.new.self c.drop_pending.new.workers _ (c.apply.ensures.fell c.if-apply.false) lists items w in
-    record { number = k.number; pairs = k.pairs; owed = k.owed; counted = k.counted; listed = k.listed }
+    let k = kept_refilled n c.args.self.now c.apply.new.self c.drop_pending.new.workers _ (c.apply.ensures.fell c.if-apply.false) same items w in
+    record { number = k.number; pairs = k.pairs; owed = k.owed; counted = k.counted }
 
 pub returns-clause-numbered : goal.returns-clause-numbered
 returns-clause-numbered c = λ n k. numbered_fallen n c.args.self.now.replica c.apply.new.self (c.apply.ensures.fell c.if-apply.false) k

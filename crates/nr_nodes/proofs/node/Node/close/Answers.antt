@@ -1,56 +1,47 @@
-use Rattle.std.proofs.Common.{rules, arith, ap, sym, ◌≡◌, ◌∙◌, ◌<◌, ℕ, List, [], get_or, set, length, refl}
-use Rattle.nr_entry.specs.Jobs.{connection_of, items_of}
+use Rattle.std.proofs.Common.{rules, arith, ap, ◌≡◌, ◌∙◌, ◌<◌, List, get_or, set, length, refl}
+use Rattle.std.proofs.lemmas.List.{length-set}
+use Rattle.nr_entry.specs.Jobs.{connection_of}
 use Rattle.nr_session.specs.SessionState.{SessionState}
 use Rattle.nr_replica.specs.Members.{Member, fresh_member}
 use Rattle.nr_nodes.specs.declared.worker.Worker.{Worker}
-use Rattle.nr_nodes.specs.Listed.{lists_of, without}
 use Rattle.nr_nodes.proofs.Sides.{any_default}
 use Rattle.nr_nodes.specs.BySerial.{closed_session}
 use Rattle.nr_nodes.proofs.Changed.{closed_is, seen_from}
-use Rattle.nr_nodes.proofs.Listed.{lists_set, list_at}
 use Rattle.nr_nodes.proofs.Paired.{whole_closed}
 use Rattle.nr_nodes.proofs.node.Node.close.Goals as goal
 
 pub returns-clause-closed : goal.returns-clause-closed
 returns-clause-closed c =
     let old : SessionState = get_or c.args.self.now.sessions c.args.conn.serial closed_session in
-    let worker : Worker = c.index_mut-worker.result.now in
+    let worker : Worker = c.index_mut.result.now in
     let none : Member = fresh_member (connection_of c.args.conn) 0 0 in
     let member : Member = get_or c.args.self.now.replica.members c.args.conn.serial none in
     let atold = any_default c.args.self.now.sessions c.args.conn.serial closed_session old c.requires.is_there in
-    let which : c.worker-at.result ≡ member.worker = c.worker-at.ensures none in
-    let atworker : worker ≡ get_or c.args.self.now.workers.items c.worker-at.result worker = search rules in
+    let which : c.worker-worker.result ≡ member.worker = c.worker-worker.ensures none in
+    let atworker : worker ≡ get_or c.args.self.now.workers.items c.worker-worker.result worker = search rules in
     let within : c.args.conn.serial < length c.args.self.now.replica.members = omega (arith, c.requires.clients, c.requires.is_there) in
     let there : member.worker < length c.args.self.now.workers.items = c.requires.worker none in
-    let is_worker : c.worker-at.result < length c.args.self.now.workers.items = omega (arith, which, there) in
-    ap (λ (sessions : List SessionState). seen_from c.args.self.now c.close-2.new.self sessions (set c.args.self.now.workers.items c.worker-at.result c.forget.new.self))
+    let is_worker : c.worker-worker.result < length c.args.self.now.workers.items = omega (arith, which, there) in
+    let x : Worker = record { pending = c.close.new.pending; batches = worker.batches; slot = worker.slot } in
+    ap (λ (sessions : List SessionState). seen_from c.args.self.now c.close-2.new.self sessions (set c.args.self.now.workers.items c.worker-worker.result x))
     c.in_ok-close.ensures.closed
-    ∙ closed_is c.args.self.now c.args.conn c.args.moment closed_session old member c.worker-at.result c.forget.new.self worker c.close-2.new.self
+    ∙ closed_is c.args.self.now c.args.conn c.args.moment closed_session old member c.worker-worker.result x worker c.close-2.new.self
     c.requires.is_there c.requires.clients c.requires.owed is_worker atold
     (any_default c.args.self.now.replica.members c.args.conn.serial none member within) which atworker refl
-    (ap (λ v. items_of v.items) c.forget.ensures.pending ∙ c.in_ok-close.ensures.jobs closed_session member) c.forget.ensures.batches c.forget.ensures.slot
+    (c.in_ok-close.ensures.jobs closed_session member) refl refl
     (c.close-2.ensures none)
 
 pub returns-clause-whole : goal.returns-clause-whole
 returns-clause-whole c = λ d n unclosed whole.
     let old : SessionState = get_or c.args.self.now.sessions c.args.conn.serial closed_session in
-    let worker : Worker = c.index_mut-worker.result.now in
-    let workers : List Worker = c.args.self.now.workers.items in
-    let w : ℕ = c.worker-at.result in
     let atold = any_default c.args.self.now.sessions c.args.conn.serial closed_session old c.requires.is_there in
-    let which : w ≡ (get_or c.args.self.now.replica.members c.args.conn.serial d).worker = c.worker-at.ensures d in
-    let atworker : worker ≡ get_or workers w worker = search rules in
-    let there : (get_or c.args.self.now.replica.members c.args.conn.serial d).worker < length workers = c.requires.worker d in
-    let is_worker : w < length workers = omega (arith, which, there) in
-    let serials : c.forget.new.self.serials.items ≡ without c.args.conn.serial (get_or (lists_of workers) w []) =
-    c.forget.ensures.serials ∙ ap (without c.args.conn.serial) (sym (list_at workers w worker is_worker atworker)) in
-    whole_closed n w c.args.self.now _ c.args.conn.serial closed_session old d whole (c.close-2.ensures d) c.in_ok-close.ensures.closed
-    (lists_set workers w c.forget.new.self (without c.args.conn.serial (get_or (lists_of workers) w [])) serials) is_worker which
+    whole_closed n c.args.self.now _ c.args.conn.serial closed_session old d whole (c.close-2.ensures d) c.in_ok-close.ensures.closed
+    (length-set c.args.self.now.workers.items c.worker-worker.result _)
     (omega (arith, c.requires.counts)) c.requires.is_there atold refl unclosed
 
-pub index_mut-worker-requires : goal.index_mut-worker-requires
-index_mut-worker-requires c =
+pub index_mut-requires : goal.index_mut-requires
+index_mut-requires c =
     let none : Member = fresh_member (connection_of c.args.conn) 0 0 in
-    let which : c.worker-at.result ≡ (get_or c.args.self.now.replica.members c.args.conn.serial none).worker = c.worker-at.ensures none in
+    let which : c.worker-worker.result ≡ (get_or c.args.self.now.replica.members c.args.conn.serial none).worker = c.worker-worker.ensures none in
     let there : (get_or c.args.self.now.replica.members c.args.conn.serial none).worker < length c.args.self.now.workers.items = c.requires.worker none in
     omega (arith, which, there)

@@ -1,60 +1,36 @@
 use Rattle.std.proofs.Common.{rules, ◌≡◌, ◌++◌, None, List, get_or, refl, ap, ◌∙◌}
 use Rattle.std.specs.Prelude.{map}
+use Rattle.std.proofs.lemmas.List.{length-set}
 use Rattle.nr_model.specs.Connections as traffic
 use Rattle.nr_model.specs.Nodes as nodes
-use Rattle.nr_replica.specs.Members.{Member}
 use Rattle.nr_nodes.specs.declared.worker.Worker.{Worker}
 use Rattle.nr_nodes.specs.Batches.{executed_in}
 use Rattle.nr_nodes.specs.Seen.{handed_seen}
 use Rattle.nr_nodes.proofs.Batches.{worker_is, whole_collected}
-use Rattle.nr_nodes.proofs.Collected.{collected_is, clients_collected, emptied_all, collected_all, all_within}
-use Rattle.nr_nodes.proofs.Listed.{own_serials, lists_same}
+use Rattle.nr_nodes.proofs.Collected.{collected_is, clients_collected}
 use Rattle.nr_nodes.proofs.node.Node.collect.Goals as goal
-
-pub collect-requires-clause-within : goal.collect-requires-clause-within
-collect-requires-clause-within c =
-    let old : Worker = c.index_mut-worker.result.now in
-    let at : old ≡ get_or c.args.self.now.workers.items c.args.worker old = search rules in
-    let own = own_serials c.args.self.now.workers.items c.args.self.now.replica.members c.args.worker old c.deref.result.now c.requires.is_there at
-    c.deref.ensures.value c.requires.listed in
-    all_within c.args.worker c.deref.result.now c.args.self.now.replica.members own
 
 pub returns-clause-node : goal.returns-clause-node
 returns-clause-node c =
-    let old : Worker = c.index_mut-worker.result.now in
+    let old : Worker = c.index_mut.result.now in
     let at : old ≡ get_or c.args.self.now.workers.items c.args.worker old = search rules in
-    let own = own_serials c.args.self.now.workers.items c.args.self.now.replica.members c.args.worker old c.deref.result.now c.requires.is_there at
-    c.deref.ensures.value c.requires.listed in
     collected_is c.args.self.now c.args.worker c.collect-answer.new.self old c.collect.new.replica c.requires.is_there c.requires.owed at
-    c.collect-answer.ensures.worker
-    (c.in_ok-collect.ensures.members ∙ ap (λ (members : List Member). record c.args.self.now.replica { members = members })
-    (emptied_all c.args.worker c.deref.result.now c.args.self.now.replica.members own c.requires.listed.silent))
+    c.collect-answer.ensures.worker c.in_ok-collect.ensures.members
 
 pub returns-clause-handed : goal.returns-clause-handed
 returns-clause-handed c =
-    let old : Worker = c.index_mut-worker.result.now in
-    let at : old ≡ get_or c.args.self.now.workers.items c.args.worker old = search rules in
-    let own = own_serials c.args.self.now.workers.items c.args.self.now.replica.members c.args.worker old c.deref.result.now c.requires.is_there at
-    c.deref.ensures.value c.requires.listed in
     c.in_ok-collect.ensures.handed
     ∙ ap (λ (more : List traffic.Handed). map handed_seen c.args.handed.now.items ++ more)
-    (collected_all c.args.worker c.deref.result.now c.args.self.now.replica.members own c.requires.listed.silent
-    ∙ clients_collected c.args.worker c.args.self.now.sessions c.args.self.now.replica.members c.requires.clients)
+    (clients_collected c.args.worker c.args.self.now.sessions c.args.self.now.replica.members c.requires.clients)
 
 pub returns-clause-answer : goal.returns-clause-answer
 returns-clause-answer c =
-    let old : Worker = c.index_mut-worker.result.now in
+    let old : Worker = c.index_mut.result.now in
     let at : old ≡ get_or c.args.self.now.workers.items c.args.worker old = search rules in
     c.collect-answer.ensures.answer (get_or c.args.self.now.replica.owed c.args.worker None)
     ∙ ap (λ (v : nodes.Worker). executed_in v.slot) (worker_is c.args.self.now c.args.worker old c.requires.is_there c.requires.owed at)
 
 pub returns-clause-whole : goal.returns-clause-whole
 returns-clause-whole c = λ n whole.
-    let old : Worker = c.index_mut-worker.result.now in
-    let at : old ≡ get_or c.args.self.now.workers.items c.args.worker old = search rules in
-    let own = own_serials c.args.self.now.workers.items c.args.self.now.replica.members c.args.worker old c.deref.result.now c.requires.is_there at
-    c.deref.ensures.value c.requires.listed in
-    whole_collected n c.args.worker c.args.self.now _
-    (c.in_ok-collect.ensures.members ∙ ap (λ (members : List Member). record c.args.self.now.replica { members = members })
-    (emptied_all c.args.worker c.deref.result.now c.args.self.now.replica.members own c.requires.listed.silent)) refl
-    (lists_same c.args.self.now.workers.items c.args.worker c.collect-answer.new.self old at c.collect-answer.ensures.serials) refl whole
+    whole_collected n c.args.worker c.args.self.now _ c.in_ok-collect.ensures.members refl
+    (length-set c.args.self.now.workers.items c.args.worker c.collect-answer.new.self) refl whole

@@ -7,7 +7,7 @@ use Rattle.nr_nodes.specs.declared.worker.Worker.{Worker}
 use Rattle.nr_nodes.specs.BySerial.{closed_session}
 use Rattle.nr_nodes.proofs.Changed.{fed_is, seen_from}
 use Rattle.nr_nodes.proofs.Paired.{whole_fed}
-use Rattle.nr_nodes.proofs.Listed.{lists_same}
+use Rattle.std.proofs.lemmas.List.{length-set}
 use Rattle.nr_nodes.proofs.node.Node.feed.Goals as goal
 
 pub returns-clause-fed : goal.returns-clause-fed
@@ -26,7 +26,6 @@ returns-clause-fed c =
       pending = c.feed.new.pending;
       batches = c.index_mut.result.now.batches;
       slot = c.index_mut.result.now.slot;
-      serials = c.index_mut.result.now.serials;
     } in
     ap (λ (sessions : List SessionState). seen_from c.args.self.now c.args.self.now.replica sessions (set c.args.self.now.workers.items c.worker-worker.result x))
     (c.in_ok-feed.ensures.others closed_session)
@@ -43,7 +42,7 @@ returns-clause-whole c = λ n whole.
     let none : Member = fresh_member (connection_of c.args.conn) 0 0 in
     let fed = c.in_ok-feed.ensures.fed closed_session in
     whole_fed n c.args.self.now _ c.args.conn.serial new old none whole refl (c.in_ok-feed.ensures.others closed_session)
-    (lists_same c.args.self.now.workers.items c.worker-worker.result _ c.index_mut.result.now (search rules) refl) refl c.requires.is_there
+    (length-set c.args.self.now.workers.items c.worker-worker.result _) refl c.requires.is_there
     (any_default c.args.self.now.sessions c.args.conn.serial closed_session old c.requires.is_there)
     (c.requires.going closed_session) fed.named fed.ends
 

@@ -4,7 +4,7 @@ use Rattle.nr_entry.specs.Entry.{are_of}
 use Rattle.nr_model.specs.Entries.{Jobs}
 use Rattle.nr_nodes.proofs.Changed.{lifted_is, posted_at}
 use Rattle.nr_nodes.proofs.Batches.{whole_owing}
-use Rattle.nr_nodes.proofs.Listed.{lists_same}
+use Rattle.std.proofs.lemmas.List.{length-set}
 use Rattle.nr_nodes.proofs.node.Node.lift.Goals as goal
 
 pub lift-requires-clause-own : goal.lift-requires-clause-own
@@ -25,4 +25,4 @@ returns-clause-lifted c =
 pub returns-clause-whole : goal.returns-clause-whole
 returns-clause-whole c = λ n whole.
     whole_owing n c.args.worker _ _ c.args.self.now _ c.in-Ok.ensures.lifted refl
-    (lists_same c.args.self.now.workers.items c.args.worker c.lift-jobs.new.self c.index_mut.result.now (search rules) c.lift-jobs.ensures.serials) refl whole
+    (length-set c.args.self.now.workers.items c.args.worker c.lift-jobs.new.self) refl whole

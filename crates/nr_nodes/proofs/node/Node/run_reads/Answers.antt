@@ -9,4 +9,4 @@ returns-clause-run c = λ (tail : ℕ). run_is c.args.self.now tail c.run_reads.
 pub returns-clause-whole : goal.returns-clause-whole
 returns-clause-whole c = λ n w.
     let k = kept_read n c.args.self.now c.run_reads.new.self c.in_ok-run_reads.ensures.read w in
-    record { number = k.number; pairs = k.pairs; owed = k.owed; counted = k.counted; listed = k.listed }
+    record { number = k.number; pairs = k.pairs; owed = k.owed; counted = k.counted }

@@ -21,9 +21,10 @@ invariant_of-self-2 c =
     let up : c.stage.new.machine.failed ≡ false = search rules in (
       c.clear.ensures,
       keeps.1,
-      received_numbered inside.node 0 (λ k. texts_of k c.stage.new.staging) olds news keeps.2 c.deliver.ensures,
+      received_numbered inside.node 0 (λ k. texts_of k c.stage.new.staging) olds news keeps.2 c.deliver.ensures.given,
       (λ _. up),
       keeps.4,
+      c.deliver.ensures.ready,
     )
 
 pub returns-clause-applied : goal.returns-clause-applied
@@ -46,4 +47,4 @@ returns-clause-applied c =
     ∙ ap (λ (owed : List (Option ℕ)). cond (entry.node == inside.node) (owed_from 0 olds (items_of entry.jobs.items) owed) owed) c.deref_mut.ensures.value in
     λ _. applied_from entry _ _ _ c.self.view_is
     (applied_is inside.node inside.applied olds news _ inside.owed.items _ inside.waiting.jobs inside.machine.state c.stage.new.machine.state inside.is_down inside.is_refused
-    entry c.stage.new.staging up keeps.2 from-none c.deliver.ensures refl (less ∙ owes) moved)
+    entry c.stage.new.staging up keeps.2 from-none c.deliver.ensures.given refl (less ∙ owes) moved)

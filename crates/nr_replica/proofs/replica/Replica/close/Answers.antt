@@ -21,13 +21,14 @@ invariant_of-self c =
     let d = fresh_member (record { node = inside.node; serial = 0 }) 0 0 in (
       keeps.0,
       keeps.1,
-      closed_numbered inside.node c.args.serial olds (members_seen inside.node c.close.new.self) d keeps.2 within (c.close.ensures inside.node d keeps.2),
+      closed_numbered inside.node c.args.serial olds (members_seen inside.node c.close.new.self) d keeps.2 within (c.close.ensures.closed inside.node d keeps.2),
       keeps.3,
       keeps.4,
+      c.close.ensures.ready inside.node keeps.5,
     )
 
 pub returns : goal.returns
 returns c = λ d.
     let inside = c.self.inside in
     moved_to _ _ (λ r. set r.members c.args.serial (closed_member (get_or r.members c.args.serial d))) (members_seen inside.node c.close.new.self) c.self.view_is
-    (c.close.ensures inside.node d c.self.invariant.2)
+    (c.close.ensures.closed inside.node d c.self.invariant.2)

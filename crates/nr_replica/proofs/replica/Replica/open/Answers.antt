@@ -20,6 +20,7 @@ invariant_of-self-2 c =
           (ap (λ (s : ℕ). record { node = inside.node; serial = s }) number),
       keeps.3,
       keeps.4,
+      c.open.ensures.ready keeps.5,
     )
 
 pub returns-clause-conn : goal.returns-clause-conn

@@ -22,7 +22,8 @@ invariant_of-self-2 c =
     let es = emitted_all inside.machine.state (items_of c.deref-2.result.now) in (
       keeps.0,
       c.in_ok-reads.ensures.whole.0,
-      received_numbered inside.node 0 (λ k. texts_for k es) olds news keeps.2 c.run_reads.ensures,
+      received_numbered inside.node 0 (λ k. texts_for k es) olds news keeps.2 c.run_reads.ensures.delivered,
       keeps.3,
       own_left_by_reads inside.node (items_of inside.waiting.jobs) (items_of c.take_reads.new.self.jobs) c.in_ok-reads.ensures.left keeps.4,
+      c.run_reads.ensures.ready,
     )

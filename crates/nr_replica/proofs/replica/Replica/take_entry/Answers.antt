@@ -11,7 +11,7 @@ invariant_of-self-then-is_empty c =
     let keeps = c.self.invariant in
     let none : c.take_updates.new.waiting.gaps ≡ [] = search rules in
     let left : new ≡ left_by_entry old = search rules in
-    (keeps.0, none, keeps.2, keeps.3, own_left c.self.inside.node old new left keeps.4)
+    (keeps.0, none, keeps.2, keeps.3, own_left c.self.inside.node old new left keeps.4, keeps.5)
 
 pub invariant_of-self-2 : goal.invariant_of-self-2
 invariant_of-self-2 c =
@@ -20,4 +20,4 @@ invariant_of-self-2 c =
     let keeps = c.self.invariant in
     let none : c.take_updates.new.waiting.gaps ≡ [] = search rules in
     let left : new ≡ left_by_entry old = search rules in
-    (keeps.0, none, keeps.2, keeps.3, own_left c.self.inside.node old new left keeps.4)
+    (keeps.0, none, keeps.2, keeps.3, own_left c.self.inside.node old new left keeps.4, keeps.5)

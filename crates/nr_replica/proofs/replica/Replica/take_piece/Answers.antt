@@ -28,6 +28,7 @@ invariant_of-self c =
           (c.take_piece.ensures.left inside.node d) (c.take_piece.ensures.unchanged inside.node),
       keeps.3,
       keeps.4,
+      c.take_piece.ensures.ready inside.node keeps.5,
     )
 
 pub returns-clause-piece : goal.returns-clause-piece

@@ -1,5 +1,0 @@
-use Rattle.nr_exchange.proofs.Filled.{IsFilledBelow}
-use Rattle.nr_exchange.proofs.entries.fill_all.Given as goal
-
-abbrev pub invariant-loop-other : goal.invariant-loop-other
-invariant-loop-other g l = IsFilledBelow l.node l.nodes l.at l.other (g.L.LogEnd.standing l.end)

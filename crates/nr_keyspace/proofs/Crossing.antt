@@ -1,0 +1,35 @@
+-- A keyspace may go to another thread: by its parts, from the sorted set on, which the toolchain keeps no such lemma of.
+use denote.Param.Send.{IsSend, view_send, sendable}
+use denote.Param.SendFields.{declared_send}
+use Rattle.std.proofs.Crossing.{crosses}
+use Rattle.std.proofs.collections.HashMap.TheSendSync as map
+use Rattle.nr_blob.proofs.blob.Blob.TheSendSync as blob
+use Rattle.nr_strings.proofs.string.Str.TheSendSync as str
+use Rattle.nr_lists.proofs.list.List.TheSendSync as list
+use Rattle.nr_hashes.proofs.hash.Hash.TheSendSync as hash
+use Rattle.nr_sets.proofs.set.Set.TheSendSync as set
+use Rattle.nr_zsets.proofs.Crossing.{zset_send}
+use Rattle.nr_keyspace.proofs.deadlines.Deadlines.TheSendSync as deadlines
+use Rattle.nr_keyspace.proofs.databases.sweeps.Sweeps.TheSendSync as sweeps
+use Rattle.nr_keyspace.specs.contracts.value.Value as Value
+use Rattle.nr_keyspace.specs.contracts.database.Entry as Entry
+use Rattle.nr_keyspace.specs.contracts.database.Database as Database
+use Rattle.nr_keyspace.specs.contracts.databases.Databases as Databases
+use Rattle.nr_keyspace.specs.contracts.keyspace.Keyspace as Keyspace
+
+ruleset parts = (sendable, crosses, blob.the_send, blob.the_sync)
+
+value_send : IsSend (Value.the_field).row
+value_send = search (parts, zset_send, str.the_send, list.the_send, hash.the_send, set.the_send) depth 60 fits 100000
+
+entry_send : IsSend (Entry.the_field).row
+entry_send = search (parts, value_send) depth 60 fits 100000
+
+database_send : IsSend Database.the_row
+database_send = view_send Database.TheInside.the_row _ _ _ _ (declared_send Database.TheInside.the_type (search (parts, map.the_send, entry_send) depth 60 fits 100000, (deadlines.the_send, tt)))
+
+databases_send : IsSend Databases.the_row
+databases_send = search (parts, database_send) depth 60 fits 100000
+
+pub keyspace_send : IsSend Keyspace.the_row
+keyspace_send = view_send Keyspace.TheInside.the_row _ _ _ _ (declared_send Keyspace.TheInside.the_type (databases_send, (sweeps.the_send, (search parts depth 60, tt))))

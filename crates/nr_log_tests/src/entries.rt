@@ -1,0 +1,83 @@
+// Entries of one job, and what a test does at an end of a log.
+ghost use Rattle.std.specs.Prelude.{◌≡◌, ◌<◌, IfOk, None};
+ghost use Rattle.nr_log_end.specs.Reserves.{IfFull, IfLost};
+ghost use Rattle.nr_log_tests.specs.Ready.{IsReady, IsFresh, IsOfNode};
+
+use nr_blob::Memory;
+use nr_entry::{ConnId, Entry, Job, JobKind, Shares, Update};
+use nr_log_end::{LogEnd, Reserve};
+use nr_oplog::{End, LogName};
+use std::alloc::Global;
+
+// Shares of an entry whose one job has this number.
+pub(crate) fn shares(
+    alloc: Global,
+    node: usize,
+    nodes: usize,
+    number: u64,
+) -> Result<Shares, Memory>
+    requires { 0 < nodes }
+    ensures { IfOk result (IsOfNode node nodes) }
+{
+    let mut jobs = Vec::with_capacity(alloc, 1)?;
+    jobs.push(close(node, number))?;
+    match Shares::of(alloc, Entry::new(node, jobs), nodes) {
+        Ok(shares) => Ok(shares),
+        Err(_) => Err(Memory),
+    }
+}
+
+fn close(node: usize, number: u64) -> Job
+    ensures kind { result.kind ≡ JobKind.Update (Update.Close None) }
+    ensures node { result.conn.node ≡ node }
+{
+    Job {
+        conn: ConnId { node, serial: 0 },
+        number,
+        moment: 0,
+        kind: JobKind::Update(Update::Close(None)),
+    }
+}
+
+// Tries once to append an entry.
+pub(crate) fn append<B: LogName>(
+    end: &mut End<B>,
+    node: usize,
+    nodes: usize,
+    shares: Shares,
+) -> Reserve
+    requires ready { IsReady node nodes end.old.standing }
+    requires shares { IsOfNode node nodes shares }
+    ensures ready { IsReady node nodes end.new.standing }
+    ensures full { IfFull result (λ back. back ≡ shares) }
+    ensures lost { IfLost result (λ back. back ≡ shares) }
+{
+    match end.reserve(shares) {
+        Reserve::Taken(at) => {
+            fill_all(end, at, node, nodes);
+            Reserve::Taken(at)
+        }
+        Reserve::Full(back) => Reserve::Full(back),
+        Reserve::Lost(back) => Reserve::Lost(back),
+    }
+}
+
+// Fills each node's cell.
+fn fill_all<L: LogEnd>(end: &mut L, at: u64, node: usize, nodes: usize)
+    requires { IsFresh node nodes at (L.standing end.old) }
+    ensures { IsReady node nodes (L.standing end.new) }
+{
+    for other in 0..nodes {
+        end.fill(at, other);
+    }
+}
+
+// The number of the next entry's job. The entry is passed.
+pub(crate) fn take<L: LogEnd>(end: &mut L, node: usize, nodes: usize) -> Option<u64>
+    requires { IsReady node nodes (L.standing end.old) }
+    ensures { IsReady node nodes (L.standing end.new) }
+{
+    let entry = end.fetch()?;
+    end.pass();
+    Some(entry.jobs[0].number)
+}

@@ -1,0 +1,153 @@
+-- What waits for a worker's connections is handed out, one after the other.
+use Rattle.std.proofs.Common.{◌≡◌, ℕ, ◌+◌, ◌<◌, ◌≤◌, Bool, true, List, [], ◌∷◌, ◌++◌, length, set, get_or, Option, Some, None, refl, ap, sym, ◌∙◌, subst, arith, append_assoc, append-nil, length-set, get_or-set_other}
+use Rattle.std.specs.Prelude.{◌≢◌, ◌==◌, nat_le, filter, IfSome, Ok}
+use Rattle.std.specs.List.{range_with_len}
+use Rattle.std.proofs.lemmas.Bool.{leb-true, and_parts}
+use Rattle.nr_model.specs.Bytes.{Bytes}
+use Rattle.nr_model.specs.Connections.{is_some_bytes}
+use Rattle.nr_model.specs.Items.{Connection}
+use Rattle.nr_entry.specs.Jobs.{connection_of}
+use Rattle.nr_entry.specs.declared.conn.ConnId.{ConnId}
+use Rattle.nr_oplog.specs.declared.view.LogView.{LogView}
+use Rattle.nr_replica.specs.declared.outbox.Piece.{Piece}
+use Rattle.nr_replica.specs.Members.{Member, is_ready, ready_of, next_ready, handed_member}
+use Rattle.nr_replica.specs.Replicas.{ReplicaState}
+use Rattle.nr_node.specs.Batches.{IsPiece}
+use Rattle.nr_node.specs.Collected.{IsHanded, AreHanded, HandsOver, Collects}
+use Rattle.nr_node.specs.Level.{NodeState, connection_at, queue_at}
+use Rattle.nr_node.specs.Sound.{IsSound}
+use Rattle.nr_node.specs.Steps.{nobody, HasHandedOut}
+use Rattle.nr_node.proofs.Ready.{none_left, found_passes, found_has, first_leads, ascends, all_within, none_past, agree_behind, from_zero}
+
+some_bytes : (bytes : Bytes) → is_some_bytes bytes ≡ true → bytes ≢ []
+some_bytes bytes some none = absurd (cc (sym some ∙ ap is_some_bytes none))
+
+-- the next one was opened, and bytes wait for it
+next_has : (worker from serial : ℕ) (members : List Member) → next_ready worker from members ≡ Some serial
+    → (is_ready worker (get_or members serial nobody) ≡ true) × (serial < 0 + length members)
+next_has worker from serial members found =
+    let p : ℕ → Bool = λ s. is_ready worker (get_or members s nobody) in
+    found_has (λ y. (p y ≡ true) × (y < 0 + length members)) (nat_le from) (ready_of worker members) serial (all_within p 0 (length members)) found
+
+pub next_opened : (worker from serial : ℕ) (members : List Member) → next_ready worker from members ≡ Some serial → serial < length members
+next_opened worker from serial members found = omega (arith, (next_has worker from serial members found).1)
+
+pub next_waits : (worker from serial : ℕ) (members : List Member) → next_ready worker from members ≡ Some serial → (queue_at serial members).waiting ≢ []
+next_waits worker from serial members found =
+    let has = next_has worker from serial members found in
+    let parts = and_parts ((get_or members serial nobody).worker == worker) (is_some_bytes (get_or members serial nobody).outbox.waiting) has.0 in
+    some_bytes (get_or members serial nobody).outbox.waiting parts.1
+
+pub next_behind : (worker from serial : ℕ) (members : List Member) → next_ready worker from members ≡ Some serial → from ≤ serial
+next_behind worker from serial members found = leb-true from serial (found_passes (nat_le from) (ready_of worker members) serial found)
+
+-- what is handed out to one changes nothing for those behind it
+ready_behind : (worker serial : ℕ) (members : List Member) (x : Member)
+    → filter (nat_le (serial + 1)) (ready_of worker (set members serial x)) ≡ filter (nat_le (serial + 1)) (ready_of worker members)
+ready_behind worker serial members x =
+    let p : ℕ → Bool = λ s. is_ready worker (get_or (set members serial x) s nobody) in
+    let q : ℕ → Bool = λ s. is_ready worker (get_or members s nobody) in
+    agree_behind (nat_le (serial + 1)) p q (range_with_len 0 (length (set members serial x)))
+    (λ s behind.
+    let apart : s ≡ serial → ⊥ = λ e. absurd (omega (arith, e, leb-true (serial + 1) s behind)) in
+    ap (is_ready worker) (get_or-set_other members serial s x nobody apart))
+    ∙ ap (λ (n : ℕ). filter (nat_le (serial + 1)) (filter q (range_with_len 0 n))) (length-set members serial x)
+
+pub handed_more : (most serial : ℕ) (serials : List ℕ) (one : Piece × LogView) (pieces : List (Piece × LogView)) (n m k : NodeState)
+    → AreHanded most serials pieces n m → IsHanded most serial one m k → AreHanded most (serials ++ serial ∷ []) (pieces ++ one ∷ []) n k
+handed_more most serial [] one [] n m k all h = (k, subst (λ (x : NodeState). IsHanded most serial one x k) all h, refl)
+handed_more most serial [] one (p ∷ ps) n m k all h = absurd all
+handed_more most serial (s ∷ ss) one [] n m k all h = absurd all
+handed_more most serial (s ∷ ss) one (p ∷ ps) n m k (mid, first, rest) h = (mid, first, handed_more most serial ss one ps mid m k rest h)
+
+-- so far: what was handed out to those before a serial, and the others wait as they did
+pub record HasCollectedTo (worker most from : ℕ) (old new : List (Piece × LogView)) (n m : NodeState) : Type 0 where
+  pub serials : List ℕ
+  pub pieces : List (Piece × LogView)
+  pub behind : new ≡ old ++ pieces
+  pub handed : AreHanded most serials pieces n m
+  pub ready : serials ++ filter (nat_le from) (ready_of worker m.replica.members) ≡ ready_of worker n.replica.members
+  pub long : length m.replica.members ≡ length n.replica.members
+  pub owed : length m.replica.owed ≡ length n.replica.owed
+
+pub none_yet : (worker most : ℕ) (old : List (Piece × LogView)) (n : NodeState) → HasCollectedTo worker most 0 old old n n
+none_yet worker most old n = record {
+  serials = [];
+  pieces = [];
+  behind = sym (append-nil old);
+  handed = refl;
+  ready = from_zero (ready_of worker n.replica.members);
+  long = refl;
+  owed = refl;
+}
+
+pub one_further : (worker most from serial : ℕ) (old mid new : List (Piece × LogView)) (n m k : NodeState) → HasCollectedTo worker most from old mid n m
+    → next_ready worker from m.replica.members ≡ Some serial → HandsOver most serial mid new m k → HasCollectedTo worker most (serial + 1) old new n k
+one_further worker most from serial old mid new n m k so found over =
+    let one = over.one in
+    let handed = over.handed in
+    let members = m.replica.members in
+    let p : ℕ → Bool = λ s. is_ready worker (get_or members s nobody) in
+    let leads = first_leads from serial (ready_of worker members) (ascends p 0 (length members)) found in
+    let x = handed_member most (get_or members serial nobody) in
+    let now : k.replica.members ≡ set members serial x = ap (λ (r : ReplicaState). r.members) handed.handed.replica in
+    let rest = filter (nat_le (serial + 1)) (ready_of worker k.replica.members) in
+    let others : rest ≡ filter (nat_le (serial + 1)) (ready_of worker members) =
+    ap (λ (ms : List Member). filter (nat_le (serial + 1)) (ready_of worker ms)) now ∙ ready_behind worker serial members x in
+    record {
+      serials = so.serials ++ serial ∷ [];
+      pieces = so.pieces ++ one ∷ [];
+      behind = over.behind ∙ ap (λ (xs : List (Piece × LogView)). xs ++ one ∷ []) so.behind ∙ append_assoc old so.pieces (one ∷ []);
+      handed = handed_more most serial so.serials one so.pieces n m k so.handed handed;
+      ready = append_assoc so.serials (serial ∷ []) rest ∙ ap (λ (r : List ℕ). so.serials ++ serial ∷ r) others ∙ ap (λ (r : List ℕ). so.serials ++ r) (sym leads) ∙ so.ready;
+      long = ap (λ (ms : List Member). length ms) now ∙ length-set members serial x ∙ so.long;
+      owed = ap (λ (r : ReplicaState). length r.owed) handed.handed.replica ∙ so.owed;
+    }
+
+-- where it ends: none waits from there on, or none is there
+pub none_further : (worker most from : ℕ) (old new : List (Piece × LogView)) (n m : NodeState) → HasCollectedTo worker most from old new n m
+    → next_ready worker from m.replica.members ≡ None → Collects worker most old new (Ok tt) n m
+none_further worker most from old new n m so none = record {
+  serials = so.serials;
+  pieces = so.pieces;
+  behind = so.behind;
+  handed = so.handed;
+  left = [];
+  ready = ap (λ (r : List ℕ). so.serials ++ r) (sym (none_left (nat_le from) (ready_of worker m.replica.members) none)) ∙ so.ready;
+  all = refl;
+}
+
+pub all_passed : (worker most from end : ℕ) (old new : List (Piece × LogView)) (n m : NodeState) → HasCollectedTo worker most from old new n m
+    → end ≡ length n.replica.members → end ≤ from → Collects worker most old new (Ok tt) n m
+all_passed worker most from end old new n m so is past =
+    let members = m.replica.members in
+    let p : ℕ → Bool = λ s. is_ready worker (get_or members s nobody) in
+    let none = none_past p from (0 + length members) (ready_of worker members) (all_within p 0 (length members)) (omega (arith, past, is, so.long)) in
+    record {
+      serials = so.serials;
+      pieces = so.pieces;
+      behind = so.behind;
+      handed = so.handed;
+      left = [];
+      ready = ap (λ (r : List ℕ). so.serials ++ r) (sym none) ∙ so.ready;
+      all = refl;
+    }
+
+-- one is handed out, behind those before
+handed_one : (conn : ConnId) (most : ℕ) (one : Piece × LogView) (n m : NodeState) → IsPiece n (connection_of conn) most one.0 one.1.standing → IsSound one.1.standing
+    → HasHandedOut conn.serial most n m → IsHanded most conn.serial one n m
+handed_one conn most one n m piece sound handed =
+    let named : connection_of conn ≡ connection_at n.replica.node conn.serial = λ i. record { node = piece.opened.0 i; serial = conn.serial } in
+    record { piece = subst (λ (c : Connection). IsPiece n c most one.0 one.1.standing) named piece; sound = sound; handed = handed }
+
+pub handed_over : (conn : ConnId) (most : ℕ) (old mid new : List (Piece × LogView)) (given : Option (Piece × LogView)) (one : Piece × LogView) (n m : NodeState) → mid ≡ old
+    → new ≡ mid ++ one ∷ [] → given ≡ Some one → IfSome given (λ t. IsPiece n (connection_of conn) most t.0 t.1.standing) → IfSome given (λ t. IsSound t.1.standing)
+    → IfSome given (λ _. HasHandedOut conn.serial most n m) → HandsOver most conn.serial old new n m
+handed_over conn most old mid new None one n m kept is none piece sound handed = absurd (cc none)
+handed_over conn most old mid new (Some t) one n m kept is some piece sound handed =
+    let same : t ≡ one = cc some in
+    record {
+      one = one;
+      handed = subst (λ (x : Piece × LogView). IsHanded most conn.serial x n m) same (handed_one conn most t n m piece sound handed);
+      behind = is ∙ ap (λ (xs : List (Piece × LogView)). xs ++ one ∷ []) kept;
+    }

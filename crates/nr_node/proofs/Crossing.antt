@@ -1,0 +1,20 @@
+-- A node may go to another thread: by its parts, from the end of the log and the replica on.
+use denote.RattleType.{RattleType}
+use denote.Param.Send.{IsSend, view_send}
+use denote.Param.SendFields.{declared_send}
+use Rattle.std.proofs.Crossing.{send}
+use Rattle.std.specs.contracts.option.Option as Option
+use Rattle.nr_entry.proofs.Crossing.{sent}
+use Rattle.nr_oplog.specs.declared.log.LogName.{Ghosts}
+use Rattle.nr_oplog.proofs.Crossing.{end_send}
+use Rattle.nr_replica.proofs.Crossing.{replica_send}
+use Rattle.nr_accounts.proofs.accounts.Accounts.TheSendSync as accounts
+use Rattle.nr_node.specs.contracts.next.Next as Next
+use Rattle.nr_node.specs.contracts.within.Core as Core
+
+next_send : IsSend (Option.the_row Next.the_row)
+next_send = search sent depth 60 fits 100000
+
+pub core_send : (B : RattleType) (g : Ghosts B.Denot) → IsSend (Core.the_row B g)
+core_send B g = view_send (Core.TheInside.the_row B g) _ _ _ _ (declared_send (Core.TheInside.the_type B g)
+    (send, (search sent, (end_send B g, (replica_send, (accounts.the_send, (next_send, tt)))))))
