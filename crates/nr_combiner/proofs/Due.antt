@@ -121,7 +121,7 @@ hands_back c d after worker batch back why answer refused same node is last take
 pub none_kept : (n : NodeState) (seat after : CombinerView) (numbers : List ℕ) (worker : ℕ) → FoundNone worker seat after → IsServed n seat numbers → IsServed n after numbers
 none_kept n seat after numbers worker (inl h) s = subst (λ (v : CombinerView). IsServed n v numbers) (sym h.1) s
 none_kept n seat after numbers worker (inr same) s = subst (λ (v : CombinerView). IsServed n v numbers) (sym same)
-    record { workers = s.workers; numbered = s.numbered; desks = s.desks; executed = s.executed }
+    record { workers = s.workers; numbered = s.numbered; desks = s.desks; executed = s.executed; handed_in = s.handed_in }
 
 pub found_slots : (seat after : CombinerView) (worker : ℕ) → FoundNone worker seat after → after.slots ≡ seat.slots
 found_slots seat after worker (inl h) = ap (λ (v : CombinerView). v.slots) h.1

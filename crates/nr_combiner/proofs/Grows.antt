@@ -15,7 +15,8 @@ use Rattle.nr_slots.specs.declared.view.Desk.{Desk}
 use Rattle.nr_slots.specs.Seats.{CombinerView, desk_of}
 use Rattle.nr_node.specs.Level.{NodeState}
 use Rattle.nr_node.proofs.Lists.{numbers-append}
-use Rattle.nr_combiner.specs.Served.{owed_at, IsTakenOf, HoldsBatch, IsDesk, StandIn, AreExecuted, IsServed}
+use Rattle.nr_combiner.specs.Served.{owed_at, IsTakenOf, HoldsBatch, IsDesk, StandIn, AreExecuted, IsOwnOfBatch, AllJobs, IsServed}
+use Rattle.nr_combiner.proofs.Deeds.{jobs_weaker, of_lifted}
 
 -- a batch is owed where one was
 abbrev pub IsStill : Option ℕ → Option ℕ → Type 0
@@ -79,8 +80,8 @@ desk_still n m grows worker number desk (Some o) (Some p) still d = held_still n
 
 -- the node goes on, and owes what it owed
 pub served_still : (n m : NodeState) (seat : CombinerView) (numbers : List ℕ) → Grows n m → ((worker : ℕ) → IsStill (owed_at worker n) (owed_at worker m))
-    → IsServed n seat numbers → IsServed m seat numbers
-served_still n m seat numbers grows still s = record {
+    → AllJobs (IsOwnOfBatch n seat.desks) m → IsServed n seat numbers → IsServed m seat numbers
+served_still n m seat numbers grows still jobs s = record {
   workers = s.workers ∙ sym grows.workers;
   numbered = s.numbered ∙ sym grows.workers;
   desks = λ worker near. desk_still n m grows worker (get_or numbers worker 0) (desk_of seat worker) (owed_at worker n) (owed_at worker m) (still worker)
@@ -88,4 +89,6 @@ served_still n m seat numbers grows still s = record {
   executed = λ worker near. subst (λ (r : Sequence). AreExecuted r (desk_of seat worker).lifted (desk_of seat worker).answered) grows.log.1
       (executed_still (record_of n.seat.standing.history) grows.log.0 (desk_of seat worker).lifted (desk_of seat worker).answered
       (s.executed worker (subst (λ k. worker < k) grows.workers near)));
+  handed_in = jobs_weaker (IsOwnOfBatch n seat.desks) (IsOwnOfBatch m seat.desks)
+      (of_lifted n m seat.desks seat.desks (taken_still n m grows) (sym grows.node) (λ worker batch lifted. lifted)) m jobs;
 }

@@ -1,6 +1,6 @@
 -- What is handed out, as it stands once the lock is free again.
-use Rattle.std.proofs.Common.{ℕ, inl, inr, List, [], ◌∷◌, Option, Some, None, length, drop, arith, ap, sym, subst, ◌∙◌, append-nil}
-use Rattle.std.specs.Prelude.{Result, Ok, Err, IfOk, IfSome}
+use Rattle.std.proofs.Common.{◌≡◌, ℕ, refl, inl, inr, List, [], ◌∷◌, Option, Some, None, length, drop, arith, ap, sym, subst, ◌∙◌, append-nil}
+use Rattle.std.specs.Prelude.{◌↔◌, true, Result, Ok, Err, IfOk, IfSome}
 use Rattle.std.specs.List.{AllByRecursion}
 use Rattle.std.proofs.lemmas.Bool.{cases_lt}
 use Rattle.std.proofs.lemmas.List.{length-take}
@@ -13,14 +13,16 @@ use Rattle.nr_log_end.specs.declared.standing.Standing.{Standing}
 use Rattle.nr_log_end.specs.Standings.{record_of}
 use Rattle.nr_oplog.specs.declared.view.LogView.{LogView}
 use Rattle.nr_replica.specs.declared.outbox.Piece.{Piece}
+use Rattle.nr_replica.specs.Replicas.{ReplicaState}
 use Rattle.nr_node.specs.Batches.{IsPiece}
 use Rattle.nr_node.specs.Collected.{AreHanded}
 use Rattle.nr_node.specs.Level.{NodeState, connection_at, queue_at}
 use Rattle.nr_node.specs.Sound.{IsSound}
 use Rattle.nr_node.specs.declared.answers.Round.{Round}
+use Rattle.nr_node.specs.declared.answers.Round.TheVariants as rounds
 use Rattle.nr_combiner.specs.Pieces.{IsPieceOf, HasAdded}
 use Rattle.nr_combiner.specs.Served.{CombinerState}
-use Rattle.nr_combiner.specs.Turned.{HasTurned}
+use Rattle.nr_combiner.specs.Turned.{HasCollectedFor, HasTurned, by_collect, both_of}
 
 piece_of : (n : NodeState) (c : Connection) (most : ℕ) (piece : Piece) (s : Standing) → IsPiece n c most piece s → IsSound s → IsPieceOf c most piece s
 piece_of n c most piece s p sound = record {
@@ -59,3 +61,40 @@ turned_added places worker most old new r c d t = elim (cases_lt worker (length 
       record { pieces = there.pieces; behind = there.behind; all = all_of most there.serials there.pieces t.combined.node d.node there.handed }
   | inr past ↦ record { pieces = []; behind = (t.has_collected.stranger past).1 ∙ sym (append-nil old); all = tt }
 ]
+
+-- what is handed out leaves the replica up or down
+all_down : (most : ℕ) (serials : List ℕ) (pieces : List (Piece × LogView)) (n m : NodeState) → AreHanded most serials pieces n m → m.replica.down ≡ n.replica.down
+all_down most [] [] n m same = ap (λ (x : NodeState). x.replica.down) same
+all_down most [] (one ∷ pieces) n m h = absurd h
+all_down most (serial ∷ serials) [] n m h = absurd h
+all_down most (serial ∷ serials) (one ∷ pieces) n m (mid, first, rest) =
+    all_down most serials pieces mid m rest ∙ ap (λ (r : ReplicaState). r.down) first.handed.replica
+
+collected_down : (worker most : ℕ) (old new : List (Piece × LogView)) (r : Result (Unit {0}) Memory) (c d : CombinerState) → HasCollectedFor worker most old new r c d
+    → d.node.replica.down ≡ c.node.replica.down
+collected_down worker most old new r c d h = elim (cases_lt worker (length c.seat.desks)) [
+  | inl near ↦ let there = h.own near in all_down most there.serials there.pieces c.node d.node there.handed
+  | inr past ↦ ap (λ (x : CombinerState). x.node.replica.down) (h.stranger past).2
+]
+
+up_collected : (round : Round) (collected : Result (Unit {0}) Memory) → by_collect round collected ≡ Ok rounds.Down → round ≡ rounds.Down
+up_collected round (Ok done) e = cc e
+up_collected round (Err memory) e = absurd (cc e)
+
+down_both : (combined : Result Round Memory) (collected : Result (Unit {0}) Memory) → both_of combined collected ≡ Ok rounds.Down → combined ≡ Ok rounds.Down
+down_both (Err memory) collected e = absurd (cc e)
+down_both (Ok rounds.Down) collected e = refl
+down_both (Ok rounds.Done) collected e = ap Ok (up_collected rounds.Done collected e)
+down_both (Ok rounds.Full) collected e = ap Ok (up_collected rounds.Full collected e)
+down_both (Ok rounds.Again) collected e = ap Ok (up_collected rounds.Again collected e)
+down_both (Ok rounds.NotYet) collected e = ap Ok (up_collected rounds.NotYet collected e)
+
+-- a turn is down where the replica is
+pub turned_down : (worker most : ℕ) (old new : List (Piece × LogView)) (combined r : Result Round Memory) (collected : Result (Unit {0}) Memory) (mid d : CombinerState)
+    → (combined ≡ Ok rounds.Down) ↔ (mid.node.replica.down ≡ true) → HasCollectedFor worker most old new collected mid d → r ≡ both_of combined collected
+    → (r ≡ Ok rounds.Down) ↔ (d.node.replica.down ≡ true)
+turned_down worker most old new combined r collected mid d down h is =
+    let same = collected_down worker most old new collected mid d h in (
+      λ e. same ∙ down.0 (down_both combined collected (sym is ∙ e)),
+      λ e. is ∙ ap (λ (x : Result Round Memory). both_of x collected) (down.1 (sym same ∙ e)),
+    )

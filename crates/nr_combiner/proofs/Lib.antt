@@ -1,4 +1,5 @@
-pub mod Grows
+pub mod Deeds
+mod Grows
 pub mod Desks
 pub mod Lifts
 pub mod Turns

@@ -21,17 +21,18 @@ use Rattle.nr_slots.specs.Rule.{no_desk}
 use Rattle.nr_slots.specs.Names.{IsForLast}
 use Rattle.nr_node.specs.Level.{NodeState, connection_at}
 use Rattle.nr_node.specs.Steps.{taken_node}
-use Rattle.nr_combiner.specs.Served.{owed_at, IsTakenOf, HoldsBatch, IsDesk, StandIn, AreExecuted, IsServed}
-use Rattle.nr_combiner.proofs.Grows.{Grows, still_itself, desk_still, all_still}
+use Rattle.nr_combiner.specs.Served.{owed_at, IsTakenOf, HoldsBatch, IsDesk, StandIn, AreExecuted, IsOwnOfBatch, AllJobs, IsServed}
+use Rattle.nr_combiner.proofs.Deeds.{same_jobs, jobs_weaker, of_lifted, lifted_more, answered_lifted, taken_jobs}
+use Rattle.nr_combiner.proofs.Grows.{Grows, still_itself, desk_still, all_still, taken_still}
 use Rattle.nr_combiner.proofs.Desks.{IsTakenIn, grown_all, all_taken, range_begins, executed_more, executed_front, executed_answered}
 
 -- at one worker's desk another one lies, and the numbers and what is owed are changed there alone
 pub at_desk : (n m : NodeState) (seat : CombinerView) (numbers : List ℕ) (worker number : ℕ) (desk : Desk) (owed : Option ℕ) (v : CombinerView)
     → worker < length n.replica.owed → Grows n m → m.replica.owed ≡ set n.replica.owed worker owed → v.desks ≡ set seat.desks worker desk
     → record_of m.seat.standing.history ≡ record_of n.seat.standing.history
-    → IsDesk m worker number desk owed → AreExecuted (record_of n.seat.standing.history) desk.lifted desk.answered
+    → IsDesk m worker number desk owed → AreExecuted (record_of n.seat.standing.history) desk.lifted desk.answered → AllJobs (IsOwnOfBatch m v.desks) m
     → IsServed n seat numbers → IsServed m v (set numbers worker number)
-at_desk n m seat numbers worker number desk owed v near grows owed_is desks_is same here executed s =
+at_desk n m seat numbers worker number desk owed v near grows owed_is desks_is same here executed jobs s =
     let near' : worker < length seat.desks = subst (λ k. worker < k) (sym s.workers) near in
     let near'' : worker < length numbers = subst (λ k. worker < k) (sym s.numbered) near in
     record {
@@ -67,6 +68,7 @@ at_desk n m seat numbers worker number desk owed v near grows owed_is desks_is s
             (sym (ap (λ (ds : List Desk). get_or ds w no_desk) desks_is ∙ get_or-set_other seat.desks worker w desk no_desk e.1))
             (s.executed w (subst (λ k. w < k) grows.workers w_near))
       ]);
+      handed_in = jobs;
     }
 
 -- a batch is taken in
@@ -86,6 +88,11 @@ taken_served n seat numbers batch near idle node all s =
     let old = desk_of seat worker in
     let m = taken_node batch n in
     let even : length old.lifted ≡ length old.answered = subst (IsDesk n worker (get_or numbers worker 0) old) idle (s.desks worker near) in
+    let near' : worker < length seat.desks = subst (λ k. worker < k) (sym s.workers) near in
+    let jobs : AllByRecursion (IsTakenOf m worker) (items_of batch.jobs.items) =
+    all_still (λ (job : Item). λ (t : IsTakenIn n.book.node worker (taken_all n.book.held (items_of batch.jobs.items)) job).
+    record { node = t.0; account = t.1; held = t.2; worker_is = t.3; below = t.4 })
+    (items_of batch.jobs.items) (all_taken n.book.node worker n.book.held (items_of batch.jobs.items) all) in
     at_desk n m seat numbers worker batch.number record { lifted = old.lifted ++ batch ∷ []; answered = old.answered; grip = old.grip } (Some (length batch.jobs.items))
     (with_lifted worker batch seat) near (taken_grows n batch) refl refl refl
     record {
@@ -94,11 +101,10 @@ taken_served n seat numbers batch near idle node all s =
       lifted = refl;
       answered = sym even;
       named = (node, refl, refl);
-      jobs = all_still (λ (job : Item). λ (t : IsTakenIn n.book.node worker (taken_all n.book.held (items_of batch.jobs.items)) job).
-          record { node = t.0; account = t.1; held = t.2; worker_is = t.3; below = t.4 })
-          (items_of batch.jobs.items) (all_taken n.book.node worker n.book.held (items_of batch.jobs.items) all);
+      jobs = jobs;
     }
-    (executed_more (record_of n.seat.standing.history) old.lifted batch old.answered (omega (arith, even)) (s.executed worker near)) s
+    (executed_more (record_of n.seat.standing.history) old.lifted batch old.answered (omega (arith, even)) (s.executed worker near))
+    (taken_jobs n seat batch near' (taken_still n m (taken_grows n batch)) jobs s.handed_in) s
 
 -- the node stays, and nothing is owed by it for another reason
 grows_itself : (n : NodeState) → Grows n n
@@ -123,7 +129,11 @@ back_served n seat numbers worker batch answer near idle other s =
     (at_desk n n seat numbers worker (get_or numbers worker 0) desk None v near (grows_itself n)
     (sym (ap (set n.replica.owed worker) (sym idle) ∙ set-get_or n.replica.owed worker None)) desks_is refl
     (length-append old.lifted (batch ∷ []) ∙ ap (λ k. k + 1) even ∙ sym (length-append old.answered (answer ∷ [])))
-    (executed_answered (record_of n.seat.standing.history) old.lifted batch old.answered answer (sym even) (λ e. absurd (other e)) (s.executed worker near)) s)
+    (executed_answered (record_of n.seat.standing.history) old.lifted batch old.answered answer (sym even) (λ e. absurd (other e)) (s.executed worker near))
+    (jobs_weaker (IsOwnOfBatch n seat.desks) (IsOwnOfBatch n v.desks)
+    (of_lifted n n seat.desks v.desks (λ w job t. t) refl
+    (λ w b is. answered_lifted (with_lifted worker batch seat) worker answer (subst (λ k. worker < k) (sym (length-set seat.desks worker mid)) near') w b
+    (lifted_more seat worker batch near' w b is))) n s.handed_in) s)
 
 -- the answer is for the batch that the desk holds
 pub is_last : (n : NodeState) (worker number : ℕ) (desk : Desk) (answer : Answer) → HoldsBatch n worker number desk
@@ -168,6 +178,7 @@ answered_served n m seat numbers worker owed answer near is m_is done s =
     (executed_front r h.before h.batch old.answered (omega (arith, h.answered)) all)) in
     let even : length old.lifted ≡ length (old.answered ++ answer ∷ []) =
     ap length h.lifted ∙ length-append h.before (h.batch ∷ []) ∙ ap (λ k. k + 1) (sym h.answered) ∙ sym (length-append old.answered (answer ∷ [])) in
+    let near' : worker < length seat.desks = subst (λ k. worker < k) (sym s.workers) near in
     let grows : Grows n m = subst (Grows n) (sym m_is) record {
       node = refl;
       workers = length-set n.replica.owed worker None;
@@ -176,4 +187,8 @@ answered_served n m seat numbers worker owed answer near is m_is done s =
     } in
     subst (λ (ns : List ℕ). IsServed m v ns) (set-get_or numbers worker 0)
     (at_desk n m seat numbers worker (get_or numbers worker 0) desk None v near grows (ap (λ (x : NodeState). x.replica.owed) m_is) refl
-    (ap (λ (x : NodeState). record_of x.seat.standing.history) m_is) even now s)
+    (ap (λ (x : NodeState). record_of x.seat.standing.history) m_is) even now
+    (jobs_weaker (IsOwnOfBatch n seat.desks) (IsOwnOfBatch m v.desks)
+    (of_lifted n m seat.desks v.desks (taken_still n m grows) (sym grows.node) (answered_lifted seat worker answer near')) m
+    (same_jobs (IsOwnOfBatch n seat.desks) n m (ap (λ (x : NodeState). x.seat.standing) m_is) (ap (λ (x : NodeState). x.next) m_is)
+    (ap (λ (x : NodeState). x.replica.waiting) m_is) s.handed_in)) s)

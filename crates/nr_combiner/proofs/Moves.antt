@@ -28,7 +28,8 @@ use Rattle.nr_node.specs.Collected.{AreHanded}
 use Rattle.nr_node.specs.Level.{NodeState, connection_at}
 use Rattle.nr_node.specs.Steps.{opened_node, closed_node, HasHandedOut}
 use Rattle.nr_node.specs.declared.answers.OpenError.{OpenError}
-use Rattle.nr_combiner.specs.Served.{owed_at, IsDesk, AreExecuted, IsServed}
+use Rattle.nr_combiner.specs.Served.{owed_at, IsDesk, AreExecuted, IsOwnOfBatch, AllJobs, IsServed}
+use Rattle.nr_combiner.proofs.Deeds.{same_jobs}
 use Rattle.nr_combiner.proofs.Grows.{HasGrown, Grows, still_itself, served_still}
 use Rattle.nr_combiner.proofs.Turns.{served_same}
 
@@ -55,8 +56,11 @@ opened_on n seat numbers limit worker none s =
       workers = refl;
       accounts = account_still n (length n.replica.members) worker none;
       log = begins_itself (record_of n.seat.standing.history);
-    } in
-    (served_still n (opened_node limit worker n) seat numbers grows (λ w. still_itself (owed_at w n)) s, refl)
+    } in (
+      served_still n (opened_node limit worker n) seat numbers grows (λ w. still_itself (owed_at w n))
+          (same_jobs (IsOwnOfBatch n seat.desks) n (opened_node limit worker n) refl refl refl s.handed_in) s,
+      refl,
+    )
 
 pub opened_served : (r : Result ConnId OpenError) (n m : NodeState) (seat : CombinerView) (numbers : List ℕ) (limit worker : ℕ)
     → IfOk r (λ conn. connection_of conn ≡ connection_at n.replica.node (length n.replica.members)) → OnOk r (m ≡ opened_node limit worker n) → OnErr r (m ≡ n)
@@ -79,14 +83,19 @@ is_opened n c = elim (eqb_tells c.node n.replica.node) [
 pub closed_served : (n m : NodeState) (seat : CombinerView) (numbers : List ℕ) (conn : ConnId) → (IsOpened n (connection_of conn) → m ≡ closed_node conn.serial n)
     → ((IsOpened n (connection_of conn) → ⊥) → m ≡ n) → IsServed n seat numbers → GoesOn n m seat numbers
 closed_served n m seat numbers conn closed other s = elim (is_opened n (connection_of conn)) [
-  | inl o ↦ subst (λ (x : NodeState). GoesOn n x seat numbers) (sym (closed o)) (served_same n (closed_node conn.serial n) seat numbers refl refl refl s, refl)
+  | inl o ↦ subst (λ (x : NodeState). GoesOn n x seat numbers) (sym (closed o)) (
+    served_same n (closed_node conn.serial n) seat numbers refl refl refl
+        (same_jobs (IsOwnOfBatch n seat.desks) n (closed_node conn.serial n) refl refl refl s.handed_in) s,
+    refl,
+  )
   | inr apart ↦ same_on n m seat numbers (other apart) s
 ]
 
 -- bytes are handed out
 handed_on : (n m : NodeState) (seat : CombinerView) (numbers : List ℕ) (serial most : ℕ) → HasHandedOut serial most n m → IsServed n seat numbers → GoesOn n m seat numbers
 handed_on n m seat numbers serial most h s = (
-  served_same n m seat numbers h.book (ap (λ (r : ReplicaState). r.owed) h.replica) (ap (λ (x : Standing). x.history) h.standing) s,
+  served_same n m seat numbers h.book (ap (λ (r : ReplicaState). r.owed) h.replica) (ap (λ (x : Standing). x.history) h.standing)
+      (same_jobs (IsOwnOfBatch n seat.desks) n m h.standing h.next (ap (λ (r : ReplicaState). r.waiting) h.replica) s.handed_in) s,
   ap (λ (b : Book). b.node) (sym h.book),
 )
 
@@ -111,8 +120,8 @@ all_handed_on most (serial ∷ serials) (one ∷ pieces) n m seat numbers (mid, 
 
 -- nothing was lifted yet, and nothing is owed
 pub fresh_served : (n : NodeState) (seat : CombinerView) (numbers : List ℕ) (workers : ℕ) → n.replica.owed ≡ replicate workers None → seat.desks ≡ replicate workers no_desk
-    → length numbers ≡ workers → IsServed n seat numbers
-fresh_served n seat numbers workers owed desks long =
+    → length numbers ≡ workers → AllJobs (IsOwnOfBatch n seat.desks) n → IsServed n seat numbers
+fresh_served n seat numbers workers owed desks long jobs =
     let owed_long : length n.replica.owed ≡ workers = ap length owed ∙ length-replicate {A = Option ℕ} workers None in
     let idle : (w : ℕ) → w < length n.replica.owed → owed_at w n ≡ None =
     λ w near. ap (λ (os : List (Option ℕ)). get_or os w None) owed ∙ get_or-replicate {A = Option ℕ} workers w None None (subst (λ (k : ℕ). w < k) owed_long near) in
@@ -124,4 +133,5 @@ fresh_served n seat numbers workers owed desks long =
       desks = λ w near. subst (IsDesk n w (get_or numbers w 0) (desk_of seat w)) (sym (idle w near))
           (subst (λ (d : Desk). length d.lifted ≡ length d.answered) (sym (empty w near)) refl);
       executed = λ w near. subst (λ (d : Desk). AreExecuted (record_of n.seat.standing.history) d.lifted d.answered) (sym (empty w near)) tt;
+      handed_in = jobs;
     }

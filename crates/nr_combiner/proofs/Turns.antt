@@ -1,6 +1,6 @@
 -- What a turn of the combiner does to its node: what was kept holds on.
 use Rattle.std.proofs.Common.{◌≡◌, ℕ, zero, suc, inl, inr, ◌⊎◌, true, false, List, [], ◌∷◌, ◌++◌, map, length, Option, Some, None, refl, ap, sym, ◌∙◌, subst, le_refl, get_or}
-use Rattle.std.specs.Prelude.{◌≢◌, OnErr, Result, Ok, Err}
+use Rattle.std.specs.Prelude.{◌≢◌, ◌↔◌, ◌<◌, ◌≤◌, OnErr, Result, Ok, Err}
 use Rattle.std.specs.FinMap as finmap
 use Rattle.nr_model.specs.Bytes.{IsBeginningOf}
 use Rattle.nr_model.proofs.NodesExecutedGrows.{begins_itself}
@@ -10,20 +10,21 @@ use Rattle.nr_entry.specs.declared.job.Job.{Job}
 use Rattle.nr_log_end.specs.declared.standing.Standing.{Standing}
 use Rattle.nr_log_end.specs.declared.standing.Turn.{Turn}
 use Rattle.nr_log_end.specs.declared.standing.Turn.TheVariants.{Applied, Ran}
-use Rattle.nr_log_end.specs.Standings.{record_of}
+use Rattle.nr_log_end.specs.Standings.{record_of, passed_of}
 use Rattle.nr_log_end.specs.Tries.{IsFull, IsLost}
 use Rattle.nr_accounts.specs.Book.{Book}
 use Rattle.nr_replica.specs.Replicas.{ReplicaState}
 use Rattle.nr_slots.specs.Seats.{CombinerView}
 use Rattle.nr_node.specs.Level.{NodeState}
 use Rattle.nr_node.specs.Owing.{awaited}
-use Rattle.nr_node.specs.Steps.{GoesOnWaiting, HasFallen, GoesOnBy}
+use Rattle.nr_node.specs.Steps.{GoesOnWaiting, HasFallen, GoesOnBy, HasRead}
 use Rattle.nr_node.specs.declared.answers.Round.{Round}
 use Rattle.nr_node.specs.declared.answers.Round.TheVariants as rounds
 use Rattle.nr_node.proofs.Lists.{record-append}
 use Rattle.nr_node.proofs.Owed.{as_many}
-use Rattle.nr_combiner.specs.Served.{owed_at, IsServed}
-use Rattle.nr_combiner.specs.Steps.{HasPut, ComesTo, by_try, outcome_of}
+use Rattle.nr_combiner.specs.Served.{owed_at, IsOwnOfBatch, AllJobs, IsServed}
+use Rattle.nr_combiner.specs.Steps.{HasPut, ComesTo, HasLooked, by_try, outcome_of}
+use Rattle.nr_combiner.proofs.Deeds.{speaks_of, tried_all, looked_all}
 use Rattle.nr_combiner.proofs.Grows.{IsStill, still_itself, Grows, served_still}
 
 -- what is owed at one worker
@@ -49,34 +50,38 @@ grows_by n m book owed log = record {
 
 -- the record and what is owed stay too
 pub served_same : (n m : NodeState) (seat : CombinerView) (numbers : List ℕ) → m.book ≡ n.book → m.replica.owed ≡ n.replica.owed
-    → m.seat.standing.history ≡ n.seat.standing.history → IsServed n seat numbers → IsServed m seat numbers
-served_same n m seat numbers book owed history s =
+    → m.seat.standing.history ≡ n.seat.standing.history → AllJobs (IsOwnOfBatch n seat.desks) m → IsServed n seat numbers → IsServed m seat numbers
+served_same n m seat numbers book owed history jobs s =
     let r = record_of n.seat.standing.history in
     served_still n m seat numbers
     (grows_by n m book (ap length owed) (subst (λ (h : List Turn). IsBeginningOf r (record_of h)) (sym history) (begins_itself r)))
-    (λ worker. subst (λ (os : List (Option ℕ)). IsStill (owed_at worker n) (get_or os worker None)) (sym owed) (still_itself (owed_at worker n))) s
+    (λ worker. subst (λ (os : List (Option ℕ)). IsStill (owed_at worker n) (get_or os worker None)) (sym owed) (still_itself (owed_at worker n))) jobs s
 
 still_served : (n m : NodeState) (seat : CombinerView) (numbers : List ℕ) → m ≡ n → IsServed n seat numbers → IsServed m seat numbers
 still_served n m seat numbers same s = subst (λ (x : NodeState). IsServed x seat numbers) (sym same) s
 
-waiting_served : (n m : NodeState) (seat : CombinerView) (numbers : List ℕ) → GoesOnWaiting n m → IsServed n seat numbers → IsServed m seat numbers
-waiting_served n m seat numbers h s =
-    served_same n m seat numbers h.book (ap (λ (r : ReplicaState). r.owed) h.left.replica) (ap (λ (x : Standing). x.history) h.met.standing) s
+waiting_served : (n m : NodeState) (seat : CombinerView) (numbers : List ℕ) → GoesOnWaiting n m → AllJobs (IsOwnOfBatch n seat.desks) m → IsServed n seat numbers → IsServed m seat numbers
+waiting_served n m seat numbers h jobs s =
+    served_same n m seat numbers h.book (ap (λ (r : ReplicaState). r.owed) h.left.replica) (ap (λ (x : Standing). x.history) h.met.standing) jobs s
+
+tried_by_cases : (places : ℕ) (r : Result Round Memory) (n m : NodeState) (seat : CombinerView) (numbers : List ℕ) → ComesTo places r n m
+    → AllJobs (IsOwnOfBatch n seat.desks) m → IsServed n seat numbers → IsServed m seat numbers
+tried_by_cases places (Ok rounds.Done) n m seat numbers (inl (at, entry, h)) jobs s =
+    served_same n m seat numbers h.book (ap (λ (r : ReplicaState). r.owed) h.left.replica) (ap (λ (x : Standing). x.history) h.reserved.standing) jobs s
+tried_by_cases places (Ok rounds.Done) n m seat numbers (inr h) jobs s =
+    served_same n m seat numbers (ap (λ (x : NodeState). x.book) h.same) (ap (λ (r : ReplicaState). r.owed) h.left.replica) (ap (λ (x : NodeState). x.seat.standing.history) h.same) jobs s
+tried_by_cases places (Ok rounds.Full) n m seat numbers h jobs s = waiting_served n m seat numbers h.0 jobs s
+tried_by_cases places (Ok rounds.Again) n m seat numbers h jobs s = waiting_served n m seat numbers h.0 jobs s
+tried_by_cases places (Ok rounds.NotYet) n m seat numbers h jobs s = absurd h
+tried_by_cases places (Ok rounds.Down) n m seat numbers (inl h) jobs s = still_served n m seat numbers h.1 s
+tried_by_cases places (Ok rounds.Down) n m seat numbers (inr (up, h)) jobs s =
+    served_same n m seat numbers h.book (ap (λ (r : ReplicaState). r.owed) h.replica) (ap (λ x. x.standing.history) h.seat) jobs s
+tried_by_cases places (Err memory) n m seat numbers (inl same) jobs s = still_served n m seat numbers same s
+tried_by_cases places (Err memory) n m seat numbers (inr h) jobs s = waiting_served n m seat numbers h jobs s
 
 pub tried_served : (places : ℕ) (r : Result Round Memory) (n m : NodeState) (seat : CombinerView) (numbers : List ℕ) → ComesTo places r n m
     → IsServed n seat numbers → IsServed m seat numbers
-tried_served places (Ok rounds.Done) n m seat numbers (inl (at, entry, h)) s =
-    served_same n m seat numbers h.book (ap (λ (r : ReplicaState). r.owed) h.left.replica) (ap (λ (x : Standing). x.history) h.reserved.standing) s
-tried_served places (Ok rounds.Done) n m seat numbers (inr h) s =
-    served_same n m seat numbers (ap (λ (x : NodeState). x.book) h.same) (ap (λ (r : ReplicaState). r.owed) h.left.replica) (ap (λ (x : NodeState). x.seat.standing.history) h.same) s
-tried_served places (Ok rounds.Full) n m seat numbers h s = waiting_served n m seat numbers h.0 s
-tried_served places (Ok rounds.Again) n m seat numbers h s = waiting_served n m seat numbers h.0 s
-tried_served places (Ok rounds.NotYet) n m seat numbers h s = absurd h
-tried_served places (Ok rounds.Down) n m seat numbers (inl h) s = still_served n m seat numbers h.1 s
-tried_served places (Ok rounds.Down) n m seat numbers (inr (up, h)) s =
-    served_same n m seat numbers h.book (ap (λ (r : ReplicaState). r.owed) h.replica) (ap (λ x. x.standing.history) h.seat) s
-tried_served places (Err memory) n m seat numbers (inl same) s = still_served n m seat numbers same s
-tried_served places (Err memory) n m seat numbers (inr h) s = waiting_served n m seat numbers h s
+tried_served places r n m seat numbers h s = tried_by_cases places r n m seat numbers h (tried_all (IsOwnOfBatch n seat.desks) places r n m h s.handed_in) s
 
 pub tried_book : (places : ℕ) (r : Result Round Memory) (n m : NodeState) → ComesTo places r n m → m.book ≡ n.book
 tried_book places (Ok rounds.Done) n m (inl (at, entry, h)) = h.book
@@ -89,15 +94,35 @@ tried_book places (Ok rounds.Down) n m (inr (up, h)) = h.book
 tried_book places (Err memory) n m (inl same) = ap (λ (x : NodeState). x.book) same
 tried_book places (Err memory) n m (inr h) = h.book
 
-pub looked_served : (entries : List Entry) (ran : List Job) (tail : ℕ) (n m : NodeState) (seat : CombinerView) (numbers : List ℕ) → GoesOnBy entries ran tail n m
-    → IsServed n seat numbers → IsServed m seat numbers
-looked_served entries ran tail n m seat numbers h s =
+pub looked_served : (looked : Result Round Memory) (entries : List Entry) (ran : List Job) (tail : ℕ) (n m : NodeState) (seat : CombinerView) (numbers : List ℕ)
+    → HasLooked looked entries ran tail n m → IsServed n seat numbers → IsServed m seat numbers
+looked_served looked entries ran tail n m seat numbers h s =
     let more = map Applied entries ++ map Ran ran in
     let r = record_of n.seat.standing.history in
-    let longer : record_of m.seat.standing.history ≡ r ++ record_of more = ap record_of h.history ∙ record-append n.seat.standing.history more in
+    let longer : record_of m.seat.standing.history ≡ r ++ record_of more =
+    ap (λ (x : Standing). record_of x.history) h.by.standing ∙ record-append n.seat.standing.history more in
     served_still n m seat numbers
-    (grows_by n m h.book (as_many m.replica.owed n.replica.owed h.owed) (record_of more, sym longer))
-    (still_at n.replica.owed m.replica.owed h.owed) s
+    (grows_by n m h.by.book (as_many m.replica.owed n.replica.owed h.by.owed) (record_of more, sym longer))
+    (still_at n.replica.owed m.replica.owed h.by.owed) (looked_all (IsOwnOfBatch n seat.desks) looked entries ran tail n m (speaks_of n seat.desks) h s.handed_in) s
+
+-- what a look came to
+pub looked_by : (r : Result Round Memory) (n m : NodeState)
+    (goes : (entries : List Entry) × ((ran : List Job) × ((tail : ℕ) × GoesOnBy entries ran tail n m × (r ≡ Ok rounds.Done → HasRead ran tail n m) × (r ≢ Ok rounds.Done → ran ≡ [])
+    × (r ≢ Ok rounds.NotYet → m.replica.down ≡ false → tail ≤ passed_of m.seat.standing))))
+    → (r ≢ Ok rounds.Done → m.replica.down ≡ false → (m.replica.waiting ≡ n.replica.waiting) × (m.next ≡ n.next))
+    → (r ≡ Ok rounds.NotYet → passed_of m.seat.standing < m.seat.standing.seen) → (r ≡ Ok rounds.Again → n.next ≢ []) → r ≢ Ok rounds.Full
+    → (r ≡ Ok rounds.Down) ↔ (m.replica.down ≡ true) → HasLooked r goes.0 goes.1.0 goes.1.1.0 n m
+looked_by r n m goes waiting not_yet again never down = record {
+  by = goes.1.1.1;
+  read = goes.1.1.2;
+  none = goes.1.1.3;
+  reached = goes.1.1.4;
+  waiting = waiting;
+  not_yet = not_yet;
+  again = again;
+  never = never;
+  down = down;
+}
 
 -- what a try to reserve came to
 pub tried_by : (places : ℕ) (r : Result Round Memory) (n m : NodeState) → (r ≡ Ok rounds.Done → HasPut n m)

@@ -5,6 +5,7 @@ use Rattle.std.specs.FinMap as finmap
 use Rattle.std.specs.Coded.{Coded, code_by, coded×, coded_ℕ}
 use Rattle.nr_model.specs.Bytes.{IsBeginningOf}
 use Rattle.nr_model.specs.Items.{Item, Sequence}
+use Rattle.nr_model.specs.Entries.{Jobs}
 use Rattle.nr_entry.specs.Jobs.{items_of}
 use Rattle.nr_entry.specs.declared.batch.Batch.{Batch}
 use Rattle.nr_entry.specs.declared.batch.Answer.{Answer}
@@ -13,9 +14,10 @@ use Rattle.nr_log_end.specs.Standings.{record_of}
 use Rattle.nr_accounts.specs.declared.account.Account.{Account}
 use Rattle.nr_accounts.specs.Held.{numbers_in}
 use Rattle.nr_slots.specs.declared.view.Desk.{Desk}
+use Rattle.nr_slots.specs.Rule.{no_desk}
 use Rattle.nr_slots.specs.Seats.{CombinerView, desk_of}
 use Rattle.nr_slots.specs.Codes.{combiner_code}
-use Rattle.nr_node.specs.Level.{NodeState, coded_node}
+use Rattle.nr_node.specs.Level.{NodeState, coded_node, unpassed, jobs_reserved}
 
 -- the node, the combiner's seat at its workers' slots, and how many connections aren't closed
 pub record CombinerState : Type 0 where
@@ -65,11 +67,40 @@ AreExecuted done (batch ∷ batches) [] = Unit {0}
 AreExecuted done (batch ∷ batches) (answer ∷ answers) =
     (answer.outcome ≡ Executed → StandIn done (items_of batch.jobs.items)) × AreExecuted done batches answers
 
--- Between two calls a desk has no batch without an answer but the one whose jobs the node is about to execute; and each job of a batch that was
--- answered as executed is in the node's record.
+-- a batch that was lifted from a worker's slot
+abbrev pub IsLifted : List Desk → ℕ → Batch → Type 0
+IsLifted desks worker batch = (before : List Batch) × (after : List Batch) × ((slice_index_or desks worker no_desk).lifted ≡ before ++ batch ∷ after)
+
+-- a batch that was lifted from the slot of the worker that serves the job's connection held it: that connection's job of this number, and its deed
+pub record IsOfBatch (n : NodeState) (desks : List Desk) (job : Item) : Type 0 where
+  pub worker : ℕ
+  pub taken : IsTakenOf n worker job
+  pub batch : Batch
+  pub lifted : IsLifted desks worker batch
+  pub item : Item
+  pub holds : (before : Jobs) × (after : Jobs) × (items_of batch.jobs.items ≡ before ++ item ∷ after)
+  pub same : (item.connection ≡ job.connection) × (item.number ≡ job.number) × (item.deed ≡ job.deed)
+
+abbrev pub IsOwnOfBatch : NodeState → List Desk → Item → Type 0
+IsOwnOfBatch n desks job = job.connection.node ≡ n.book.node → IsOfBatch n desks job
+
+-- P holds of each job in a node's record, of those in the entries that it reserved and hasn't passed, of those of its next entry, and of those that wait
+pub record AllJobs (P : Item → Type 0) (n : NodeState) : Type 0 where
+  pub done : AllByRecursion P (record_of n.seat.standing.history)
+  pub reserved : AllByRecursion P (jobs_reserved (unpassed n.seat.standing))
+  pub due : AllByRecursion P (items_of n.next)
+  pub waits : AllByRecursion P (items_of n.replica.waiting)
+
+-- it has none of these
+abbrev pub HasNoJobs : NodeState → Type 0
+HasNoJobs n = (n.seat.standing.history ≡ []) × (n.seat.standing.reservations ≡ []) × (n.next ≡ []) × (n.replica.waiting ≡ [])
+
+-- Between two calls a desk has no batch without an answer but the one whose jobs the node is about to execute; each job of a batch that was
+-- answered as executed is in the node's record; and each job of a connection of the node, wherever it is, is one of a batch that was lifted.
 pub record IsServed (n : NodeState) (seat : CombinerView) (numbers : List ℕ) : Type 0 where
   pub workers : length seat.desks ≡ length n.replica.owed
   pub numbered : length numbers ≡ length n.replica.owed
   pub desks : (worker : ℕ) → worker < length n.replica.owed → IsDesk n worker (slice_index_or numbers worker 0) (desk_of seat worker) (owed_at worker n)
   pub executed : (worker : ℕ) → worker < length n.replica.owed
       → AreExecuted (record_of n.seat.standing.history) (desk_of seat worker).lifted (desk_of seat worker).answered
+  pub handed_in : AllJobs (IsOwnOfBatch n seat.desks) n

@@ -1,5 +1,5 @@
 -- What a combiner's calls come to.
-use Rattle.std.specs.Prelude.{◌≡◌, ◌≢◌, ◌↔◌, ◌⊎◌, ◌==◌, ◌-◌, ◌<◌, ℕ, zero, suc, true, false, if◌then◌else◌, List, [], ◌++◌, Option, Some, None, Result, Ok, Err}
+use Rattle.std.specs.Prelude.{◌≡◌, ◌≢◌, ◌↔◌, ◌⊎◌, ◌==◌, ◌-◌, ◌<◌, ◌≤◌, ℕ, zero, suc, true, false, if◌then◌else◌, List, [], ◌++◌, length, Option, Some, None, Result, Ok, Err}
 use Rattle.nr_blob.specs.declared.memory.Memory.{Memory}
 use Rattle.nr_entry.specs.declared.batch.Batch.{Batch}
 use Rattle.nr_entry.specs.declared.batch.Answer.{Answer}
@@ -25,6 +25,10 @@ use Rattle.nr_node.specs.declared.answers.OpenError.TheVariants as node_error
 use Rattle.nr_combiner.specs.declared.answering.OpenError.{OpenError}
 use Rattle.nr_combiner.specs.declared.answering.OpenError.TheVariants as open_errors
 use Rattle.nr_combiner.specs.Served.{CombinerState}
+
+-- fewer connections than so many aren't closed, and the node has this worker
+abbrev pub HasRoom : ℕ → ℕ → CombinerState → Type 0
+HasRoom worker most c = (c.taken < most) × (worker < length c.seat.desks)
 
 -- a connection more
 abbrev pub opened_combiner : ℕ → ℕ → CombinerState → CombinerState
@@ -120,6 +124,7 @@ pub record HasLooked (looked : Result Round Memory) (entries : List Entry) (ran 
   pub by : GoesOnBy entries ran tail n m
   pub read : looked ≡ Ok rounds.Done → HasRead ran tail n m
   pub none : looked ≢ Ok rounds.Done → ran ≡ []
+  pub reached : looked ≢ Ok rounds.NotYet → m.replica.down ≡ false → tail ≤ passed_of m.seat.standing
   pub waiting : looked ≢ Ok rounds.Done → m.replica.down ≡ false → (m.replica.waiting ≡ n.replica.waiting) × (m.next ≡ n.next)
   pub not_yet : looked ≡ Ok rounds.NotYet → passed_of m.seat.standing < m.seat.standing.seen
   pub again : looked ≡ Ok rounds.Again → n.next ≢ []

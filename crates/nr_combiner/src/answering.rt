@@ -12,7 +12,7 @@ use nr_slots::{CombinerSeat, Slots};
 /// Why a connection wasn't opened. The reasons are told in this order.
 #[derive(Clone, Copy, Debug, PartialEq, Eq)]
 pub enum OpenError {
-    /// All connections that there may be are in use.
+    /// All connections that there may be are in use, or the node has no such worker.
     TooMany,
     /// The replica is down.
     Down,

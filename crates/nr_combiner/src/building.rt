@@ -4,6 +4,7 @@ ghost use Rattle.std.specs.Arc.{arc_value};
 ghost use Rattle.nr_oplog.specs.Rule.{opening_view};
 ghost use Rattle.nr_oplog.specs.Opening.{name_of, nodes_of, places_of};
 ghost use Rattle.nr_slots.specs.Seats.{new_worker};
+ghost use Rattle.nr_combiner.specs.Served.{HasNoJobs};
 ghost use Rattle.nr_combiner.specs.Workers.{fresh_workers, IsNode};
 
 use crate::combiner::Combiner;
@@ -116,6 +117,7 @@ fn seat_node<B: LogName>(
 ) -> Result<Vec<Worker<B>>, Memory>
     requires node { core.book.node ≡ shape.node }
     requires owed { core.replica.owed ≡ replicate shape.workers None }
+    requires idle { HasNoJobs core }
     requires workers { (1 ≤ shape.workers) × (shape.workers ≤ 16) }
     ensures { IfOk result (λ workers. IsNode shape.workers plan.connections plan.limit shape.node workers.items) }
 {

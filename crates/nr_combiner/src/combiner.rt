@@ -7,8 +7,8 @@ ghost use Rattle.nr_node.specs.Level.{connection_at, queue_at};
 ghost use Rattle.nr_node.specs.Batches.{AreSame, IsOpened, IsPiece};
 ghost use Rattle.nr_node.specs.Sound.{IsSound};
 ghost use Rattle.nr_node.specs.Steps.{taken_node, HasHandedOut};
-ghost use Rattle.nr_combiner.specs.Served.{owed_at};
-ghost use Rattle.nr_combiner.specs.Steps.{opened_combiner, closed_combiner, refusal_at, IsRefusedFor, HasLifted, HasLiftedAll, HasAnswered, HasAnsweredAll, HasTried, HasCombined, outcome_of};
+ghost use Rattle.nr_combiner.specs.Served.{owed_at, HasNoJobs};
+ghost use Rattle.nr_combiner.specs.Steps.{HasRoom, opened_combiner, closed_combiner, refusal_at, IsRefusedFor, HasLifted, HasLiftedAll, HasAnswered, HasAnsweredAll, HasTried, HasCombined, outcome_of};
 ghost use Rattle.nr_combiner.specs.Turned.{HasCollectedFor, HasTurned, both_of};
 
 use crate::answering::{OpenError, hand_back, open_error};
@@ -51,7 +51,7 @@ impl<B: LogName> Model for Combiner<B> {
 }
 
 impl<B: LogName> Combiner<B> {
-    /// A node none of whose workers has a batch there, with the seat of its combiner at these slots.
+    /// A node that has no job yet, with the seat of its combiner at these slots.
     pub fn new(
         alloc: Global,
         shape: Shape,
@@ -61,6 +61,7 @@ impl<B: LogName> Combiner<B> {
     ) -> Result<Combiner<B>, Memory>
         requires node { core.book.node ≡ shape.node }
         requires owed { core.replica.owed ≡ replicate shape.workers None }
+        requires idle { HasNoJobs core }
         requires seat { seat ≡ new_combiner (arc_value slots).id shape.workers }
         ensures { IfOk result (λ combiner. combiner ≡ record { node = core; seat = seat; taken = 0 }) }
     {
@@ -83,15 +84,16 @@ impl<B: LogName> Combiner<B> {
         self.core.is_down()
     }
 
-    /// Opens a connection that a worker serves, for which at most `limit` bytes wait, unless `most` connections aren't closed. Logarithmic.
+    /// Opens a connection that a worker serves, for which at most `limit` bytes wait. There is no room for it where `most` connections aren't closed, or the node
+    /// has no such worker. Logarithmic.
     pub fn open(&mut self, worker: u8, limit: usize, most: usize) -> Result<ConnId, OpenError>
         ensures conn { IfOk result (λ conn. connection_of conn ≡ connection_at self.old.node.replica.node (length self.old.node.replica.members)) }
         ensures opened { OnOk result (self.new ≡ opened_combiner limit worker self.old) }
         ensures unchanged { OnErr result (self.new ≡ self.old) }
-        ensures too_many { (result ≡ Err OpenError.TooMany) ↔ (most ≤ self.old.taken) }
-        ensures down { (result ≡ Err OpenError.Down) ↔ ((self.old.taken < most) × (self.old.node.replica.down ≡ true)) }
+        ensures too_many { (result ≡ Err OpenError.TooMany) ↔ (HasRoom worker most self.old → ⊥) }
+        ensures down { (result ≡ Err OpenError.Down) ↔ (HasRoom worker most self.old × (self.old.node.replica.down ≡ true)) }
     {
-        if self.taken >= most {
+        if !self.has_room(worker as usize, most) {
             return Err(OpenError::TooMany);
         }
         match self.core.open(worker, limit) {
@@ -145,8 +147,8 @@ impl<B: LogName> Combiner<B> {
         self.core.collect(worker, most, taken)
     }
 
-    /// A turn for a worker: [`Combiner::combine`], and then, whatever came of it, [`Combiner::collect`]. It answers what the first did, or where that is no error
-    /// the second's.
+    /// A turn for a worker: [`Combiner::combine`], and then, whatever came of it, [`Combiner::collect`]. It answers what the first did; or that memory ran out,
+    /// where it did in the second and the replica is up.
     pub fn turn(
         &mut self,
         worker: usize,
@@ -154,7 +156,8 @@ impl<B: LogName> Combiner<B> {
         taken: &mut Vec<(Piece, Token<B>)>,
     ) -> Result<Round, Memory>
         requires { 0 < most }
-        ensures { HasTurned B.places worker most taken.old.items taken.new.items result self.old self.new }
+        ensures turned { HasTurned B.places worker most taken.old.items taken.new.items result self.old self.new }
+        ensures down { (result ≡ Ok Round.Down) ↔ (self.new.node.replica.down ≡ true) }
     {
         let combined = self.combine();
         let collected = self.collect(worker, most, taken);
@@ -177,6 +180,14 @@ impl<B: LogName> Combiner<B> {
         let looked = self.core.look();
         answer_all(self, workers);
         outcome(tried, looked)
+    }
+
+    // Whether there is room for a connection that this worker serves, where so many may be open.
+    fn has_room(&self, worker: usize, most: usize) -> bool
+        ensures room { result ≡ true → HasRoom worker most self.now }
+        ensures full { result ≡ false → HasRoom worker most self.now → ⊥ }
+    {
+        self.taken < most && worker < self.numbers.len()
     }
 
     // Lifts a worker's batch, if one is offered, and takes its jobs in, or answers it where it is refused.
@@ -288,11 +299,14 @@ fn outcome(tried: Result<Round, Memory>, looked: Result<Round, Memory>) -> Resul
     }
 }
 
-// What a turn for a worker came to: what the combiner's did, or where that is no error want of memory for what was collected.
+// What a turn for a worker came to: what the combiner's did, or want of memory for what was collected, where the replica is up.
 fn both(combined: Result<Round, Memory>, collected: Result<(), Memory>) -> Result<Round, Memory>
     ensures { result ≡ both_of combined collected }
 {
     let round = combined?;
+    if matches!(round, Round::Down) {
+        return Ok(Round::Down);
+    }
     collected?;
     Ok(round)
 }

@@ -1,6 +1,7 @@
 -- A node goes on by entries, one after the other.
 use Rattle.std.proofs.Common.{◌≡◌, ℕ, ◌<◌, ◌≤◌, ◌+◌, ◌-◌, inl, inr, Bool, true, false, List, [], ◌∷◌, ◌++◌, length, map, refl, ap, sym, ◌∙◌, subst, arith, append_assoc}
-use Rattle.std.specs.Prelude.{◌⊎◌, ◌==◌, cond, Option, None}
+use Rattle.std.specs.Prelude.{◌≢◌, ◌⊎◌, ◌==◌, cond, Option, None}
+use Rattle.std.proofs.lemmas.Bool.{cases_Bool}
 use Rattle.std.proofs.lemmas.List.{append-nil, length-append, map-append}
 use Rattle.nr_model.specs.Items.{Connection}
 use Rattle.nr_model.specs.Servers.{emitted_all}
@@ -20,7 +21,7 @@ use Rattle.nr_node.specs.declared.next.Next.{Next}
 use Rattle.nr_node.specs.Level.{unpassed, jobs_reserved, IsInOrder}
 use Rattle.nr_node.specs.Next.{jobs_next}
 use Rattle.nr_node.specs.Owing.{IsOwing, awaited, unexecuted}
-use Rattle.nr_node.specs.Advanced.{IsTakenIn, HasPassed, GoesOn, HaveGot}
+use Rattle.nr_node.specs.Advanced.{IsTakenIn, HasPassed, GoesOn, HaveGot, jobs_of_own}
 use Rattle.nr_node.proofs.Lists.{applied-append, still_in_log, reserved_passed}
 use Rattle.nr_node.proofs.Queues.{delivered_length}
 use Rattle.nr_node.proofs.Levels.{passed_level, same_level}
@@ -28,10 +29,44 @@ use Rattle.nr_node.proofs.Got.{got_itself, got_on, got_received}
 use Rattle.nr_node.proofs.Owed.{workers_owing, passed_owing, received_workers, still_awaited_if}
 use Rattle.nr_node.proofs.Orders.{passed_order, passed_down, met_order}
 
+apart : (b : Bool) → b ≡ false → b ≡ true → ⊥
+apart b up down = absurd (cc (up, down))
+
+some_first : (es fs : List Entry) → es ≢ [] → es ++ fs ≢ []
+some_first [] fs some = absurd (some refl)
+some_first (e ∷ es) fs some = λ none. absurd (cc none)
+
+some_last : (es fs : List Entry) → fs ≢ [] → es ++ fs ≢ []
+some_last [] fs some = some
+some_last (e ∷ es) fs some = λ none. absurd (cc none)
+
+own-append : (node : ℕ) (es fs : List Entry) → jobs_of_own node (es ++ fs) ≡ jobs_of_own node es ++ jobs_of_own node fs
+own-append node [] fs = refl
+own-append node (e ∷ es) fs =
+    ap (λ (js : Jobs). cond (e.node == node) (items_of e.jobs.items ++ js) js) (own-append node es fs)
+    ∙ cond_over (e.node == node) (items_of e.jobs.items) (jobs_of_own node es) (jobs_of_own node fs)
+  where
+    cond_over : (b : Bool) (items xs ys : Jobs) → cond b (items ++ (xs ++ ys)) (xs ++ ys) ≡ cond b (items ++ xs) xs ++ ys
+    cond_over true items xs ys = sym (append_assoc items xs ys)
+    cond_over false items xs ys = refl
+
+cond_front : (b : Bool) (items later : Jobs) → cond b (items ++ later) later ≡ cond b (items ++ []) [] ++ later
+cond_front true items later = ap (λ (js : Jobs). js ++ later) (sym (append-nil items))
+cond_front false items later = refl
+
+own_then : (es fs : List Entry) (s t u : Standing) → t.node ≡ s.node → jobs_reserved (unpassed s) ≡ jobs_of_own s.node es ++ jobs_reserved (unpassed t)
+    → jobs_reserved (unpassed t) ≡ jobs_of_own t.node fs ++ jobs_reserved (unpassed u)
+    → jobs_reserved (unpassed s) ≡ jobs_of_own s.node (es ++ fs) ++ jobs_reserved (unpassed u)
+own_then es fs s t u node first last =
+    let later = jobs_reserved (unpassed u) in
+    first ∙ ap (λ (js : Jobs). jobs_of_own s.node es ++ js) (last ∙ ap (λ (n : ℕ). jobs_of_own n fs ++ later) node)
+    ∙ sym (append_assoc (jobs_of_own s.node es) (jobs_of_own s.node fs) later) ∙ ap (λ (js : Jobs). js ++ later) (sym (own-append s.node es fs))
+
 -- by none
 pub goes_none : (s : Standing) (replica : ReplicaState) (next : Option Next) → GoesOn [] s s replica replica next next
 goes_none s replica next = record {
   passed = record { seen = omega arith; standing = λ i. record s { history = sym (append-nil s.history) i } };
+  own = refl;
   level = λ l. l;
   order = λ book o. o;
   owing = λ l up o. o;
@@ -41,6 +76,8 @@ goes_none s replica next = record {
   got = got_itself replica.members;
   refused = λ up. refl;
   up = λ up. (up, refl, refl);
+  fell = λ up down. absurd (apart replica.down up down);
+  waits = inr refl;
   after_is = inr refl;
 }
 
@@ -61,6 +98,7 @@ pub goes_then : (es fs : List Entry) (s t u : Standing) (a b c : ReplicaState) (
     → GoesOn (es ++ fs) s u a c n k
 goes_then es fs s t u a b c n m k first last = record {
   passed = passed_then es fs s t u first.passed last.passed;
+  own = own_then es fs s t u (ap (λ (x : Standing). x.node) first.passed.standing) first.own last.own;
   level = λ l. last.level (first.level l);
   order = λ book o. last.order book (first.order book o);
   owing = λ l up o. last.owing (first.level l) up (first.owing l (last.up up).0 o);
@@ -73,6 +111,14 @@ goes_then es fs s t u a b c n m k first last = record {
       let was = last.up up in
       let before = first.up was.0 in
       (before.0, was.1 ∙ before.1, was.2 ∙ before.2);
+  fell = λ up down. elim (cases_Bool b.down) [
+    | inl fell ↦ some_first es fs (first.fell up fell)
+    | inr on ↦ some_last es fs (last.fell on down)
+  ];
+  waits = elim last.waits [
+    | inl none ↦ inl none
+    | inr same ↦ elim first.waits [ inl none ↦ inl (same ∙ none) | inr first_same ↦ inr (same ∙ first_same) ]
+  ];
   after_is = elim last.after_is [
     | inl none ↦ inl none
     | inr same ↦ elim first.after_is [ inl none ↦ inl (same ∙ none) | inr first_same ↦ inr (same ∙ first_same) ]
@@ -185,6 +231,8 @@ goes_by_entry s held t e old new next after idle fetched passed stands taken non
         seen = let seen = ap (λ (x : Standing). x.seen) is in omega (arith, seen);
         standing = is ∙ (λ i. record s { history = s.history ++ Applied e ∷ []; held = sym idle i; seen = sym (ap (λ (x : Standing). x.seen) is) i });
       };
+      own = reserved_passed s e log ∙ cond_front (e.node == s.node) (items_of e.jobs.items) (jobs_reserved (unpassed (passed_on (fetched_with e s))))
+          ∙ ap (λ (x : Standing). jobs_of_own s.node (e ∷ []) ++ jobs_reserved (unpassed x)) (sym is);
       level = λ lv. passed_level s t e old new is taken lv;
       order = order_kept s t e old new next after new.down refl is log l none same;
       owing = λ lv up o. owing_taken s t e old new next after is log lv.node taken (same up) up o;
@@ -194,6 +242,8 @@ goes_by_entry s held t e old new next after idle fetched passed stands taken non
       got = l.got;
       refused = l.refused;
       up = λ up. ((l.up up).0, same up, (l.up up).1);
+      fell = λ up down. λ none_is. absurd (cc none_is);
+      waits = l.waits;
       after_is = after_by new.down next after none same;
     }
 
@@ -211,6 +261,7 @@ passed_by es s t h =
 pub goes_tail : (s t : Standing) (replica : ReplicaState) (next : Option Next) → LooksOn s t → GoesOn [] s t replica replica next next
 goes_tail s t replica next looks = record {
   passed = record { seen = looks.0; standing = looks.1 ∙ (λ i. record s { history = sym (append-nil s.history) i; seen = t.seen }) };
+  own = ap (λ (x : Standing). jobs_reserved (unpassed x)) (sym looks.1);
   level = λ l. same_level s t replica replica (ap (λ (x : Standing). x.node) looks.1) (ap (λ (x : Standing). x.history) looks.1) refl refl refl refl refl l;
   order = λ book o. met_order s t replica book (jobs_next next) (record { seen = looks.0; standing = looks.1 }) o;
   owing = λ l up o. subst (λ (x : Standing). IsOwing replica.members replica.owed (unexecuted x (jobs_next next) replica.waiting)) (sym looks.1) o;
@@ -220,6 +271,8 @@ goes_tail s t replica next looks = record {
   got = got_itself replica.members;
   refused = λ up. refl;
   up = λ up. (up, refl, refl);
+  fell = λ up down. absurd (apart replica.down up down);
+  waits = inr refl;
   after_is = inr refl;
 }
 

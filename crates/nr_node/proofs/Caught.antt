@@ -1,6 +1,6 @@
 -- How far a node went on in a call.
-use Rattle.std.proofs.Common.{◌≡◌, ℕ, ◌<◌, ◌≤◌, true, false, List, [], ◌∷◌, ◌++◌, length, map, refl, ap, sym, ◌∙◌, append_assoc, arith}
-use Rattle.std.specs.Prelude.{Option, Some, None, is_some}
+use Rattle.std.proofs.Common.{◌≡◌, ℕ, ◌<◌, ◌≤◌, inl, inr, true, false, List, [], ◌∷◌, ◌++◌, length, map, refl, ap, sym, ◌∙◌, append_assoc, arith}
+use Rattle.std.specs.Prelude.{◌≢◌, ◌⊎◌, Option, Some, None, is_some}
 use Rattle.std.proofs.lemmas.List.{append-nil}
 use Rattle.nr_model.specs.Servers.{emitted_all}
 use Rattle.nr_model.specs.Nodes.Steps.{texts_for}
@@ -11,33 +11,41 @@ use Rattle.nr_entry.specs.declared.job.Job.{Job}
 use Rattle.nr_log_end.specs.declared.standing.Standing.{Standing}
 use Rattle.nr_log_end.specs.declared.standing.Look.{Look}
 use Rattle.nr_log_end.specs.declared.standing.Look.TheVariants.{Tail}
-use Rattle.nr_log_end.specs.declared.standing.Turn.{Turn}
 use Rattle.nr_log_end.specs.declared.standing.Turn.TheVariants.{Applied, Ran}
 use Rattle.nr_log_end.specs.Standings.{passed_of}
 use Rattle.nr_replica.specs.Replicas.{ReplicaState}
 use Rattle.nr_replica.specs.Replicas as of_replica
 use Rattle.nr_node.specs.declared.next.Next.{Next}
 use Rattle.nr_node.specs.declared.next.Next.TheVariants as forms
-use Rattle.nr_node.specs.Level.{NodeState}
+use Rattle.nr_node.specs.Level.{NodeState, unpassed, jobs_reserved}
 use Rattle.nr_node.specs.Next.{jobs_shared, jobs_next, IsNextOf}
 use Rattle.nr_node.specs.Owing.{awaited}
-use Rattle.nr_node.specs.Advanced.{HasPassed, HasNoted, HaveGot}
+use Rattle.nr_node.specs.Advanced.{HasPassed, HasNoted, HaveGot, jobs_of_own}
 use Rattle.nr_node.specs.Steps.{GoesOnBy, HasRead}
 use Rattle.nr_node.proofs.Got.{got_on, got_received}
 use Rattle.nr_node.proofs.Levels.{applied_noted}
+use Rattle.nr_node.proofs.Served.{still_unpassed}
 use Rattle.nr_node.proofs.Taking.{shared_jobs}
 
+pub next_after : (next after : Option Next) → (after ≡ None) ⊎ (after ≡ next) → (jobs_next after ≡ []) ⊎ (jobs_next after ≡ jobs_next next)
+next_after next after is = elim is [ inl none ↦ inl (ap jobs_next none) | inr same ↦ inr (ap jobs_next same) ]
+
 -- by entries alone
-pub caught_up : (n m : NodeState) (es : List Entry) → HasPassed es n.seat.standing m.seat.standing → m.seat.looks ≡ n.seat.looks ++ (Tail m.seat.standing.seen ∷ [])
+pub caught_up : (n m : NodeState) (es : List Entry) → HasPassed es n.seat.standing m.seat.standing
+    → jobs_reserved (unpassed n.seat.standing) ≡ jobs_of_own n.seat.standing.node es ++ jobs_reserved (unpassed m.seat.standing) → n.book.node ≡ n.seat.standing.node → m.seat.looks ≡ n.seat.looks ++ (Tail m.seat.standing.seen ∷ [])
     → m.book ≡ n.book → awaited m.replica.owed ≡ awaited n.replica.owed → HaveGot n.replica.members m.replica.members
-    → (m.replica.down ≡ false → m.replica.refused ≡ n.replica.refused) → GoesOnBy es [] m.seat.standing.seen n m
-caught_up n m es passed looks book owed got refused = record {
-  history = ap (λ (s : Standing). s.history) passed.standing ∙ ap (λ (h : List Turn). n.seat.standing.history ++ h) (sym (append-nil (map Applied es)));
+    → (m.replica.down ≡ false → m.replica.refused ≡ n.replica.refused) → (n.replica.down ≡ false → m.replica.down ≡ true → es ≢ [])
+    → ((m.replica.waiting ≡ []) ⊎ (m.replica.waiting ≡ n.replica.waiting)) × ((m.next ≡ []) ⊎ (m.next ≡ n.next)) → GoesOnBy es [] m.seat.standing.seen n m
+caught_up n m es passed own same looks book owed got refused fell waits = record {
+  standing = passed.standing ∙ (λ i. record n.seat.standing { history = n.seat.standing.history ++ sym (append-nil (map Applied es)) i; seen = m.seat.standing.seen });
+  own = own ∙ ap (λ (k : ℕ). jobs_of_own k es ++ jobs_reserved (unpassed m.seat.standing)) (sym same);
   loaded = ([], looks);
   book = book;
   owed = owed;
   got = got;
   refused = refused;
+  fell = fell;
+  waits = λ _. waits;
 }
 
 -- reads give their connections bytes
@@ -47,17 +55,21 @@ read_got old mid new got read =
     (got_received (λ c. texts_for c (emitted_all mid.server (read_jobs (items_of mid.waiting)))) mid.members new.members read.delivered)
 
 -- by entries, and reads behind them
-pub read_on : (n m : NodeState) (t : Standing) (es : List Entry) (ran : List Job) (looks more : List Look) → HasPassed es n.seat.standing t → HasNoted ran t m.seat.standing
+pub read_on : (n m : NodeState) (t : Standing) (es : List Entry) (ran : List Job) (looks more : List Look) → HasPassed es n.seat.standing t
+    → jobs_reserved (unpassed n.seat.standing) ≡ jobs_of_own n.seat.standing.node es ++ jobs_reserved (unpassed t) → n.book.node ≡ n.seat.standing.node → HasNoted ran t m.seat.standing
     → looks ≡ n.seat.looks ++ (Tail t.seen ∷ []) → m.seat.looks ≡ looks ++ more → m.book ≡ n.book → awaited m.replica.owed ≡ awaited n.replica.owed
-    → HaveGot n.replica.members m.replica.members → (m.replica.down ≡ false → m.replica.refused ≡ n.replica.refused) → GoesOnBy es ran t.seen n m
-read_on n m t es ran looks more passed noted first last book owed got refused = record {
-  history = ap (λ (s : Standing). s.history) noted.standing ∙ ap (λ (s : Standing). s.history ++ map Ran ran) passed.standing
-      ∙ append_assoc n.seat.standing.history (map Applied es) (map Ran ran);
+    → HaveGot n.replica.members m.replica.members → (m.replica.down ≡ false → m.replica.refused ≡ n.replica.refused) → m.replica.down ≡ false → GoesOnBy es ran t.seen n m
+read_on n m t es ran looks more passed own same noted first last book owed got refused up = record {
+  standing = noted.standing ∙ ap (λ (s : Standing). record s { history = s.history ++ map Ran ran; seen = m.seat.standing.seen }) passed.standing
+      ∙ (λ i. record n.seat.standing { history = append_assoc n.seat.standing.history (map Applied es) (map Ran ran) i; seen = m.seat.standing.seen });
+  own = own ∙ (λ i. jobs_of_own (sym same i) es ++ jobs_reserved (sym (still_unpassed t m.seat.standing ran noted) i));
   loaded = (more, last ∙ ap (λ (ls : List Look). ls ++ more) first ∙ append_assoc n.seat.looks (Tail t.seen ∷ []) more);
   book = book;
   owed = owed;
   got = got;
   refused = refused;
+  fell = λ _ fell. absurd (cc (up, fell));
+  waits = λ fell. absurd (cc (up, fell));
 }
 
 -- all entries that there were are passed, and the reads that led were run

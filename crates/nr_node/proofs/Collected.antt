@@ -1,6 +1,6 @@
 -- What waits for a worker's connections is handed out, one after the other.
 use Rattle.std.proofs.Common.{◌≡◌, ℕ, ◌+◌, ◌<◌, ◌≤◌, Bool, true, List, [], ◌∷◌, ◌++◌, length, set, get_or, Option, Some, None, refl, ap, sym, ◌∙◌, subst, arith, append_assoc, append-nil, length-set, get_or-set_other}
-use Rattle.std.specs.Prelude.{◌≢◌, ◌==◌, nat_le, filter, IfSome, Ok}
+use Rattle.std.specs.Prelude.{◌≢◌, ◌==◌, nat_le, filter, IfSome, is_err, Result, Ok, Err}
 use Rattle.std.specs.List.{range_with_len}
 use Rattle.std.proofs.lemmas.Bool.{leb-true, and_parts}
 use Rattle.nr_model.specs.Bytes.{Bytes}
@@ -8,6 +8,7 @@ use Rattle.nr_model.specs.Connections.{is_some_bytes}
 use Rattle.nr_model.specs.Items.{Connection}
 use Rattle.nr_entry.specs.Jobs.{connection_of}
 use Rattle.nr_entry.specs.declared.conn.ConnId.{ConnId}
+use Rattle.nr_blob.specs.declared.memory.Memory.{Memory}
 use Rattle.nr_oplog.specs.declared.view.LogView.{LogView}
 use Rattle.nr_replica.specs.declared.outbox.Piece.{Piece}
 use Rattle.nr_replica.specs.Members.{Member, is_ready, ready_of, next_ready, handed_member}
@@ -115,7 +116,34 @@ none_further worker most from old new n m so none = record {
   left = [];
   ready = ap (λ (r : List ℕ). so.serials ++ r) (sym (none_left (nat_le from) (ready_of worker m.replica.members) none)) ∙ so.ready;
   all = refl;
+  some = tt;
 }
+
+-- where memory runs out for the next one
+stopped_at : (worker most from serial : ℕ) (old new : List (Piece × LogView)) (n m : NodeState) (r : Result (Unit {0}) Memory) → HasCollectedTo worker most from old new n m
+    → next_ready worker from m.replica.members ≡ Some serial → is_err r ≡ true → Collects worker most old new r n m
+stopped_at worker most from serial old new n m (Ok done) so found failed = absurd (cc failed)
+stopped_at worker most from serial old new n m (Err memory) so found failed =
+    let members = m.replica.members in
+    let p : ℕ → Bool = λ s. is_ready worker (get_or members s nobody) in
+    let leads = first_leads from serial (ready_of worker members) (ascends p 0 (length members)) found in
+    record {
+      serials = so.serials;
+      pieces = so.pieces;
+      behind = so.behind;
+      handed = so.handed;
+      left = filter (nat_le from) (ready_of worker members);
+      ready = so.ready;
+      all = tt;
+      some = λ none. absurd (cc (sym leads ∙ none));
+    }
+
+pub stopped : (worker most from serial : ℕ) (old now new : List (Piece × LogView)) (n m k : NodeState) (r : Result (Unit {0}) Memory)
+    → HasCollectedTo worker most from old now n m → next_ready worker from m.replica.members ≡ Some serial → (new ≡ now) × (k ≡ m) → is_err r ≡ true
+    → Collects worker most old new r n k
+stopped worker most from serial old now new n m k r so found same failed =
+    subst (λ (x : NodeState). Collects worker most old new r n x) (sym same.1)
+    (subst (λ (xs : List (Piece × LogView)). Collects worker most old xs r n m) (sym same.0) (stopped_at worker most from serial old now n m r so found failed))
 
 pub all_passed : (worker most from end : ℕ) (old new : List (Piece × LogView)) (n m : NodeState) → HasCollectedTo worker most from old new n m
     → end ≡ length n.replica.members → end ≤ from → Collects worker most old new (Ok tt) n m
@@ -131,6 +159,7 @@ all_passed worker most from end old new n m so is past =
       left = [];
       ready = ap (λ (r : List ℕ). so.serials ++ r) (sym none) ∙ so.ready;
       all = refl;
+      some = tt;
     }
 
 -- one is handed out, behind those before

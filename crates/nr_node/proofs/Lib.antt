@@ -12,4 +12,5 @@ mod Taking
 mod Caught
 mod Ready
 mod Collected
+mod Shares
 pub mod Crossing

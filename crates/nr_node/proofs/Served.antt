@@ -58,12 +58,15 @@ led_reads : (node : ℕ) (waiting : Jobs) → AreOfNode node waiting → AllByRe
 led_reads node waiting own = both_hold node (read_jobs waiting) (All-reads (λ (job : Item). job.connection.node ≡ node) waiting own) (look_reads waiting)
 
 -- no entry is left to pass where none was
-pub unpassed_noted : (s t : Standing) (ran : List Job) → HasNoted ran s t → unpassed s ≡ [] → unpassed t ≡ []
-unpassed_noted s t ran noted none =
+pub still_unpassed : (s t : Standing) (ran : List Job) → HasNoted ran s t → unpassed t ≡ unpassed s
+still_unpassed s t ran noted =
     let node : t.node ≡ s.node = ap (λ (x : Standing). x.node) noted.standing in
     let applied : applied_of t.history ≡ applied_of s.history = ap (λ (x : Standing). applied_of x.history) noted.standing ∙ applied_noted s.history ran in
     let reservations : t.reservations ≡ s.reservations = ap (λ (x : Standing). x.reservations) noted.standing in
-    (λ i. drop (length (own_entries (node i) (applied i))) (reservations i)) ∙ none
+    (λ i. drop (length (own_entries (node i) (applied i))) (reservations i))
+
+pub unpassed_noted : (s t : Standing) (ran : List Job) → HasNoted ran s t → unpassed s ≡ [] → unpassed t ≡ []
+unpassed_noted s t ran noted none = still_unpassed s t ran noted ∙ none
 
 -- the reads that led were run, behind all that was reserved
 pub noted_order : (s t : Standing) (ran : List Job) (old new : ReplicaState) (book : Book) → HasNoted ran s t → unpassed s ≡ [] → HasRead old new

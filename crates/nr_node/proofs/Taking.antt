@@ -20,7 +20,8 @@ use Rattle.nr_entry.specs.declared.batch.Outcome.TheVariants as outcomes
 use Rattle.nr_entry.specs.declared.entry.Entry.{Entry}
 use Rattle.nr_entry.specs.declared.job.Job.{Job}
 use Rattle.nr_log_end.specs.declared.standing.Standing.{Standing}
-use Rattle.nr_log_end.specs.Standings.{IsAllFilled, record_of, applied_of, own_entries}
+use Rattle.nr_log_end.specs.Standings.{IsAllFilled, StandsInLog, record_of, applied_of, passed_of, own_entries}
+use Rattle.nr_oplog.specs.declared.view.LogView.{LogView}
 use Rattle.nr_accounts.specs.declared.account.Account.{Account}
 use Rattle.nr_accounts.specs.Account.{fresh_account}
 use Rattle.nr_accounts.specs.Held.{Held, numbers_in, CountsTo, taken_all}
@@ -39,7 +40,7 @@ use Rattle.nr_node.specs.Kept.{IsKept}
 use Rattle.nr_node.specs.Advanced.{HasNoted, GoesOn}
 use Rattle.nr_node.specs.Reserved.{due_jobs, left_jobs, LeavesWaiting, AreTaken, AreNone, AreDue, HasMet, IsReserved}
 use Rattle.nr_node.specs.Steps.{nobody}
-use Rattle.nr_node.proofs.Lists.{numbers-append, no_numbers, jobs_reserved_more}
+use Rattle.nr_node.proofs.Lists.{numbers-append, no_numbers, none_unpassed, jobs_reserved_more}
 use Rattle.nr_node.proofs.Levels.{same_level, down_level, opened_level, closed_level, handed_level, noted_level}
 use Rattle.nr_node.proofs.Orders.{no_parts, reserved_order, due_order, fallen_order, members_order, owed_order}
 use Rattle.nr_node.proofs.Queues.{piece_behind}
@@ -58,22 +59,34 @@ pub shared_jobs : (e : Entry) (nodes : ℕ) → 0 < nodes → jobs_shared (share
 shared_jobs e zero h = absurd (omega arith)
 shared_jobs e (suc nodes) h = refl
 
+-- an entry has jobs, so where one is taken or lost there were some that were due
+some_items : (jobs : List Job) → 0 < length jobs → items_of jobs ≢ []
+some_items [] some none = absurd (omega arith)
+some_items (job ∷ jobs) some none = absurd (cc none)
+
+some_due : (e : Entry) (due : Jobs) → items_of e.jobs.items ≡ due → due ≢ []
+some_due e due is none = some_items e.jobs.items e.some (is ∙ none)
+
 -- an entry that found no place before is taken
 pub kept_taken : (e : Entry) (next after : Option Next) (r : ReplicaState) → after ≡ None → jobs_next next ≡ e.jobs.items → AreTaken e.jobs.items next r after r
-kept_taken e next after r gone is = record {
-  due = sym (ap (λ (js : List Job). due_jobs js r.waiting) is ∙ due_of_some e.jobs.items r.waiting e.some);
-  none = gone;
-  left = record { waiting = sym (ap (λ (js : List Job). left_jobs js r.waiting) is ∙ left_of_some e.jobs.items r.waiting e.some); replica = refl };
-}
+kept_taken e next after r gone is =
+    let due : items_of e.jobs.items ≡ due_jobs (jobs_next next) r.waiting = sym (ap (λ (js : List Job). due_jobs js r.waiting) is ∙ due_of_some e.jobs.items r.waiting e.some) in record {
+      due = due;
+      some = some_due e (due_jobs (jobs_next next) r.waiting) due;
+      none = gone;
+      left = record { waiting = sym (ap (λ (js : List Job). left_jobs js r.waiting) is ∙ left_of_some e.jobs.items r.waiting e.some); replica = refl };
+    }
 
 -- the updates that lead are taken
 pub led_taken : (e : Entry) (next after : Option Next) (old new : ReplicaState) → after ≡ None → next ≡ None → items_of e.jobs.items ≡ entry_jobs (items_of old.waiting)
     → items_of new.waiting ≡ left_by_entry (items_of old.waiting) → new ≡ record old { waiting = new.waiting } → AreTaken e.jobs.items next old after new
-led_taken e next after old new gone is due left rest = record {
-  due = due ∙ sym (ap (λ (n : Option Next). due_jobs (jobs_next n) old.waiting) is);
-  none = gone;
-  left = record { waiting = left ∙ sym (ap (λ (n : Option Next). left_jobs (jobs_next n) old.waiting) is); replica = rest };
-}
+led_taken e next after old new gone is due left rest =
+    let there : items_of e.jobs.items ≡ due_jobs (jobs_next next) old.waiting = due ∙ sym (ap (λ (n : Option Next). due_jobs (jobs_next n) old.waiting) is) in record {
+      due = there;
+      some = some_due e (due_jobs (jobs_next next) old.waiting) there;
+      none = gone;
+      left = record { waiting = left ∙ sym (ap (λ (n : Option Next). left_jobs (jobs_next n) old.waiting) is); replica = rest };
+    }
 
 pub none_led : (next after : Option Next) (old new : ReplicaState) → after ≡ None → next ≡ None → entry_jobs (items_of old.waiting) ≡ [] → items_of new.waiting ≡ left_by_entry (items_of old.waiting)
     → new ≡ record old { waiting = new.waiting } → AreNone next old after new
@@ -85,19 +98,23 @@ none_led next after old new gone is due left rest = (
   ),
 )
 
--- an entry has jobs, so where it was lost there were some that were due
-some_items : (jobs : List Job) → 0 < length jobs → items_of jobs ≢ []
-some_items [] some none = absurd (omega arith)
-some_items (job ∷ jobs) some none = absurd (cc none)
-
 pub lost_with : (e : Entry) (next after last : Option Next) (old mid new : ReplicaState) → AreTaken e.jobs.items next old after mid → last ≡ after → new ≡ fallen mid
     → AreNone next old last new
 lost_with e next after last old mid new taken same fell = (
   same ∙ taken.none,
   inr (
-    λ none. some_items e.jobs.items e.some (taken.due ∙ none),
+    taken.some,
     fell ∙ ap fallen taken.left.replica,
   ),
+)
+
+-- one of which there was no memory for shares goes on waiting
+pub whole_due : (e : Entry) (next emptied after : Option Next) (old mid new : ReplicaState) → AreTaken e.jobs.items next old emptied mid → after ≡ Some (forms.Whole e) → new ≡ mid
+    → AreDue next old after new
+whole_due e next emptied after old mid new taken is same = inr (
+  ap (λ (n : Option Next). items_of (jobs_next n)) is ∙ taken.due,
+  subst (LeavesWaiting (left_jobs (jobs_next next) old.waiting) old) (sym same) taken.left,
+  taken.some,
 )
 
 pub ok_none : {S E : Type 0} (P Q : Type 0) (r : Result (Option S) E) → IfOk r (λ o. IfNone o P) → (P → Q) → IfOk r (λ o. IfNone o Q)
@@ -124,6 +141,9 @@ fell_level s old new is l =
 
 same_met : (s : Standing) → HasMet s s
 same_met s = record { seen = omega arith; standing = refl }
+
+pub still_met : (v w : LogView) → w ≡ v → HasMet v.standing w.standing
+still_met v w same = subst (λ (x : LogView). HasMet v.standing x.standing) (sym same) (same_met v.standing)
 
 nothing : (s : Standing) (r : ReplicaState) (book : Book) (next after : Option Next) (nodes : ℕ) → after ≡ next → IsKept s r book next nodes → IsKept s r book after nodes
 nothing s r book next after nodes is k = subst (λ (n : Option Next). IsKept s r book n nodes) (sym is) k
@@ -441,6 +461,50 @@ noted_kept s t ran old new book next nodes noted none read ran_is up is k =
     }
 
 -- what holds of what is there
+-- reads couldn't be run, and nothing changed
+pub failed_within : (es : List Entry) (s : Standing) (t u : LogView) (old mid new : ReplicaState) (book : Book) (next after : Option Next) (nodes : ℕ)
+    → GoesOn es s t.standing old mid next after → t.standing.held ≡ None → u ≡ t → new ≡ mid → IsWithin s old book next nodes → IsWithin u.standing new book after nodes
+failed_within es s t u old mid new book next after nodes g idle end replica w =
+    subst (λ (v : LogView). IsWithin v.standing new book after nodes) (sym end)
+    (subst (λ (r : ReplicaState). IsWithin t.standing r book after nodes) (sym replica) (goes_within es s t.standing old mid book next after nodes g idle w))
+
+-- reads were run behind all that was reserved
+pub noted_within : (es : List Entry) (s t u : Standing) (ran : List Job) (old mid new : ReplicaState) (book : Book) (next after : Option Next) (nodes : ℕ)
+    → GoesOn es s t old mid next after → t.held ≡ None → (t.seen ≤ passed_of t) × StandsInLog t → HasNoted ran t u → HasRead mid new
+    → items_of ran ≡ read_jobs (items_of mid.waiting) → mid.down ≡ false → after ≡ None → IsWithin s old book next nodes → IsWithin u new book after nodes
+noted_within es s t u ran old mid new book next after nodes g idle all noted read ran_is up is w =
+    let here = goes_within es s t old mid book next after nodes g idle w in
+    let none = none_unpassed t all.1 idle all.0 here.0.order.met in (
+      noted_kept t u ran mid new book after nodes noted none read ran_is up is here.0,
+      ap (λ (x : Standing). x.held) noted.standing ∙ idle,
+      λ node. ap (λ (x : Standing). slice_index_or x.unfilled node None) noted.standing ∙ here.2 node,
+      here.3 ∙ sym (ap (λ (x : Standing). x.nodes) noted.standing),
+      here.4,
+    )
+
+-- an entry was reserved, or its shares came back
+pub reserved_within : (s t : Standing) (at : ℕ) (e : Entry) (old new : ReplicaState) (book : Book) (next after : Option Next) (nodes : ℕ)
+    → IsReserved at (shares_of e s.nodes) s t → AreTaken e.jobs.items next old after new → old.down ≡ false → IsAllFilled t → IsWithin s old book next nodes
+    → IsWithin t new book after nodes
+reserved_within s t at e old new book next after nodes reserved taken up filled w = (
+  reserved_kept s t at e old new book next after nodes (subst (λ (n : ℕ). 0 < n) w.3 w.4) reserved taken up w.0,
+  ap (λ (x : Standing). x.held) reserved.standing ∙ w.1,
+  filled,
+  w.3 ∙ sym (ap (λ (x : Standing). x.nodes) reserved.standing),
+  w.4,
+)
+
+pub back_within : (s t : Standing) (e : Entry) (old new : ReplicaState) (book : Book) (next between : Option Next) (shares back : List (Option Entry)) (nodes : ℕ)
+    → HasMet s t → AreTaken e.jobs.items next old between new → shares ≡ shares_of e nodes → back ≡ shares → e.node ≡ old.node → IsAllFilled t
+    → IsWithin s old book next nodes → IsWithin t new book (Some (forms.Shared back)) nodes
+back_within s t e old new book next between shares back nodes met taken are is own filled w = (
+  back_kept s t e old new book next between shares back nodes w.4 met taken are is (own ∙ sym w.0.level.node) w.0,
+  ap (λ (x : Standing). x.held) met.standing ∙ w.1,
+  filled,
+  w.3 ∙ sym (ap (λ (x : Standing). x.nodes) met.standing),
+  w.4,
+)
+
 pub some_is : {A : Type 0} (P : A → Type 0) (o : Option A) (x : A) → o ≡ Some x → IfSome o P → P x
 some_is P o x is h = subst (λ (a : Option _). IfSome a P) is h
 

@@ -1,7 +1,9 @@
 -- What an entry does to a replica, and how far a node has gone on.
-use Rattle.std.specs.Prelude.{◌≡◌, ◌⊎◌, ◌≤◌, true, false, List, ◌++◌, map, length, Option, None, [], ◌∷◌}
+use Rattle.std.specs.Prelude.{◌≡◌, ◌≢◌, ◌⊎◌, ◌==◌, ◌≤◌, ℕ, true, false, cond, List, ◌++◌, map, length, Option, None, [], ◌∷◌}
 use Rattle.nr_model.specs.Bytes.{Bytes}
 use Rattle.nr_model.specs.Items.{Connection}
+use Rattle.nr_model.specs.Entries.{Jobs}
+use Rattle.nr_entry.specs.Jobs.{items_of}
 use Rattle.nr_entry.specs.declared.entry.Entry.{Entry}
 use Rattle.nr_entry.specs.declared.job.Job.{Job}
 use Rattle.nr_log_end.specs.declared.standing.Standing.{Standing}
@@ -10,7 +12,7 @@ use Rattle.nr_accounts.specs.Book.{Book}
 use Rattle.nr_replica.specs.Members.{Member, worker_of}
 use Rattle.nr_replica.specs.Replicas.{ReplicaState, IsApplied, fallen}
 use Rattle.nr_node.specs.declared.next.Next.{Next}
-use Rattle.nr_node.specs.Level.{IsLevel, IsInOrder}
+use Rattle.nr_node.specs.Level.{IsLevel, IsInOrder, unpassed, jobs_reserved}
 use Rattle.nr_node.specs.Next.{jobs_next}
 use Rattle.nr_node.specs.Owing.{IsOwing, awaited, unexecuted}
 
@@ -29,6 +31,11 @@ pub record HasNoted (ran : List Job) (s t : Standing) : Type 0 where
   pub seen : s.seen ≤ t.seen
   pub standing : t ≡ record s { history = s.history ++ map Ran ran; seen = t.seen }
 
+-- the jobs of the entries of a node among these
+abbrev pub jobs_of_own : ℕ → List Entry → Jobs
+jobs_of_own node [] = []
+jobs_of_own node (entry ∷ entries) = cond (entry.node == node) (items_of entry.jobs.items ++ jobs_of_own node entries) (jobs_of_own node entries)
+
 -- bytes came behind those that wait for a connection, or its queue was cut, and nothing else of it changed
 abbrev pub HasGot : Member → Member → Type 0
 HasGot old new = (more : Bytes) × (new ≡ record old { outbox = record old.outbox { waiting = old.outbox.waiting ++ more; cut = new.outbox.cut } })
@@ -39,9 +46,10 @@ HaveGot [] (new ∷ news) = ⊥
 HaveGot (old ∷ olds) [] = ⊥
 HaveGot (old ∷ olds) (new ∷ news) = HasGot old new × HaveGot olds news
 
--- a node went on by these entries: it is level, in order and owing if it was, and what waits is what waited unless it is down
+-- a node went on by these entries: it is level, in order and owing if it was, and what waits is what waited unless it is down; none goes down without one
 pub record GoesOn (entries : List Entry) (s t : Standing) (old new : ReplicaState) (next after : Option Next) : Type 0 where
   pub passed : HasPassed entries s t
+  pub own : jobs_reserved (unpassed s) ≡ jobs_of_own s.node entries ++ jobs_reserved (unpassed t)
   pub level : IsLevel s old → IsLevel t new
   pub order : (book : Book) → IsInOrder s old book (jobs_next next) → IsInOrder t new book (jobs_next after)
   pub owing : IsLevel s old → new.down ≡ false → IsOwing old.members old.owed (unexecuted s (jobs_next next) old.waiting)
@@ -52,4 +60,6 @@ pub record GoesOn (entries : List Entry) (s t : Standing) (old new : ReplicaStat
   pub got : HaveGot old.members new.members
   pub refused : new.down ≡ false → new.refused ≡ old.refused
   pub up : new.down ≡ false → (old.down ≡ false) × (after ≡ next) × (new.waiting ≡ old.waiting)
+  pub fell : old.down ≡ false → new.down ≡ true → entries ≢ []
+  pub waits : (new.waiting ≡ []) ⊎ (new.waiting ≡ old.waiting)
   pub after_is : (after ≡ None) ⊎ (after ≡ next)

@@ -1,5 +1,5 @@
 -- What a node hands out in one go of what waits for a worker's connections.
-use Rattle.std.specs.Prelude.{◌≡◌, ℕ, List, [], ◌∷◌, ◌++◌, Result, OnOk}
+use Rattle.std.specs.Prelude.{◌≡◌, ◌≢◌, ℕ, List, [], ◌∷◌, ◌++◌, Result, OnOk, OnErr}
 use Rattle.nr_blob.specs.declared.memory.Memory.{Memory}
 use Rattle.nr_oplog.specs.declared.view.LogView.{LogView}
 use Rattle.nr_replica.specs.Members.{ready_of}
@@ -29,7 +29,7 @@ pub record HandsOver (most serial : ℕ) (old new : List (Piece × LogView)) (n 
   pub behind : new ≡ old ++ one ∷ []
 
 -- Behind what was taken before stands a piece for each of the worker's connections for which bytes waited, by serial; or for the first of these alone, where
--- memory ran out.
+-- memory ran out before the last.
 pub record Collects (worker most : ℕ) (old new : List (Piece × LogView)) (result : Result (Unit {0}) Memory) (n m : NodeState) : Type 0 where
   pub serials : List ℕ
   pub pieces : List (Piece × LogView)
@@ -38,3 +38,4 @@ pub record Collects (worker most : ℕ) (old new : List (Piece × LogView)) (res
   pub left : List ℕ
   pub ready : serials ++ left ≡ ready_of worker n.replica.members
   pub all : OnOk result (left ≡ [])
+  pub some : OnErr result (left ≢ [])

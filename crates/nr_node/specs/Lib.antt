@@ -8,3 +8,4 @@ pub mod Steps
 pub mod Sound
 pub mod Kept
 pub mod Collected
+pub mod Keeping

@@ -36,9 +36,10 @@ pub record LeavesWaiting (left : Jobs) (old new : ReplicaState) : Type 0 where
   pub waiting : items_of new.waiting ≡ left
   pub replica : new ≡ record old { waiting = new.waiting }
 
--- these are the jobs of the next entry, and it isn't due any more
+-- these are the jobs of the next entry, of which there is one, and it isn't due any more
 pub record AreTaken (jobs : List Job) (next : Option Next) (old : ReplicaState) (after : Option Next) (new : ReplicaState) : Type 0 where
   pub due : items_of jobs ≡ due_jobs (jobs_next next) old.waiting
+  pub some : due_jobs (jobs_next next) old.waiting ≢ []
   pub none : after ≡ None
   pub left : LeavesWaiting (left_jobs (jobs_next next) old.waiting) old new
 
@@ -47,10 +48,11 @@ abbrev pub AreNone : Option Next → ReplicaState → Option Next → ReplicaSta
 AreNone next old after new = (after ≡ None) × (((due_jobs (jobs_next next) old.waiting ≡ []) × LeavesWaiting (left_jobs (jobs_next next) old.waiting) old new)
     ⊎ ((due_jobs (jobs_next next) old.waiting ≢ []) × (new ≡ fallen old)))
 
--- nothing changed, or the next entry is due
+-- nothing changed, or there is a next entry, and it is due
 abbrev pub AreDue : Option Next → ReplicaState → Option Next → ReplicaState → Type 0
 AreDue next old after new = ((after ≡ next) × (new ≡ old))
-    ⊎ ((items_of (jobs_next after) ≡ due_jobs (jobs_next next) old.waiting) × LeavesWaiting (left_jobs (jobs_next next) old.waiting) old new)
+    ⊎ ((items_of (jobs_next after) ≡ due_jobs (jobs_next next) old.waiting) × LeavesWaiting (left_jobs (jobs_next next) old.waiting) old new
+    × (due_jobs (jobs_next next) old.waiting ≢ []))
 
 -- a tail was met that is no less, and nothing else changed
 pub record HasMet (s t : Standing) : Type 0 where

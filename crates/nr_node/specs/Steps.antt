@@ -1,5 +1,5 @@
 -- What the calls of a node come to.
-use Rattle.std.specs.Prelude.{◌≡◌, ◌≢◌, ℕ, ◌≤◌, false, List, [], ◌∷◌, ◌++◌, map, length, slice_set, slice_index_or, replicate, Some, None}
+use Rattle.std.specs.Prelude.{◌≡◌, ◌≢◌, ◌⊎◌, ℕ, ◌≤◌, true, false, List, [], ◌∷◌, ◌++◌, map, length, slice_set, slice_index_or, replicate, Some, None}
 use Rattle.std.specs.FinMap as finmap
 use Rattle.nr_model.specs.Servers.{fresh}
 use Rattle.nr_model.specs.Entries.{read_jobs, left_by_reads}
@@ -17,9 +17,9 @@ use Rattle.nr_accounts.specs.Account.{fresh_account}
 use Rattle.nr_accounts.specs.Book.{with_batch}
 use Rattle.nr_replica.specs.Members.{Member, fresh_member, closed_member, handed_member}
 use Rattle.nr_replica.specs.Replicas.{fallen}
-use Rattle.nr_node.specs.Level.{NodeState, connection_at}
+use Rattle.nr_node.specs.Level.{NodeState, connection_at, unpassed, jobs_reserved}
 use Rattle.nr_node.specs.Owing.{awaited}
-use Rattle.nr_node.specs.Advanced.{HaveGot}
+use Rattle.nr_node.specs.Advanced.{HaveGot, jobs_of_own}
 use Rattle.nr_node.specs.Reserved.{due_jobs, left_jobs, LeavesWaiting, HasMet, IsReserved}
 
 abbrev pub nobody : Member
@@ -56,8 +56,9 @@ taken_node batch n =
       book = with_batch batch n.book;
     }
 
--- the jobs that are due stand in the log under this number, and wait no more
+-- the jobs that are due, of which there are some, stand in the log under this number, and wait no more
 pub record HasReserved (at : ℕ) (entry : Entry) (n m : NodeState) : Type 0 where
+  pub due : due_jobs n.next n.replica.waiting ≢ []
   pub jobs : items_of entry.jobs.items ≡ due_jobs n.next n.replica.waiting
   pub node : entry.node ≡ n.replica.node
   pub reserved : IsReserved at (shares_of entry n.seat.standing.nodes) n.seat.standing m.seat.standing
@@ -65,8 +66,9 @@ pub record HasReserved (at : ℕ) (entry : Entry) (n m : NodeState) : Type 0 whe
   pub left : LeavesWaiting (left_jobs n.next n.replica.waiting) n.replica m.replica
   pub book : m.book ≡ n.book
 
--- they go on waiting, in front of all others
+-- some are due, and go on waiting, in front of all others
 pub record GoesOnWaiting (n m : NodeState) : Type 0 where
+  pub due : due_jobs n.next n.replica.waiting ≢ []
   pub met : HasMet n.seat.standing m.seat.standing
   pub next : items_of m.next ≡ due_jobs n.next n.replica.waiting
   pub left : LeavesWaiting (left_jobs n.next n.replica.waiting) n.replica m.replica
@@ -90,14 +92,19 @@ pub record HasFallen (n m : NodeState) : Type 0 where
 abbrev pub HasLoaded : ℕ → List Look → List Look → Type 0
 HasLoaded tail looks after = (more : List Look) × (after ≡ looks ++ (Tail tail ∷ more))
 
--- entries were passed, and then reads were run, behind all that was in the record; the same workers wait for an answer
+-- entries were passed, and then reads were run, behind all that was in the record; those of the node's own among them are the first that it had reserved and
+-- hadn't passed; the same workers wait for an answer; the replica goes down over an entry alone, and
+-- what waited is dropped then, or waits on
 pub record GoesOnBy (entries : List Entry) (ran : List Job) (tail : ℕ) (n m : NodeState) : Type 0 where
-  pub history : m.seat.standing.history ≡ n.seat.standing.history ++ (map Applied entries ++ map Ran ran)
+  pub standing : m.seat.standing ≡ record n.seat.standing { history = n.seat.standing.history ++ (map Applied entries ++ map Ran ran); seen = m.seat.standing.seen }
+  pub own : jobs_reserved (unpassed n.seat.standing) ≡ jobs_of_own n.book.node entries ++ jobs_reserved (unpassed m.seat.standing)
   pub loaded : HasLoaded tail n.seat.looks m.seat.looks
   pub book : m.book ≡ n.book
   pub owed : awaited m.replica.owed ≡ awaited n.replica.owed
   pub got : HaveGot n.replica.members m.replica.members
   pub refused : m.replica.down ≡ false → m.replica.refused ≡ n.replica.refused
+  pub fell : n.replica.down ≡ false → m.replica.down ≡ true → entries ≢ []
+  pub waits : m.replica.down ≡ true → ((m.replica.waiting ≡ []) ⊎ (m.replica.waiting ≡ n.replica.waiting)) × ((m.next ≡ []) ⊎ (m.next ≡ n.next))
 
 -- all entries that there were when the call loaded the tail are passed; the reads that led were run, and no entry of the node was due before them
 pub record HasRead (ran : List Job) (tail : ℕ) (n m : NodeState) : Type 0 where

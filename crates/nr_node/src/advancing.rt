@@ -5,16 +5,17 @@ ghost use Rattle.nr_log_end.specs.Standings.{StandsInLog, passed_of};
 ghost use Rattle.nr_node.specs.Level.{IsLevel};
 ghost use Rattle.nr_node.specs.Advanced.{IsTakenIn, GoesOn};
 
+use crate::keeping::NodeEnd;
 use crate::next::Next;
 use nr_entry::Entry;
-use nr_log_end::{LogEnd, Look};
-use nr_oplog::{End, LogName};
+use nr_log_end::Look;
+use nr_oplog::LogName;
 use nr_replica::Replica;
 
 /// Takes all entries in that there are when it begins, and passes them, and the next one where that is there. False where one isn't there yet. Where the
 /// replica falls over one of them, or is down, the next entry of its own is dropped.
 pub(crate) fn catch_up<B: LogName>(
-    end: &mut End<B>,
+    end: &mut NodeEnd<B>,
     replica: &mut Replica,
     next: &mut Option<Next>,
 ) -> bool
@@ -37,7 +38,7 @@ pub(crate) fn catch_up<B: LogName>(
 
 // Takes so many entries in, one after the other. False where one isn't there yet.
 fn advance_by<B: LogName>(
-    end: &mut End<B>,
+    end: &mut NodeEnd<B>,
     replica: &mut Replica,
     next: &mut Option<Next>,
     count: u64,
@@ -57,7 +58,7 @@ fn advance_by<B: LogName>(
 }
 
 // Takes the next entry in, and passes it. False where it isn't there yet.
-fn advance<B: LogName>(end: &mut End<B>, replica: &mut Replica, next: &mut Option<Next>) -> bool
+fn advance<B: LogName>(end: &mut NodeEnd<B>, replica: &mut Replica, next: &mut Option<Next>) -> bool
     requires idle { end.old.standing.held ≡ None }
     ensures idle { end.new.standing.held ≡ None }
     ensures met { (end.new.standing.seen ≡ end.old.standing.seen) × (end.new.looks ≡ end.old.looks) }

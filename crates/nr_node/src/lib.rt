@@ -7,6 +7,7 @@ pub use within::{Core, Shape};
 mod advancing;
 mod answers;
 mod collecting;
+mod keeping;
 mod next;
 mod reading;
 mod reserving;

@@ -5,14 +5,19 @@ ghost use Rattle.nr_model.specs.Entries.{read_jobs};
 ghost use Rattle.nr_replica.specs.Replicas.{HasRead};
 ghost use Rattle.nr_node.specs.Advanced.{HasNoted};
 
+use crate::keeping::NodeEnd;
 use nr_blob::Memory;
 use nr_entry::Job;
-use nr_log_end::{LogEnd, Look};
-use nr_oplog::{End, LogName};
+use nr_log_end::Look;
+use nr_oplog::LogName;
 use nr_replica::Replica;
 
-/// Runs the reads that lead, and notes each. Where memory runs out nothing changes.
-pub(crate) fn read<B: LogName>(end: &mut End<B>, replica: &mut Replica) -> Result<Vec<Job>, Memory>
+/// Runs the reads that lead, and notes each; and lets go of the shares that are kept of entries which all nodes have passed. Where memory runs out nothing
+/// changes.
+pub(crate) fn read<B: LogName>(
+    end: &mut NodeEnd<B>,
+    replica: &mut Replica,
+) -> Result<Vec<Job>, Memory>
     requires up { replica.old.down ≡ false }
     ensures ran { IfOk result (λ ran. items_of ran.items ≡ read_jobs (items_of replica.old.waiting)) }
     ensures noted { IfOk result (λ ran. HasNoted ran.items end.old.standing end.new.standing) }
@@ -23,11 +28,12 @@ pub(crate) fn read<B: LogName>(end: &mut End<B>, replica: &mut Replica) -> Resul
 {
     let ran = replica.run_reads()?;
     note_all(end, &ran);
+    end.let_go();
     Ok(ran)
 }
 
 // Notes that these reads were run.
-fn note_all<B: LogName>(end: &mut End<B>, ran: &[Job])
+fn note_all<B: LogName>(end: &mut NodeEnd<B>, ran: &[Job])
     ensures noted { HasNoted ran.now end.old.standing end.new.standing }
     ensures looks { (more : List Look) × (end.new.looks ≡ end.old.looks ++ more) }
 {

@@ -16,13 +16,14 @@ ghost use Rattle.nr_node.specs.Steps.{fresh_node, opened_node, closed_node, take
 
 use crate::advancing::catch_up;
 use crate::answers::{OpenError, Round, TakeError, take_error};
+use crate::keeping::{NodeEnd, Put};
 use crate::next::Next;
 use crate::reading::read;
 use crate::reserving::{put_in, take_shares};
 use nr_accounts::Accounts;
 use nr_blob::Memory;
 use nr_entry::{Batch, ConnId, Outcome};
-use nr_log_end::{LogEnd, Look, Reserve};
+use nr_log_end::Look;
 use nr_oplog::{End, LogName, Token};
 use nr_replica::{Piece, Replica};
 use std::alloc::Global;
@@ -44,7 +45,7 @@ pub struct Core<B: LogName> {
     alloc: Global,
     // How many nodes the log has.
     nodes: usize,
-    end: End<B>,
+    end: NodeEnd<B>,
     replica: Replica,
     accounts: Accounts,
     next: Option<Next>,
@@ -82,10 +83,10 @@ impl<B: LogName> Core<B> {
         Ok(Core {
             alloc,
             nodes: shape.nodes,
-            end,
             replica: Replica::new(alloc, keys, shape.node, shape.workers)?,
             accounts: Accounts::new(alloc, shape.node, shape.workers)?,
             next: None,
+            end: NodeEnd::new(alloc, end),
         })
     }
 
@@ -96,8 +97,9 @@ impl<B: LogName> Core<B> {
         self.replica.is_down()
     }
 
-    /// Opens a connection that a worker serves, for which at most `limit` bytes wait. Logarithmic.
+    /// Opens a connection that one of the node's workers serves, for which at most `limit` bytes wait. Logarithmic.
     pub fn open(&mut self, worker: u8, limit: usize) -> Result<ConnId, OpenError>
+        requires { worker < length self.old.replica.owed }
         ensures conn { IfOk result (λ conn. connection_of conn ≡ connection_at self.old.replica.node (length self.old.replica.members)) }
         ensures opened { OnOk result (self.new ≡ opened_node limit worker self.old) }
         ensures unchanged { OnErr result (self.new ≡ self.old) }
@@ -214,14 +216,18 @@ impl<B: LogName> Core<B> {
             return Ok(self.up_or_down());
         };
         match put_in(&mut self.end, self.nodes, shares) {
-            Reserve::Taken(_) => Ok(Round::Done),
-            Reserve::Full(shares) => {
+            Put::Taken(_) => Ok(Round::Done),
+            Put::Full(shares) => {
                 self.next = Some(Next::Shared(shares));
                 Ok(Round::Full)
             }
-            Reserve::Lost(shares) => {
+            Put::Lost(shares) => {
                 self.next = Some(Next::Shared(shares));
                 Ok(Round::Again)
+            }
+            Put::Refused(shares) => {
+                self.next = Some(Next::Shared(shares));
+                Err(Memory)
             }
         }
     }
@@ -245,7 +251,7 @@ impl<B: LogName> Core<B> {
     /// where all those entries are there, and where no entry of the node's own found no place: so none runs before an update of its connection. Where memory
     /// runs out none is run.
     pub fn look(&mut self) -> Result<Round, Memory>
-        ensures goes { (entries : List Entry) × ((ran : List Job) × ((tail : ℕ) × GoesOnBy entries ran tail self.old self.new × (result ≡ Ok Round.Done → HasRead ran tail self.old self.new) × (result ≢ Ok Round.Done → ran ≡ []))) }
+        ensures goes { (entries : List Entry) × ((ran : List Job) × ((tail : ℕ) × GoesOnBy entries ran tail self.old self.new × (result ≡ Ok Round.Done → HasRead ran tail self.old self.new) × (result ≢ Ok Round.Done → ran ≡ []) × (result ≢ Ok Round.NotYet → self.new.replica.down ≡ false → tail ≤ passed_of self.new.seat.standing))) }
         ensures not_yet { result ≡ Ok Round.NotYet → passed_of self.new.seat.standing < self.new.seat.standing.seen }
         ensures down { (result ≡ Ok Round.Down) ↔ (self.new.replica.down ≡ true) }
         ensures waiting { result ≢ Ok Round.Done → self.new.replica.down ≡ false → (self.new.replica.waiting ≡ self.old.replica.waiting) × (self.new.next ≡ self.old.next) }

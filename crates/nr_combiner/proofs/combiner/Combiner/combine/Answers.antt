@@ -2,7 +2,7 @@ use Rattle.std.proofs.Common.{◌≡◌, ℕ, length, ap, sym, ◌∙◌, subst,
 use Rattle.nr_accounts.specs.Book.{Book}
 use Rattle.nr_combiner.specs.Served.{CombinerState}
 use Rattle.nr_combiner.specs.Steps.{HasLiftedAll, HasCombined, outcome_of}
-use Rattle.nr_combiner.proofs.Turns.{tried_served, tried_book, looked_served, down_looked}
+use Rattle.nr_combiner.proofs.Turns.{tried_served, tried_book, looked_served, looked_by, down_looked}
 use Rattle.nr_combiner.proofs.Rounds.{lifted_all_long, answered_all_down}
 use Rattle.nr_combiner.proofs.combiner.Combiner.combine.Goals as goal
 
@@ -14,7 +14,9 @@ invariant_of-self g c =
     let looked = c.look-looked.new.self in
     let goes = c.look-looked.ensures.goes in
     let book : looked.book ≡ inside.core.book = goes.1.1.1.book ∙ tried_book g.B.LogName.places c.try_to_reserve-tried.result inside.core tried c.try_to_reserve-tried.ensures.comes in (
-      looked_served goes.0 goes.1.0 goes.1.1.0 tried looked inside.seat inside.numbers.items goes.1.1.1
+      looked_served c.look-looked.result goes.0 goes.1.0 goes.1.1.0 tried looked inside.seat inside.numbers.items
+          (looked_by c.look-looked.result tried looked goes c.look-looked.ensures.waiting c.look-looked.ensures.not_yet c.look-looked.ensures.again
+          c.look-looked.ensures.never_full c.look-looked.ensures.down)
           (tried_served g.B.LogName.places c.try_to_reserve-tried.result inside.core tried inside.seat inside.numbers.items c.try_to_reserve-tried.ensures.comes keeps.0),
       keeps.1,
       keeps.2 ∙ ap (λ (b : Book). b.node) (sym book),
@@ -57,16 +59,8 @@ returns-clause-combined g c =
       entries = goes.0;
       ran = goes.1.0;
       tail = goes.1.1.0;
-      has_looked = record {
-        by = goes.1.1.1;
-        read = goes.1.1.2;
-        none = goes.1.1.3;
-        waiting = c.look-looked.ensures.waiting;
-        not_yet = c.look-looked.ensures.not_yet;
-        again = c.look-looked.ensures.again;
-        never = c.look-looked.ensures.never_full;
-        down = c.look-looked.ensures.down;
-      };
+      has_looked = looked_by c.look-looked.result c.try_to_reserve-tried.new.core c.look-looked.new.self goes c.look-looked.ensures.waiting c.look-looked.ensures.not_yet
+          c.look-looked.ensures.again c.look-looked.ensures.never_full c.look-looked.ensures.down;
       round_is = c.outcome.ensures;
       has_answered = c.answer_all.ensures;
     }

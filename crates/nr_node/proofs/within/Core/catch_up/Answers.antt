@@ -3,7 +3,7 @@ use Rattle.nr_node.specs.Level.{NodeState}
 use Rattle.nr_node.specs.Next.{jobs_next}
 use Rattle.nr_node.specs.Steps.{GoesOnBy}
 use Rattle.nr_node.proofs.Taking.{goes_within}
-use Rattle.nr_node.proofs.Caught.{caught_up}
+use Rattle.nr_node.proofs.Caught.{next_after, caught_up}
 use Rattle.nr_node.proofs.within.Core.catch_up.Goals as goal
 use Rattle.nr_node.proofs.within.Core.catch_up.Goals.{then-reached, else-reached}
 
@@ -21,7 +21,8 @@ returns-then-is_down-clause-goes g c =
     let v : NodeState = record { seat = inside.end; replica = inside.replica; book = inside.accounts; next = jobs_next inside.next } in
     let m : NodeState = record { seat = c.catch_up-reached.new.end; replica = c.catch_up-reached.new.replica; book = inside.accounts; next = jobs_next c.catch_up-reached.new.next } in
     let tail = c.catch_up-reached.new.end.standing.seen in
-    let by = subst (λ (n : NodeState). GoesOnBy went.0 [] tail n m) c.self.view_is (caught_up v m went.0 went.1.passed c.catch_up-reached.ensures.looks refl went.1.owed went.1.got went.1.refused) in
+    let by = subst (λ (n : NodeState). GoesOnBy went.0 [] tail n m) c.self.view_is (caught_up v m went.0 went.1.passed went.1.own c.self.invariant.0.order.book_is c.catch_up-reached.ensures.looks refl went.1.owed went.1.got went.1.refused went.1.fell
+    (went.1.waits, next_after inside.next c.catch_up-reached.new.next went.1.after_is)) in
     (went.0, (tail, by, λ e. absurd (cc e)))
 
 pub invariant_of-self-2 : goal.invariant_of-self-2
@@ -38,7 +39,8 @@ returns-clause-goes g c =
     let v : NodeState = record { seat = inside.end; replica = inside.replica; book = inside.accounts; next = jobs_next inside.next } in
     let m : NodeState = record { seat = c.catch_up-reached.new.end; replica = c.catch_up-reached.new.replica; book = inside.accounts; next = jobs_next c.catch_up-reached.new.next } in
     let tail = c.catch_up-reached.new.end.standing.seen in
-    let by = subst (λ (n : NodeState). GoesOnBy went.0 [] tail n m) c.self.view_is (caught_up v m went.0 went.1.passed c.catch_up-reached.ensures.looks refl went.1.owed went.1.got went.1.refused) in
+    let by = subst (λ (n : NodeState). GoesOnBy went.0 [] tail n m) c.self.view_is (caught_up v m went.0 went.1.passed went.1.own c.self.invariant.0.order.book_is c.catch_up-reached.ensures.looks refl went.1.owed went.1.got went.1.refused went.1.fell
+    (went.1.waits, next_after inside.next c.catch_up-reached.new.next went.1.after_is)) in
     let up : c.catch_up-reached.new.replica.down ≡ false = sym c.is_down.ensures ∙ c.if-is_down.false in (
       went.0,
       (

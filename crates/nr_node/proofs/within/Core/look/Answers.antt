@@ -1,17 +1,15 @@
-use Rattle.std.proofs.Common.{◌≡◌, true, false, None, [], ap, sym, ◌∙◌, refl, subst, get_or}
-use Rattle.std.specs.Prelude.{is_some, is_err}
-use Rattle.nr_log_end.specs.declared.standing.Standing.{Standing}
+use Rattle.std.proofs.Common.{◌≡◌, ◌≤◌, true, false, [], ap, sym, ◌∙◌, refl, subst}
+use Rattle.std.specs.Prelude.{◌≢◌, ◌⊎◌, is_some, is_err}
+use Rattle.nr_log_end.specs.Standings.{passed_of}
 use Rattle.nr_oplog.specs.declared.view.LogView.{LogView}
 use Rattle.nr_replica.specs.Replicas.{ReplicaState}
 use Rattle.nr_node.specs.Advanced.{HaveGot}
-use Rattle.nr_node.specs.Kept.{IsKept}
 use Rattle.nr_node.specs.Level.{NodeState}
 use Rattle.nr_node.specs.Next.{jobs_next}
 use Rattle.nr_node.specs.Owing.{awaited}
 use Rattle.nr_node.specs.Steps.{GoesOnBy, HasRead}
-use Rattle.nr_node.proofs.Lists.{none_unpassed}
-use Rattle.nr_node.proofs.Taking.{goes_kept, goes_within, noted_kept, read_awaited}
-use Rattle.nr_node.proofs.Caught.{caught_up, read_on, read_got, has_read, next_has, none_of}
+use Rattle.nr_node.proofs.Taking.{goes_within, failed_within, noted_within, read_awaited}
+use Rattle.nr_node.proofs.Caught.{next_after, caught_up, read_on, read_got, has_read, next_has, none_of}
 use Rattle.nr_node.proofs.within.Core.look.Goals as goal
 
 pub invariant_of-self : goal.invariant_of-self
@@ -42,8 +40,10 @@ returns-then-is_down-clause-goes g c =
     let v : NodeState = record { seat = inside.end; replica = inside.replica; book = inside.accounts; next = jobs_next inside.next } in
     let m : NodeState = record { seat = c.catch_up-reached.new.end; replica = c.catch_up-reached.new.replica; book = inside.accounts; next = jobs_next c.catch_up-reached.new.next } in
     let tail = c.catch_up-reached.new.end.standing.seen in
-    let by = subst (λ (n : NodeState). GoesOnBy went.0 [] tail n m) c.self.view_is (caught_up v m went.0 went.1.passed c.catch_up-reached.ensures.looks refl went.1.owed went.1.got went.1.refused) in
-    (went.0, ([], (tail, by, λ e. absurd (cc e), λ _. refl)))
+    let by = subst (λ (n : NodeState). GoesOnBy went.0 [] tail n m) c.self.view_is (caught_up v m went.0 went.1.passed went.1.own c.self.invariant.0.order.book_is c.catch_up-reached.ensures.looks refl went.1.owed went.1.got went.1.refused went.1.fell
+    (went.1.waits, next_after inside.next c.catch_up-reached.new.next went.1.after_is)) in
+    let down : c.catch_up-reached.new.replica.down ≡ true = sym c.is_down.ensures ∙ c.if-is_down.true in
+    (went.0, ([], (tail, by, λ e. absurd (cc e), λ _. refl, λ _ up. absurd (cc (up, down)))))
 
 pub returns-then-not-reached-clause-goes : goal.returns-then-not-reached-clause-goes
 returns-then-not-reached-clause-goes g c =
@@ -52,8 +52,9 @@ returns-then-not-reached-clause-goes g c =
     let v : NodeState = record { seat = inside.end; replica = inside.replica; book = inside.accounts; next = jobs_next inside.next } in
     let m : NodeState = record { seat = c.catch_up-reached.new.end; replica = c.catch_up-reached.new.replica; book = inside.accounts; next = jobs_next c.catch_up-reached.new.next } in
     let tail = c.catch_up-reached.new.end.standing.seen in
-    let by = subst (λ (n : NodeState). GoesOnBy went.0 [] tail n m) c.self.view_is (caught_up v m went.0 went.1.passed c.catch_up-reached.ensures.looks refl went.1.owed went.1.got went.1.refused) in
-    (went.0, ([], (tail, by, λ e. absurd (cc e), λ _. refl)))
+    let by = subst (λ (n : NodeState). GoesOnBy went.0 [] tail n m) c.self.view_is (caught_up v m went.0 went.1.passed went.1.own c.self.invariant.0.order.book_is c.catch_up-reached.ensures.looks refl went.1.owed went.1.got went.1.refused went.1.fell
+    (went.1.waits, next_after inside.next c.catch_up-reached.new.next went.1.after_is)) in
+    (went.0, ([], (tail, by, λ e. absurd (cc e), λ _. refl, λ reached _. absurd (reached refl))))
 
 pub returns-then-is_some-clause-goes : goal.returns-then-is_some-clause-goes
 returns-then-is_some-clause-goes g c =
@@ -62,8 +63,9 @@ returns-then-is_some-clause-goes g c =
     let v : NodeState = record { seat = inside.end; replica = inside.replica; book = inside.accounts; next = jobs_next inside.next } in
     let m : NodeState = record { seat = c.catch_up-reached.new.end; replica = c.catch_up-reached.new.replica; book = inside.accounts; next = jobs_next c.catch_up-reached.new.next } in
     let tail = c.catch_up-reached.new.end.standing.seen in
-    let by = subst (λ (n : NodeState). GoesOnBy went.0 [] tail n m) c.self.view_is (caught_up v m went.0 went.1.passed c.catch_up-reached.ensures.looks refl went.1.owed went.1.got went.1.refused) in
-    (went.0, ([], (tail, by, λ e. absurd (cc e), λ _. refl)))
+    let by = subst (λ (n : NodeState). GoesOnBy went.0 [] tail n m) c.self.view_is (caught_up v m went.0 went.1.passed went.1.own c.self.invariant.0.order.book_is c.catch_up-reached.ensures.looks refl went.1.owed went.1.got went.1.refused went.1.fell
+    (went.1.waits, next_after inside.next c.catch_up-reached.new.next went.1.after_is)) in
+    (went.0, ([], (tail, by, λ e. absurd (cc e), λ _. refl, λ _ up. (c.catch_up-reached.ensures.reached c.if-not-reached.false up).0)))
 
 pub returns-then-is_some-clause-again : goal.returns-then-is_some-clause-again
 returns-then-is_some-clause-again g c = λ _ none.
@@ -76,21 +78,10 @@ returns-then-is_some-clause-again g c = λ _ none.
 
 pub invariant_of-self-in_err-read : goal.invariant_of-self-in_err-read
 invariant_of-self-in_err-read g c =
-    let keeps = c.self.invariant in
     let inside = c.self.inside in
     let went = c.catch_up-reached.ensures.goes in
-    let passed = went.1.passed.standing in
-    let end = c.in_err-read.ensures.end in
-    let t = c.catch_up-reached.new.end.standing in
-    let next = c.catch_up-reached.new.next in
-    let kept = goes_kept went.0 inside.end.standing t inside.replica c.catch_up-reached.new.replica inside.accounts inside.next next inside.nodes went.1 keeps.0 in (
-      subst (λ (v : LogView). IsKept v.standing c.read.new.replica inside.accounts next inside.nodes) (sym end)
-          (subst (λ (r : ReplicaState). IsKept t r inside.accounts next inside.nodes) (sym c.in_err-read.ensures.replica) kept),
-      ap (λ (v : LogView). v.standing.held) end ∙ c.catch_up-reached.ensures.idle,
-      λ node. ap (λ (v : LogView). get_or v.standing.unfilled node None) end ∙ ap (λ (s : Standing). get_or s.unfilled node None) passed ∙ keeps.2 node,
-      keeps.3 ∙ sym (ap (λ (v : LogView). v.standing.nodes) end ∙ ap (λ (s : Standing). s.nodes) passed),
-      keeps.4,
-    )
+    failed_within went.0 inside.end.standing c.catch_up-reached.new.end c.read.new.end inside.replica c.catch_up-reached.new.replica c.read.new.replica inside.accounts inside.next
+    c.catch_up-reached.new.next inside.nodes went.1 c.catch_up-reached.ensures.idle c.in_err-read.ensures.end c.in_err-read.ensures.replica c.self.invariant
 
 pub returns-in_err-read-clause-goes : goal.returns-in_err-read-clause-goes
 returns-in_err-read-clause-goes g c =
@@ -101,9 +92,15 @@ returns-in_err-read-clause-goes g c =
     let m : NodeState = record { seat = c.catch_up-reached.new.end; replica = c.read.new.replica; book = inside.accounts; next = next } in
     let tail = c.catch_up-reached.new.end.standing.seen in
     let by = subst (λ (x : LogView). GoesOnBy went.0 [] tail v (record { seat = x; replica = c.read.new.replica; book = inside.accounts; next = next })) (sym c.in_err-read.ensures.end)
-    (caught_up v m went.0 went.1.passed c.catch_up-reached.ensures.looks refl (ap (λ (r : ReplicaState). awaited r.owed) c.in_err-read.ensures.replica ∙ went.1.owed)
+    (caught_up v m went.0 went.1.passed went.1.own c.self.invariant.0.order.book_is c.catch_up-reached.ensures.looks refl (ap (λ (r : ReplicaState). awaited r.owed) c.in_err-read.ensures.replica ∙ went.1.owed)
     (subst (λ (r : ReplicaState). HaveGot inside.replica.members r.members) (sym c.in_err-read.ensures.replica) went.1.got)
-    (subst (λ (r : ReplicaState). r.down ≡ false → r.refused ≡ inside.replica.refused) (sym c.in_err-read.ensures.replica) went.1.refused)) in (
+    (subst (λ (r : ReplicaState). r.down ≡ false → r.refused ≡ inside.replica.refused) (sym c.in_err-read.ensures.replica) went.1.refused)
+    (subst (λ (r : ReplicaState). inside.replica.down ≡ false → r.down ≡ true → went.0 ≢ []) (sym c.in_err-read.ensures.replica) went.1.fell) (
+      subst (λ (r : ReplicaState). (r.waiting ≡ []) ⊎ (r.waiting ≡ inside.replica.waiting)) (sym c.in_err-read.ensures.replica) went.1.waits,
+      next_after inside.next c.catch_up-reached.new.next went.1.after_is,
+    )) in
+    let up : c.catch_up-reached.new.replica.down ≡ false = sym c.is_down.ensures ∙ c.if-is_down.false in
+    let reached = (c.catch_up-reached.ensures.reached c.if-not-reached.false up).0 in (
       went.0,
       (
         [],
@@ -112,30 +109,20 @@ returns-in_err-read-clause-goes g c =
           subst (λ (n : NodeState). GoesOnBy went.0 [] tail n (record { seat = c.read.new.end; replica = c.read.new.replica; book = inside.accounts; next = next })) c.self.view_is by,
           λ e. absurd (cc (sym c.from_residual.ensures.0 ∙ ap is_err e)),
           λ _. refl,
+          λ _ _. subst (λ (x : LogView). tail ≤ passed_of x.standing) (sym c.in_err-read.ensures.end) reached,
         ),
       ),
     )
 
 pub invariant_of-self-2 : goal.invariant_of-self-2
 invariant_of-self-2 g c =
-    let keeps = c.self.invariant in
     let inside = c.self.inside in
     let went = c.catch_up-reached.ensures.goes in
-    let passed = went.1.passed.standing in
-    let t = c.catch_up-reached.new.end.standing in
     let next = c.catch_up-reached.new.next in
-    let kept = goes_kept went.0 inside.end.standing t inside.replica c.catch_up-reached.new.replica inside.accounts inside.next next inside.nodes went.1 keeps.0 in
     let up : c.catch_up-reached.new.replica.down ≡ false = sym c.is_down.ensures ∙ c.if-is_down.false in
-    let all = c.catch_up-reached.ensures.reached c.if-not-reached.false up in
-    let none = none_unpassed t all.1 c.catch_up-reached.ensures.idle all.0 kept.order.met in
-    let noted = c.in_ok-read.ensures.noted in (
-      noted_kept t c.read.new.end.standing c.in_ok-read.field-0.items c.catch_up-reached.new.replica c.read.new.replica inside.accounts next inside.nodes noted none
-          c.in_ok-read.ensures.read c.in_ok-read.ensures.ran up (none_of next (sym c.is_some.ensures ∙ c.if-is_some.false)) kept,
-      ap (λ (s : Standing). s.held) noted.standing ∙ c.catch_up-reached.ensures.idle,
-      λ node. ap (λ (s : Standing). get_or s.unfilled node None) noted.standing ∙ ap (λ (s : Standing). get_or s.unfilled node None) passed ∙ keeps.2 node,
-      keeps.3 ∙ sym (ap (λ (s : Standing). s.nodes) noted.standing ∙ ap (λ (s : Standing). s.nodes) passed),
-      keeps.4,
-    )
+    noted_within went.0 inside.end.standing c.catch_up-reached.new.end.standing c.read.new.end.standing c.in_ok-read.field-0.items inside.replica c.catch_up-reached.new.replica
+    c.read.new.replica inside.accounts inside.next next inside.nodes went.1 c.catch_up-reached.ensures.idle (c.catch_up-reached.ensures.reached c.if-not-reached.false up)
+    c.in_ok-read.ensures.noted c.in_ok-read.ensures.read c.in_ok-read.ensures.ran up (none_of next (sym c.is_some.ensures ∙ c.if-is_some.false)) c.self.invariant
 
 pub returns-clause-goes : goal.returns-clause-goes
 returns-clause-goes g c =
@@ -151,10 +138,10 @@ returns-clause-goes g c =
     let same = went.1.up up in
     let still = ap jobs_next (none_of next (sym c.is_some.ensures ∙ c.if-is_some.false)) in
     let looks = c.in_ok-read.ensures.looks in
-    let by = read_on v m t went.0 ran c.catch_up-reached.new.end.looks looks.0 went.1.passed c.in_ok-read.ensures.noted c.catch_up-reached.ensures.looks looks.1 refl
+    let by = read_on v m t went.0 ran c.catch_up-reached.new.end.looks looks.0 went.1.passed went.1.own c.self.invariant.0.order.book_is c.in_ok-read.ensures.noted c.catch_up-reached.ensures.looks looks.1 refl
     (read_awaited c.catch_up-reached.new.replica c.read.new.replica c.in_ok-read.ensures.read ∙ went.1.owed)
     (read_got inside.replica c.catch_up-reached.new.replica c.read.new.replica went.1.got c.in_ok-read.ensures.read)
-    (λ _. ap (λ (r : ReplicaState). r.refused) c.in_ok-read.ensures.read.state ∙ went.1.refused up) in
+    (λ _. ap (λ (r : ReplicaState). r.refused) c.in_ok-read.ensures.read.state ∙ went.1.refused up) (ap (λ (r : ReplicaState). r.down) c.in_ok-read.ensures.read.state ∙ up) in
     let read = has_read v m t c.catch_up-reached.new.replica ran c.in_ok-read.ensures.noted c.in_ok-read.ensures.read up all.0 c.in_ok-read.ensures.ran same.2
     (ap jobs_next (sym same.1) ∙ still) still in (
       went.0,
@@ -165,6 +152,7 @@ returns-clause-goes g c =
           subst (λ (n : NodeState). GoesOnBy went.0 ran t.seen n m) c.self.view_is by,
           λ _. subst (λ (n : NodeState). HasRead ran t.seen n m) c.self.view_is read,
           λ undone. absurd (undone refl),
+          λ _ _. read.passed,
         ),
       ),
     )

@@ -5,11 +5,12 @@ use Rattle.nr_node.proofs.within.Core.new.Goals as goal
 
 pub invariant_of-result : goal.invariant_of-result
 invariant_of-result g c =
-    let shape = c.args.shape in (
-      started_kept c.args.end c.in_ok-new.field-0 c.in_ok-new-2.field-0 g.B.LogName.nodes g.B.LogName.places shape.node (shape.node + 1) shape.workers shape.nodes
-          c.requires.end c.in_ok-new.ensures c.in_ok-new-2.ensures.accounts,
-      ap (λ (v : LogView). v.standing.held) c.requires.end,
-      λ node. ap (λ (v : LogView). get_or v.standing.unfilled node None) c.requires.end,
-      c.requires.nodes.0 ∙ sym (ap (λ (v : LogView). v.standing.nodes) c.requires.end),
+    let shape = c.args.shape in
+    let is = c.new-3.ensures ∙ c.requires.end in (
+      started_kept c.new-3.result c.in_ok-new.field-0 c.in_ok-new-2.field-0 g.B.LogName.nodes g.B.LogName.places shape.node (shape.node + 1) shape.workers shape.nodes
+          is c.in_ok-new.ensures c.in_ok-new-2.ensures.accounts,
+      ap (λ (v : LogView). v.standing.held) is,
+      λ node. ap (λ (v : LogView). get_or v.standing.unfilled node None) is,
+      c.requires.nodes.0 ∙ sym (ap (λ (v : LogView). v.standing.nodes) is),
       c.requires.nodes.1,
     )

@@ -1,0 +1,62 @@
+-- What came of a try to put an entry into the log, and the shares of its own entries that a node keeps.
+use Rattle.std.specs.Prelude.{◌≡◌, ◌⊎◌, ⊤, ℕ, ◌<◌, ◌≤◌, List, [], ◌++◌, Option, IfSome}
+use Rattle.std.specs.List.{AllByRecursion, slice_get}
+use Rattle.nr_entry.specs.declared.entry.Entry.{Entry}
+use Rattle.nr_oplog.specs.Calls.{LoadsCounts, IsLeastOf}
+use Rattle.nr_oplog.specs.declared.view.LogView.{LogView}
+use Rattle.nr_node.specs.declared.keeping.Put.{Put}
+use Rattle.nr_node.specs.declared.keeping.Put.TheVariants.{Taken, Full, Lost, Refused}
+
+-- P holds of the number, where one was taken
+abbrev pub IfTaken : Put → (ℕ → Type 0) → Type 0
+IfTaken (Taken at) P = P at
+IfTaken (Full back) P = ⊤
+IfTaken (Lost back) P = ⊤
+IfTaken (Refused back) P = ⊤
+
+-- P holds of the shares that came back from a full log
+abbrev pub IfFull : Put → (List (Option Entry) → Type 0) → Type 0
+IfFull (Taken at) P = ⊤
+IfFull (Full back) P = P back
+IfFull (Lost back) P = ⊤
+IfFull (Refused back) P = ⊤
+
+-- P holds of the shares that came back since another node was first
+abbrev pub IfLost : Put → (List (Option Entry) → Type 0) → Type 0
+IfLost (Taken at) P = ⊤
+IfLost (Full back) P = ⊤
+IfLost (Lost back) P = P back
+IfLost (Refused back) P = ⊤
+
+-- P holds of the shares that came back for want of memory
+abbrev pub IfRefused : Put → (List (Option Entry) → Type 0) → Type 0
+IfRefused (Taken at) P = ⊤
+IfRefused (Full back) P = ⊤
+IfRefused (Lost back) P = ⊤
+IfRefused (Refused back) P = P back
+
+-- these are the last of a node's reservations
+abbrev pub AreLast : List (ℕ × Entry) → List (ℕ × Entry) → Type 0
+AreLast kept reservations = (gone : List (ℕ × Entry)) × (gone ++ kept ≡ reservations)
+
+-- their numbers are below one
+abbrev pub AreBelow : ℕ → List (ℕ × Entry) → Type 0
+AreBelow least entries = AllByRecursion (λ (one : ℕ × Entry). one.0 < least) entries
+
+-- its number is that or a greater one
+abbrev pub IsFromOn : ℕ → (ℕ × Entry) → Type 0
+IsFromOn least one = least ≤ one.0
+
+-- the passed counts of all nodes were loaded, and the first entries were let go of: those below the least of these counts, and no others
+pub record LetsGoBy (old new : List (ℕ × Entry)) (v w : LogView) : Type 0 where
+  pub least : ℕ
+  pub loads : LoadsCounts v w
+  pub is_least : IsLeastOf least w.met
+  pub gone : List (ℕ × Entry)
+  pub all : gone ++ new ≡ old
+  pub below : AreBelow least gone
+  pub left : IfSome (slice_get new 0) (IsFromOn least)
+
+-- so it was, or none was kept
+abbrev pub LetsGo : List (ℕ × Entry) → List (ℕ × Entry) → LogView → LogView → Type 0
+LetsGo old new v w = ((old ≡ []) × (new ≡ []) × (w ≡ v)) ⊎ LetsGoBy old new v w
