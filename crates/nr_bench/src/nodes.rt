@@ -97,7 +97,9 @@ fn turn<B: LogName, R: Wait>(
     tap: &mut Tap<B>,
 ) -> Result<usize, Memory> {
     let mut taken = Vec::new(alloc);
-    worker.turn(rt, LIMIT, &mut taken)?;
+    let turned = worker.turn(rt, LIMIT, &mut taken);
+    turned.combined?;
+    turned.collected?;
     take_in(worker, tap, taken)
 }
 
@@ -244,8 +246,10 @@ fn time_turn<B: LogName, R: Runtime + Wait>(
 ) -> io::Result<u128> {
     let mut taken = Vec::new(alloc);
     let start = Instant::now(rt)?;
-    worker.turn(rt, LIMIT, &mut taken).map_err(no_memory)?;
+    let turned = worker.turn(rt, LIMIT, &mut taken);
     let nanos = start.elapsed(rt)?.as_nanos();
+    turned.combined.map_err(no_memory)?;
+    turned.collected.map_err(no_memory)?;
     take_in(worker, tap, taken).map_err(no_memory)?;
     Ok(nanos)
 }

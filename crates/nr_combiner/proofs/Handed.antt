@@ -1,5 +1,5 @@
 -- What is handed out, as it stands once the lock is free again.
-use Rattle.std.proofs.Common.{◌≡◌, ℕ, refl, inl, inr, List, [], ◌∷◌, Option, Some, None, length, drop, arith, ap, sym, subst, ◌∙◌, append-nil}
+use Rattle.std.proofs.Common.{◌≡◌, ℕ, inl, inr, List, [], ◌∷◌, Option, Some, None, length, drop, arith, ap, sym, subst, ◌∙◌, append-nil}
 use Rattle.std.specs.Prelude.{◌↔◌, true, Result, Ok, Err, IfOk, IfSome}
 use Rattle.std.specs.List.{AllByRecursion}
 use Rattle.std.proofs.lemmas.Bool.{cases_lt}
@@ -22,7 +22,8 @@ use Rattle.nr_node.specs.declared.answers.Round.{Round}
 use Rattle.nr_node.specs.declared.answers.Round.TheVariants as rounds
 use Rattle.nr_combiner.specs.Pieces.{IsPieceOf, HasAdded}
 use Rattle.nr_combiner.specs.Served.{CombinerState}
-use Rattle.nr_combiner.specs.Turned.{HasCollectedFor, HasTurned, by_collect, both_of}
+use Rattle.nr_combiner.specs.Turned.{HasCollectedFor, HasTurned}
+use Rattle.nr_combiner.specs.declared.answering.Turned.{Turned}
 
 piece_of : (n : NodeState) (c : Connection) (most : ℕ) (piece : Piece) (s : Standing) → IsPiece n c most piece s → IsSound s → IsPieceOf c most piece s
 piece_of n c most piece s p sound = record {
@@ -53,7 +54,7 @@ all_of most (serial ∷ serials) (one ∷ pieces) n m (mid, first, rest) = (
   all_of most serials pieces mid m rest,
 )
 
-pub turned_added : (places worker most : ℕ) (old new : List (Piece × LogView)) (r : Result Round Memory) (c d : CombinerState) → HasTurned places worker most old new r c d
+pub turned_added : (places worker most : ℕ) (old new : List (Piece × LogView)) (r : Turned) (c d : CombinerState) → HasTurned places worker most old new r c d
     → HasAdded most old new
 turned_added places worker most old new r c d t = elim (cases_lt worker (length t.combined.seat.desks)) [
   | inl near ↦
@@ -77,24 +78,9 @@ collected_down worker most old new r c d h = elim (cases_lt worker (length c.sea
   | inr past ↦ ap (λ (x : CombinerState). x.node.replica.down) (h.stranger past).2
 ]
 
-up_collected : (round : Round) (collected : Result (Unit {0}) Memory) → by_collect round collected ≡ Ok rounds.Down → round ≡ rounds.Down
-up_collected round (Ok done) e = cc e
-up_collected round (Err memory) e = absurd (cc e)
-
-down_both : (combined : Result Round Memory) (collected : Result (Unit {0}) Memory) → both_of combined collected ≡ Ok rounds.Down → combined ≡ Ok rounds.Down
-down_both (Err memory) collected e = absurd (cc e)
-down_both (Ok rounds.Down) collected e = refl
-down_both (Ok rounds.Done) collected e = ap Ok (up_collected rounds.Done collected e)
-down_both (Ok rounds.Full) collected e = ap Ok (up_collected rounds.Full collected e)
-down_both (Ok rounds.Again) collected e = ap Ok (up_collected rounds.Again collected e)
-down_both (Ok rounds.NotYet) collected e = ap Ok (up_collected rounds.NotYet collected e)
-
 -- a turn is down where the replica is
-pub turned_down : (worker most : ℕ) (old new : List (Piece × LogView)) (combined r : Result Round Memory) (collected : Result (Unit {0}) Memory) (mid d : CombinerState)
-    → (combined ≡ Ok rounds.Down) ↔ (mid.node.replica.down ≡ true) → HasCollectedFor worker most old new collected mid d → r ≡ both_of combined collected
-    → (r ≡ Ok rounds.Down) ↔ (d.node.replica.down ≡ true)
-turned_down worker most old new combined r collected mid d down h is =
-    let same = collected_down worker most old new collected mid d h in (
-      λ e. same ∙ down.0 (down_both combined collected (sym is ∙ e)),
-      λ e. is ∙ ap (λ (x : Result Round Memory). both_of x collected) (down.1 (sym same ∙ e)),
-    )
+pub turned_down : (worker most : ℕ) (old new : List (Piece × LogView)) (combined : Result Round Memory) (collected : Result (Unit {0}) Memory) (mid d : CombinerState)
+    → (combined ≡ Ok rounds.Down) ↔ (mid.node.replica.down ≡ true) → HasCollectedFor worker most old new collected mid d
+    → (combined ≡ Ok rounds.Down) ↔ (d.node.replica.down ≡ true)
+turned_down worker most old new combined collected mid d down h =
+    let same = collected_down worker most old new collected mid d h in (λ e. same ∙ down.0 e, λ e. down.1 (sym same ∙ e))

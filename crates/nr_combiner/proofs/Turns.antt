@@ -108,17 +108,17 @@ looked_served looked entries ran tail n m seat numbers h s =
 -- what a look came to
 pub looked_by : (r : Result Round Memory) (n m : NodeState)
     (goes : (entries : List Entry) × ((ran : List Job) × ((tail : ℕ) × GoesOnBy entries ran tail n m × (r ≡ Ok rounds.Done → HasRead ran tail n m) × (r ≢ Ok rounds.Done → ran ≡ [])
-    × (r ≢ Ok rounds.NotYet → m.replica.down ≡ false → tail ≤ passed_of m.seat.standing))))
+    × (r ≢ Ok rounds.NotYet → m.replica.down ≡ false → tail ≤ passed_of m.seat.standing) × (r ≡ Ok rounds.NotYet → passed_of m.seat.standing < tail))))
     → (r ≢ Ok rounds.Done → m.replica.down ≡ false → (m.replica.waiting ≡ n.replica.waiting) × (m.next ≡ n.next))
-    → (r ≡ Ok rounds.NotYet → passed_of m.seat.standing < m.seat.standing.seen) → (r ≡ Ok rounds.Again → n.next ≢ []) → r ≢ Ok rounds.Full
+    → (r ≡ Ok rounds.Again → n.next ≢ []) → r ≢ Ok rounds.Full
     → (r ≡ Ok rounds.Down) ↔ (m.replica.down ≡ true) → HasLooked r goes.0 goes.1.0 goes.1.1.0 n m
-looked_by r n m goes waiting not_yet again never down = record {
+looked_by r n m goes waiting again never down = record {
   by = goes.1.1.1;
   read = goes.1.1.2;
   none = goes.1.1.3;
   reached = goes.1.1.4;
   waiting = waiting;
-  not_yet = not_yet;
+  not_yet = goes.1.1.5;
   again = again;
   never = never;
   down = down;

@@ -116,6 +116,7 @@ ComesTo places (Err memory) n m = (m ≡ n) ⊎ GoesOnWaiting n m
 -- so it came out, and the loads that the node's end had made before stay in front of those that it made
 pub record HasTried (places : ℕ) (r : Result Round Memory) (n m : NodeState) : Type 0 where
   pub comes : ComesTo places r n m
+  pub down : (r ≡ Ok rounds.Down) ↔ (m.replica.down ≡ true)
   pub looks : (more : List Look) × (m.seat.looks ≡ n.seat.looks ++ more)
 
 -- What a look comes to: entries were passed up to the tail that it loaded, or, where one of them isn't filled yet, up to there; and reads were run only where it is
@@ -126,7 +127,7 @@ pub record HasLooked (looked : Result Round Memory) (entries : List Entry) (ran 
   pub none : looked ≢ Ok rounds.Done → ran ≡ []
   pub reached : looked ≢ Ok rounds.NotYet → m.replica.down ≡ false → tail ≤ passed_of m.seat.standing
   pub waiting : looked ≢ Ok rounds.Done → m.replica.down ≡ false → (m.replica.waiting ≡ n.replica.waiting) × (m.next ≡ n.next)
-  pub not_yet : looked ≡ Ok rounds.NotYet → passed_of m.seat.standing < m.seat.standing.seen
+  pub not_yet : looked ≡ Ok rounds.NotYet → passed_of m.seat.standing < tail
   pub again : looked ≡ Ok rounds.Again → n.next ≢ []
   pub never : looked ≢ Ok rounds.Full
   pub down : (looked ≡ Ok rounds.Down) ↔ (m.replica.down ≡ true)

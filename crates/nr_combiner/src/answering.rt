@@ -5,8 +5,9 @@ ghost use Rattle.nr_slots.specs.Names.{IsUnanswered, Names};
 ghost use Rattle.nr_slots.specs.Seats.{desk_of, with_answered};
 ghost use Rattle.nr_combiner.specs.Steps.{IsOutcomeOf, open_error};
 
+use nr_blob::Memory;
 use nr_entry::{Answer, Batch, Job, Outcome, Refusal};
-use nr_node::{OpenError as NodeError, TakeError};
+use nr_node::{OpenError as NodeError, Round, TakeError};
 use nr_slots::{CombinerSeat, Slots};
 
 /// Why a connection wasn't opened. The reasons are told in this order.
@@ -18,6 +19,15 @@ pub enum OpenError {
     Down,
     /// There was no memory.
     Memory,
+}
+
+/// What came of a turn for a worker.
+#[derive(Clone, Copy, Debug, PartialEq, Eq)]
+pub struct Turned {
+    /// Of the combiner's turn.
+    pub combined: Result<Round, Memory>,
+    /// Of handing out: all that waited for the worker's connections, or less, since memory ran out.
+    pub collected: Result<(), Memory>,
 }
 
 /// Why one wasn't opened where there is room.

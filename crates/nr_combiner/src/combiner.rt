@@ -9,9 +9,9 @@ ghost use Rattle.nr_node.specs.Sound.{IsSound};
 ghost use Rattle.nr_node.specs.Steps.{taken_node, HasHandedOut};
 ghost use Rattle.nr_combiner.specs.Served.{owed_at, HasNoJobs};
 ghost use Rattle.nr_combiner.specs.Steps.{HasRoom, opened_combiner, closed_combiner, refusal_at, IsRefusedFor, HasLifted, HasLiftedAll, HasAnswered, HasAnsweredAll, HasTried, HasCombined, outcome_of};
-ghost use Rattle.nr_combiner.specs.Turned.{HasCollectedFor, HasTurned, both_of};
+ghost use Rattle.nr_combiner.specs.Turned.{HasCollectedFor, HasTurned};
 
-use crate::answering::{OpenError, hand_back, open_error};
+use crate::answering::{OpenError, Turned, hand_back, open_error};
 use nr_blob::Memory;
 use nr_entry::{Answer, Batch, ConnId};
 use nr_node::{Core, Round, Shape, TakeError};
@@ -147,21 +147,18 @@ impl<B: LogName> Combiner<B> {
         self.core.collect(worker, most, taken)
     }
 
-    /// A turn for a worker: [`Combiner::combine`], and then, whatever came of it, [`Combiner::collect`]. It answers what the first did; or that memory ran out,
-    /// where it did in the second and the replica is up.
-    pub fn turn(
-        &mut self,
-        worker: usize,
-        most: usize,
-        taken: &mut Vec<(Piece, Token<B>)>,
-    ) -> Result<Round, Memory>
+    /// A turn for a worker: [`Combiner::combine`], and then, whatever came of it, [`Combiner::collect`].
+    pub fn turn(&mut self, worker: usize, most: usize, taken: &mut Vec<(Piece, Token<B>)>) -> Turned
         requires { 0 < most }
         ensures turned { HasTurned B.places worker most taken.old.items taken.new.items result self.old self.new }
-        ensures down { (result ≡ Ok Round.Down) ↔ (self.new.node.replica.down ≡ true) }
+        ensures down { (result.combined ≡ Ok Round.Down) ↔ (self.new.node.replica.down ≡ true) }
     {
         let combined = self.combine();
         let collected = self.collect(worker, most, taken);
-        both(combined, collected)
+        Turned {
+            combined,
+            collected,
+        }
     }
 
     /// A turn of the combiner: it lifts the batches that its workers offer, one each, and takes in their jobs; puts the updates that lead into the log, in one
@@ -297,16 +294,4 @@ fn outcome(tried: Result<Round, Memory>, looked: Result<Round, Memory>) -> Resul
         Round::Full => Ok(Round::Full),
         Round::Again | Round::NotYet | Round::Down => Ok(Round::Again),
     }
-}
-
-// What a turn for a worker came to: what the combiner's did, or want of memory for what was collected, where the replica is up.
-fn both(combined: Result<Round, Memory>, collected: Result<(), Memory>) -> Result<Round, Memory>
-    ensures { result ≡ both_of combined collected }
-{
-    let round = combined?;
-    if matches!(round, Round::Down) {
-        return Ok(Round::Down);
-    }
-    collected?;
-    Ok(round)
 }

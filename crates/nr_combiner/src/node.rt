@@ -4,7 +4,7 @@ ghost use Rattle.std.specs.Arc.{arc_value};
 ghost use Rattle.nr_entry.specs.Jobs.{connection_of};
 ghost use Rattle.nr_combiner.specs.Pieces.{IsPieceOf, HasAdded};
 
-use crate::answering::OpenError;
+use crate::answering::{OpenError, Turned};
 use crate::combiner::Combiner;
 use nr_blob::Memory;
 use nr_entry::ConnId;
@@ -110,7 +110,7 @@ impl<B: LogName> Node<B> {
         worker: usize,
         most: usize,
         taken: &mut Vec<(Piece, Token<B>)>,
-    ) -> Result<Round, Memory>
+    ) -> Turned
         requires { 0 < most }
         ensures { HasAdded most taken.old.items taken.new.items }
     {

@@ -5,11 +5,9 @@ ghost use Rattle.nr_slots.specs.Seats.{new_worker};
 ghost use Rattle.nr_combiner.specs.Pieces.{HasAdded};
 ghost use Rattle.nr_combiner.specs.Workers.{fresh_worker, shared_of, HasPosted, HasCollected};
 
-use crate::answering::OpenError;
+use crate::answering::{OpenError, Turned};
 use crate::node::Node;
-use nr_blob::Memory;
 use nr_entry::{Batch, ConnId, Job, Outcome};
-use nr_node::Round;
 use nr_oplog::{LogName, Token};
 use nr_replica::Piece;
 use nr_slots::WorkerSeat;
@@ -76,12 +74,7 @@ impl<B: LogName> Worker<B> {
     }
 
     /// A turn at its node, which takes the lock once: [`Combiner::turn`](crate::Combiner::turn) for this worker.
-    pub fn turn<R: Wait>(
-        &self,
-        rt: &R,
-        most: usize,
-        taken: &mut Vec<(Piece, Token<B>)>,
-    ) -> Result<Round, Memory>
+    pub fn turn<R: Wait>(&self, rt: &R, most: usize, taken: &mut Vec<(Piece, Token<B>)>) -> Turned
         requires { 0 < most }
         ensures { HasAdded most taken.old.items taken.new.items }
     {

@@ -10,6 +10,8 @@ use Rattle.nr_model.specs.Nodes.Steps.{texts_for}
 use Rattle.nr_entry.specs.Jobs.{items_of}
 use Rattle.nr_entry.specs.declared.entry.Entry.{Entry}
 use Rattle.nr_log_end.specs.declared.standing.Standing.{Standing}
+use Rattle.nr_log_end.specs.declared.standing.Look.{Look}
+use Rattle.nr_log_end.specs.declared.standing.Look.TheVariants.{Tail}
 use Rattle.nr_log_end.specs.declared.standing.Turn.{Turn}
 use Rattle.nr_log_end.specs.declared.standing.Turn.TheVariants.{Applied}
 use Rattle.nr_log_end.specs.Standings.{applied_of, passed_of, StandsInLog, LooksOn, fetched_with, passed_on}
@@ -335,6 +337,27 @@ went_or_not false s t old new next after some none =
       [],
       subst (λ (x : Standing). GoesOn [] s x old new next after) (sym same.0)
           (subst (λ (r : ReplicaState). GoesOn [] s s old r next after) (sym same.1) (subst (GoesOn [] s s old old next) (sym same.2) (goes_none s old next))),
+    )
+
+-- a tail was met, and nothing else changed but what is kept beside the log
+pub looked_on : (s m k : Standing) → LooksOn s m → k ≡ m → LooksOn s k
+looked_on s m k looks same = subst (LooksOn s) (sym same) looks
+
+pub counted : (count tail applied : ℕ) (m k : Standing) → count ≡ tail - applied → tail ≡ m.seen → k ≡ m → count ≡ k.seen - applied
+counted count tail applied m k is at same = is ∙ ap (λ (n : ℕ). n - applied) (at ∙ ap (λ (x : Standing). x.seen) (sym same))
+
+pub met_on : (v w x : LogView) → (w.standing.seen ≡ v.standing.seen) × (w.looks ≡ v.looks) → (x.standing.seen ≡ w.standing.seen) × (x.looks ≡ w.looks)
+    → (x.standing.seen ≡ v.standing.seen) × (x.looks ≡ v.looks)
+met_on v w x first last = (last.0 ∙ first.0, last.1 ∙ first.1)
+
+pub looks_on : (u v w x : LogView) (tail : ℕ) → v.looks ≡ u.looks ++ Tail tail ∷ [] → tail ≡ v.standing.seen → w.standing ≡ v.standing
+    → (more : List Look) × (w.looks ≡ v.looks ++ more) → (x.standing.seen ≡ w.standing.seen) × (x.looks ≡ w.looks)
+    → (more : List Look) × (x.looks ≡ u.looks ++ (Tail x.standing.seen ∷ more))
+looks_on u v w x tail loaded at same more met =
+    let seen : tail ≡ x.standing.seen = at ∙ ap (λ (s : Standing). s.seen) (sym same) ∙ sym met.0 in (
+      more.0,
+      met.1 ∙ more.1 ∙ ap (λ (ls : List Look). ls ++ more.0) loaded ∙ append_assoc u.looks (Tail tail ∷ []) more.0
+          ∙ ap (λ (n : ℕ). u.looks ++ (Tail n ∷ more.0)) seen,
     )
 
 same_passed : (s m : Standing) → LooksOn s m → passed_of m ≡ passed_of s

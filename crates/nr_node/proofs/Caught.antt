@@ -24,7 +24,7 @@ use Rattle.nr_node.specs.Advanced.{HasPassed, HasNoted, HaveGot, jobs_of_own}
 use Rattle.nr_node.specs.Steps.{GoesOnBy, HasRead}
 use Rattle.nr_node.proofs.Got.{got_on, got_received}
 use Rattle.nr_node.proofs.Levels.{applied_noted}
-use Rattle.nr_node.proofs.Served.{still_unpassed}
+use Rattle.nr_node.proofs.Served.{still_unpassed, unpassed_noted}
 use Rattle.nr_node.proofs.Taking.{shared_jobs}
 
 pub next_after : (next after : Option Next) → (after ≡ None) ⊎ (after ≡ next) → (jobs_next after ≡ []) ⊎ (jobs_next after ≡ jobs_next next)
@@ -32,19 +32,22 @@ next_after next after is = elim is [ inl none ↦ inl (ap jobs_next none) | inr 
 
 -- by entries alone
 pub caught_up : (n m : NodeState) (es : List Entry) → HasPassed es n.seat.standing m.seat.standing
-    → jobs_reserved (unpassed n.seat.standing) ≡ jobs_of_own n.seat.standing.node es ++ jobs_reserved (unpassed m.seat.standing) → n.book.node ≡ n.seat.standing.node → m.seat.looks ≡ n.seat.looks ++ (Tail m.seat.standing.seen ∷ [])
+    → jobs_reserved (unpassed n.seat.standing) ≡ jobs_of_own n.seat.standing.node es ++ jobs_reserved (unpassed m.seat.standing) → n.book.node ≡ n.seat.standing.node → ((later : List Look) × (m.seat.looks ≡ n.seat.looks ++ (Tail m.seat.standing.seen ∷ later)))
     → m.book ≡ n.book → awaited m.replica.owed ≡ awaited n.replica.owed → HaveGot n.replica.members m.replica.members
     → (m.replica.down ≡ false → m.replica.refused ≡ n.replica.refused) → (n.replica.down ≡ false → m.replica.down ≡ true → es ≢ [])
+    → (m.replica.down ≡ false → n.replica.down ≡ false)
     → ((m.replica.waiting ≡ []) ⊎ (m.replica.waiting ≡ n.replica.waiting)) × ((m.next ≡ []) ⊎ (m.next ≡ n.next)) → GoesOnBy es [] m.seat.standing.seen n m
-caught_up n m es passed own same looks book owed got refused fell waits = record {
+caught_up n m es passed own same looks book owed got refused fell up waits = record {
   standing = passed.standing ∙ (λ i. record n.seat.standing { history = n.seat.standing.history ++ sym (append-nil (map Applied es)) i; seen = m.seat.standing.seen });
   own = own ∙ ap (λ (k : ℕ). jobs_of_own k es ++ jobs_reserved (unpassed m.seat.standing)) (sym same);
-  loaded = ([], looks);
+  loaded = looks;
   book = book;
   owed = owed;
   got = got;
   refused = refused;
   fell = fell;
+  from = passed.seen;
+  up = up;
   waits = λ _. waits;
 }
 
@@ -57,30 +60,34 @@ read_got old mid new got read =
 -- by entries, and reads behind them
 pub read_on : (n m : NodeState) (t : Standing) (es : List Entry) (ran : List Job) (looks more : List Look) → HasPassed es n.seat.standing t
     → jobs_reserved (unpassed n.seat.standing) ≡ jobs_of_own n.seat.standing.node es ++ jobs_reserved (unpassed t) → n.book.node ≡ n.seat.standing.node → HasNoted ran t m.seat.standing
-    → looks ≡ n.seat.looks ++ (Tail t.seen ∷ []) → m.seat.looks ≡ looks ++ more → m.book ≡ n.book → awaited m.replica.owed ≡ awaited n.replica.owed
-    → HaveGot n.replica.members m.replica.members → (m.replica.down ≡ false → m.replica.refused ≡ n.replica.refused) → m.replica.down ≡ false → GoesOnBy es ran t.seen n m
-read_on n m t es ran looks more passed own same noted first last book owed got refused up = record {
+    → ((later : List Look) × (looks ≡ n.seat.looks ++ (Tail t.seen ∷ later))) → m.seat.looks ≡ looks ++ more → m.book ≡ n.book → awaited m.replica.owed ≡ awaited n.replica.owed
+    → HaveGot n.replica.members m.replica.members → (m.replica.down ≡ false → m.replica.refused ≡ n.replica.refused) → n.replica.down ≡ false → m.replica.down ≡ false
+    → GoesOnBy es ran t.seen n m
+read_on n m t es ran looks more passed own same noted first last book owed got refused was up = record {
   standing = noted.standing ∙ ap (λ (s : Standing). record s { history = s.history ++ map Ran ran; seen = m.seat.standing.seen }) passed.standing
       ∙ (λ i. record n.seat.standing { history = append_assoc n.seat.standing.history (map Applied es) (map Ran ran) i; seen = m.seat.standing.seen });
   own = own ∙ (λ i. jobs_of_own (sym same i) es ++ jobs_reserved (sym (still_unpassed t m.seat.standing ran noted) i));
-  loaded = (more, last ∙ ap (λ (ls : List Look). ls ++ more) first ∙ append_assoc n.seat.looks (Tail t.seen ∷ []) more);
+  loaded = (first.0 ++ more, last ∙ ap (λ (ls : List Look). ls ++ more) first.1 ∙ append_assoc n.seat.looks (Tail t.seen ∷ first.0) more);
   book = book;
   owed = owed;
   got = got;
   refused = refused;
   fell = λ _ fell. absurd (cc (up, fell));
+  from = passed.seen;
+  up = λ _. was;
   waits = λ fell. absurd (cc (up, fell));
 }
 
 -- all entries that there were are passed, and the reads that led were run
 pub has_read : (n m : NodeState) (t : Standing) (r : ReplicaState) (ran : List Job) → HasNoted ran t m.seat.standing → of_replica.HasRead r m.replica → r.down ≡ false
-    → t.seen ≤ passed_of t → items_of ran ≡ read_jobs (items_of r.waiting) → r.waiting ≡ n.replica.waiting → n.next ≡ [] → m.next ≡ [] → HasRead ran t.seen n m
+    → (t.seen ≤ passed_of t) × (unpassed t ≡ []) → items_of ran ≡ read_jobs (items_of r.waiting) → r.waiting ≡ n.replica.waiting → n.next ≡ [] → m.next ≡ [] → HasRead ran t.seen n m
 has_read n m t r ran noted read up passed ran_is waits none still =
     let same : passed_of m.seat.standing ≡ passed_of t = ap (λ (s : Standing). passed_of s) noted.standing ∙ ap length (applied_noted t.history ran) in
-    let behind : t.seen ≤ passed_of m.seat.standing = omega (arith, same, passed) in
+    let behind : t.seen ≤ passed_of m.seat.standing = omega (arith, same, passed.0) in
     record {
       up = ap (λ (x : ReplicaState). x.down) read.state ∙ up;
       passed = behind;
+      own = ap jobs_reserved (unpassed_noted t m.seat.standing ran noted passed.1);
       ran_is = ran_is ∙ ap (λ (js : List Job). read_jobs (items_of js)) waits;
       left = read.left ∙ ap (λ (js : List Job). left_by_reads (items_of js)) waits;
       next = (none, still);

@@ -3,6 +3,7 @@ use Rattle.std.specs.Prelude.{◌≡◌, ◌≢◌, ◌⊎◌, ◌==◌, ◌≤�
 use Rattle.nr_model.specs.Bytes.{Bytes}
 use Rattle.nr_model.specs.Items.{Connection}
 use Rattle.nr_model.specs.Entries.{Jobs}
+use Rattle.nr_model.specs.Queues.{Queue, received}
 use Rattle.nr_entry.specs.Jobs.{items_of}
 use Rattle.nr_entry.specs.declared.entry.Entry.{Entry}
 use Rattle.nr_entry.specs.declared.job.Job.{Job}
@@ -36,9 +37,14 @@ abbrev pub jobs_of_own : ℕ → List Entry → Jobs
 jobs_of_own node [] = []
 jobs_of_own node (entry ∷ entries) = cond (entry.node == node) (items_of entry.jobs.items ++ jobs_of_own node entries) (jobs_of_own node entries)
 
--- bytes came behind those that wait for a connection, or its queue was cut, and nothing else of it changed
+-- texts came one after the other, each whole, behind what waits for a connection, until its queue was cut: by its limit, or where memory was refused
+abbrev pub all_received : Queue → List (Option ℕ × List Bytes) → Queue
+all_received q [] = q
+all_received q (one ∷ more) = all_received (received one.0 q one.1) more
+
+-- so they did, and nothing else of it changed
 abbrev pub HasGot : Member → Member → Type 0
-HasGot old new = (more : Bytes) × (new ≡ record old { outbox = record old.outbox { waiting = old.outbox.waiting ++ more; cut = new.outbox.cut } })
+HasGot old new = (more : List (Option ℕ × List Bytes)) × (new ≡ record old { outbox = all_received old.outbox more })
 
 abbrev pub HaveGot : List Member → List Member → Type 0
 HaveGot [] [] = Unit {0}

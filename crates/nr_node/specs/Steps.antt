@@ -99,17 +99,21 @@ pub record GoesOnBy (entries : List Entry) (ran : List Job) (tail : ℕ) (n m : 
   pub standing : m.seat.standing ≡ record n.seat.standing { history = n.seat.standing.history ++ (map Applied entries ++ map Ran ran); seen = m.seat.standing.seen }
   pub own : jobs_reserved (unpassed n.seat.standing) ≡ jobs_of_own n.book.node entries ++ jobs_reserved (unpassed m.seat.standing)
   pub loaded : HasLoaded tail n.seat.looks m.seat.looks
+  pub from : n.seat.standing.seen ≤ tail
   pub book : m.book ≡ n.book
   pub owed : awaited m.replica.owed ≡ awaited n.replica.owed
   pub got : HaveGot n.replica.members m.replica.members
   pub refused : m.replica.down ≡ false → m.replica.refused ≡ n.replica.refused
+  pub up : m.replica.down ≡ false → n.replica.down ≡ false
   pub fell : n.replica.down ≡ false → m.replica.down ≡ true → entries ≢ []
   pub waits : m.replica.down ≡ true → ((m.replica.waiting ≡ []) ⊎ (m.replica.waiting ≡ n.replica.waiting)) × ((m.next ≡ []) ⊎ (m.next ≡ n.next))
 
--- all entries that there were when the call loaded the tail are passed; the reads that led were run, and no entry of the node was due before them
+-- all entries that there were when the call loaded the tail are passed, the node's own among them; the reads that led were run, and no entry of the node was due
+-- before them
 pub record HasRead (ran : List Job) (tail : ℕ) (n m : NodeState) : Type 0 where
   pub up : m.replica.down ≡ false
   pub passed : tail ≤ passed_of m.seat.standing
+  pub own : jobs_reserved (unpassed m.seat.standing) ≡ []
   pub ran_is : items_of ran ≡ read_jobs (items_of n.replica.waiting)
   pub left : items_of m.replica.waiting ≡ left_by_reads (items_of n.replica.waiting)
   pub next : (n.next ≡ []) × (m.next ≡ [])

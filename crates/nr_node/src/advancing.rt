@@ -12,7 +12,7 @@ use nr_log_end::Look;
 use nr_oplog::LogName;
 use nr_replica::Replica;
 
-/// Takes all entries in that there are when it begins, and passes them, and the next one where that is there. False where one isn't there yet. Where the
+/// Lets go of the shares that are kept of entries which all nodes have passed. Takes all entries in that there are when it begins, and passes them, and the next one where that is there. False where one isn't there yet. Where the
 /// replica falls over one of them, or is down, the next entry of its own is dropped.
 pub(crate) fn catch_up<B: LogName>(
     end: &mut NodeEnd<B>,
@@ -23,11 +23,12 @@ pub(crate) fn catch_up<B: LogName>(
     requires level { IsLevel end.old.standing replica.old }
     ensures idle { end.new.standing.held ≡ None }
     ensures goes { (entries : List Entry) × GoesOn entries end.old.standing end.new.standing replica.old replica.new next.old next.new }
-    ensures looks { end.new.looks ≡ end.old.looks ++ Look.Tail end.new.standing.seen ∷ [] }
+    ensures looks { (more : List Look) × (end.new.looks ≡ end.old.looks ++ Look.Tail end.new.standing.seen ∷ more) }
     ensures reached { result ≡ true → replica.new.down ≡ false → (end.new.standing.seen ≤ passed_of end.new.standing) × StandsInLog end.new.standing }
     ensures behind { result ≡ false → replica.new.down ≡ false → passed_of end.new.standing < end.new.standing.seen }
 {
     let tail = end.tail();
+    end.let_go();
     let count = tail.saturating_sub(replica.applied());
     if !advance_by(end, replica, next, count) {
         return false;

@@ -12,8 +12,7 @@ use nr_log_end::Look;
 use nr_oplog::LogName;
 use nr_replica::Replica;
 
-/// Runs the reads that lead, and notes each; and lets go of the shares that are kept of entries which all nodes have passed. Where memory runs out nothing
-/// changes.
+/// Runs the reads that lead, and notes each. Where memory runs out nothing changes.
 pub(crate) fn read<B: LogName>(
     end: &mut NodeEnd<B>,
     replica: &mut Replica,
@@ -28,7 +27,6 @@ pub(crate) fn read<B: LogName>(
 {
     let ran = replica.run_reads()?;
     note_all(end, &ran);
-    end.let_go();
     Ok(ran)
 }
 

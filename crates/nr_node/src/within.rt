@@ -234,8 +234,7 @@ impl<B: LogName> Core<B> {
 
     /// Applies and passes all entries that there are when it begins, and the next one where that is there.
     pub fn catch_up(&mut self) -> Round
-        ensures goes { (entries : List Entry) × ((tail : ℕ) × GoesOnBy entries [] tail self.old self.new × (result ≡ Round.Done → tail ≤ passed_of self.new.seat.standing)) }
-        ensures not_yet { result ≡ Round.NotYet → passed_of self.new.seat.standing < self.new.seat.standing.seen }
+        ensures goes { (entries : List Entry) × ((tail : ℕ) × GoesOnBy entries [] tail self.old self.new × (result ≡ Round.Done → tail ≤ passed_of self.new.seat.standing) × (result ≡ Round.NotYet → passed_of self.new.seat.standing < tail)) }
         ensures never { (result ≢ Round.Full) × (result ≢ Round.Again) }
         ensures down { (result ≡ Round.Down) ↔ (self.new.replica.down ≡ true) }
         ensures waiting { self.new.replica.down ≡ false → (self.old.replica.down ≡ false) × (self.new.replica.waiting ≡ self.old.replica.waiting) × (self.new.next ≡ self.old.next) }
@@ -251,8 +250,7 @@ impl<B: LogName> Core<B> {
     /// where all those entries are there, and where no entry of the node's own found no place: so none runs before an update of its connection. Where memory
     /// runs out none is run.
     pub fn look(&mut self) -> Result<Round, Memory>
-        ensures goes { (entries : List Entry) × ((ran : List Job) × ((tail : ℕ) × GoesOnBy entries ran tail self.old self.new × (result ≡ Ok Round.Done → HasRead ran tail self.old self.new) × (result ≢ Ok Round.Done → ran ≡ []) × (result ≢ Ok Round.NotYet → self.new.replica.down ≡ false → tail ≤ passed_of self.new.seat.standing))) }
-        ensures not_yet { result ≡ Ok Round.NotYet → passed_of self.new.seat.standing < self.new.seat.standing.seen }
+        ensures goes { (entries : List Entry) × ((ran : List Job) × ((tail : ℕ) × GoesOnBy entries ran tail self.old self.new × (result ≡ Ok Round.Done → HasRead ran tail self.old self.new) × (result ≢ Ok Round.Done → ran ≡ []) × (result ≢ Ok Round.NotYet → self.new.replica.down ≡ false → tail ≤ passed_of self.new.seat.standing) × (result ≡ Ok Round.NotYet → passed_of self.new.seat.standing < tail))) }
         ensures down { (result ≡ Ok Round.Down) ↔ (self.new.replica.down ≡ true) }
         ensures waiting { result ≢ Ok Round.Done → self.new.replica.down ≡ false → (self.new.replica.waiting ≡ self.old.replica.waiting) × (self.new.next ≡ self.old.next) }
         ensures again { result ≡ Ok Round.Again → self.old.next ≢ [] }

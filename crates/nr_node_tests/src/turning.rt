@@ -3,7 +3,7 @@ ghost use Rattle.std.specs.Prelude.{◌≡◌};
 ghost use Rattle.nr_oplog.specs.Opening.{name_of, nodes_of, places_of};
 
 use crate::client::{Client, is_executed};
-use nr_combiner::{Plan, Worker, build};
+use nr_combiner::{Plan, Turned, Worker, build};
 use nr_entry::ConnId;
 use nr_node::Round;
 use nr_oplog::{LogName, Opened, Token};
@@ -57,6 +57,11 @@ fn is_handed<B: LogName>(
     }
 }
 
+// Whether all was done that was due, and all was handed out.
+fn is_done(turned: Turned) -> bool {
+    turned.combined == Ok(Round::Done) && turned.collected.is_ok()
+}
+
 // What waits for the worker's own connections is handed out, that of the one that was opened first first, and at most so many bytes of each.
 fn hands_out<B: LogName, R: Wait + Abort>(rt: &R, alloc: Global, keys: RandomState, opened: Opened)
     requires name { name_of opened ≡ B.log }
@@ -71,15 +76,15 @@ fn hands_out<B: LogName, R: Wait + Abort>(rt: &R, alloc: Global, keys: RandomSta
     assert!(rt; first.post(jobs).is_ok());
     assert!(rt; second.post(of_second.jobs(rt, alloc, b"PING\r\n")).is_ok());
     let mut taken = Vec::new(alloc);
-    assert!(rt; first.turn(rt, 8, &mut taken) == Ok(Round::Done));
+    assert!(rt; is_done(first.turn(rt, 8, &mut taken)));
     assert!(rt; is_executed(first.collect()) && is_executed(second.collect()));
     assert!(rt; taken.len() == 2);
     assert!(rt; is_handed(&taken, 0, one.tap.conn(), b"+PONG\r\n"));
     assert!(rt; is_handed(&taken, 1, other.tap.conn(), b"$5\r\nhell"));
-    assert!(rt; first.turn(rt, 8, &mut taken) == Ok(Round::Done));
-    assert!(rt; first.turn(rt, 8, &mut taken) == Ok(Round::Done));
+    assert!(rt; is_done(first.turn(rt, 8, &mut taken)));
+    assert!(rt; is_done(first.turn(rt, 8, &mut taken)));
     assert!(rt; taken.len() == 3 && is_handed(&taken, 2, other.tap.conn(), b"o\r\n"));
-    assert!(rt; second.turn(rt, 8, &mut taken) == Ok(Round::Done));
+    assert!(rt; is_done(second.turn(rt, 8, &mut taken)));
     assert!(rt; taken.len() == 4 && is_handed(&taken, 3, of_second.tap.conn(), b"+PONG\r\n"));
 }
 

@@ -15,7 +15,7 @@ invariant_of-self g c =
     let goes = c.look-looked.ensures.goes in
     let book : looked.book ≡ inside.core.book = goes.1.1.1.book ∙ tried_book g.B.LogName.places c.try_to_reserve-tried.result inside.core tried c.try_to_reserve-tried.ensures.comes in (
       looked_served c.look-looked.result goes.0 goes.1.0 goes.1.1.0 tried looked inside.seat inside.numbers.items
-          (looked_by c.look-looked.result tried looked goes c.look-looked.ensures.waiting c.look-looked.ensures.not_yet c.look-looked.ensures.again
+          (looked_by c.look-looked.result tried looked goes c.look-looked.ensures.waiting c.look-looked.ensures.again
           c.look-looked.ensures.never_full c.look-looked.ensures.down)
           (tried_served g.B.LogName.places c.try_to_reserve-tried.result inside.core tried inside.seat inside.numbers.items c.try_to_reserve-tried.ensures.comes keeps.0),
       keeps.1,
@@ -59,7 +59,7 @@ returns-clause-combined g c =
       entries = goes.0;
       ran = goes.1.0;
       tail = goes.1.1.0;
-      has_looked = looked_by c.look-looked.result c.try_to_reserve-tried.new.core c.look-looked.new.self goes c.look-looked.ensures.waiting c.look-looked.ensures.not_yet
+      has_looked = looked_by c.look-looked.result c.try_to_reserve-tried.new.core c.look-looked.new.self goes c.look-looked.ensures.waiting
           c.look-looked.ensures.again c.look-looked.ensures.never_full c.look-looked.ensures.down;
       round_is = c.outcome.ensures;
       has_answered = c.answer_all.ensures;

@@ -3,5 +3,5 @@ use Rattle.nr_combiner.proofs.combiner.Combiner.turn.Goals as goal
 
 pub returns-clause-down : goal.returns-clause-down
 returns-clause-down g c =
-    turned_down c.args.worker c.args.most c.args.taken.now.items c.collect-collected.new.taken.items c.combine-combined.result c.both.result c.collect-collected.result
-    c.combine-combined.new.self c.collect-collected.new.self c.combine-combined.ensures.down c.collect-collected.ensures c.both.ensures
+    turned_down c.args.worker c.args.most c.args.taken.now.items c.collect-collected.new.taken.items c.combine-combined.result c.collect-collected.result
+    c.combine-combined.new.self c.collect-collected.new.self c.combine-combined.ensures.down c.collect-collected.ensures

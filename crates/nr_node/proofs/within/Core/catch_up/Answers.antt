@@ -22,8 +22,8 @@ returns-then-is_down-clause-goes g c =
     let m : NodeState = record { seat = c.catch_up-reached.new.end; replica = c.catch_up-reached.new.replica; book = inside.accounts; next = jobs_next c.catch_up-reached.new.next } in
     let tail = c.catch_up-reached.new.end.standing.seen in
     let by = subst (λ (n : NodeState). GoesOnBy went.0 [] tail n m) c.self.view_is (caught_up v m went.0 went.1.passed went.1.own c.self.invariant.0.order.book_is c.catch_up-reached.ensures.looks refl went.1.owed went.1.got went.1.refused went.1.fell
-    (went.1.waits, next_after inside.next c.catch_up-reached.new.next went.1.after_is)) in
-    (went.0, (tail, by, λ e. absurd (cc e)))
+    (λ up. (went.1.up up).0) (went.1.waits, next_after inside.next c.catch_up-reached.new.next went.1.after_is)) in
+    (went.0, (tail, by, λ e. absurd (cc e), λ e. absurd (cc e)))
 
 pub invariant_of-self-2 : goal.invariant_of-self-2
 invariant_of-self-2 g c =
@@ -40,7 +40,7 @@ returns-clause-goes g c =
     let m : NodeState = record { seat = c.catch_up-reached.new.end; replica = c.catch_up-reached.new.replica; book = inside.accounts; next = jobs_next c.catch_up-reached.new.next } in
     let tail = c.catch_up-reached.new.end.standing.seen in
     let by = subst (λ (n : NodeState). GoesOnBy went.0 [] tail n m) c.self.view_is (caught_up v m went.0 went.1.passed went.1.own c.self.invariant.0.order.book_is c.catch_up-reached.ensures.looks refl went.1.owed went.1.got went.1.refused went.1.fell
-    (went.1.waits, next_after inside.next c.catch_up-reached.new.next went.1.after_is)) in
+    (λ up. (went.1.up up).0) (went.1.waits, next_after inside.next c.catch_up-reached.new.next went.1.after_is)) in
     let up : c.catch_up-reached.new.replica.down ≡ false = sym c.is_down.ensures ∙ c.if-is_down.false in (
       went.0,
       (
@@ -49,6 +49,10 @@ returns-clause-goes g c =
         elim c.if-reached.branch [
           | then-reached w ↦ λ _. (c.catch_up-reached.ensures.reached w.if-reached.true up).0
           | else-reached w ↦ λ e. absurd (cc (sym w.result-is ∙ e))
+        ],
+        elim c.if-reached.branch [
+          | then-reached w ↦ λ e. absurd (cc (sym w.result-is ∙ e))
+          | else-reached w ↦ λ _. c.catch_up-reached.ensures.behind w.if-reached.false up
         ],
       ),
     )

@@ -8,6 +8,7 @@ use Rattle.nr_node.specs.Level.{NodeState}
 use Rattle.nr_node.specs.Next.{jobs_next}
 use Rattle.nr_node.specs.Owing.{awaited}
 use Rattle.nr_node.specs.Steps.{GoesOnBy, HasRead}
+use Rattle.nr_node.proofs.Lists.{none_unpassed}
 use Rattle.nr_node.proofs.Taking.{goes_within, failed_within, noted_within, read_awaited}
 use Rattle.nr_node.proofs.Caught.{next_after, caught_up, read_on, read_got, has_read, next_has, none_of}
 use Rattle.nr_node.proofs.within.Core.look.Goals as goal
@@ -41,9 +42,9 @@ returns-then-is_down-clause-goes g c =
     let m : NodeState = record { seat = c.catch_up-reached.new.end; replica = c.catch_up-reached.new.replica; book = inside.accounts; next = jobs_next c.catch_up-reached.new.next } in
     let tail = c.catch_up-reached.new.end.standing.seen in
     let by = subst (λ (n : NodeState). GoesOnBy went.0 [] tail n m) c.self.view_is (caught_up v m went.0 went.1.passed went.1.own c.self.invariant.0.order.book_is c.catch_up-reached.ensures.looks refl went.1.owed went.1.got went.1.refused went.1.fell
-    (went.1.waits, next_after inside.next c.catch_up-reached.new.next went.1.after_is)) in
+    (λ up. (went.1.up up).0) (went.1.waits, next_after inside.next c.catch_up-reached.new.next went.1.after_is)) in
     let down : c.catch_up-reached.new.replica.down ≡ true = sym c.is_down.ensures ∙ c.if-is_down.true in
-    (went.0, ([], (tail, by, λ e. absurd (cc e), λ _. refl, λ _ up. absurd (cc (up, down)))))
+    (went.0, ([], (tail, by, λ e. absurd (cc e), λ _. refl, λ _ up. absurd (cc (up, down)), λ e. absurd (cc e))))
 
 pub returns-then-not-reached-clause-goes : goal.returns-then-not-reached-clause-goes
 returns-then-not-reached-clause-goes g c =
@@ -53,8 +54,9 @@ returns-then-not-reached-clause-goes g c =
     let m : NodeState = record { seat = c.catch_up-reached.new.end; replica = c.catch_up-reached.new.replica; book = inside.accounts; next = jobs_next c.catch_up-reached.new.next } in
     let tail = c.catch_up-reached.new.end.standing.seen in
     let by = subst (λ (n : NodeState). GoesOnBy went.0 [] tail n m) c.self.view_is (caught_up v m went.0 went.1.passed went.1.own c.self.invariant.0.order.book_is c.catch_up-reached.ensures.looks refl went.1.owed went.1.got went.1.refused went.1.fell
-    (went.1.waits, next_after inside.next c.catch_up-reached.new.next went.1.after_is)) in
-    (went.0, ([], (tail, by, λ e. absurd (cc e), λ _. refl, λ reached _. absurd (reached refl))))
+    (λ up. (went.1.up up).0) (went.1.waits, next_after inside.next c.catch_up-reached.new.next went.1.after_is)) in
+    let up : c.catch_up-reached.new.replica.down ≡ false = sym c.is_down.ensures ∙ c.if-is_down.false in
+    (went.0, ([], (tail, by, λ e. absurd (cc e), λ _. refl, λ reached _. absurd (reached refl), λ _. c.catch_up-reached.ensures.behind c.if-not-reached.true up)))
 
 pub returns-then-is_some-clause-goes : goal.returns-then-is_some-clause-goes
 returns-then-is_some-clause-goes g c =
@@ -64,8 +66,8 @@ returns-then-is_some-clause-goes g c =
     let m : NodeState = record { seat = c.catch_up-reached.new.end; replica = c.catch_up-reached.new.replica; book = inside.accounts; next = jobs_next c.catch_up-reached.new.next } in
     let tail = c.catch_up-reached.new.end.standing.seen in
     let by = subst (λ (n : NodeState). GoesOnBy went.0 [] tail n m) c.self.view_is (caught_up v m went.0 went.1.passed went.1.own c.self.invariant.0.order.book_is c.catch_up-reached.ensures.looks refl went.1.owed went.1.got went.1.refused went.1.fell
-    (went.1.waits, next_after inside.next c.catch_up-reached.new.next went.1.after_is)) in
-    (went.0, ([], (tail, by, λ e. absurd (cc e), λ _. refl, λ _ up. (c.catch_up-reached.ensures.reached c.if-not-reached.false up).0)))
+    (λ up. (went.1.up up).0) (went.1.waits, next_after inside.next c.catch_up-reached.new.next went.1.after_is)) in
+    (went.0, ([], (tail, by, λ e. absurd (cc e), λ _. refl, λ _ up. (c.catch_up-reached.ensures.reached c.if-not-reached.false up).0, λ e. absurd (cc e))))
 
 pub returns-then-is_some-clause-again : goal.returns-then-is_some-clause-again
 returns-then-is_some-clause-again g c = λ _ none.
@@ -95,7 +97,8 @@ returns-in_err-read-clause-goes g c =
     (caught_up v m went.0 went.1.passed went.1.own c.self.invariant.0.order.book_is c.catch_up-reached.ensures.looks refl (ap (λ (r : ReplicaState). awaited r.owed) c.in_err-read.ensures.replica ∙ went.1.owed)
     (subst (λ (r : ReplicaState). HaveGot inside.replica.members r.members) (sym c.in_err-read.ensures.replica) went.1.got)
     (subst (λ (r : ReplicaState). r.down ≡ false → r.refused ≡ inside.replica.refused) (sym c.in_err-read.ensures.replica) went.1.refused)
-    (subst (λ (r : ReplicaState). inside.replica.down ≡ false → r.down ≡ true → went.0 ≢ []) (sym c.in_err-read.ensures.replica) went.1.fell) (
+    (subst (λ (r : ReplicaState). inside.replica.down ≡ false → r.down ≡ true → went.0 ≢ []) (sym c.in_err-read.ensures.replica) went.1.fell)
+    (subst (λ (r : ReplicaState). r.down ≡ false → inside.replica.down ≡ false) (sym c.in_err-read.ensures.replica) (λ up. (went.1.up up).0)) (
       subst (λ (r : ReplicaState). (r.waiting ≡ []) ⊎ (r.waiting ≡ inside.replica.waiting)) (sym c.in_err-read.ensures.replica) went.1.waits,
       next_after inside.next c.catch_up-reached.new.next went.1.after_is,
     )) in
@@ -110,6 +113,7 @@ returns-in_err-read-clause-goes g c =
           λ e. absurd (cc (sym c.from_residual.ensures.0 ∙ ap is_err e)),
           λ _. refl,
           λ _ _. subst (λ (x : LogView). tail ≤ passed_of x.standing) (sym c.in_err-read.ensures.end) reached,
+          λ e. absurd (cc (sym c.from_residual.ensures.0 ∙ ap is_err e)),
         ),
       ),
     )
@@ -136,13 +140,14 @@ returns-clause-goes g c =
     let up : c.catch_up-reached.new.replica.down ≡ false = sym c.is_down.ensures ∙ c.if-is_down.false in
     let all = c.catch_up-reached.ensures.reached c.if-not-reached.false up in
     let same = went.1.up up in
+    let none = none_unpassed t all.1 c.catch_up-reached.ensures.idle all.0 (went.1.order inside.accounts c.self.invariant.0.order).met in
     let still = ap jobs_next (none_of next (sym c.is_some.ensures ∙ c.if-is_some.false)) in
     let looks = c.in_ok-read.ensures.looks in
     let by = read_on v m t went.0 ran c.catch_up-reached.new.end.looks looks.0 went.1.passed went.1.own c.self.invariant.0.order.book_is c.in_ok-read.ensures.noted c.catch_up-reached.ensures.looks looks.1 refl
     (read_awaited c.catch_up-reached.new.replica c.read.new.replica c.in_ok-read.ensures.read ∙ went.1.owed)
     (read_got inside.replica c.catch_up-reached.new.replica c.read.new.replica went.1.got c.in_ok-read.ensures.read)
-    (λ _. ap (λ (r : ReplicaState). r.refused) c.in_ok-read.ensures.read.state ∙ went.1.refused up) (ap (λ (r : ReplicaState). r.down) c.in_ok-read.ensures.read.state ∙ up) in
-    let read = has_read v m t c.catch_up-reached.new.replica ran c.in_ok-read.ensures.noted c.in_ok-read.ensures.read up all.0 c.in_ok-read.ensures.ran same.2
+    (λ _. ap (λ (r : ReplicaState). r.refused) c.in_ok-read.ensures.read.state ∙ went.1.refused up) (went.1.up up).0 (ap (λ (r : ReplicaState). r.down) c.in_ok-read.ensures.read.state ∙ up) in
+    let read = has_read v m t c.catch_up-reached.new.replica ran c.in_ok-read.ensures.noted c.in_ok-read.ensures.read up (all.0, none) c.in_ok-read.ensures.ran same.2
     (ap jobs_next (sym same.1) ∙ still) still in (
       went.0,
       (
@@ -153,6 +158,7 @@ returns-clause-goes g c =
           λ _. subst (λ (n : NodeState). HasRead ran t.seen n m) c.self.view_is read,
           λ undone. absurd (undone refl),
           λ _ _. read.passed,
+          λ e. absurd (cc e),
         ),
       ),
     )
