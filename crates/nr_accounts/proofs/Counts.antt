@@ -1,4 +1,4 @@
--- The numbers of the jobs that were taken, and executed, of each connection.
+-- The numbers of the jobs that were taken of each connection.
 use Rattle.std.proofs.Common.{◌≡◌, inl, inr, ℕ, ◌+◌, Bool, true, false, cond, Option, Some, None, List, [], ◌∷◌, ◌++◌, length, map, refl, ap, sym, ◌∙◌, subst, arith, append_assoc, eqb, ltb}
 use Rattle.std.specs.Prelude.{◌&&◌}
 use Rattle.std.specs.List.{range_with_len}
@@ -8,12 +8,12 @@ use Rattle.std.proofs.lemmas.Bool.{cases_eq, and_parts, and_from, eqb-true, eq-e
 use Rattle.std.proofs.lemmas.List.{map-append, map-id, append-nil}
 use Rattle.std.proofs.lemmas.List.Elements.{filter-append}
 use Rattle.std.proofs.lemmas.List.FromFn.{length-range_with_len, map-range_with_len_more}
-use Rattle.nr_model.specs.Items.{Connection, same_connection, Item, is_end}
+use Rattle.nr_model.specs.Items.{Connection, same_connection, Item}
 use Rattle.nr_model.specs.Entries.{Jobs}
 use Rattle.nr_model.specs.Asked.{own_jobs}
 use Rattle.nr_accounts.specs.declared.account.Account.{Account}
-use Rattle.nr_accounts.specs.Account.{is_of, is_next, taken, is_first, executed, most_number}
-use Rattle.nr_accounts.specs.Held.{Held, put_at, changed, takes_by, takes_one, taken_one, takes_all, taken_all, leads_by, leads_in, executed_one, numbers_in, CountsTo, AreCounted, AreTaken, AreExecuted}
+use Rattle.nr_accounts.specs.Account.{is_of, is_next, taken, most_number}
+use Rattle.nr_accounts.specs.Held.{Held, takes_by, takes_one, taken_one, takes_all, taken_all, ends_by, closed_one, numbers_in, CountsTo, AreCounted, AreTaken}
 use Rattle.nr_accounts.proofs.Steps.{found, put_here}
 use Rattle.nr_accounts.proofs.Strangers.{put_elsewhere, once_taken}
 
@@ -76,20 +76,6 @@ counted_more count node held new jobs job a b own at number more is counted seri
           (subst (CountsTo count (finmap.get held serial)) (sym (other_more (conn_at node serial) jobs job (other_at node job serial apart))) (counted serial))
     ])
 
--- a count that stays the same
-pub counted_still : (count : Account → ℕ) (node : ℕ) (held : Held) (jobs : Jobs) (s : ℕ) (a b : Account) → finmap.get held s ≡ Some a → count b ≡ count a
-    → AreCounted count node held jobs → AreCounted count node (finmap.insert held s b) jobs
-counted_still count node held jobs s a b at same counted serial =
-    elim (cases_eq serial s) [
-      | inl here ↦
-          let old : numbers_in (conn_at node serial) jobs ≡ range_with_len 0 (count a) =
-          subst (λ (o : Option Account). CountsTo count o (numbers_in (conn_at node serial) jobs)) (ap (finmap.get held) here ∙ at) (counted serial) in
-          let found : finmap.get (finmap.insert held s b) serial ≡ Some b = ap (finmap.get (finmap.insert held s b)) here ∙ put_here held s b in
-          subst (λ (o : Option Account). CountsTo count o (numbers_in (conn_at node serial) jobs)) (sym found) (old ∙ ap (range_with_len 0) (sym same))
-      | inr apart ↦
-          subst (λ (o : Option Account). CountsTo count o (numbers_in (conn_at node serial) jobs)) (sym (put_elsewhere held s serial b apart)) (counted serial)
-    ]
-
 -- an account is taken out
 long : (count : Account → ℕ) (o : Option Account) (numbers : List ℕ) → CountsTo count o numbers → numbers ≡ range_with_len 0 (length numbers)
 long count None numbers counts = counts
@@ -125,43 +111,11 @@ all_counts node worker held jobs (job ∷ batch) e counted =
     let more = all_counts node worker (taken_one held job) (jobs ++ job ∷ []) batch parts.1 (taken_counts node worker held jobs job parts.0 counted) in
     subst (AreTaken node (taken_all (taken_one held job) batch)) (append_assoc jobs (job ∷ []) batch) more
 
--- the account of a job that leads
-led_by : (job : Item) (o : Option Account) → leads_by job o ≡ true → (a : Account) × (o ≡ Some a) × (is_first job a ≡ true)
-led_by job None e = absurd (cc e)
-led_by job (Some a) e = (a, refl, e)
+-- accounts go: nothing else was taken
+closed_by : (b : Bool) (node : ℕ) (held : Held) (serial : ℕ) (jobs : Jobs) → AreTaken node held jobs → AreTaken node (cond b (finmap.remove held serial) held) jobs
+closed_by true node held serial jobs counted = counted_out (λ (account : Account). account.next) node held jobs serial counted
+closed_by false node held serial jobs counted = counted
 
--- a job that is executed
-executed_counts : (node : ℕ) (held : Held) (jobs : Jobs) (job : Item) → leads_in node held job ≡ true → AreExecuted node held jobs
-    → AreExecuted node (changed executed job.connection.serial held) (jobs ++ job ∷ [])
-executed_counts node held jobs job e counted =
-    let parts = and_parts (eqb job.connection.node node) (leads_by job (finmap.get held job.connection.serial)) e in
-    let at = led_by job (finmap.get held job.connection.serial) parts.1 in
-    let a = at.0 in
-    let number = eqb-true job.number a.done (and_parts (eqb job.number a.done) (ltb a.done a.next) at.2).0 in
-    counted_more (λ (account : Account). account.done) node held (changed executed job.connection.serial held) jobs job a (executed a)
-    (eqb-true job.connection.node node parts.0) at.1 number refl (ap (λ (o : Option Account). put_at executed job.connection.serial o held) at.1) counted
-
-stays_by : (held : Held) (s : ℕ) (o : Option Account) (node : ℕ) (jobs : Jobs) → finmap.get held s ≡ o → AreTaken node held jobs
-    → AreTaken node (put_at executed s o held) jobs
-stays_by held s None node jobs at counted = counted
-stays_by held s (Some a) node jobs at counted = counted_still (λ (account : Account). account.next) node held jobs s a (executed a) at refl counted
-
-ended_by : (count : Account → ℕ) (node : ℕ) (b : Bool) (held : Held) (s : ℕ) (jobs : Jobs) → AreCounted count node held jobs
-    → AreCounted count node (cond b (finmap.remove held s) held) jobs
-ended_by count node true held s jobs counted = counted_out count node held jobs s counted
-ended_by count node false held s jobs counted = counted
-
-pub executed_in_order : (node : ℕ) (held : Held) (jobs : Jobs) (job : Item) → leads_in node held job ≡ true → AreExecuted node held jobs
-    → AreExecuted node (executed_one held job) (jobs ++ job ∷ [])
-executed_in_order node held jobs job e counted =
-    ended_by (λ (account : Account). account.done) node (is_end job.deed) (changed executed job.connection.serial held) job.connection.serial (jobs ++ job ∷ [])
-    (executed_counts node held jobs job e counted)
-
-pub still_taken : (node : ℕ) (held : Held) (jobs : Jobs) (job : Item) → AreTaken node held jobs → AreTaken node (executed_one held job) jobs
-still_taken node held jobs job counted =
-    ended_by (λ (account : Account). account.next) node (is_end job.deed) (changed executed job.connection.serial held) job.connection.serial jobs
-    (stays_by held job.connection.serial (finmap.get held job.connection.serial) node jobs refl counted)
-
-pub still_taken_if : (b : Bool) (node : ℕ) (held : Held) (jobs : Jobs) (job : Item) → AreTaken node held jobs → AreTaken node (cond b (executed_one held job) held) jobs
-still_taken_if true node held jobs job counted = still_taken node held jobs job counted
-still_taken_if false node held jobs job counted = counted
+pub closed_counts : (node : ℕ) (held : Held) (jobs : Jobs) (job : Item) → AreTaken node held jobs → AreTaken node (closed_one node held job) jobs
+closed_counts node held jobs job counted =
+    closed_by (eqb job.connection.node node && ends_by job (finmap.get held job.connection.serial)) node held job.connection.serial jobs counted

@@ -12,7 +12,7 @@ use Rattle.nr_entry.specs.declared.job.Job.{Job}
 use Rattle.nr_entry.specs.Jobs.{item_of, items_of}
 use Rattle.nr_accounts.specs.declared.account.Account.{Account}
 use Rattle.nr_accounts.specs.Account.{is_of, is_next, takes, taken, untaken}
-use Rattle.nr_accounts.specs.Held.{Held, put_at, changed, takes_by, takes_one, taken_one, takes_all, taken_all}
+use Rattle.nr_accounts.specs.Held.{Held, put_at, changed, takes_by, takes_one, taken_one, takes_all, taken_all, closed_one, closed_all}
 use Rattle.nr_accounts.proofs.Seen.{put_same, put_twice}
 
 -- two lists, one behind the other
@@ -26,6 +26,10 @@ takes-append node worker held (x ∷ xs) ys =
 pub taken-append : (held : Held) (xs ys : Jobs) → taken_all held (xs ++ ys) ≡ taken_all (taken_all held xs) ys
 taken-append held [] ys = refl
 taken-append held (x ∷ xs) ys = taken-append (taken_one held x) xs ys
+
+pub closed-append : (node : ℕ) (held : Held) (xs ys : Jobs) → closed_all node held (xs ++ ys) ≡ closed_all node (closed_all node held xs) ys
+closed-append node held [] ys = refl
+closed-append node held (x ∷ xs) ys = closed-append node (closed_one node held x) xs ys
 
 -- the first so many, and one more
 pub more_items : (jobs : List Job) (i : ℕ) (job : Job) → i < length jobs → job ≡ get_or jobs i job
@@ -106,7 +110,7 @@ one_back : (worker : ℕ) (job : Item) (a : Account) → takes worker job a ≡ 
 one_back worker job a e =
     let number : (a.next + 1) - 1 ≡ a.next = omega arith in
     let still_open : false ≡ a.is_ended = sym (not_ended worker job a e) in
-    λ i. record { worker = a.worker; next = number i; done = a.done; is_ended = still_open i }
+    λ i. record { worker = a.worker; next = number i; is_ended = still_open i }
 
 pub put_here : (m : Held) (k : ℕ) (x : Account) → finmap.get (finmap.insert m k x) k ≡ Some x
 put_here m k x =
@@ -162,3 +166,10 @@ pub back_to_none : (before now : Held) (jobs : List Job) (i : ℕ) → i ≤ 0 �
 back_to_none before now jobs i least is =
     let zero_is : i ≡ 0 = omega arith in
     is ∙ ap (λ (n : ℕ). taken_all before (items_of (take n jobs))) zero_is ∙ ap (λ (js : List Job). taken_all before (items_of js)) (take_none jobs)
+
+-- accounts go with one job more
+pub closed_more : (node : ℕ) (before now new : Held) (jobs : List Job) (i : ℕ) (job : Job) → i < length jobs → job ≡ get_or jobs i job
+    → new ≡ closed_one node now (item_of job) → now ≡ closed_all node before (items_of (take i jobs)) → new ≡ closed_all node before (items_of (take (i + 1) jobs))
+closed_more node before now new jobs i job within is one so =
+    one ∙ ap (λ (h : Held). closed_one node h (item_of job)) so
+    ∙ sym (ap (closed_all node before) (more_items jobs i job within is) ∙ closed-append node before (items_of (take i jobs)) (item_of job ∷ []))

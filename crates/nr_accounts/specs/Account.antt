@@ -1,4 +1,4 @@
--- The account of a connection: the worker that serves it, the number of its next job, that of its first job that waits, and whether its end was taken.
+-- The account of a connection: the worker that serves it, the number of its next job, and whether its end was taken.
 use Rattle.std.specs.Prelude.{ℕ, ◌+◌, ◌-◌, ◌^◌, Bool, false, not, ◌&&◌, ◌==◌, nat_lt}
 use Rattle.nr_model.specs.Items.{Item, is_end}
 use Rattle.nr_accounts.specs.declared.account.Account.{Account}
@@ -8,7 +8,7 @@ abbrev pub most_number : ℕ
 most_number = 2 ^ 64 - 1
 
 abbrev pub fresh_account : ℕ → Account
-fresh_account worker = record { worker = worker; next = 0; done = 0; is_ended = false }
+fresh_account worker = record { worker = worker; next = 0; is_ended = false }
 
 -- the worker serves the connection, the end of which wasn't taken
 abbrev pub is_of : ℕ → Account → Bool
@@ -28,10 +28,6 @@ taken job account = record account { next = account.next + 1; is_ended = is_end 
 abbrev pub untaken : Account → Account
 untaken account = record account { next = account.next - 1; is_ended = false }
 
--- its first job that waits
-abbrev pub is_first : Item → Account → Bool
-is_first job account = job.number == account.done && nat_lt account.done account.next
-
--- and one fewer that waits
-abbrev pub executed : Account → Account
-executed account = record account { done = account.done + 1 }
+-- its end, and the last that was taken
+abbrev pub ends_with : Item → Account → Bool
+ends_with job account = (is_end job.deed && nat_lt job.number account.next) && (account.next - job.number == 1)

@@ -1,13 +1,12 @@
 -- What a node's accounts say of a batch.
 use Rattle.std.specs.Prelude.{ℕ, Bool, true, not, ◌&&◌, ◌||◌, ◌==◌, nat_lt, if◌then◌else◌, List, [], length, Option, Some, None, slice_index_or, slice_set, refl}
 use Rattle.std.specs.Coded.{Coded, code_by, coded×, coded_ℕ, coded_list, coded_option}
-use Rattle.nr_model.specs.Items.{Item}
 use Rattle.nr_model.specs.Entries.{Jobs}
 use Rattle.nr_entry.specs.Jobs.{items_of}
 use Rattle.nr_entry.specs.declared.batch.Batch.{Batch}
 use Rattle.nr_entry.specs.declared.batch.Refusal.{Refusal}
 use Rattle.nr_entry.specs.declared.batch.Refusal.TheVariants.{Stranger, WrongNumber}
-use Rattle.nr_accounts.specs.Held.{Held, coded_held, takes_all, taken_all, has_stranger, leads_in, executed_one, AreTaken, AreExecuted}
+use Rattle.nr_accounts.specs.Held.{Held, coded_held, takes_all, taken_all, has_stranger, closed_all, AreTaken}
 
 -- the node, the accounts of its connections, and for each worker the number of the last batch that was taken
 pub record Book : Type 0 where
@@ -52,16 +51,10 @@ with_jobs worker number jobs book = record book { held = taken_all book.held job
 abbrev pub with_batch : Batch → Book → Book
 with_batch batch book = with_jobs batch.worker batch.number (items_of batch.jobs.items) book
 
--- whether a job is its connection's first that waits, and it was executed
-abbrev pub leads : Book → Item → Bool
-leads book job = leads_in book.node book.held job
+-- without the accounts of the connections whose end is among these jobs
+abbrev pub without_ended : Jobs → Book → Book
+without_ended jobs book = record book { held = closed_all book.node book.held jobs }
 
-abbrev pub with_executed : Item → Book → Book
-with_executed job book = record book { held = executed_one book.held job }
-
--- these are the jobs that were taken, and those that were executed
+-- these are the jobs that were taken
 abbrev pub HasTaken : Book → Jobs → Type 0
 HasTaken book jobs = AreTaken book.node book.held jobs
-
-abbrev pub HasExecuted : Book → Jobs → Type 0
-HasExecuted book jobs = AreExecuted book.node book.held jobs

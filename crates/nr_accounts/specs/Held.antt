@@ -1,4 +1,4 @@
--- The accounts of a node's connections, by serial: which jobs are taken, one after the other, and which of them are executed next.
+-- The accounts of a node's connections, by serial: which jobs are taken, one after the other, and with which of them an account goes.
 use Rattle.std.specs.Prelude.{◌≡◌, ℕ, Bool, true, false, not, ◌&&◌, ◌||◌, ◌==◌, cond, List, [], ◌∷◌, ◌++◌, map, length, Option, Some, None}
 use Rattle.std.specs.List.{list_any, range_with_len}
 use Rattle.std.specs.Ordering.{nat_cmp}
@@ -9,7 +9,7 @@ use Rattle.nr_model.specs.Entries.{Jobs}
 use Rattle.nr_model.specs.Asked.{own_jobs}
 use Rattle.nr_accounts.specs.declared.account.Account.{Account}
 use Rattle.nr_accounts.specs.contracts.account.Account as of_account
-use Rattle.nr_accounts.specs.Account.{is_of, takes, taken, is_first, executed}
+use Rattle.nr_accounts.specs.Account.{is_of, takes, taken, ends_with}
 
 abbrev pub Held : Type 0
 Held = finmap.FinMap nat_cmp Account
@@ -63,19 +63,20 @@ has_stranger node worker held before [] = false
 has_stranger node worker held before (job ∷ jobs) =
     (is_stranger node worker held job.connection || has_end_of job.connection before) || has_stranger node worker held (before ++ job ∷ []) jobs
 
--- whether a job is its connection's first that waits, and what is held once it was executed: behind its end a connection has no account
-abbrev pub leads_by : Item → Option Account → Bool
-leads_by job None = false
-leads_by job (Some account) = is_first job account
+-- a job is its connection's end, and the last that was taken of it: then its account goes
+abbrev pub ends_by : Item → Option Account → Bool
+ends_by job None = false
+ends_by job (Some account) = ends_with job account
 
-abbrev pub leads_in : ℕ → Held → Item → Bool
-leads_in node held job = job.connection.node == node && leads_by job (finmap.get held job.connection.serial)
+abbrev pub closed_one : ℕ → Held → Item → Held
+closed_one node held job =
+    let serial = job.connection.serial in cond (job.connection.node == node && ends_by job (finmap.get held serial)) (finmap.remove held serial) held
 
-abbrev pub executed_one : Held → Item → Held
-executed_one held job =
-    let after = changed executed job.connection.serial held in cond (is_end job.deed) (finmap.remove after job.connection.serial) after
+abbrev pub closed_all : ℕ → Held → Jobs → Held
+closed_all node held [] = held
+closed_all node held (job ∷ jobs) = closed_all node (closed_one node held job) jobs
 
--- The jobs of each connection that were taken, or executed, have the numbers 0, 1, 2 and so on, in this order: as many as its account says.
+-- The jobs of each connection that were taken have the numbers 0, 1, 2 and so on, in this order: as many as its account says, where it has one.
 abbrev pub numbers_in : Connection → Jobs → List ℕ
 numbers_in c jobs = map (λ (job : Item). job.number) (own_jobs c jobs)
 
@@ -88,6 +89,3 @@ AreCounted count node held jobs = (serial : ℕ) → CountsTo count (finmap.get 
 
 abbrev pub AreTaken : ℕ → Held → Jobs → Type 0
 AreTaken node held jobs = AreCounted (λ account. account.next) node held jobs
-
-abbrev pub AreExecuted : ℕ → Held → Jobs → Type 0
-AreExecuted node held jobs = AreCounted (λ account. account.done) node held jobs

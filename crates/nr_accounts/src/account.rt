@@ -1,19 +1,17 @@
 // The account of one connection.
 ghost use Rattle.std.specs.Prelude.{◌≡◌, cond};
 ghost use Rattle.nr_entry.specs.Jobs.{item_of};
-ghost use Rattle.nr_accounts.specs.Account.{is_of, takes, taken, untaken, is_first, executed};
+ghost use Rattle.nr_accounts.specs.Account.{is_of, takes, taken, untaken, ends_with};
 
 use nr_entry::Job;
 
-/// The account of a connection. Its jobs with the numbers from `done` to `next - 1` wait.
+/// The account of a connection.
 #[derive(Clone, Copy, Debug)]
 pub struct Account {
     /// The worker that serves it.
     pub worker: u8,
     /// The number of its next job.
     pub next: u64,
-    /// The number of its first job that waits. Where none waits it is that of the next one.
-    pub done: u64,
     /// Whether its end was taken: no job comes behind it.
     pub is_ended: bool,
 }
@@ -47,22 +45,10 @@ impl Account {
         self.is_ended = false;
     }
 
-    /// Whether a job is the first that waits.
-    pub(crate) fn leads(&self, job: &Job) -> bool
-        ensures { result ≡ is_first (item_of job.now) self.now }
+    /// Whether a job is its end, and the last one that was taken.
+    pub(crate) fn ends_with(&self, job: &Job) -> bool
+        ensures { result ≡ ends_with (item_of job.now) self.now }
     {
-        job.number == self.done && self.done < self.next
-    }
-
-    /// The first job that waits was executed, if this is it.
-    pub(crate) fn execute(&mut self, job: &Job) -> bool
-        ensures leads { result ≡ is_first (item_of job.now) self.old }
-        ensures executed { self.new ≡ cond result (executed self.old) self.old }
-    {
-        if !self.leads(job) {
-            return false;
-        }
-        self.done += 1;
-        true
+        job.kind.is_end() && job.number < self.next && self.next - job.number == 1
     }
 }

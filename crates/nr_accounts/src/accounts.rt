@@ -1,17 +1,15 @@
 // The accounts of a node.
-ghost use Rattle.std.specs.Prelude.{◌≡◌, ◌<◌, ◌++◌, ◌∷◌, ℕ, true, cond, [], length, replicate, slice_set, Some, None, IfOk, IfErr, OnOk, OnErr};
-ghost use Rattle.std.specs.Option.{option_copied};
+ghost use Rattle.std.specs.Prelude.{◌≡◌, ◌<◌, ◌++◌, length, replicate, slice_set, Some, None, IfOk, IfErr, OnOk, OnErr};
 ghost use Rattle.std.specs.FinMap as finmap;
 ghost use Rattle.nr_model.specs.Entries.{Jobs};
-ghost use Rattle.nr_entry.specs.Jobs.{item_of, items_of};
+ghost use Rattle.nr_entry.specs.Jobs.{items_of};
 ghost use Rattle.nr_accounts.specs.Account.{fresh_account};
 ghost use Rattle.nr_accounts.specs.Held.{takes_all};
-ghost use Rattle.nr_accounts.specs.Book as specs;
-ghost use Rattle.nr_accounts.specs.Book.{Book, HasTaken, HasExecuted, refusal_of, with_batch, with_jobs, with_executed, last_of, is_above};
+ghost use Rattle.nr_accounts.specs.Book.{Book, HasTaken, refusal_of, with_batch, with_jobs, without_ended, last_of, is_above};
 
 use crate::account::Account;
 use crate::held::BySerial;
-use crate::taking::{execute, give_back, has_stranger, take_all};
+use crate::taking::{close_all, give_back, has_stranger, take_all};
 use nr_blob::Memory;
 use nr_entry::{Batch, Job, Refusal};
 use std::alloc::Global;
@@ -58,17 +56,9 @@ impl Accounts {
         let account = Account {
             worker,
             next: 0,
-            done: 0,
             is_ended: false,
         };
         self.held.insert(serial, account)
-    }
-
-    /// The account of a connection of this node, or `None` where none was opened, or its end was executed. Logarithmic.
-    pub fn get(&self, serial: u64) -> Option<&Account>
-        ensures { option_copied result ≡ finmap.get self.now.held serial }
-    {
-        self.held.get(serial)
     }
 
     /// Drops the account of a connection. Logarithmic.
@@ -118,27 +108,12 @@ impl Accounts {
         self.last[batch.worker] = before;
     }
 
-    /// Whether a job is the first of its connection that waits. Logarithmic.
-    pub fn leads(&self, job: &Job) -> bool
-        ensures { result ≡ specs.leads self.now (item_of job.now) }
+    /// These jobs were executed: the account of a connection whose end is among them goes, where that is the last job that was taken of it. Linear in them, and
+    /// logarithmic in the connections for each end.
+    pub fn close(&mut self, jobs: &[Job])
+        ensures { self.new ≡ without_ended (items_of jobs.now) self.old }
     {
-        if job.conn.node != self.node {
-            return false;
-        }
-        match self.held.get(job.conn.serial) {
-            Some(account) => account.leads(job),
-            None => false,
-        }
-    }
-
-    /// A job was executed. False, and nothing changes, where it isn't the first of its connection that waits. Logarithmic. A connection's end closes its account.
-    pub fn execute(&mut self, job: &Job) -> bool
-        ensures leads { result ≡ specs.leads self.old (item_of job.now) }
-        ensures executed { self.new ≡ cond result (with_executed (item_of job.now) self.old) self.old }
-        ensures in_order { (jobs : Jobs) → HasExecuted self.old jobs → result ≡ true → HasExecuted self.new (jobs ++ item_of job.now ∷ []) }
-        ensures numbered { (jobs : Jobs) → HasTaken self.old jobs → HasTaken self.new jobs }
-    {
-        job.conn.node == self.node && execute(&mut self.held, job)
+        close_all(&mut self.held, self.node, jobs);
     }
 }
 

@@ -3,8 +3,8 @@ ghost use Rattle.std.specs.Prelude.{◌≡◌, cond, OnOk, OnErr};
 ghost use Rattle.std.specs.Option.{option_copied};
 ghost use Rattle.std.specs.FinMap as finmap;
 ghost use Rattle.nr_entry.specs.Jobs.{item_of};
-ghost use Rattle.nr_accounts.specs.Account.{taken, untaken, executed};
-ghost use Rattle.nr_accounts.specs.Held.{changed, takes_by, leads_by};
+ghost use Rattle.nr_accounts.specs.Account.{taken, untaken};
+ghost use Rattle.nr_accounts.specs.Held.{changed, takes_by, ends_by};
 
 use crate::account::Account;
 use nr_blob::Memory;
@@ -13,7 +13,7 @@ use std::alloc::Global;
 use std::collections::BTreeMap;
 use std::marker::Model;
 
-/// The accounts of the connections that were opened and whose end wasn't executed. They are seen as a finite map.
+/// The accounts of connections. They are seen as a finite map.
 #[derive(Drop)]
 pub(crate) struct BySerial {
     accounts: BTreeMap<u64, Account>,
@@ -85,14 +85,13 @@ impl BySerial {
         account.give_back();
     }
 
-    /// The connection's first job that waits was executed, if this is it.
-    pub(crate) fn execute(&mut self, serial: u64, job: &Job) -> bool
-        ensures leads { result ≡ leads_by (item_of job.now) (finmap.get self.old serial) }
-        ensures executed { self.new ≡ cond result (changed executed serial self.old) self.old }
+    /// Whether a job is the connection's end, and the last one that was taken of it.
+    pub(crate) fn ends_with(&self, serial: u64, job: &Job) -> bool
+        ensures { result ≡ ends_by (item_of job.now) (finmap.get self.now serial) }
     {
-        let Some(account) = self.accounts.get_mut(&serial) else {
-            return false;
-        };
-        account.execute(job)
+        match self.get(serial) {
+            Some(account) => account.ends_with(job),
+            None => false,
+        }
     }
 }

@@ -1,16 +1,7 @@
-//! The accounts of the batches that a node takes in from its workers: the number of each connection's next job, and which of its jobs wait.
+//! The accounts of the batches that a node takes in from its workers: the number of each connection's next job, and whether its end was taken.
 //!
-//! A connection's jobs are numbered 0, 1, 2 and so on. They are taken in in this order, and executed in this order.
-//!
-//! ```text
-//!   0   1   2   3   4   5   6
-//!   executed  | wait      |   taken in next
-//!             done        next
-//! ```
-//!
-//! A job waits from when it is taken in until it is executed, wherever it is in between: among the jobs that the node has lifted, in an
-//! entry that it has reserved, or in shares that came back from the log. So a read that is its connection's first job that waits has no
-//! update of its connection before it.
+//! A connection's jobs are numbered 0, 1, 2 and so on, and taken in in this order. Its account goes once its end was executed, so accounts are as many as there
+//! are connections whose end is still to come.
 #![tactic(auto)]
 
 pub use account::Account;

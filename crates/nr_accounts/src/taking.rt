@@ -2,8 +2,7 @@
 ghost use Rattle.std.specs.Prelude.{◌≡◌, ◌≤◌, ◌<◌, ℕ, true, false, cond, [], length, take};
 ghost use Rattle.nr_entry.specs.Jobs.{connection_of, item_of, items_of};
 ghost use Rattle.nr_accounts.specs.Held as specs;
-ghost use Rattle.std.specs.FinMap as finmap;
-ghost use Rattle.nr_accounts.specs.Held.{Held, taken_one, taken_all, takes_one, takes_all, leads_by, executed_one};
+ghost use Rattle.nr_accounts.specs.Held.{Held, taken_one, taken_all, takes_one, takes_all, closed_one, closed_all};
 
 use crate::held::BySerial;
 use nr_entry::{ConnId, Job};
@@ -90,17 +89,19 @@ fn has_end_of(conn: ConnId, jobs: &[Job]) -> bool
     false
 }
 
-/// A job was executed, if it is the first of its connection that waits. An end closes its connection's account.
-pub(crate) fn execute(held: &mut BySerial, job: &Job) -> bool
-    ensures leads { result ≡ leads_by (item_of job.now) (finmap.get held.old (item_of job.now).connection.serial) }
-    ensures executed { held.new ≡ cond result (executed_one held.old (item_of job.now)) held.old }
+/// The account of each connection whose end is among these jobs goes, where that is the last one that was taken of it.
+pub(crate) fn close_all(held: &mut BySerial, node: usize, jobs: &[Job])
+    ensures { held.new ≡ closed_all node held.old (items_of jobs.now) }
 {
-    if !held.execute(job.conn.serial, job) {
-        return false;
+    for job in jobs {
+        close_one(held, node, job);
     }
-    if job.kind.is_end() {
+}
+
+fn close_one(held: &mut BySerial, node: usize, job: &Job)
+    ensures { held.new ≡ closed_one node held.old (item_of job.now) }
+{
+    if job.conn.node == node && held.ends_with(job.conn.serial, job) {
         held.remove(job.conn.serial);
-        return true;
     }
-    true
 }

@@ -1,5 +1,5 @@
 -- The jobs of a node's connections stay what their batches held, wherever they are.
-use Rattle.std.proofs.Common.{◌≡◌, ℕ, zero, suc, ◌<◌, inl, inr, ◌⊎◌, Bool, IsTrue, cond, List, [], ◌∷◌, ◌++◌, map, length, drop, refl, ap, sym, ◌∙◌, subst, append_assoc, get_or, set, get_or-set_same, get_or-set_other}
+use Rattle.std.proofs.Common.{◌≡◌, ℕ, zero, suc, ◌<◌, inl, inr, ◌⊎◌, Bool, true, IsTrue, cond, Option, Some, None, List, [], ◌∷◌, ◌++◌, map, length, drop, refl, ap, sym, ◌∙◌, subst, append_assoc, get_or, set, get_or-set_same, get_or-set_other}
 use Rattle.std.specs.Prelude.{◌≢◌, ◌==◌, Result, Ok, Err}
 use Rattle.std.specs.List.{AllByRecursion}
 use Rattle.std.proofs.lemmas.Bool.{cases_Bool, and_parts, eqb-true}
@@ -21,6 +21,7 @@ use Rattle.nr_log_end.specs.declared.standing.Standing.{Standing}
 use Rattle.nr_log_end.specs.declared.standing.Turn.{Turn}
 use Rattle.nr_log_end.specs.declared.standing.Turn.TheVariants.{Applied, Ran}
 use Rattle.nr_log_end.specs.Standings.{record_of, applied_of, own_entries, reservation}
+use Rattle.nr_accounts.specs.declared.account.Account.{Account}
 use Rattle.nr_replica.specs.Replicas.{ReplicaState}
 use Rattle.nr_slots.specs.declared.view.Desk.{Desk}
 use Rattle.nr_slots.specs.Rule.{no_desk}
@@ -28,22 +29,15 @@ use Rattle.nr_slots.specs.Seats.{CombinerView, desk_of, with_lifted, with_answer
 use Rattle.nr_node.specs.Level.{NodeState, unpassed, jobs_reserved}
 use Rattle.nr_node.specs.Advanced.{jobs_of_own}
 use Rattle.nr_node.specs.Reserved.{due_jobs, left_jobs}
-use Rattle.nr_node.specs.Steps.{taken_node, HasReserved, HasNoneDue, GoesOnWaiting, HasFallen}
+use Rattle.nr_node.specs.Steps.{taken_node, HasReserved, HasNoneDue, GoesOnWaiting, HasFallen, GoesOnBy}
 use Rattle.nr_node.specs.declared.answers.Round.{Round}
 use Rattle.nr_node.specs.declared.answers.Round.TheVariants as rounds
 use Rattle.nr_node.proofs.Lists.{record-append}
-use Rattle.nr_combiner.specs.Served.{IsTakenOf, IsLifted, IsOwnOfBatch, AllJobs, HasNoJobs}
+use Rattle.nr_node.proofs.Owed.{all_front, all_back}
+use Rattle.nr_combiner.specs.Served.{IsCounted, IsTakenOf, IsLifted, IsOwnOfBatch, AllJobs, HasNoJobs}
 use Rattle.nr_combiner.specs.Steps.{ComesTo, HasLooked}
 
 -- ---- lists
-All-front : {A : Type 0} (P : A → Type 0) (xs ys : List A) → AllByRecursion P (xs ++ ys) → AllByRecursion P xs
-All-front P [] ys a = tt
-All-front P (x ∷ xs) ys a = (a.0, All-front P xs ys a.1)
-
-All-back : {A : Type 0} (P : A → Type 0) (xs ys : List A) → AllByRecursion P (xs ++ ys) → AllByRecursion P ys
-All-back P [] ys a = a
-All-back P (x ∷ xs) ys a = All-back P xs ys a.1
-
 reserved-append : (rs more : List (ℕ × Entry)) → jobs_reserved (rs ++ more) ≡ jobs_reserved rs ++ jobs_reserved more
 reserved-append [] more = refl
 reserved-append (r ∷ rs) more =
@@ -72,7 +66,7 @@ module _ (Q : Item → Type 0) where
   drop_all zero [] a = a
   drop_all zero (r ∷ rs) a = a
   drop_all (suc k) [] a = a
-  drop_all (suc k) (r ∷ rs) a = drop_all k rs (All-back Q (items_of r.1.jobs.items) (jobs_reserved rs) a)
+  drop_all (suc k) (r ∷ rs) a = drop_all k rs (all_back Q (items_of r.1.jobs.items) (jobs_reserved rs) a)
 
   drop_more : (k : ℕ) (rs more : List (ℕ × Entry)) → AllByRecursion Q (jobs_reserved (drop k rs)) → AllByRecursion Q (jobs_reserved more)
       → AllByRecursion Q (jobs_reserved (drop k (rs ++ more)))
@@ -174,7 +168,7 @@ module _ (Q : Item → Type 0) where
       elim (eqb_tells e.node node) [
         | inl same ↦
             let all = subst (λ (b : Bool). AllByRecursion Q (cond b (items ++ later) later)) same.0 a in
-            All-append Q _ (record_of (map Applied es)) (moved_all node speaks _ items (All-front Q items later all)) (applied_all node speaks es (All-back Q items later all))
+            All-append Q _ (record_of (map Applied es)) (moved_all node speaks _ items (all_front Q items later all)) (applied_all node speaks es (all_back Q items later all))
         | inr other ↦
             let all = subst (λ (b : Bool). AllByRecursion Q (cond b (items ++ later) later)) other.0 a in
             All-append Q _ (record_of (map Applied es)) (moved_all node speaks _ items (foreign_all node e.node speaks other.1 items e.own)) (applied_all node speaks es all)
@@ -198,6 +192,13 @@ module _ (Q : Item → Type 0) where
     | inr same ↦ subst (λ (js : List Job). AllByRecursion Q (items_of js)) (sym same) a
   ]
 
+  left_down : (es : List Entry) (ran : List Job) (tail : ℕ) (n m : NodeState) → GoesOnBy es ran tail n m → m.replica.down ≡ true
+      → ((m.replica.waiting ≡ []) ⊎ (m.replica.waiting ≡ n.replica.waiting)) × ((m.next ≡ []) ⊎ (m.next ≡ n.next))
+  left_down es ran tail n m by down = elim (cases_Bool n.replica.down) [
+    | inl was ↦ (inr (ap (λ (r : ReplicaState). r.waiting) (by.still was).0), by.dropped was)
+    | inr up ↦ let fell = by.fell up down in (inl fell.1, inl fell.2)
+  ]
+
   pub looked_all : (looked : Result Round Memory) (es : List Entry) (ran : List Job) (tail : ℕ) (n m : NodeState) → SpeaksOf n.book.node
       → HasLooked looked es ran tail n m → AllJobs Q n → AllJobs Q m
   looked_all looked es ran tail n m speaks h a =
@@ -207,8 +208,8 @@ module _ (Q : Item → Type 0) where
       ap (λ (s : Standing). record_of s.history) h.by.standing ∙ record-append before more
       ∙ ap (λ (js : Sequence). record_of before ++ js) (record-append (map Applied es) (map Ran ran)) in
       let all = subst (AllByRecursion Q) h.by.own a.reserved in
-      let applied = applied_all n.book.node speaks es (All-front Q (jobs_of_own n.book.node es) (jobs_reserved (unpassed m.seat.standing)) all) in
-      let later = All-back Q (jobs_of_own n.book.node es) (jobs_reserved (unpassed m.seat.standing)) all in
+      let applied = applied_all n.book.node speaks es (all_front Q (jobs_of_own n.book.node es) (jobs_reserved (unpassed m.seat.standing)) all) in
+      let later = all_back Q (jobs_of_own n.book.node es) (jobs_reserved (unpassed m.seat.standing)) all in
       let whole : AllByRecursion Q (items_of ran) → AllByRecursion Q (record_of m.seat.standing.history) =
       λ read. subst (AllByRecursion Q) (sym is) (All-append Q (record_of before) _ a.done (All-append Q (record_of (map Applied es)) _ applied (ran_all ran read))) in
       elim (is_done looked) [
@@ -224,7 +225,7 @@ module _ (Q : Item → Type 0) where
             let none : AllByRecursion Q (items_of ran) = subst (λ (js : List Job). AllByRecursion Q (items_of js)) (sym (h.none undone)) tt in
             elim (cases_Bool m.replica.down) [
               | inl down ↦
-                  let left = h.by.waits down in
+                  let left = left_down es ran tail n m h.by down in
                   record {
                     done = whole none;
                     reserved = later;
@@ -251,6 +252,12 @@ jobs_weaker Q R f n a = record {
   waits = All-weaker Q R f (items_of n.replica.waiting) a.waits;
 }
 
+-- whether it is counted doesn't depend on its moment
+moved_counted : (done : Sequence) (worker : ℕ) (job : Item) (moment : ℕ) (o : Option Account) → IsCounted worker done job o
+    → IsCounted worker done (record job { moment = moment }) o
+moved_counted done worker job moment (Some a) h = h
+moved_counted done worker job moment None h = h
+
 -- of which batch a job is doesn't depend on its moment, and is said of the node's connections alone
 pub speaks_of : (n : NodeState) (desks : List Desk) → SpeaksOf (IsOwnOfBatch n desks) n.book.node
 speaks_of n desks = (
@@ -258,7 +265,7 @@ speaks_of n desks = (
       let b = of own in
       record {
         worker = b.worker;
-        taken = record { node = b.taken.node; account = b.taken.account; held = b.taken.held; worker_is = b.taken.worker_is; below = b.taken.below };
+        taken = record { node = b.taken.node; served = b.taken.served; counted = moved_counted (record_of n.seat.standing.history) b.worker job moment _ b.taken.counted };
         batch = b.batch;
         lifted = b.lifted;
         item = b.item;

@@ -1,12 +1,11 @@
 -- Batches are lifted and answered: what a combiner keeps.
-use Rattle.std.proofs.Common.{◌≡◌, ℕ, zero, suc, ◌+◌, ◌<◌, ◌≤◌, inl, inr, true, eqb, List, [], ◌∷◌, ◌++◌, length, Option, Some, None, refl, ap, sym, ◌∙◌, arith}
+use Rattle.std.proofs.Common.{◌≡◌, ℕ, ◌<◌, ◌≤◌, inl, inr, true, eqb, List, [], ◌∷◌, ◌++◌, length, Option, Some, None, refl, ap, sym, ◌∙◌, arith}
 use Rattle.std.specs.Prelude.{not, nat_lt}
-use Rattle.std.specs.List.{AllByRecursion, range_with_len}
+use Rattle.std.specs.List.{AllByRecursion}
 use Rattle.std.specs.FinMap as finmap
 use Rattle.std.proofs.lemmas.Bool.{and_parts, eqb-true}
 use Rattle.std.proofs.lemmas.Bool.Decides.{eqb_tells}
-use Rattle.nr_model.specs.Bytes.{IsBeginningOf}
-use Rattle.nr_model.specs.Items.{Item, Sequence}
+use Rattle.nr_model.specs.Items.{Connection, Item, Sequence}
 use Rattle.nr_model.specs.Entries.{Jobs}
 use Rattle.nr_entry.specs.Jobs.{items_of}
 use Rattle.nr_entry.specs.declared.batch.Batch.{Batch}
@@ -18,7 +17,8 @@ use Rattle.nr_accounts.specs.Held.{Held, put_at, takes_by, takes_one, takes_all,
 use Rattle.nr_accounts.proofs.Steps.{found, put_here}
 use Rattle.nr_accounts.proofs.Strangers.{put_elsewhere, once_taken}
 use Rattle.nr_combiner.specs.Served.{StandIn, AreExecuted}
-use Rattle.nr_combiner.proofs.Grows.{HasGrown}
+use Rattle.nr_node.proofs.Served.{none_taken}
+use Rattle.nr_combiner.proofs.Grows.{HasGrown, StaysAt}
 
 -- ---- accounts as jobs are taken
 or_account : Account → Option Account → Account
@@ -53,6 +53,20 @@ grown_all held (job ∷ jobs) serial a at =
     let h = grown_all (taken_one held job) jobs serial g.0 g.1 in
     (h.0, h.1, h.2 ∙ g.2, omega (arith, g.3, h.3))
 
+-- where there is none, none is made
+pub none_of_all : (node worker : ℕ) (held : Held) (jobs : Jobs) (serial : ℕ) → takes_all node worker held jobs ≡ true → finmap.get held serial ≡ None
+    → finmap.get (taken_all held jobs) serial ≡ None
+none_of_all node worker held [] serial all none = none
+none_of_all node worker held (job ∷ jobs) serial all none =
+    let parts = and_parts (takes_one node worker held job) (takes_all node worker (taken_one held job) jobs) all in
+    none_of_all node worker (taken_one held job) jobs serial parts.1 (none_taken node worker serial held job parts.0 none).1
+
+-- each account stays, or counts more
+pub stays_all : (node worker : ℕ) (held : Held) (jobs : Jobs) (serial : ℕ) (done : Sequence) (c : Connection) (o : Option Account) → takes_all node worker held jobs ≡ true
+    → finmap.get held serial ≡ o → StaysAt done c o (finmap.get (taken_all held jobs) serial)
+stays_all node worker held jobs serial done c None all at = none_of_all node worker held jobs serial all at
+stays_all node worker held jobs serial done c (Some a) all at = inl (grown_all held jobs serial a at)
+
 -- jobs that were taken stand in these accounts
 abbrev pub IsTakenIn : ℕ → ℕ → Held → Item → Type 0
 IsTakenIn node worker held job = (job.connection.node ≡ node) × (a : Account) × (finmap.get held job.connection.serial ≡ Some a) × (a.worker ≡ worker) × (job.number < a.next)
@@ -73,13 +87,6 @@ all_taken node worker held (job ∷ jobs) all =
       (eqb-true job.connection.node node own, g.0, g.1, g.2 ∙ eqb-true a.worker worker (and_parts (eqb a.worker worker) (not a.is_ended) fits.0).0, below),
       all_taken node worker (taken_one held job) jobs parts.1,
     )
-
--- ---- numbers that begin
-pub range_begins : (k i j : ℕ) → i ≤ j → IsBeginningOf (range_with_len k i) (range_with_len k j)
-range_begins k zero j h = (range_with_len k j, refl)
-range_begins k (suc i) zero h = absurd (omega arith)
-range_begins k (suc i) (suc j) h =
-    let r = range_begins (k + 1) i j (omega arith) in (r.0, ap (λ (ns : List ℕ). k ∷ ns) r.1)
 
 -- ---- answers behind batches
 pub executed_more : (r : Sequence) (batches : List Batch) (b : Batch) (answers : List Answer) → length answers ≤ length batches

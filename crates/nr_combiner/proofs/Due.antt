@@ -1,6 +1,7 @@
 -- A batch that was lifted is due or refused: the combiner keeps what it kept.
 use Rattle.std.proofs.Common.{◌≡◌, ℕ, zero, suc, ◌+◌, ◌<◌, inl, inr, Bool, true, false, cond, not, eqb, ltb, List, [], ◌∷◌, ◌++◌, length, Option, Some, None, refl, ap, sym, ◌∙◌, subst, arith, get_or, set, get_or-set_same}
 use Rattle.std.specs.Prelude.{◌||◌}
+use Rattle.std.specs.List.{AllByRecursion}
 use Rattle.std.proofs.lemmas.Bool.{eqb-true}
 use Rattle.std.proofs.lemmas.List.{length-append}
 use Rattle.nr_entry.specs.Jobs.{items_of}
@@ -25,7 +26,7 @@ use Rattle.nr_node.specs.declared.answers.TakeError.{TakeError}
 use Rattle.nr_node.specs.declared.answers.TakeError.TheVariants as errors
 use Rattle.nr_combiner.specs.Served.{CombinerState, owed_at, IsDesk, IsServed}
 use Rattle.nr_combiner.specs.Steps.{refusal_at, IsRefusedFor, IsOutcomeOf, HandsBack}
-use Rattle.nr_node.specs.Owing.{answer_by, answer_of, answered_node, HasAllExecuted}
+use Rattle.nr_node.specs.Owing.{answer_by, answer_of, answered_node, IsServedBy, HasAllExecuted}
 use Rattle.nr_combiner.proofs.Lifts.{taken_served, back_served, is_last, holds_some, answered_served}
 
 -- a worker of the seat is one of the node
@@ -72,9 +73,10 @@ own_by false there strange ordered e = absurd (cc e)
 
 -- one is taken in
 pub lifted_served : (n m : NodeState) (seat after : CombinerView) (numbers : List ℕ) (worker : ℕ) (batch : Batch) → worker < length seat.desks
-    → owed_at worker n ≡ None → refusal_at worker n batch ≡ None → m ≡ taken_node batch n → after ≡ with_lifted worker batch seat
+    → owed_at worker n ≡ None → refusal_at worker n batch ≡ None → AllByRecursion (IsServedBy worker n.replica.members) (items_of batch.jobs.items) → m ≡ taken_node batch n
+    → after ≡ with_lifted worker batch seat
     → IsServed n seat numbers → IsServed m after (set numbers worker batch.number)
-lifted_served n m seat after numbers worker batch near idle due m_is is s =
+lifted_served n m seat after numbers worker batch near idle due served m_is is s =
     let parts = same_by n.replica.down (eqb batch.worker worker) (refusal n batch) due in
     let named : batch.worker ≡ worker = eqb-true batch.worker worker parts.0 in
     let accepted : refusal_of n.book batch ≡ None = none_refused n.replica.down (refusal_of n.book batch) parts.1 in
@@ -84,7 +86,8 @@ lifted_served n m seat after numbers worker batch near idle due m_is is s =
     let near' : batch.worker < length n.replica.owed = subst (λ (k : ℕ). k < length n.replica.owed) (sym named) (near_of n seat numbers worker near s) in
     let idle' : owed_at batch.worker n ≡ None = ap (λ (k : ℕ). owed_at k n) named ∙ idle in
     let there : IsServed (taken_node batch n) (with_lifted batch.worker batch seat) (set numbers batch.worker batch.number) =
-    taken_served n seat numbers batch near' idle' own (all_of_due n.book batch.node batch.worker batch.number jobs accepted) s in
+    taken_served n seat numbers batch near' idle' own (all_of_due n.book batch.node batch.worker batch.number jobs accepted)
+    (subst (λ (k : ℕ). AllByRecursion (IsServedBy k n.replica.members) jobs) (sym named) served) s in
     let moved : IsServed (taken_node batch n) (with_lifted worker batch seat) (set numbers worker batch.number) =
     subst (λ (k : ℕ). IsServed (taken_node batch n) (with_lifted k batch seat) (set numbers k batch.number)) named there in
     subst (λ (x : NodeState). IsServed x after (set numbers worker batch.number)) (sym m_is)

@@ -1,5 +1,5 @@
 -- A batch was lifted and taken in, or handed back, or answered.
-use Rattle.std.proofs.Common.{◌≡◌, ℕ, suc, ◌+◌, ◌<◌, inl, inr, true, List, [], ◌∷◌, ◌++◌, length, length-set, Option, Some, None, refl, ap, sym, ◌∙◌, subst, arith, le_refl, get_or, set, get_or-set_same, get_or-set_other}
+use Rattle.std.proofs.Common.{◌≡◌, ℕ, suc, ◌+◌, ◌<◌, inl, inr, true, List, [], ◌∷◌, ◌++◌, length, length-set, Option, Some, None, refl, ap, sym, ◌∙◌, subst, arith, get_or, set, get_or-set_same, get_or-set_other}
 use Rattle.std.specs.List.{AllByRecursion, range_with_len}
 use Rattle.std.specs.FinMap as finmap
 use Rattle.std.proofs.lemmas.Bool.Decides.{eqb_tells}
@@ -14,17 +14,19 @@ use Rattle.nr_entry.specs.declared.batch.Answer.{Answer}
 use Rattle.nr_entry.specs.declared.batch.Outcome.TheVariants.{Executed}
 use Rattle.nr_log_end.specs.Standings.{record_of}
 use Rattle.nr_accounts.specs.declared.account.Account.{Account}
-use Rattle.nr_accounts.specs.Held.{numbers_in, takes_all, taken_all}
+use Rattle.nr_accounts.specs.Held.{numbers_in, takes_all}
 use Rattle.nr_slots.specs.declared.view.Desk.{Desk}
 use Rattle.nr_slots.specs.Seats.{CombinerView, desk_of, with_lifted, with_answered}
 use Rattle.nr_slots.specs.Rule.{no_desk}
 use Rattle.nr_slots.specs.Names.{IsForLast}
 use Rattle.nr_node.specs.Level.{NodeState, connection_at}
+use Rattle.nr_node.specs.Owing.{IsServedBy}
 use Rattle.nr_node.specs.Steps.{taken_node}
-use Rattle.nr_combiner.specs.Served.{owed_at, IsTakenOf, HoldsBatch, IsDesk, StandIn, AreExecuted, IsOwnOfBatch, AllJobs, IsServed}
+use Rattle.nr_combiner.specs.Served.{owed_at, StandsIn, IsCounted, IsTakenOf, HoldsBatch, IsDesk, StandIn, AreExecuted, IsOwnOfBatch, AllJobs, IsServed}
 use Rattle.nr_combiner.proofs.Deeds.{same_jobs, jobs_weaker, of_lifted, lifted_more, answered_lifted, taken_jobs}
-use Rattle.nr_combiner.proofs.Grows.{Grows, still_itself, desk_still, all_still, taken_still}
-use Rattle.nr_combiner.proofs.Desks.{IsTakenIn, grown_all, all_taken, range_begins, executed_more, executed_front, executed_answered}
+use Rattle.nr_combiner.proofs.Grows.{Grows, still_itself, range_begins, desk_still, all_still, taken_still}
+use Rattle.nr_combiner.proofs.Desks.{IsTakenIn, stays_all, all_taken, executed_more, executed_front, executed_answered}
+use Rattle.nr_combiner.proofs.Turns.{still_there}
 
 -- at one worker's desk another one lies, and the numbers and what is owed are changed there alone
 pub at_desk : (n m : NodeState) (seat : CombinerView) (numbers : List ℕ) (worker number : ℕ) (desk : Desk) (owed : Option ℕ) (v : CombinerView)
@@ -71,30 +73,44 @@ at_desk n m seat numbers worker number desk owed v near grows owed_is desks_is s
       handed_in = jobs;
     }
 
+-- jobs with accounts of the worker, which count them, were taken from the worker's connections
+both_taken : (m : NodeState) (worker : ℕ) (jobs : List Item) → AllByRecursion (IsTakenIn m.book.node worker m.book.held) jobs
+    → AllByRecursion (IsServedBy worker m.replica.members) jobs → AllByRecursion (IsTakenOf m worker) jobs
+both_taken m worker [] all served = tt
+both_taken m worker (job ∷ jobs) all served = (
+  record {
+    node = all.0.0;
+    served = served.0;
+    counted = subst (IsCounted worker (record_of m.seat.standing.history) job) (sym all.0.2) (all.0.3, all.0.4);
+  },
+  both_taken m worker jobs all.1 served.1,
+)
+
 -- a batch is taken in
-taken_grows : (n : NodeState) (batch : Batch) → Grows n (taken_node batch n)
-taken_grows n batch = record {
+taken_grows : (n : NodeState) (batch : Batch) → takes_all n.book.node batch.worker n.book.held (items_of batch.jobs.items) ≡ true → Grows n (taken_node batch n)
+taken_grows n batch all = record {
   node = refl;
   workers = length-set n.replica.owed batch.worker (Some (length batch.jobs.items));
-  accounts = grown_all n.book.held (items_of batch.jobs.items);
+  members = λ c near. (near, refl);
+  accounts = λ serial near. stays_all n.book.node batch.worker n.book.held (items_of batch.jobs.items) serial (record_of n.seat.standing.history)
+      (connection_at n.book.node serial) (finmap.get n.book.held serial) all refl;
   log = begins_itself (record_of n.seat.standing.history);
 }
 
 pub taken_served : (n : NodeState) (seat : CombinerView) (numbers : List ℕ) (batch : Batch) → batch.worker < length n.replica.owed → owed_at batch.worker n ≡ None
     → batch.node ≡ n.book.node → takes_all n.book.node batch.worker n.book.held (items_of batch.jobs.items) ≡ true
+    → AllByRecursion (IsServedBy batch.worker n.replica.members) (items_of batch.jobs.items)
     → IsServed n seat numbers → IsServed (taken_node batch n) (with_lifted batch.worker batch seat) (set numbers batch.worker batch.number)
-taken_served n seat numbers batch near idle node all s =
+taken_served n seat numbers batch near idle node all served s =
     let worker = batch.worker in
     let old = desk_of seat worker in
     let m = taken_node batch n in
     let even : length old.lifted ≡ length old.answered = subst (IsDesk n worker (get_or numbers worker 0) old) idle (s.desks worker near) in
     let near' : worker < length seat.desks = subst (λ k. worker < k) (sym s.workers) near in
     let jobs : AllByRecursion (IsTakenOf m worker) (items_of batch.jobs.items) =
-    all_still (λ (job : Item). λ (t : IsTakenIn n.book.node worker (taken_all n.book.held (items_of batch.jobs.items)) job).
-    record { node = t.0; account = t.1; held = t.2; worker_is = t.3; below = t.4 })
-    (items_of batch.jobs.items) (all_taken n.book.node worker n.book.held (items_of batch.jobs.items) all) in
+    both_taken m worker (items_of batch.jobs.items) (all_taken n.book.node worker n.book.held (items_of batch.jobs.items) all) served in
     at_desk n m seat numbers worker batch.number record { lifted = old.lifted ++ batch ∷ []; answered = old.answered; grip = old.grip } (Some (length batch.jobs.items))
-    (with_lifted worker batch seat) near (taken_grows n batch) refl refl refl
+    (with_lifted worker batch seat) near (taken_grows n batch all) refl refl refl
     record {
       before = old.lifted;
       batch = batch;
@@ -104,11 +120,17 @@ taken_served n seat numbers batch near idle node all s =
       jobs = jobs;
     }
     (executed_more (record_of n.seat.standing.history) old.lifted batch old.answered (omega (arith, even)) (s.executed worker near))
-    (taken_jobs n seat batch near' (taken_still n m (taken_grows n batch)) jobs s.handed_in) s
+    (taken_jobs n seat batch near' (taken_still n m (taken_grows n batch all)) jobs s.handed_in) s
 
 -- the node stays, and nothing is owed by it for another reason
 grows_itself : (n : NodeState) → Grows n n
-grows_itself n = record { node = refl; workers = refl; accounts = λ serial a at. (a, at, refl, le_refl a.next); log = begins_itself (record_of n.seat.standing.history) }
+grows_itself n = record {
+  node = refl;
+  workers = refl;
+  members = λ c near. (near, refl);
+  accounts = λ serial near. still_there (record_of n.seat.standing.history) (connection_at n.book.node serial) (finmap.get n.book.held serial) (finmap.get n.book.held serial) refl;
+  log = begins_itself (record_of n.seat.standing.history);
+}
 
 -- one that was lifted is answered at once, and wasn't executed
 pub back_served : (n : NodeState) (seat : CombinerView) (numbers : List ℕ) (worker : ℕ) (batch : Batch) (answer : Answer) → worker < length n.replica.owed
@@ -146,6 +168,13 @@ pub holds_some : (n : NodeState) (seat : CombinerView) (numbers : List ℕ) (wor
     → IsServed n seat numbers → HoldsBatch n worker (get_or numbers worker 0) (desk_of seat worker)
 holds_some n seat numbers worker owed near is s = subst (IsDesk n worker (get_or numbers worker 0) (desk_of seat worker)) is (s.desks worker near)
 
+-- a job that is counted, where all that are counted are in the record
+stands_by : (worker : ℕ) (done : Sequence) (job : Item) (o : Option Account)
+    → ((a : Account) → o ≡ Some a → a.worker ≡ worker → numbers_in job.connection done ≡ range_with_len 0 a.next) → IsCounted worker done job o → StandsIn done job
+stands_by worker done job None whole h = h
+stands_by worker done job (Some a) whole h =
+    subst (IsBeginningOf (range_with_len 0 (suc job.number))) (sym (whole a refl h.0)) (range_begins 0 (suc job.number) a.next (omega (arith, h.1)))
+
 -- all jobs that were taken from a worker's connections are in the record
 pub stand_all : (n : NodeState) (worker : ℕ) (jobs : List Item)
     → ((serial : ℕ) (a : Account) → finmap.get n.book.held serial ≡ Some a → a.worker ≡ worker
@@ -154,10 +183,9 @@ pub stand_all : (n : NodeState) (worker : ℕ) (jobs : List Item)
 stand_all n worker jobs done all =
     let r = record_of n.seat.standing.history in
     all_still (λ (job : Item). λ (t : IsTakenOf n worker job).
-    let b = range_begins 0 (suc job.number) t.account.next (omega (arith, t.below)) in
-    let is : numbers_in (connection_at n.book.node job.connection.serial) r ≡ range_with_len 0 t.account.next = done job.connection.serial t.account t.held t.worker_is in
     let own : connection_at n.book.node job.connection.serial ≡ job.connection = λ i. record { node = sym t.node i; serial = job.connection.serial } in
-    subst (λ (ns : List ℕ). IsBeginningOf (range_with_len 0 (suc job.number)) ns) (sym is ∙ ap (λ (c : Connection). numbers_in c r) own) b) jobs all
+    stands_by worker r job (finmap.get n.book.held job.connection.serial)
+    (λ a at of_worker. sym (ap (λ (c : Connection). numbers_in c r) own) ∙ done job.connection.serial a at of_worker) t.counted) jobs all
 
 -- it is answered
 pub answered_served : (n m : NodeState) (seat : CombinerView) (numbers : List ℕ) (worker owed : ℕ) (answer : Answer) → worker < length n.replica.owed
@@ -182,7 +210,8 @@ answered_served n m seat numbers worker owed answer near is m_is done s =
     let grows : Grows n m = subst (Grows n) (sym m_is) record {
       node = refl;
       workers = length-set n.replica.owed worker None;
-      accounts = λ serial a at. (a, at, refl, le_refl a.next);
+      members = λ c near. (near, refl);
+      accounts = λ serial near. still_there r (connection_at n.book.node serial) (finmap.get n.book.held serial) (finmap.get n.book.held serial) refl;
       log = begins_itself r;
     } in
     subst (λ (ns : List ℕ). IsServed m v ns) (set-get_or numbers worker 0)

@@ -1,10 +1,10 @@
 -- Connections are opened and closed, and bytes are handed out: what was kept holds on.
-use Rattle.std.proofs.Common.{◌≡◌, ℕ, ◌<◌, inl, inr, ◌⊎◌, List, [], ◌∷◌, length, replicate, Option, Some, None, refl, ap, sym, ◌∙◌, subst, arith, le_refl, get_or}
+use Rattle.std.proofs.Common.{◌≡◌, ℕ, zero, suc, ◌<◌, inl, inr, ◌⊎◌, List, [], ◌∷◌, ◌++◌, length, replicate, Option, Some, None, refl, ap, sym, ◌∙◌, subst, arith, get_or, set, length-set}
 use Rattle.std.specs.Prelude.{Result, Ok, Err, OnOk, OnErr, IfOk, IfSome, IfNone}
 use Rattle.std.specs.FinMap as finmap
 use Rattle.std.proofs.lemmas.Bool.{cases_lt}
 use Rattle.std.proofs.lemmas.Bool.Decides.{eqb_tells}
-use Rattle.std.proofs.lemmas.List.{get_or-replicate}
+use Rattle.std.proofs.lemmas.List.{get_or-replicate, get_or_append_left, length-append}
 use lib.ListN.{length-replicate}
 use Rattle.nr_blob.specs.declared.memory.Memory.{Memory}
 use Rattle.nr_model.specs.Items.{Connection}
@@ -13,12 +13,12 @@ use Rattle.nr_entry.specs.Jobs.{connection_of}
 use Rattle.nr_entry.specs.declared.conn.ConnId.{ConnId}
 use Rattle.nr_log_end.specs.declared.standing.Standing.{Standing}
 use Rattle.nr_log_end.specs.Standings.{record_of}
-use Rattle.nr_accounts.specs.declared.account.Account.{Account}
 use Rattle.nr_accounts.specs.Account.{fresh_account}
 use Rattle.nr_accounts.specs.Book.{Book}
 use Rattle.nr_accounts.proofs.Strangers.{put_elsewhere}
 use Rattle.nr_oplog.specs.declared.view.LogView.{LogView}
 use Rattle.nr_replica.specs.declared.outbox.Piece.{Piece}
+use Rattle.nr_replica.specs.Members.{Member, fresh_member, closed_member, handed_member}
 use Rattle.nr_replica.specs.Replicas.{ReplicaState}
 use Rattle.nr_slots.specs.declared.view.Desk.{Desk}
 use Rattle.nr_slots.specs.Rule.{no_desk}
@@ -26,12 +26,12 @@ use Rattle.nr_slots.specs.Seats.{CombinerView, desk_of}
 use Rattle.nr_node.specs.Batches.{IsOpened}
 use Rattle.nr_node.specs.Collected.{AreHanded}
 use Rattle.nr_node.specs.Level.{NodeState, connection_at}
-use Rattle.nr_node.specs.Steps.{opened_node, closed_node, HasHandedOut}
+use Rattle.nr_node.specs.Steps.{nobody, opened_node, closed_node, HasHandedOut}
 use Rattle.nr_node.specs.declared.answers.OpenError.{OpenError}
 use Rattle.nr_combiner.specs.Served.{owed_at, IsDesk, AreExecuted, IsOwnOfBatch, AllJobs, IsServed}
 use Rattle.nr_combiner.proofs.Deeds.{same_jobs}
-use Rattle.nr_combiner.proofs.Grows.{HasGrown, Grows, still_itself, served_still}
-use Rattle.nr_combiner.proofs.Turns.{served_same}
+use Rattle.nr_combiner.proofs.Grows.{AreServedOn, Grows, still_itself, served_still}
+use Rattle.nr_combiner.proofs.Turns.{still_there, served_same}
 
 -- all is kept, and the node stays the same one
 abbrev pub GoesOn : NodeState → NodeState → CombinerView → List ℕ → Type 0
@@ -40,21 +40,37 @@ GoesOn n m seat numbers = IsServed m seat numbers × (n.book.node ≡ m.book.nod
 same_on : (n m : NodeState) (seat : CombinerView) (numbers : List ℕ) → m ≡ n → IsServed n seat numbers → GoesOn n m seat numbers
 same_on n m seat numbers same s = (subst (λ (x : NodeState). IsServed x seat numbers) (sym same) s, ap (λ (x : NodeState). x.book.node) (sym same))
 
--- an account more
-account_still : (n : NodeState) (serial worker : ℕ) → finmap.get n.book.held serial ≡ None → (k : ℕ) (a : Account) → finmap.get n.book.held k ≡ Some a
-    → HasGrown a (finmap.get (finmap.insert n.book.held serial (fresh_account worker)) k)
-account_still n serial worker none k a at = elim (eqb_tells k serial) [
-  | inl e ↦ absurd (cc (sym at ∙ ap (finmap.get n.book.held) e.1 ∙ none))
-  | inr e ↦ (a, put_elsewhere n.book.held serial k (fresh_account worker) e.1 ∙ at, refl, le_refl a.next)
-]
+-- a connection more leaves the others with their workers
+served_more : (members : List Member) (m : Member) → AreServedOn members (members ++ m ∷ [])
+served_more members m c near =
+    (omega (arith, near, length-append members (m ∷ [])), ap (λ (x : Member). x.worker) (get_or_append_left members (m ∷ []) (fresh_member c 0 0) c.serial near))
 
-opened_on : (n : NodeState) (seat : CombinerView) (numbers : List ℕ) (limit worker : ℕ) → finmap.get n.book.held (length n.replica.members) ≡ None
+-- so does a change of one that leaves its worker
+changed_at : (members : List Member) (i : ℕ) (f : Member → Member) (d : Member) → ((m : Member) → (f m).worker ≡ m.worker) → (serial : ℕ) → serial < length members
+    → (get_or (set members i (f (get_or members i nobody))) serial d).worker ≡ (get_or members serial d).worker
+changed_at [] i f d same serial near = absurd (omega arith)
+changed_at (m ∷ members) zero f d same zero near = same m
+changed_at (m ∷ members) zero f d same (suc serial) near = refl
+changed_at (m ∷ members) (suc i) f d same zero near = refl
+changed_at (m ∷ members) (suc i) f d same (suc serial) near = changed_at members i f d same serial (omega (arith, near))
+
+served_changed : (members : List Member) (i : ℕ) (f : Member → Member) → ((m : Member) → (f m).worker ≡ m.worker)
+    → AreServedOn members (set members i (f (get_or members i nobody)))
+served_changed members i f same c near =
+    (omega (arith, near, length-set members i (f (get_or members i nobody))), changed_at members i f (fresh_member c 0 0) same c.serial near)
+
+opened_on : (n : NodeState) (seat : CombinerView) (numbers : List ℕ) (limit worker : ℕ)
     → IsServed n seat numbers → GoesOn n (opened_node limit worker n) seat numbers
-opened_on n seat numbers limit worker none s =
+opened_on n seat numbers limit worker s =
+    let count = length n.replica.members in
     let grows : Grows n (opened_node limit worker n) = record {
       node = refl;
       workers = refl;
-      accounts = account_still n (length n.replica.members) worker none;
+      members = served_more n.replica.members (fresh_member (connection_at n.replica.node count) worker limit);
+      accounts = λ serial near.
+          let apart : serial ≡ count → ⊥ = λ e. omega (arith, near, e) in
+          still_there (record_of n.seat.standing.history) (connection_at n.book.node serial) (finmap.get n.book.held serial)
+          (finmap.get (finmap.insert n.book.held count (fresh_account worker)) serial) (put_elsewhere n.book.held count serial (fresh_account worker) apart);
       log = begins_itself (record_of n.seat.standing.history);
     } in (
       served_still n (opened_node limit worker n) seat numbers grows (λ w. still_itself (owed_at w n))
@@ -63,12 +79,10 @@ opened_on n seat numbers limit worker none s =
     )
 
 pub opened_served : (r : Result ConnId OpenError) (n m : NodeState) (seat : CombinerView) (numbers : List ℕ) (limit worker : ℕ)
-    → IfOk r (λ conn. connection_of conn ≡ connection_at n.replica.node (length n.replica.members)) → OnOk r (m ≡ opened_node limit worker n) → OnErr r (m ≡ n)
-    → IfOk r (λ conn. finmap.get n.book.held conn.serial ≡ None) → IsServed n seat numbers → GoesOn n m seat numbers
-opened_served (Ok conn) n m seat numbers limit worker named opened unchanged none s =
-    let there : finmap.get n.book.held (length n.replica.members) ≡ None = ap (λ (c : Connection). finmap.get n.book.held c.serial) (sym named) ∙ none in
-    subst (λ (x : NodeState). GoesOn n x seat numbers) (sym opened) (opened_on n seat numbers limit worker there s)
-opened_served (Err why) n m seat numbers limit worker named opened unchanged none s = same_on n m seat numbers unchanged s
+    → OnOk r (m ≡ opened_node limit worker n) → OnErr r (m ≡ n) → IsServed n seat numbers → GoesOn n m seat numbers
+opened_served (Ok conn) n m seat numbers limit worker opened unchanged s =
+    subst (λ (x : NodeState). GoesOn n x seat numbers) (sym opened) (opened_on n seat numbers limit worker s)
+opened_served (Err why) n m seat numbers limit worker opened unchanged s = same_on n m seat numbers unchanged s
 
 -- one is closed, or passed over
 is_opened : (n : NodeState) (c : Connection) → IsOpened n c ⊎ (IsOpened n c → ⊥)
@@ -84,7 +98,7 @@ pub closed_served : (n m : NodeState) (seat : CombinerView) (numbers : List ℕ)
     → ((IsOpened n (connection_of conn) → ⊥) → m ≡ n) → IsServed n seat numbers → GoesOn n m seat numbers
 closed_served n m seat numbers conn closed other s = elim (is_opened n (connection_of conn)) [
   | inl o ↦ subst (λ (x : NodeState). GoesOn n x seat numbers) (sym (closed o)) (
-    served_same n (closed_node conn.serial n) seat numbers refl refl refl
+    served_same n (closed_node conn.serial n) seat numbers refl refl (served_changed n.replica.members conn.serial closed_member (λ m. refl)) refl
         (same_jobs (IsOwnOfBatch n seat.desks) n (closed_node conn.serial n) refl refl refl s.handed_in) s,
     refl,
   )
@@ -94,7 +108,9 @@ closed_served n m seat numbers conn closed other s = elim (is_opened n (connecti
 -- bytes are handed out
 handed_on : (n m : NodeState) (seat : CombinerView) (numbers : List ℕ) (serial most : ℕ) → HasHandedOut serial most n m → IsServed n seat numbers → GoesOn n m seat numbers
 handed_on n m seat numbers serial most h s = (
-  served_same n m seat numbers h.book (ap (λ (r : ReplicaState). r.owed) h.replica) (ap (λ (x : Standing). x.history) h.standing)
+  served_same n m seat numbers h.book (ap (λ (r : ReplicaState). r.owed) h.replica)
+      (subst (AreServedOn n.replica.members) (sym (ap (λ (r : ReplicaState). r.members) h.replica)) (served_changed n.replica.members serial (handed_member most) (λ m. refl)))
+      (ap (λ (x : Standing). x.history) h.standing)
       (same_jobs (IsOwnOfBatch n seat.desks) n m h.standing h.next (ap (λ (r : ReplicaState). r.waiting) h.replica) s.handed_in) s,
   ap (λ (b : Book). b.node) (sym h.book),
 )

@@ -18,6 +18,7 @@ use Rattle.nr_slots.specs.Rule.{no_desk}
 use Rattle.nr_slots.specs.Seats.{CombinerView, desk_of}
 use Rattle.nr_slots.specs.Codes.{combiner_code}
 use Rattle.nr_node.specs.Level.{NodeState, coded_node, unpassed, jobs_reserved}
+use Rattle.nr_node.specs.Owing.{IsServedBy}
 
 -- the node, the combiner's seat at its workers' slots, and how many connections aren't closed
 pub record CombinerState : Type 0 where
@@ -34,13 +35,20 @@ coded_combiner =
 abbrev pub owed_at : ℕ → NodeState → Option ℕ
 owed_at worker n = slice_index_or n.replica.owed worker None
 
+-- a job stands in the record, behind those of its connection with lower numbers
+abbrev pub StandsIn : Sequence → Item → Type 0
+StandsIn done job = IsBeginningOf (range_with_len 0 (suc job.number)) (numbers_in job.connection done)
+
+-- its connection's account counts it, or is gone, as it is once the connection's end is in the record: then the job stands there
+abbrev pub IsCounted : ℕ → Sequence → Item → Option Account → Type 0
+IsCounted worker done job (Some account) = (account.worker ≡ worker) × (job.number < account.next)
+IsCounted worker done job None = StandsIn done job
+
 -- a job that was taken from a worker's connection
 pub record IsTakenOf (n : NodeState) (worker : ℕ) (job : Item) : Type 0 where
   pub node : job.connection.node ≡ n.book.node
-  pub account : Account
-  pub held : finmap.get n.book.held job.connection.serial ≡ Some account
-  pub worker_is : account.worker ≡ worker
-  pub below : job.number < account.next
+  pub served : IsServedBy worker n.replica.members job
+  pub counted : IsCounted worker (record_of n.seat.standing.history) job (finmap.get n.book.held job.connection.serial)
 
 -- the batch that was lifted last is the only one that isn't answered; it names the worker and this number, and its jobs were taken
 pub record HoldsBatch (n : NodeState) (worker number : ℕ) (desk : Desk) : Type 0 where
@@ -56,9 +64,9 @@ abbrev pub IsDesk : NodeState → ℕ → ℕ → Desk → Option ℕ → Type 0
 IsDesk n worker number desk None = length desk.lifted ≡ length desk.answered
 IsDesk n worker number desk (Some owed) = HoldsBatch n worker number desk
 
--- each job stands in the record, behind those of its connection with lower numbers
+-- each of these jobs does
 abbrev pub StandIn : Sequence → List Item → Type 0
-StandIn done jobs = AllByRecursion (λ (job : Item). IsBeginningOf (range_with_len 0 (suc job.number)) (numbers_in job.connection done)) jobs
+StandIn done jobs = AllByRecursion (StandsIn done) jobs
 
 -- so do those of each batch that was answered as executed
 abbrev pub AreExecuted : Sequence → List Batch → List Answer → Type 0

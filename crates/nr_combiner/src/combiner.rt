@@ -1,10 +1,12 @@
 // What stands behind a node's lock: the node, and its combiner's seat at the slots.
 ghost use Rattle.std.specs.Prelude.{if◌then◌else◌, ◌-◌, ◌≡◌, ◌≢◌, ◌↔◌, ◌⊎◌, ◌<◌, ◌≤◌, ◌++◌, [], ℕ, length, replicate, true, false, Ok, Err, None, IfOk, IfErr, IfSome, IfNone, OnOk, OnErr};
 ghost use Rattle.std.specs.Arc.{arc_value};
-ghost use Rattle.nr_entry.specs.Jobs.{connection_of};
+ghost use Rattle.std.specs.List.{AllByRecursion};
+ghost use Rattle.nr_entry.specs.Jobs.{connection_of, items_of};
 ghost use Rattle.nr_slots.specs.Seats.{new_combiner};
 ghost use Rattle.nr_node.specs.Level.{connection_at, queue_at};
 ghost use Rattle.nr_node.specs.Batches.{AreSame, IsOpened, IsPiece};
+ghost use Rattle.nr_node.specs.Owing.{IsServedBy};
 ghost use Rattle.nr_node.specs.Sound.{IsSound};
 ghost use Rattle.nr_node.specs.Steps.{taken_node, HasHandedOut};
 ghost use Rattle.nr_combiner.specs.Served.{owed_at, HasNoJobs};
@@ -260,6 +262,7 @@ fn take_in<B: LogName>(
 ) -> Result<(), (Batch, TakeError)>
     requires idle { owed_at worker core.old ≡ None }
     ensures taken { OnOk result (core.new ≡ taken_node batch core.old) }
+    ensures served { OnOk result (AllByRecursion (IsServedBy worker core.old.replica.members) (items_of batch.jobs.items)) }
     ensures due { OnOk result (refusal_at worker core.old batch ≡ None) }
     ensures refused { IfErr result (λ r. IsRefusedFor worker core.old batch r.1) }
     ensures back { IfErr result (λ r. AreSame r.0 batch) }

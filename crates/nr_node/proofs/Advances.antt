@@ -3,33 +3,37 @@ use Rattle.std.proofs.Common.{◌≡◌, ℕ, ◌<◌, ◌≤◌, ◌+◌, ◌-�
 use Rattle.std.specs.Prelude.{◌≢◌, ◌⊎◌, ◌==◌, cond, Option, None}
 use Rattle.std.proofs.lemmas.Bool.{cases_Bool}
 use Rattle.std.proofs.lemmas.List.{append-nil, length-append, map-append}
-use Rattle.nr_model.specs.Items.{Connection}
+use Rattle.nr_model.specs.Bytes.{IsBeginningOf}
+use Rattle.nr_model.specs.Items.{Connection, Sequence}
 use Rattle.nr_model.specs.Servers.{emitted_all}
 use Rattle.nr_model.specs.Entries.{Jobs, entry_items}
 use Rattle.nr_model.specs.Nodes.Steps.{texts_for}
 use Rattle.nr_entry.specs.Jobs.{items_of}
 use Rattle.nr_entry.specs.declared.entry.Entry.{Entry}
+use Rattle.nr_entry.specs.declared.job.Job.{Job}
 use Rattle.nr_log_end.specs.declared.standing.Standing.{Standing}
 use Rattle.nr_log_end.specs.declared.standing.Look.{Look}
 use Rattle.nr_log_end.specs.declared.standing.Look.TheVariants.{Tail}
 use Rattle.nr_log_end.specs.declared.standing.Turn.{Turn}
 use Rattle.nr_log_end.specs.declared.standing.Turn.TheVariants.{Applied}
-use Rattle.nr_log_end.specs.Standings.{applied_of, passed_of, StandsInLog, LooksOn, fetched_with, passed_on}
+use Rattle.nr_log_end.specs.Standings.{record_of, applied_of, passed_of, StandsInLog, LooksOn, fetched_with, passed_on}
 use Rattle.nr_oplog.specs.declared.view.LogView.{LogView}
-use Rattle.nr_accounts.specs.Book.{Book}
+use Rattle.nr_accounts.specs.Book.{Book, without_ended}
+use Rattle.nr_accounts.proofs.Steps.{closed-append}
 use Rattle.nr_replica.specs.Members.{worker_of}
 use Rattle.nr_replica.specs.Replicas.{ReplicaState, IsApplied, owed_from}
 use Rattle.nr_node.specs.declared.next.Next.{Next}
 use Rattle.nr_node.specs.Level.{unpassed, jobs_reserved, IsInOrder}
 use Rattle.nr_node.specs.Next.{jobs_next}
 use Rattle.nr_node.specs.Owing.{IsOwing, awaited, unexecuted}
-use Rattle.nr_node.specs.Advanced.{IsTakenIn, HasPassed, GoesOn, HaveGot, jobs_of_own}
-use Rattle.nr_node.proofs.Lists.{applied-append, still_in_log, reserved_passed}
+use Rattle.nr_node.specs.Advanced.{IsTakenIn, HasPassed, GoesOn, HasClosed, HaveGot, jobs_of_own, jobs_of_all}
+use Rattle.nr_node.proofs.Lists.{record-append, applied-append, still_in_log, reserved_passed}
 use Rattle.nr_node.proofs.Queues.{delivered_length}
 use Rattle.nr_node.proofs.Levels.{passed_level, same_level}
 use Rattle.nr_node.proofs.Got.{got_itself, got_on, got_received}
 use Rattle.nr_node.proofs.Owed.{workers_owing, passed_owing, received_workers, still_awaited_if}
 use Rattle.nr_node.proofs.Orders.{passed_order, passed_down, met_order}
+use Rattle.nr_node.proofs.Closing.{still_closed, closed_then, entry_in, counted_record, all_closed}
 
 apart : (b : Bool) → b ≡ false → b ≡ true → ⊥
 apart b up down = absurd (cc (up, down))
@@ -65,12 +69,14 @@ own_then es fs s t u node first last =
     ∙ sym (append_assoc (jobs_of_own s.node es) (jobs_of_own s.node fs) later) ∙ ap (λ (js : Jobs). js ++ later) (sym (own-append s.node es fs))
 
 -- by none
-pub goes_none : (s : Standing) (replica : ReplicaState) (next : Option Next) → GoesOn [] s s replica replica next next
-goes_none s replica next = record {
+pub goes_none : (s : Standing) (replica : ReplicaState) (next : Option Next) (book : Book) → GoesOn [] s s replica replica next next book book
+goes_none s replica next book = record {
   passed = record { seen = omega arith; standing = λ i. record s { history = sym (append-nil s.history) i } };
   own = refl;
   level = λ l. l;
-  order = λ book o. o;
+  order = λ o. o;
+  closed = λ o. still_closed (record_of s.history) book;
+  ended = λ up. refl;
   owing = λ l up o. o;
   members = refl;
   workers = λ c. refl;
@@ -79,7 +85,7 @@ goes_none s replica next = record {
   refused = λ up. refl;
   up = λ up. (up, refl, refl);
   fell = λ up down. absurd (apart replica.down up down);
-  waits = inr refl;
+  still = λ _. (refl, refl);
   after_is = inr refl;
 }
 
@@ -95,14 +101,32 @@ passed_then es fs s t u a b =
           ∙ ap (λ (h : List Turn). record s { history = h; seen = u.seen }) history;
     }
 
+-- the record has become longer
+more_recorded : (es : List Entry) (s t : Standing) → HasPassed es s t → IsBeginningOf (record_of s.history) (record_of t.history)
+more_recorded es s t h = (record_of (map Applied es), sym (record-append s.history (map Applied es)) ∙ ap (λ (x : Standing). record_of x.history) (sym h.standing))
+
+jobs-append : (es fs : List Entry) → jobs_of_all (es ++ fs) ≡ jobs_of_all es ++ jobs_of_all fs
+jobs-append [] fs = refl
+jobs-append (e ∷ es) fs =
+    ap (λ (js : Jobs). items_of e.jobs.items ++ js) (jobs-append es fs) ∙ sym (append_assoc (items_of e.jobs.items) (jobs_of_all es) (jobs_of_all fs))
+
+ended_then : (es fs : List Entry) (x y z : Book) → y ≡ without_ended (jobs_of_all es) x → z ≡ without_ended (jobs_of_all fs) y
+    → z ≡ without_ended (jobs_of_all (es ++ fs)) x
+ended_then es fs x y z first last =
+    last ∙ ap (without_ended (jobs_of_all fs)) first
+    ∙ (λ i. record x { held = sym (closed-append x.node x.held (jobs_of_all es) (jobs_of_all fs)) i })
+    ∙ sym (ap (λ (js : Jobs). without_ended js x) (jobs-append es fs))
+
 -- by some, and then by others
-pub goes_then : (es fs : List Entry) (s t u : Standing) (a b c : ReplicaState) (n m k : Option Next) → GoesOn es s t a b n m → GoesOn fs t u b c m k
-    → GoesOn (es ++ fs) s u a c n k
-goes_then es fs s t u a b c n m k first last = record {
+pub goes_then : (es fs : List Entry) (s t u : Standing) (a b c : ReplicaState) (n m k : Option Next) (x y z : Book) → GoesOn es s t a b n m x y
+    → GoesOn fs t u b c m k y z → GoesOn (es ++ fs) s u a c n k x z
+goes_then es fs s t u a b c n m k x y z first last = record {
   passed = passed_then es fs s t u first.passed last.passed;
   own = own_then es fs s t u (ap (λ (x : Standing). x.node) first.passed.standing) first.own last.own;
   level = λ l. last.level (first.level l);
-  order = λ book o. last.order book (first.order book o);
+  order = λ o. last.order (first.order o);
+  closed = λ o. closed_then (record_of t.history) (record_of u.history) x y z (more_recorded fs t u last.passed) (first.closed o) (last.closed (first.order o));
+  ended = λ up. ended_then es fs x y z (first.ended (last.up up).0) (last.ended up);
   owing = λ l up o. last.owing (first.level l) up (first.owing l (last.up up).0 o);
   members = last.members ∙ first.members;
   workers = λ c. last.workers c ∙ first.workers c;
@@ -114,13 +138,18 @@ goes_then es fs s t u a b c n m k first last = record {
       let before = first.up was.0 in
       (before.0, was.1 ∙ before.1, was.2 ∙ before.2);
   fell = λ up down. elim (cases_Bool b.down) [
-    | inl fell ↦ some_first es fs (first.fell up fell)
-    | inr on ↦ some_last es fs (last.fell on down)
+    | inl gone ↦
+        let by = first.fell up gone in (
+          some_first es fs by.0,
+          ap (λ (r : ReplicaState). r.waiting) (last.still gone).0 ∙ by.1,
+          elim last.after_is [ inl none ↦ none | inr same ↦ same ∙ by.2 ],
+        )
+    | inr on ↦ let by = last.fell on down in (some_last es fs by.0, by.1, by.2)
   ];
-  waits = elim last.waits [
-    | inl none ↦ inl none
-    | inr same ↦ elim first.waits [ inl none ↦ inl (same ∙ none) | inr first_same ↦ inr (same ∙ first_same) ]
-  ];
+  still = λ down.
+      let same = first.still down in
+      let later = last.still (ap (λ (r : ReplicaState). r.down) same.0 ∙ down) in
+      (later.0 ∙ same.0, later.1 ∙ same.1);
   after_is = elim last.after_is [
     | inl none ↦ inl none
     | inr same ↦ elim first.after_is [ inl none ↦ inl (same ∙ none) | inr first_same ↦ inr (same ∙ first_same) ]
@@ -136,6 +165,8 @@ record Leaves (old new : ReplicaState) : Type 0 where
   pub refused : new.down ≡ false → new.refused ≡ old.refused
   pub up : new.down ≡ false → (old.down ≡ false) × (new.waiting ≡ old.waiting)
   pub waits : (new.waiting ≡ []) ⊎ (new.waiting ≡ old.waiting)
+  pub fell : old.down ≡ false → new.down ≡ true → new.waiting ≡ []
+  pub still : old.down ≡ true → new ≡ old
 
 leaves : (e : Entry) (old new : ReplicaState) → IsTakenIn e old new → Leaves old new
 leaves e old new taken = elim taken [
@@ -147,6 +178,8 @@ leaves e old new taken = elim taken [
     refused = λ up. ap (λ (r : ReplicaState). r.refused) down.1;
     up = λ up. absurd (cc (up, ap (λ (r : ReplicaState). r.down) down.1, down.0));
     waits = inr (ap (λ (r : ReplicaState). r.waiting) down.1);
+    fell = λ up _. absurd (apart old.down up down.0);
+    still = λ _. down.1;
   }
   | inr up ↦ elim up.1 [
     | inl applied ↦
@@ -159,6 +192,8 @@ leaves e old new taken = elim taken [
           refused = λ _. ap (λ (r : ReplicaState). r.refused) applied.state;
           up = λ _. (up.0, waiting);
           waits = inr waiting;
+          fell = λ _ gone. absurd (apart new.down (ap (λ (r : ReplicaState). r.down) applied.state ∙ up.0) gone);
+          still = λ gone. absurd (apart old.down up.0 gone);
         }
     | inr fell ↦ record {
       members = ap (λ (r : ReplicaState). length r.members) fell;
@@ -168,6 +203,8 @@ leaves e old new taken = elim taken [
       refused = λ up. absurd (cc (up, ap (λ (r : ReplicaState). r.down) fell));
       up = λ up. absurd (cc (up, ap (λ (r : ReplicaState). r.down) fell));
       waits = inl (ap (λ (r : ReplicaState). r.waiting) fell);
+      fell = λ _ _. ap (λ (r : ReplicaState). r.waiting) fell;
+      still = λ gone. absurd (apart old.down up.0 gone);
     }
   ]
 ]
@@ -220,14 +257,34 @@ after_by : (b : Bool) (next after : Option Next) → (b ≡ true → after ≡ N
 after_by true next after none same = inl (none refl)
 after_by false next after none same = inr (same refl)
 
+-- the accounts of connections whose end is in an entry went, where the replica is up
+ended_kept : (t : Standing) (front : Sequence) (e : Entry) (new : ReplicaState) (next : List Job) (book later : Book) (b : Bool) → new.down ≡ b
+    → record_of t.history ≡ front ++ entry_items (items_of e.jobs.items) → (b ≡ true → later ≡ book)
+    → (b ≡ false → later ≡ without_ended (items_of e.jobs.items) book) → IsInOrder t new book next
+    → IsInOrder t new later next × HasClosed (record_of t.history) book later
+ended_kept t front e new next book later true is recorded stays ended o = (
+  subst (λ (x : Book). IsInOrder t new x next) (sym (stays refl)) o,
+  subst (HasClosed (record_of t.history) book) (sym (stays refl)) (still_closed (record_of t.history) book),
+)
+ended_kept t front e new next book later false is recorded stays ended o =
+    all_closed t new next (items_of e.jobs.items) book later is
+    (entry_in t front (items_of e.jobs.items) recorded (counted_record t new book next o)) (ended refl) o
+
 -- by one
-pub goes_by_entry : (s held t : Standing) (e : Entry) (old new : ReplicaState) (next after : Option Next) → s.held ≡ None → held ≡ fetched_with e s
+pub goes_by_entry : (s held t : Standing) (e : Entry) (old new : ReplicaState) (next after : Option Next) (book later : Book) → s.held ≡ None → held ≡ fetched_with e s
     → t ≡ passed_on held → StandsInLog held → IsTakenIn e old new → (new.down ≡ true → after ≡ None) → (new.down ≡ false → after ≡ next)
-    → GoesOn (e ∷ []) s t old new next after
-goes_by_entry s held t e old new next after idle fetched passed stands taken none same =
+    → (new.down ≡ true → later ≡ book) → (new.down ≡ false → later ≡ without_ended (items_of e.jobs.items) book)
+    → GoesOn (e ∷ []) s t old new next after book later
+goes_by_entry s held t e old new next after book later idle fetched passed stands taken none same stays ended =
     let l = leaves e old new taken in
     let is : t ≡ passed_on (fetched_with e s) = passed ∙ ap passed_on fetched in
     let log : StandsInLog (fetched_with e s) = subst StandsInLog fetched stands in
+    let items = items_of e.jobs.items in
+    let recorded : record_of t.history ≡ record_of s.history ++ entry_items items =
+    ap (λ (x : Standing). record_of x.history) is ∙ record-append s.history (Applied e ∷ []) ∙ ap (λ (js : Sequence). record_of s.history ++ js) (append-nil (entry_items items)) in
+    let both = λ (o : IsInOrder s old book (jobs_next next)).
+    ended_kept t (record_of s.history) e new (jobs_next after) book later new.down refl recorded stays ended
+    (order_kept s t e old new next after new.down refl is log l none same book o) in
     record {
       passed = record {
         seen = let seen = ap (λ (x : Standing). x.seen) is in omega (arith, seen);
@@ -236,7 +293,9 @@ goes_by_entry s held t e old new next after idle fetched passed stands taken non
       own = reserved_passed s e log ∙ cond_front (e.node == s.node) (items_of e.jobs.items) (jobs_reserved (unpassed (passed_on (fetched_with e s))))
           ∙ ap (λ (x : Standing). jobs_of_own s.node (e ∷ []) ++ jobs_reserved (unpassed x)) (sym is);
       level = λ lv. passed_level s t e old new is taken lv;
-      order = order_kept s t e old new next after new.down refl is log l none same;
+      order = λ o. (both o).0;
+      closed = λ o. (both o).1;
+      ended = λ up. ended up ∙ ap (λ (js : Jobs). without_ended js book) (sym (append-nil items));
       owing = λ lv up o. owing_taken s t e old new next after is log lv.node taken (same up) up o;
       members = l.members;
       workers = l.workers;
@@ -244,8 +303,8 @@ goes_by_entry s held t e old new next after idle fetched passed stands taken non
       got = l.got;
       refused = l.refused;
       up = λ up. ((l.up up).0, same up, (l.up up).1);
-      fell = λ up down. λ none_is. absurd (cc none_is);
-      waits = l.waits;
+      fell = λ up down. (λ none_is. absurd (cc none_is), l.fell up down, none down);
+      still = λ down. let same_replica = l.still down in (same_replica, stays (ap (λ (r : ReplicaState). r.down) same_replica ∙ down));
       after_is = after_by new.down next after none same;
     }
 
@@ -260,12 +319,14 @@ passed_by es s t h =
     ∙ length-append (applied_of s.history) es
 
 -- a tail was met
-pub goes_tail : (s t : Standing) (replica : ReplicaState) (next : Option Next) → LooksOn s t → GoesOn [] s t replica replica next next
-goes_tail s t replica next looks = record {
+pub goes_tail : (s t : Standing) (replica : ReplicaState) (next : Option Next) (book : Book) → LooksOn s t → GoesOn [] s t replica replica next next book book
+goes_tail s t replica next book looks = record {
   passed = record { seen = looks.0; standing = looks.1 ∙ (λ i. record s { history = sym (append-nil s.history) i; seen = t.seen }) };
   own = ap (λ (x : Standing). jobs_reserved (unpassed x)) (sym looks.1);
   level = λ l. same_level s t replica replica (ap (λ (x : Standing). x.node) looks.1) (ap (λ (x : Standing). x.history) looks.1) refl refl refl refl refl l;
-  order = λ book o. met_order s t replica book (jobs_next next) (record { seen = looks.0; standing = looks.1 }) o;
+  order = λ o. met_order s t replica book (jobs_next next) (record { seen = looks.0; standing = looks.1 }) o;
+  closed = λ o. still_closed (record_of t.history) book;
+  ended = λ up. refl;
   owing = λ l up o. subst (λ (x : Standing). IsOwing replica.members replica.owed (unexecuted x (jobs_next next) replica.waiting)) (sym looks.1) o;
   members = refl;
   workers = λ c. refl;
@@ -274,7 +335,7 @@ goes_tail s t replica next looks = record {
   refused = λ up. refl;
   up = λ up. (up, refl, refl);
   fell = λ up down. absurd (apart replica.down up down);
-  waits = inr refl;
+  still = λ _. (refl, refl);
   after_is = inr refl;
 }
 
@@ -284,59 +345,65 @@ log_passed s held t e fetched passed stands =
     subst StandsInLog (sym (passed ∙ ap passed_on fetched)) (still_in_log s e (subst StandsInLog fetched stands))
 
 -- a loop that took so many entries in
-pub record WentOn (x : ℕ) (first now : LogView) (old new : ReplicaState) (next after : Option Next) : Type 0 where
+pub record WentOn (x : ℕ) (first now : LogView) (old new : ReplicaState) (next after : Option Next) (book later : Book) : Type 0 where
   pub idle : now.standing.held ≡ None
   pub seen : now.standing.seen ≡ first.standing.seen
   pub looks : now.looks ≡ first.looks
   pub entries : List Entry
   pub many : length entries ≡ x
-  pub goes : GoesOn entries first.standing now.standing old new next after
+  pub goes : GoesOn entries first.standing now.standing old new next after book later
 
-pub went_none : (first : LogView) (replica : ReplicaState) (next : Option Next) → first.standing.held ≡ None → WentOn 0 first first replica replica next next
-went_none first replica next idle = record {
+pub went_none : (first : LogView) (replica : ReplicaState) (next : Option Next) (book : Book) → first.standing.held ≡ None
+    → WentOn 0 first first replica replica next next book book
+went_none first replica next book idle = record {
   idle = idle;
   seen = refl;
   looks = refl;
   entries = [];
   many = refl;
-  goes = goes_none first.standing replica next;
+  goes = goes_none first.standing replica next book;
 }
 
-pub went_more : (x : ℕ) (first now new : LogView) (a b c : ReplicaState) (n m k : Option Next) → WentOn x first now a b n m → new.standing.held ≡ None
-    → (new.standing.seen ≡ now.standing.seen) × (new.looks ≡ now.looks)
-    → ((entry : Entry) × GoesOn (entry ∷ []) now.standing new.standing b c m k) → WentOn (x + 1) first new a c n k
-went_more x first now new a b c n m k w idle met one = record {
+pub went_more : (x : ℕ) (first now new : LogView) (a b c : ReplicaState) (n m k : Option Next) (f g h : Book) → WentOn x first now a b n m f g
+    → new.standing.held ≡ None → (new.standing.seen ≡ now.standing.seen) × (new.looks ≡ now.looks)
+    → ((entry : Entry) × GoesOn (entry ∷ []) now.standing new.standing b c m k g h) → WentOn (x + 1) first new a c n k f h
+went_more x first now new a b c n m k f g h w idle met one = record {
   idle = idle;
   seen = met.0 ∙ w.seen;
   looks = met.1 ∙ w.looks;
   entries = w.entries ++ one.0 ∷ [];
   many = length-append w.entries (one.0 ∷ []) ∙ ap (λ (k : ℕ). k + 1) w.many;
-  goes = goes_then w.entries (one.0 ∷ []) first.standing now.standing new.standing a b c n m k w.goes one.1;
+  goes = goes_then w.entries (one.0 ∷ []) first.standing now.standing new.standing a b c n m k f g h w.goes one.1;
 }
 
 -- it stops where the next entry isn't there
-pub went_fewer : (x count : ℕ) (first now new : LogView) (a b c : ReplicaState) (n m k : Option Next) → WentOn x first now a b n m → x < count
-    → (new.standing ≡ now.standing) × (c ≡ b) × (k ≡ m)
-    → (entries : List Entry) × (length entries < count) × GoesOn entries first.standing new.standing a c n k
-went_fewer x count first now new a b c n m k w few same =
+pub went_fewer : (x count : ℕ) (first now new : LogView) (a b c : ReplicaState) (n m k : Option Next) (f g h : Book) → WentOn x first now a b n m f g → x < count
+    → (new.standing ≡ now.standing) × (c ≡ b) × (k ≡ m) × (h ≡ g)
+    → (entries : List Entry) × (length entries < count) × GoesOn entries first.standing new.standing a c n k f h
+went_fewer x count first now new a b c n m k f g h w few same =
     let fewer : length w.entries < count = omega (arith, w.many) in (
       w.entries,
       fewer,
-      subst (λ (s : Standing). GoesOn w.entries first.standing s a c n k) (sym same.0)
-          (subst (λ (r : ReplicaState). GoesOn w.entries first.standing now.standing a r n k) (sym same.1)
-          (subst (GoesOn w.entries first.standing now.standing a b n) (sym same.2) w.goes)),
+      subst (λ (s : Standing). GoesOn w.entries first.standing s a c n k f h) (sym same.0)
+          (subst (λ (r : ReplicaState). GoesOn w.entries first.standing now.standing a r n k f h) (sym same.1)
+          (subst (λ (x : Option Next). GoesOn w.entries first.standing now.standing a b n x f h) (sym same.2)
+          (subst (GoesOn w.entries first.standing now.standing a b n m f) (sym same.3) w.goes))),
     )
 
 -- one entry more, or none
-pub went_or_not : (b : Bool) (s t : Standing) (old new : ReplicaState) (next after : Option Next)
-    → (b ≡ true → (entry : Entry) × GoesOn (entry ∷ []) s t old new next after) → (b ≡ false → (t ≡ s) × (new ≡ old) × (after ≡ next))
-    → (entries : List Entry) × GoesOn entries s t old new next after
-went_or_not true s t old new next after some none = let one = some refl in (one.0 ∷ [], one.1)
-went_or_not false s t old new next after some none =
+pub went_or_not : (b : Bool) (s t : Standing) (old new : ReplicaState) (next after : Option Next) (book later : Book)
+    → (b ≡ true → (entry : Entry) × GoesOn (entry ∷ []) s t old new next after book later)
+    → (b ≡ false → (t ≡ s) × (new ≡ old) × (after ≡ next) × (later ≡ book))
+    → (entries : List Entry) × GoesOn entries s t old new next after book later × (length entries ≤ 1)
+went_or_not true s t old new next after book later some none = let one = some refl in (one.0 ∷ [], one.1, omega arith)
+went_or_not false s t old new next after book later some none =
     let same = none refl in (
       [],
-      subst (λ (x : Standing). GoesOn [] s x old new next after) (sym same.0)
-          (subst (λ (r : ReplicaState). GoesOn [] s s old r next after) (sym same.1) (subst (GoesOn [] s s old old next) (sym same.2) (goes_none s old next))),
+      subst (λ (x : Standing). GoesOn [] s x old new next after book later) (sym same.0)
+          (subst (λ (r : ReplicaState). GoesOn [] s s old r next after book later) (sym same.1)
+          (subst (λ (x : Option Next). GoesOn [] s s old old next x book later) (sym same.2)
+          (subst (GoesOn [] s s old old next next book) (sym same.3) (goes_none s old next book)))),
+      omega arith,
     )
 
 -- a tail was met, and nothing else changed but what is kept beside the log
@@ -378,3 +445,25 @@ reached_tail s m t u es fs count applied looks h k seen all is at =
     let b = passed_by es m t h in
     let c = passed_by fs t u k in
     omega (arith, a, b, c, seen, all, is, at)
+
+-- no more than one behind the tail
+pub few_stopped : (s m t : Standing) (es : List Entry) (count applied : ℕ) → LooksOn s m → HasPassed es m t → t.seen ≡ m.seen → length es < count
+    → count ≡ m.seen - applied → applied ≡ passed_of s → passed_of t ≤ (passed_of s + (t.seen - passed_of s)) + 1
+few_stopped s m t es count applied looks h seen few is at =
+    let a = same_passed s m looks in
+    let b = passed_by es m t h in
+    omega (arith, a, b, seen, few, is, at)
+
+pub few_more : (s m t u : Standing) (es fs : List Entry) (count applied : ℕ) → LooksOn s m → HasPassed es m t → HasPassed fs t u → u.seen ≡ m.seen → length es ≡ count
+    → length fs ≤ 1 → count ≡ m.seen - applied → applied ≡ passed_of s → passed_of u ≤ (passed_of s + (u.seen - passed_of s)) + 1
+few_more s m t u es fs count applied looks h k seen all one is at =
+    let a = same_passed s m looks in
+    let b = passed_by es m t h in
+    let c = passed_by fs t u k in
+    omega (arith, a, b, c, seen, all, one, is, at)
+
+pub few_entries : (es : List Entry) (s t : Standing) → HasPassed es s t → passed_of t ≤ (passed_of s + (t.seen - passed_of s)) + 1
+    → length es ≤ (t.seen - passed_of s) + 1
+few_entries es s t h few =
+    let a = passed_by es s t h in
+    omega (arith, a, few)

@@ -1,7 +1,8 @@
 -- How far a node went on in a call.
-use Rattle.std.proofs.Common.{◌≡◌, ℕ, ◌<◌, ◌≤◌, inl, inr, true, false, List, [], ◌∷◌, ◌++◌, length, map, refl, ap, sym, ◌∙◌, append_assoc, arith}
-use Rattle.std.specs.Prelude.{◌≢◌, ◌⊎◌, Option, Some, None, is_some}
+use Rattle.std.proofs.Common.{◌≡◌, ℕ, ◌<◌, ◌≤◌, ◌+◌, ◌-◌, inl, inr, true, false, List, [], ◌∷◌, ◌++◌, length, map, refl, ap, sym, ◌∙◌, subst, append_assoc, arith}
+use Rattle.std.specs.Prelude.{◌⊎◌, Option, Some, None, is_some}
 use Rattle.std.proofs.lemmas.List.{append-nil}
+use Rattle.nr_model.specs.Bytes.{IsBeginningOf}
 use Rattle.nr_model.specs.Servers.{emitted_all}
 use Rattle.nr_model.specs.Nodes.Steps.{texts_for}
 use Rattle.nr_model.specs.Entries.{read_jobs, left_by_reads}
@@ -12,44 +13,28 @@ use Rattle.nr_log_end.specs.declared.standing.Standing.{Standing}
 use Rattle.nr_log_end.specs.declared.standing.Look.{Look}
 use Rattle.nr_log_end.specs.declared.standing.Look.TheVariants.{Tail}
 use Rattle.nr_log_end.specs.declared.standing.Turn.TheVariants.{Applied, Ran}
-use Rattle.nr_log_end.specs.Standings.{passed_of}
+use Rattle.nr_log_end.specs.Standings.{passed_of, record_of}
+use Rattle.nr_accounts.specs.Book.{Book, without_ended}
+use Rattle.nr_oplog.specs.declared.view.LogView.{LogView}
 use Rattle.nr_replica.specs.Replicas.{ReplicaState}
 use Rattle.nr_replica.specs.Replicas as of_replica
 use Rattle.nr_node.specs.declared.next.Next.{Next}
 use Rattle.nr_node.specs.declared.next.Next.TheVariants as forms
-use Rattle.nr_node.specs.Level.{NodeState, unpassed, jobs_reserved}
+use Rattle.nr_node.specs.Level.{NodeState, IsInOrder, unpassed, jobs_reserved}
 use Rattle.nr_node.specs.Next.{jobs_shared, jobs_next, IsNextOf}
 use Rattle.nr_node.specs.Owing.{awaited}
-use Rattle.nr_node.specs.Advanced.{HasPassed, HasNoted, HaveGot, jobs_of_own}
+use Rattle.nr_node.specs.Advanced.{HasPassed, HasNoted, HaveGot, GoesOn, HasClosed, jobs_of_own, jobs_of_all}
 use Rattle.nr_node.specs.Steps.{GoesOnBy, HasRead}
+use Rattle.nr_node.proofs.Lists.{record-append}
+use Rattle.nr_node.proofs.Closing.{still_closed, closed_then}
+use Rattle.nr_node.proofs.Advances.{few_entries}
 use Rattle.nr_node.proofs.Got.{got_on, got_received}
 use Rattle.nr_node.proofs.Levels.{applied_noted}
 use Rattle.nr_node.proofs.Served.{still_unpassed, unpassed_noted}
 use Rattle.nr_node.proofs.Taking.{shared_jobs}
 
-pub next_after : (next after : Option Next) → (after ≡ None) ⊎ (after ≡ next) → (jobs_next after ≡ []) ⊎ (jobs_next after ≡ jobs_next next)
+next_after : (next after : Option Next) → (after ≡ None) ⊎ (after ≡ next) → (jobs_next after ≡ []) ⊎ (jobs_next after ≡ jobs_next next)
 next_after next after is = elim is [ inl none ↦ inl (ap jobs_next none) | inr same ↦ inr (ap jobs_next same) ]
-
--- by entries alone
-pub caught_up : (n m : NodeState) (es : List Entry) → HasPassed es n.seat.standing m.seat.standing
-    → jobs_reserved (unpassed n.seat.standing) ≡ jobs_of_own n.seat.standing.node es ++ jobs_reserved (unpassed m.seat.standing) → n.book.node ≡ n.seat.standing.node → ((later : List Look) × (m.seat.looks ≡ n.seat.looks ++ (Tail m.seat.standing.seen ∷ later)))
-    → m.book ≡ n.book → awaited m.replica.owed ≡ awaited n.replica.owed → HaveGot n.replica.members m.replica.members
-    → (m.replica.down ≡ false → m.replica.refused ≡ n.replica.refused) → (n.replica.down ≡ false → m.replica.down ≡ true → es ≢ [])
-    → (m.replica.down ≡ false → n.replica.down ≡ false)
-    → ((m.replica.waiting ≡ []) ⊎ (m.replica.waiting ≡ n.replica.waiting)) × ((m.next ≡ []) ⊎ (m.next ≡ n.next)) → GoesOnBy es [] m.seat.standing.seen n m
-caught_up n m es passed own same looks book owed got refused fell up waits = record {
-  standing = passed.standing ∙ (λ i. record n.seat.standing { history = n.seat.standing.history ++ sym (append-nil (map Applied es)) i; seen = m.seat.standing.seen });
-  own = own ∙ ap (λ (k : ℕ). jobs_of_own k es ++ jobs_reserved (unpassed m.seat.standing)) (sym same);
-  loaded = looks;
-  book = book;
-  owed = owed;
-  got = got;
-  refused = refused;
-  fell = fell;
-  from = passed.seen;
-  up = up;
-  waits = λ _. waits;
-}
 
 -- reads give their connections bytes
 pub read_got : (old mid new : ReplicaState) → HaveGot old.members mid.members → of_replica.HasRead mid new → HaveGot old.members new.members
@@ -57,25 +42,67 @@ read_got old mid new got read =
     got_on old.members mid.members new.members got
     (got_received (λ c. texts_for c (emitted_all mid.server (read_jobs (items_of mid.waiting)))) mid.members new.members read.delivered)
 
+-- by entries alone
+pub caught_by : (es : List Entry) (end last : LogView) (old new : ReplicaState) (book later : Book) (next after : Option Next) (n : NodeState)
+    → record { seat = end; replica = old; book = book; next = jobs_next next } ≡ n → GoesOn es end.standing last.standing old new next after book later
+    → ((later : List Look) × (last.looks ≡ end.looks ++ (Tail last.standing.seen ∷ later)))
+    → (old.down ≡ false → passed_of last.standing ≤ (passed_of end.standing + (last.standing.seen - passed_of end.standing)) + 1) → IsInOrder end.standing old book (jobs_next next)
+    → GoesOnBy es [] last.standing.seen n (record { seat = last; replica = new; book = later; next = jobs_next after })
+caught_by es end last old new book later next after n is g looks few order =
+    let m : NodeState = record { seat = last; replica = new; book = later; next = jobs_next after } in
+    subst (λ (x : NodeState). GoesOnBy es [] last.standing.seen x m) is record {
+      standing = g.passed.standing ∙ (λ i. record end.standing { history = end.standing.history ++ sym (append-nil (map Applied es)) i; seen = last.standing.seen });
+      own = g.own ∙ ap (λ (k : ℕ). jobs_of_own k es ++ jobs_reserved (unpassed last.standing)) (sym order.book_is);
+      loaded = looks;
+      from = g.passed.seen;
+      closed = g.closed order;
+      ended = g.ended;
+      owed = g.owed;
+      got = g.got;
+      refused = g.refused;
+      up = λ up. (g.up up).0;
+      few = λ up. few_entries es end.standing last.standing g.passed (few up);
+      fell = λ up down. let by = g.fell up down in (by.0, by.1, ap jobs_next by.2);
+      still = g.still;
+      dropped = λ _. next_after next after g.after_is;
+    }
+
+-- reads couldn't be run, and nothing changed by them
+pub failed_by : (es : List Entry) (tail : ℕ) (n : NodeState) (end last : LogView) (old new : ReplicaState) (book : Book) (next : List Job) → last ≡ end → new ≡ old
+    → GoesOnBy es [] tail n (record { seat = end; replica = old; book = book; next = next })
+    → GoesOnBy es [] tail n (record { seat = last; replica = new; book = book; next = next })
+failed_by es tail n end last old new book next same still by =
+    subst (λ (x : LogView). GoesOnBy es [] tail n (record { seat = x; replica = new; book = book; next = next })) (sym same)
+    (subst (λ (r : ReplicaState). GoesOnBy es [] tail n (record { seat = end; replica = r; book = book; next = next })) (sym still) by)
+
+noted_more : (t u : Standing) (ran : List Job) → HasNoted ran t u → IsBeginningOf (record_of t.history) (record_of u.history)
+noted_more t u ran noted =
+    (record_of (map Ran ran), sym (record-append t.history (map Ran ran)) ∙ ap (λ (x : Standing). record_of x.history) (sym noted.standing))
+
 -- by entries, and reads behind them
 pub read_on : (n m : NodeState) (t : Standing) (es : List Entry) (ran : List Job) (looks more : List Look) → HasPassed es n.seat.standing t
     → jobs_reserved (unpassed n.seat.standing) ≡ jobs_of_own n.seat.standing.node es ++ jobs_reserved (unpassed t) → n.book.node ≡ n.seat.standing.node → HasNoted ran t m.seat.standing
-    → ((later : List Look) × (looks ≡ n.seat.looks ++ (Tail t.seen ∷ later))) → m.seat.looks ≡ looks ++ more → m.book ≡ n.book → awaited m.replica.owed ≡ awaited n.replica.owed
+    → ((later : List Look) × (looks ≡ n.seat.looks ++ (Tail t.seen ∷ later))) → m.seat.looks ≡ looks ++ more → HasClosed (record_of t.history) n.book m.book
+    → m.book ≡ without_ended (jobs_of_all es) n.book → awaited m.replica.owed ≡ awaited n.replica.owed
     → HaveGot n.replica.members m.replica.members → (m.replica.down ≡ false → m.replica.refused ≡ n.replica.refused) → n.replica.down ≡ false → m.replica.down ≡ false
-    → GoesOnBy es ran t.seen n m
-read_on n m t es ran looks more passed own same noted first last book owed got refused was up = record {
+    → passed_of t ≤ (passed_of n.seat.standing + (t.seen - passed_of n.seat.standing)) + 1 → GoesOnBy es ran t.seen n m
+read_on n m t es ran looks more passed own same noted first last closed ended owed got refused was up few = record {
   standing = noted.standing ∙ ap (λ (s : Standing). record s { history = s.history ++ map Ran ran; seen = m.seat.standing.seen }) passed.standing
       ∙ (λ i. record n.seat.standing { history = append_assoc n.seat.standing.history (map Applied es) (map Ran ran) i; seen = m.seat.standing.seen });
   own = own ∙ (λ i. jobs_of_own (sym same i) es ++ jobs_reserved (sym (still_unpassed t m.seat.standing ran noted) i));
   loaded = (first.0 ++ more, last ∙ ap (λ (ls : List Look). ls ++ more) first.1 ∙ append_assoc n.seat.looks (Tail t.seen ∷ first.0) more);
-  book = book;
+  closed = closed_then (record_of t.history) (record_of m.seat.standing.history) n.book m.book m.book (noted_more t m.seat.standing ran noted) closed
+      (still_closed (record_of m.seat.standing.history) m.book);
+  ended = λ _. ended;
   owed = owed;
   got = got;
   refused = refused;
-  fell = λ _ fell. absurd (cc (up, fell));
   from = passed.seen;
   up = λ _. was;
-  waits = λ fell. absurd (cc (up, fell));
+  few = λ _. few_entries es n.seat.standing t passed few;
+  fell = λ _ fell. absurd (cc (up, fell));
+  still = λ down. absurd (cc (was, down));
+  dropped = λ down. absurd (cc (was, down));
 }
 
 -- all entries that there were are passed, and the reads that led were run

@@ -1,5 +1,5 @@
 -- A node that has done nothing yet is level, and in order.
-use Rattle.std.proofs.Common.{◌≡◌, ℕ, [], arith, refl, sym, subst}
+use Rattle.std.proofs.Common.{◌≡◌, ℕ, [], arith, refl, sym, ◌∙◌, subst}
 use Rattle.std.specs.Prelude.{Option, None}
 use Rattle.std.specs.Ordering.{nat_cmp}
 use Rattle.std.specs.FinMap as finmap
@@ -48,7 +48,7 @@ fresh_kept nodes places node upto workers shares = record {
   next_is = tt;
   owed = refl;
   owing = λ up. fresh_owing workers;
-  accounts = λ serial below. absurd (omega arith);
+  accounts = λ serial account at. absurd (cc (sym (none_held serial) ∙ at));
 }
 
 pub started_kept : (end : LogView) (replica : ReplicaState) (book : Book) (nodes places node upto workers shares : ℕ) → end ≡ opening_view nodes places node upto

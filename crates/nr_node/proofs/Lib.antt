@@ -2,15 +2,16 @@ pub mod Lists
 mod Queues
 mod Levels
 mod Orders
-mod Served
+pub mod Served
 pub mod Owed
 mod Got
+mod Closing
 mod Advances
 mod Fresh
 mod Filled
 mod Taking
 mod Caught
-mod Ready
+pub mod Ready
 mod Collected
 mod Shares
 pub mod Crossing

@@ -1,5 +1,5 @@
 -- What a node owes its workers, where jobs are executed, go on waiting, or are taken.
-use Rattle.std.proofs.Common.{◌≡◌, ℕ, zero, suc, ◌+◌, ◌-◌, ◌<◌, ◌≤◌, inl, inr, Bool, true, false, cond, List, [], ◌∷◌, ◌++◌, length, map, refl, ap, sym, ◌∙◌, subst, append_assoc, arith, eqb, slice_set}
+use Rattle.std.proofs.Common.{◌≡◌, ℕ, zero, suc, ◌+◌, ◌-◌, ◌<◌, inl, inr, Bool, true, false, cond, List, [], ◌∷◌, ◌++◌, length, map, refl, ap, sym, ◌∙◌, subst, append_assoc, arith, eqb, slice_set}
 use Rattle.std.specs.Prelude.{◌≢◌, ◌==◌, slice_index_or, Option, Some, None, is_some, filter, replicate}
 use Rattle.std.specs.List.{AllByRecursion}
 use Rattle.std.specs.FinMap as finmap
@@ -10,7 +10,7 @@ use Rattle.std.proofs.lemmas.List.Elements.{filter-append}
 use Rattle.nr_model.specs.Items.{Connection, Item, same_connection}
 use Rattle.nr_model.specs.Entries.{Jobs, read_jobs, left_by_reads}
 use Rattle.nr_model.proofs.JobLists.{All-append, same_is}
-use Rattle.nr_model.proofs.NodesExecutedLists.{lt_or_le, entry_parts, reads_parts}
+use Rattle.nr_model.proofs.NodesExecutedLists.{entry_parts, reads_parts}
 use Rattle.nr_model.proofs.NodesOwnLists.{All-weaker, All-entry, All-left_by_entry, All-left_by_reads, none_own}
 use Rattle.nr_entry.specs.Jobs.{items_of}
 use Rattle.nr_entry.specs.declared.job.Job.{Job}
@@ -23,10 +23,9 @@ use Rattle.nr_model.specs.Bytes.{Bytes}
 use Rattle.nr_replica.specs.Members.{Member, fresh_member, AreReceived, worker_of, jobs_of_worker}
 use Rattle.nr_replica.specs.Replicas.{owing_less, owed_from}
 use Rattle.nr_node.specs.Level.{connection_at}
-use Rattle.nr_node.specs.Owing.{AreOpened, count_owed, awaited, IsOwing, HasAccounts}
+use Rattle.nr_node.specs.Owing.{AreOpened, count_owed, awaited, IsOwing, IsServedBy, HasAccounts}
 use Rattle.nr_node.specs.Reserved.{due_jobs, left_jobs}
 use Rattle.nr_node.specs.Steps.{nobody}
-use Rattle.nr_node.proofs.Served.{none_taken}
 
 -- how many jobs of a worker there are among these
 abbrev pub many : ℕ → List Member → Jobs → ℕ
@@ -57,10 +56,9 @@ workers_owing members news owed jobs long same o = record {
 
 pub workers_accounts : (node : ℕ) (members news : List Member) (held : Held) → length news ≡ length members
     → ((c : Connection) → worker_of news c ≡ worker_of members c) → HasAccounts node members held → HasAccounts node news held
-workers_accounts node members news held long same has serial below =
-    let before : serial < length members = omega (arith, long) in
-    let a = has serial before in
-    (a.0, a.1, a.2 ∙ sym (same (connection_at node serial)))
+workers_accounts node members news held long same has serial account at =
+    let a = has serial account at in
+    (omega (arith, long, a.0), a.1 ∙ sym (same (connection_at node serial)))
 
 -- the same workers wait for an answer
 pub still_awaited : (w : ℕ) (members : List Member) (jobs : Jobs) (owed : List (Option ℕ)) → awaited (owed_from w members jobs owed) ≡ awaited owed
@@ -221,69 +219,55 @@ pushed_owing members m owed jobs o = record {
 
 pub pushed_accounts : (node worker : ℕ) (members : List Member) (m : Member) (held : Held) → m.worker ≡ worker → HasAccounts node members held
     → HasAccounts node (members ++ m ∷ []) (finmap.insert held (length members) (fresh_account worker))
-pushed_accounts node worker members m held same has serial below =
+pushed_accounts node worker members m held same has serial account at =
     let n = length members in
     let more = finmap.insert held n (fresh_account worker) in
     let c = connection_at node serial in
+    let long = length-append members (m ∷ []) in
     elim (eqb_tells serial n) [
-      | inl e ↦ (
-        fresh_account worker,
-        ap (finmap.get more) e.1 ∙ put_here held n (fresh_account worker),
-        sym same ∙ sym (ap (λ (x : Member). x.worker) (get_or_at members m [] (fresh_member c 0 0) serial (sym e.1))),
-      )
+      | inl e ↦
+          let is : fresh_account worker ≡ account = cc (sym (ap (finmap.get more) e.1 ∙ put_here held n (fresh_account worker)) ∙ at) in (
+            omega (arith, long, e.1),
+            sym (ap (λ (x : Account). x.worker) is) ∙ sym same ∙ sym (ap (λ (x : Member). x.worker) (get_or_at members m [] (fresh_member c 0 0) serial (sym e.1))),
+          )
       | inr e ↦
-          let before : serial < n = omega (arith, length-append members (m ∷ []), e.1) in
-          let a = has serial before in
-          (a.0, put_elsewhere held n serial (fresh_account worker) e.1 ∙ a.1, a.2 ∙ sym (pushed_worker members m c before))
+          let a = has serial account (sym (put_elsewhere held n serial (fresh_account worker) e.1) ∙ at) in
+          (omega (arith, long, a.0), a.1 ∙ sym (pushed_worker members m c a.0))
     ]
 
 -- a job that is taken is of a connection that was opened for the worker
-abbrev pub IsServedBy : ℕ → List Member → Item → Type 0
-IsServedBy worker members job = (job.connection.serial < length members) × (worker_of members job.connection ≡ worker)
-
-some_injective : (a b : Account) (o : Option Account) → o ≡ Some a → o ≡ Some b → a ≡ b
-some_injective a b o x y = cc (sym x ∙ y)
-
 taken_served : (node worker : ℕ) (members : List Member) (held : Held) (job : Item) → takes_one node worker held job ≡ true → HasAccounts node members held
-    → ((serial : ℕ) → length members ≤ serial → finmap.get held serial ≡ None) → IsServedBy worker members job
-taken_served node worker members held job e has closed =
+    → IsServedBy worker members job
+taken_served node worker members held job e has =
     let f = found node worker held job e in
     let serial = job.connection.serial in
     let own : job.connection.node ≡ node =
     eqb-true job.connection.node node (and_parts (eqb job.connection.node node) (takes_by worker job (finmap.get held serial)) e).0 in
-    let below : serial < length members = elim (lt_or_le serial (length members)) [
-      | inl there ↦ there
-      | inr past ↦ absurd (cc (sym (closed serial past) ∙ f.1))
-    ] in
-    let a = has serial below in
+    let a = has serial f.0 f.1 in
     let of_it : f.0.worker ≡ worker = eqb-true f.0.worker worker (and_parts (eqb f.0.worker worker) _ (and_parts (is_of worker f.0) (is_next job f.0) f.2).0).0 in
-    (below, ap (λ (n : ℕ). worker_of members (connection_at n serial)) own ∙ sym a.2 ∙ ap (λ (x : Account). x.worker) (some_injective a.0 f.0 _ a.1 f.1) ∙ of_it)
+    (a.0, ap (λ (n : ℕ). worker_of members (connection_at n serial)) own ∙ sym a.1 ∙ of_it)
 
 taken_accounts : (node worker : ℕ) (members : List Member) (held : Held) (job : Item) → takes_one node worker held job ≡ true → HasAccounts node members held
     → HasAccounts node members (taken_one held job)
-taken_accounts node worker members held job e has q below =
+taken_accounts node worker members held job e has q account at =
     let f = found node worker held job e in
     let serial = job.connection.serial in
     let once : finmap.get (taken_one held job) q ≡ finmap.get (finmap.insert held serial (taken job f.0)) q = ap (λ (h : Held). finmap.get h q) (once_taken held job f.0 f.1) in
-    let a = has q below in
     elim (eqb_tells q serial) [
-      | inl is ↦ (
-        taken job f.0,
-        once ∙ ap (finmap.get (finmap.insert held serial (taken job f.0))) is.1 ∙ put_here held serial (taken job f.0),
-        ap (λ (x : Account). x.worker) (some_injective f.0 a.0 _ f.1 (ap (finmap.get held) (sym is.1) ∙ a.1)) ∙ a.2,
-      )
-      | inr apart ↦ (a.0, once ∙ put_elsewhere held serial q (taken job f.0) apart.1 ∙ a.1, a.2)
+      | inl is ↦
+          let here : taken job f.0 ≡ account = cc (sym (once ∙ ap (finmap.get (finmap.insert held serial (taken job f.0))) is.1 ∙ put_here held serial (taken job f.0)) ∙ at) in
+          let a = has q f.0 (ap (finmap.get held) is.1 ∙ f.1) in
+          (a.0, sym (ap (λ (x : Account). x.worker) here) ∙ a.1)
+      | inr apart ↦ has q account (sym (once ∙ put_elsewhere held serial q (taken job f.0) apart.1) ∙ at)
     ]
 
 pub all_served : (node worker : ℕ) (members : List Member) (held : Held) (jobs : Jobs) → takes_all node worker held jobs ≡ true → HasAccounts node members held
-    → ((serial : ℕ) → length members ≤ serial → finmap.get held serial ≡ None)
     → AllByRecursion (IsServedBy worker members) jobs × HasAccounts node members (taken_all held jobs)
-all_served node worker members held [] e has closed = (tt, has)
-all_served node worker members held (job ∷ jobs) e has closed =
+all_served node worker members held [] e has = (tt, has)
+all_served node worker members held (job ∷ jobs) e has =
     let parts = and_parts (takes_one node worker held job) (takes_all node worker (taken_one held job) jobs) e in
-    let rest = all_served node worker members (taken_one held job) jobs parts.1 (taken_accounts node worker members held job parts.0 has)
-    (λ serial past. (none_taken node worker serial held job parts.0 (closed serial past)).1) in
-    ((taken_served node worker members held job parts.0 has closed, rest.0), rest.1)
+    let rest = all_served node worker members (taken_one held job) jobs parts.1 (taken_accounts node worker members held job parts.0 has) in
+    ((taken_served node worker members held job parts.0 has, rest.0), rest.1)
 
 -- all of these are the worker's, and none is another's
 own_many : (worker : ℕ) (members : List Member) (jobs : Jobs) → AllByRecursion (IsServedBy worker members) jobs → many worker members jobs ≡ length jobs

@@ -139,11 +139,11 @@ opened_order s old new book next worker m is o =
     }
 
 -- what is found once one was taken out
-removed_here : (m : Held) (k : ℕ) → finmap.get (finmap.remove m k) k ≡ None
+pub removed_here : (m : Held) (k : ℕ) → finmap.get (finmap.remove m k) k ≡ None
 removed_here m k =
     finmap.get-remove nat_cmp_total m k k ∙ ap (λ (b : Bool). cond b None (finmap.get m k)) ((eq_by_cmp_equiv nat_cmp_total).refl k)
 
-removed_elsewhere : (m : Held) (k q : ℕ) → (q ≡ k → ⊥) → finmap.get (finmap.remove m k) q ≡ finmap.get m q
+pub removed_elsewhere : (m : Held) (k q : ℕ) → (q ≡ k → ⊥) → finmap.get (finmap.remove m k) q ≡ finmap.get m q
 removed_elsewhere m k q apart =
     finmap.get-remove nat_cmp_total m k q ∙ ap (λ (b : Bool). cond b None (finmap.get m q)) (sym (unsigned_ties q k) ∙ ne_eqb q k apart)
 
@@ -187,7 +187,7 @@ none_taken node worker serial held job e none =
       ap (λ (h : Held). finmap.get h serial) (once_taken held job f.0 f.1) ∙ put_elsewhere held job.connection.serial serial (taken job f.0) (λ same. apart (sym same)) ∙ none,
     )
 
-none_of_all : (node worker serial : ℕ) (held : Held) (jobs : Jobs) → takes_all node worker held jobs ≡ true → finmap.get held serial ≡ None
+pub none_of_all : (node worker serial : ℕ) (held : Held) (jobs : Jobs) → takes_all node worker held jobs ≡ true → finmap.get held serial ≡ None
     → (numbers_in (connection_at node serial) jobs ≡ []) × (finmap.get (taken_all held jobs) serial ≡ None)
 none_of_all node worker serial held [] e none = (refl, none)
 none_of_all node worker serial held (job ∷ jobs) e none =

@@ -27,7 +27,7 @@ use Rattle.nr_accounts.specs.Account.{fresh_account}
 use Rattle.nr_accounts.specs.Held.{Held, numbers_in, CountsTo, taken_all}
 use Rattle.nr_accounts.specs.Book.{Book, HasTaken, refusal_of, with_batch}
 use Rattle.nr_accounts.proofs.Batches.{all_of_due}
-use Rattle.nr_replica.specs.Members.{Member, fresh_member, closed_member, handed_member, worker_of}
+use Rattle.nr_replica.specs.Members.{Member, fresh_member, closed_member, handed_member, worker_of, jobs_of_worker}
 use Rattle.nr_replica.specs.declared.outbox.Piece.{Piece}
 use Rattle.nr_replica.specs.Replicas.{ReplicaState, HasRead, fallen, owed_from}
 use Rattle.nr_node.specs.declared.next.Next.{Next}
@@ -35,7 +35,7 @@ use Rattle.nr_node.specs.declared.next.Next.TheVariants as forms
 use Rattle.nr_node.specs.Level.{NodeState, IsLevel, IsInOrder, connection_at, queue_at, emitted_to, unpassed, jobs_reserved, all_jobs}
 use Rattle.nr_node.specs.Batches.{IsOpened, IsPiece}
 use Rattle.nr_node.specs.Next.{jobs_shared, jobs_next, IsNextOf}
-use Rattle.nr_node.specs.Owing.{unexecuted, count_owed, awaited, answer_by, answered_node, IsOwing, HasAccounts, HasAllExecuted}
+use Rattle.nr_node.specs.Owing.{unexecuted, count_owed, awaited, answer_by, answered_node, IsOwing, IsServedBy, HasAccounts, HasAllExecuted}
 use Rattle.nr_node.specs.Kept.{IsKept}
 use Rattle.nr_node.specs.Advanced.{HasNoted, GoesOn}
 use Rattle.nr_node.specs.Reserved.{due_jobs, left_jobs, LeavesWaiting, AreTaken, AreNone, AreDue, HasMet, IsReserved}
@@ -43,9 +43,10 @@ use Rattle.nr_node.specs.Steps.{nobody}
 use Rattle.nr_node.proofs.Lists.{numbers-append, no_numbers, none_unpassed, jobs_reserved_more}
 use Rattle.nr_node.proofs.Levels.{same_level, down_level, opened_level, closed_level, handed_level, noted_level}
 use Rattle.nr_node.proofs.Orders.{no_parts, reserved_order, due_order, fallen_order, members_order, owed_order}
+use Rattle.nr_node.proofs.Closing.{closed_accounts}
 use Rattle.nr_node.proofs.Queues.{piece_behind}
 use Rattle.nr_node.proofs.Served.{opened_order, batch_order, noted_order, forgotten, length_read, unpassed_noted}
-use Rattle.nr_node.proofs.Owed.{IsServedBy, workers_owing, workers_accounts, due_owing, read_owing, received_workers, set_workers, pushed_owing, pushed_accounts, all_served, batch_owing, answered_owing, none_numbered, still_awaited, as_many}
+use Rattle.nr_node.proofs.Owed.{workers_owing, workers_accounts, due_owing, read_owing, received_workers, set_workers, pushed_owing, pushed_accounts, all_served, batch_owing, answered_owing, none_numbered, still_awaited, as_many}
 
 pub due_of_some : (next waiting : List Job) → 0 < length next → due_jobs next waiting ≡ items_of next
 due_of_some [] waiting h = absurd (omega arith)
@@ -307,12 +308,12 @@ lifted_owing s old next jobs worker within idle served o =
     (subst (IsOwing old.members (slice_set old.owed worker (Some (length items)))) behind
     (batch_owing old.members old.owed (unexecuted s next old.waiting) items worker within idle served o))
 
-batch_served : (s : Standing) (old : ReplicaState) (book : Book) (next : List Job) (batch : Batch) → refusal_of book batch ≡ None → IsInOrder s old book next
+pub batch_served : (s : Standing) (old : ReplicaState) (book : Book) (next : List Job) (batch : Batch) → refusal_of book batch ≡ None → IsInOrder s old book next
     → HasAccounts book.node old.members book.held
     → AllByRecursion (IsServedBy batch.worker old.members) (items_of batch.jobs.items) × HasAccounts book.node old.members (taken_all book.held (items_of batch.jobs.items))
 batch_served s old book next batch due o has =
     all_served book.node batch.worker old.members book.held (items_of batch.jobs.items)
-    (all_of_due book batch.node batch.worker batch.number (items_of batch.jobs.items) due) has o.closed
+    (all_of_due book batch.node batch.worker batch.number (items_of batch.jobs.items) due) has
 
 -- a batch was taken
 pub batch_kept : (s : Standing) (old new : ReplicaState) (book : Book) (next : Option Next) (nodes : ℕ) (batch : Batch) → refusal_of book batch ≡ None
@@ -363,22 +364,24 @@ answered_kept s old new book next nodes worker is none k = record {
   accounts = subst (λ (ms : List Member). HasAccounts book.node ms book.held) (sym (ap (λ (x : ReplicaState). x.members) is)) k.accounts;
 }
 
-some_same : (a b : Account) → Some a ≡ Some b → a ≡ b
-some_same a b e = cc e
+-- none of the worker's jobs is left where it is owed none
+no_jobs : {A : Type 0} (xs : List A) → length xs ≡ 0 → xs ≡ []
+no_jobs [] none = refl
+no_jobs (x ∷ xs) none = absurd (omega (arith, none))
 
 -- each job that was taken from the worker's connections is in the record
 pub all_executed : (n : NodeState) (next : Option Next) (nodes worker : ℕ) → n.replica.down ≡ false → count_owed (slice_index_or n.replica.owed worker None) ≡ 0
-    → IsKept n.seat.standing n.replica n.book next nodes → HasAllExecuted worker n
-all_executed n next nodes worker up none k = record {
+    → IsKept n.seat.standing n.replica n.book next nodes → n.next ≡ jobs_next next → HasAllExecuted worker n
+all_executed n next nodes worker up none k is = record {
+  none = ap (λ (js : List Job). jobs_of_worker worker n.replica.members (unexecuted n.seat.standing js n.replica.waiting)) is
+      ∙ no_jobs (jobs_of_worker worker n.replica.members (unexecuted n.seat.standing (jobs_next next) n.replica.waiting)) (sym ((k.owing up).counts worker) ∙ none);
   executed = λ serial a at own. elim (lt_or_le serial (length n.replica.members)) [
     | inl below ↦
         let s = n.seat.standing in
         let r = n.replica in
         let rest = unexecuted s (jobs_next next) r.waiting in
         let d = connection_at n.book.node serial in
-        let account = k.accounts serial below in
-        let same : account.0 ≡ a = some_same account.0 a (sym account.1 ∙ at) in
-        let of_worker : worker_of r.members d ≡ worker = sym account.2 ∙ ap (λ (x : Account). x.worker) same ∙ own in
+        let of_worker : worker_of r.members d ≡ worker = sym (k.accounts serial a at).1 ∙ own in
         let taken : numbers_in d (all_jobs s (jobs_next next) r.waiting) ≡ range_with_len 0 a.next =
         subst (λ (o : Option Account). CountsTo (λ (a : Account). a.next) o (numbers_in d (all_jobs s (jobs_next next) r.waiting))) at (k.order.taken up serial) in
         let no_more : numbers_in d rest ≡ [] = none_numbered worker r.members d rest of_worker (sym ((k.owing up).counts worker) ∙ none) in
@@ -396,22 +399,23 @@ all_executed n next nodes worker up none k = record {
 pub executed_still : (n : NodeState) (worker : ℕ) (r : ReplicaState) → r ≡ record n.replica { owed = slice_set n.replica.owed worker None } → HasAllExecuted worker n
     → HasAllExecuted worker (record n { replica = r })
 executed_still n worker r is all =
-    let after : HasAllExecuted worker (answered_node worker n) = record { executed = all.executed } in
+    let after : HasAllExecuted worker (answered_node worker n) = record { none = all.none; executed = all.executed } in
     subst (λ (x : ReplicaState). HasAllExecuted worker (record n { replica = x })) (sym is) after
 
 -- entries were taken in
-pub goes_kept : (es : List Entry) (s t : Standing) (old new : ReplicaState) (book : Book) (next after : Option Next) (nodes : ℕ) → GoesOn es s t old new next after
-    → IsKept s old book next nodes → IsKept t new book after nodes
-goes_kept es s t old new book next after nodes g k = record {
+pub goes_kept : (es : List Entry) (s t : Standing) (old new : ReplicaState) (book later : Book) (next after : Option Next) (nodes : ℕ)
+    → GoesOn es s t old new next after book later → IsKept s old book next nodes → IsKept t new later after nodes
+goes_kept es s t old new book later next after nodes g k = record {
   level = g.level k.level;
-  order = g.order book k.order;
+  order = g.order k.order;
   next_is = elim g.after_is [
     | inl none ↦ subst (IsNextOf t.node nodes) (sym none) tt
     | inr same ↦ subst (IsNextOf t.node nodes) (sym same) (subst (λ (n : ℕ). IsNextOf n nodes next) (sym (ap (λ (x : Standing). x.node) g.passed.standing)) k.next_is)
   ];
-  owed = k.owed ∙ sym (as_many new.owed old.owed g.owed);
+  owed = ap length (g.closed k.order).last ∙ k.owed ∙ sym (as_many new.owed old.owed g.owed);
   owing = λ up. g.owing k.level up (k.owing (g.up up).0);
-  accounts = workers_accounts book.node old.members new.members book.held g.members g.workers k.accounts;
+  accounts = closed_accounts (record_of t.history) new.members book later (g.closed k.order)
+      (workers_accounts book.node old.members new.members book.held g.members g.workers k.accounts);
 }
 
 pub read_awaited : (old new : ReplicaState) → HasRead old new → awaited new.owed ≡ awaited old.owed
@@ -435,10 +439,10 @@ noted_owing s t ran old new noted none read o =
 abbrev pub IsWithin : Standing → ReplicaState → Book → Option Next → ℕ → Type 0
 IsWithin s replica book next nodes = IsKept s replica book next nodes × (s.held ≡ None) × IsAllFilled s × (nodes ≡ s.nodes) × (0 < nodes)
 
-pub goes_within : (es : List Entry) (s t : Standing) (old new : ReplicaState) (book : Book) (next after : Option Next) (nodes : ℕ) → GoesOn es s t old new next after
-    → t.held ≡ None → IsWithin s old book next nodes → IsWithin t new book after nodes
-goes_within es s t old new book next after nodes g idle w = (
-  goes_kept es s t old new book next after nodes g w.0,
+pub goes_within : (es : List Entry) (s t : Standing) (old new : ReplicaState) (book later : Book) (next after : Option Next) (nodes : ℕ)
+    → GoesOn es s t old new next after book later → t.held ≡ None → IsWithin s old book next nodes → IsWithin t new later after nodes
+goes_within es s t old new book later next after nodes g idle w = (
+  goes_kept es s t old new book later next after nodes g w.0,
   idle,
   λ node. ap (λ (x : Standing). slice_index_or x.unfilled node None) g.passed.standing ∙ w.2 node,
   w.3 ∙ sym (ap (λ (x : Standing). x.nodes) g.passed.standing),
@@ -462,20 +466,21 @@ noted_kept s t ran old new book next nodes noted none read ran_is up is k =
 
 -- what holds of what is there
 -- reads couldn't be run, and nothing changed
-pub failed_within : (es : List Entry) (s : Standing) (t u : LogView) (old mid new : ReplicaState) (book : Book) (next after : Option Next) (nodes : ℕ)
-    → GoesOn es s t.standing old mid next after → t.standing.held ≡ None → u ≡ t → new ≡ mid → IsWithin s old book next nodes → IsWithin u.standing new book after nodes
-failed_within es s t u old mid new book next after nodes g idle end replica w =
-    subst (λ (v : LogView). IsWithin v.standing new book after nodes) (sym end)
-    (subst (λ (r : ReplicaState). IsWithin t.standing r book after nodes) (sym replica) (goes_within es s t.standing old mid book next after nodes g idle w))
+pub failed_within : (es : List Entry) (s : Standing) (t u : LogView) (old mid new : ReplicaState) (book later : Book) (next after : Option Next) (nodes : ℕ)
+    → GoesOn es s t.standing old mid next after book later → t.standing.held ≡ None → u ≡ t → new ≡ mid → IsWithin s old book next nodes
+    → IsWithin u.standing new later after nodes
+failed_within es s t u old mid new book later next after nodes g idle end replica w =
+    subst (λ (v : LogView). IsWithin v.standing new later after nodes) (sym end)
+    (subst (λ (r : ReplicaState). IsWithin t.standing r later after nodes) (sym replica) (goes_within es s t.standing old mid book later next after nodes g idle w))
 
 -- reads were run behind all that was reserved
-pub noted_within : (es : List Entry) (s t u : Standing) (ran : List Job) (old mid new : ReplicaState) (book : Book) (next after : Option Next) (nodes : ℕ)
-    → GoesOn es s t old mid next after → t.held ≡ None → (t.seen ≤ passed_of t) × StandsInLog t → HasNoted ran t u → HasRead mid new
-    → items_of ran ≡ read_jobs (items_of mid.waiting) → mid.down ≡ false → after ≡ None → IsWithin s old book next nodes → IsWithin u new book after nodes
-noted_within es s t u ran old mid new book next after nodes g idle all noted read ran_is up is w =
-    let here = goes_within es s t old mid book next after nodes g idle w in
+pub noted_within : (es : List Entry) (s t u : Standing) (ran : List Job) (old mid new : ReplicaState) (book later : Book) (next after : Option Next) (nodes : ℕ)
+    → GoesOn es s t old mid next after book later → t.held ≡ None → (t.seen ≤ passed_of t) × StandsInLog t → HasNoted ran t u → HasRead mid new
+    → items_of ran ≡ read_jobs (items_of mid.waiting) → mid.down ≡ false → after ≡ None → IsWithin s old book next nodes → IsWithin u new later after nodes
+noted_within es s t u ran old mid new book later next after nodes g idle all noted read ran_is up is w =
+    let here = goes_within es s t old mid book later next after nodes g idle w in
     let none = none_unpassed t all.1 idle all.0 here.0.order.met in (
-      noted_kept t u ran mid new book after nodes noted none read ran_is up is here.0,
+      noted_kept t u ran mid new later after nodes noted none read ran_is up is here.0,
       ap (λ (x : Standing). x.held) noted.standing ∙ idle,
       λ node. ap (λ (x : Standing). slice_index_or x.unfilled node None) noted.standing ∙ here.2 node,
       here.3 ∙ sym (ap (λ (x : Standing). x.nodes) noted.standing),

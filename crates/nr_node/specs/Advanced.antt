@@ -1,7 +1,9 @@
 -- What an entry does to a replica, and how far a node has gone on.
-use Rattle.std.specs.Prelude.{◌≡◌, ◌≢◌, ◌⊎◌, ◌==◌, ◌≤◌, ℕ, true, false, cond, List, ◌++◌, map, length, Option, None, [], ◌∷◌}
-use Rattle.nr_model.specs.Bytes.{Bytes}
-use Rattle.nr_model.specs.Items.{Connection}
+use Rattle.std.specs.Prelude.{◌≡◌, ◌≢◌, ◌⊎◌, ◌==◌, ◌≤◌, ℕ, true, false, cond, List, ◌++◌, map, flat_map, length, Option, None, IfSome, [], ◌∷◌}
+use Rattle.std.specs.List.{range_with_len}
+use Rattle.std.specs.FinMap as finmap
+use Rattle.nr_model.specs.Bytes.{Bytes, IsBeginningOf}
+use Rattle.nr_model.specs.Items.{Connection, Sequence}
 use Rattle.nr_model.specs.Entries.{Jobs}
 use Rattle.nr_model.specs.Queues.{Queue, received}
 use Rattle.nr_entry.specs.Jobs.{items_of}
@@ -9,11 +11,14 @@ use Rattle.nr_entry.specs.declared.entry.Entry.{Entry}
 use Rattle.nr_entry.specs.declared.job.Job.{Job}
 use Rattle.nr_log_end.specs.declared.standing.Standing.{Standing}
 use Rattle.nr_log_end.specs.declared.standing.Turn.TheVariants.{Applied, Ran}
-use Rattle.nr_accounts.specs.Book.{Book}
+use Rattle.nr_log_end.specs.Standings.{record_of}
+use Rattle.nr_accounts.specs.declared.account.Account.{Account}
+use Rattle.nr_accounts.specs.Held.{numbers_in}
+use Rattle.nr_accounts.specs.Book.{Book, without_ended}
 use Rattle.nr_replica.specs.Members.{Member, worker_of}
 use Rattle.nr_replica.specs.Replicas.{ReplicaState, IsApplied, fallen}
 use Rattle.nr_node.specs.declared.next.Next.{Next}
-use Rattle.nr_node.specs.Level.{IsLevel, IsInOrder, unpassed, jobs_reserved}
+use Rattle.nr_node.specs.Level.{IsLevel, IsInOrder, connection_at, unpassed, jobs_reserved}
 use Rattle.nr_node.specs.Next.{jobs_next}
 use Rattle.nr_node.specs.Owing.{IsOwing, awaited, unexecuted}
 
@@ -37,7 +42,7 @@ abbrev pub jobs_of_own : ℕ → List Entry → Jobs
 jobs_of_own node [] = []
 jobs_of_own node (entry ∷ entries) = cond (entry.node == node) (items_of entry.jobs.items ++ jobs_of_own node entries) (jobs_of_own node entries)
 
--- texts came one after the other, each whole, behind what waits for a connection, until its queue was cut: by its limit, or where memory was refused
+-- texts came one after the other, each in or out for itself, behind what waits for a connection, until its queue was cut: by its limit, or where memory was refused
 abbrev pub all_received : Queue → List (Option ℕ × List Bytes) → Queue
 all_received q [] = q
 all_received q (one ∷ more) = all_received (received one.0 q one.1) more
@@ -52,12 +57,29 @@ HaveGot [] (new ∷ news) = ⊥
 HaveGot (old ∷ olds) [] = ⊥
 HaveGot (old ∷ olds) (new ∷ news) = HasGot old new × HaveGot olds news
 
+-- the jobs of all of these
+abbrev pub jobs_of_all : List Entry → Jobs
+jobs_of_all entries = flat_map (λ (entry : Entry). items_of entry.jobs.items) entries
+
+-- an account is as it was, or it is gone, and all jobs that were taken of its connection are in a record
+abbrev pub IsClosedAt : Sequence → Connection → Option Account → Option Account → Type 0
+IsClosedAt done c old new =
+    (new ≡ old) ⊎ ((new ≡ None) × IfSome old (λ (account : Account). IsBeginningOf (range_with_len 0 account.next) (numbers_in c done)))
+
+-- so is each of a node's, and nothing else of its book changed
+pub record HasClosed (done : Sequence) (old new : Book) : Type 0 where
+  pub node : new.node ≡ old.node
+  pub last : new.last ≡ old.last
+  pub accounts : (serial : ℕ) → IsClosedAt done (connection_at old.node serial) (finmap.get old.held serial) (finmap.get new.held serial)
+
 -- a node went on by these entries: it is level, in order and owing if it was, and what waits is what waited unless it is down; none goes down without one
-pub record GoesOn (entries : List Entry) (s t : Standing) (old new : ReplicaState) (next after : Option Next) : Type 0 where
+pub record GoesOn (entries : List Entry) (s t : Standing) (old new : ReplicaState) (next after : Option Next) (book later : Book) : Type 0 where
   pub passed : HasPassed entries s t
   pub own : jobs_reserved (unpassed s) ≡ jobs_of_own s.node entries ++ jobs_reserved (unpassed t)
   pub level : IsLevel s old → IsLevel t new
-  pub order : (book : Book) → IsInOrder s old book (jobs_next next) → IsInOrder t new book (jobs_next after)
+  pub order : IsInOrder s old book (jobs_next next) → IsInOrder t new later (jobs_next after)
+  pub closed : IsInOrder s old book (jobs_next next) → HasClosed (record_of t.history) book later
+  pub ended : new.down ≡ false → later ≡ without_ended (jobs_of_all entries) book
   pub owing : IsLevel s old → new.down ≡ false → IsOwing old.members old.owed (unexecuted s (jobs_next next) old.waiting)
       → IsOwing new.members new.owed (unexecuted t (jobs_next after) new.waiting)
   pub members : length new.members ≡ length old.members
@@ -66,6 +88,6 @@ pub record GoesOn (entries : List Entry) (s t : Standing) (old new : ReplicaStat
   pub got : HaveGot old.members new.members
   pub refused : new.down ≡ false → new.refused ≡ old.refused
   pub up : new.down ≡ false → (old.down ≡ false) × (after ≡ next) × (new.waiting ≡ old.waiting)
-  pub fell : old.down ≡ false → new.down ≡ true → entries ≢ []
-  pub waits : (new.waiting ≡ []) ⊎ (new.waiting ≡ old.waiting)
+  pub fell : old.down ≡ false → new.down ≡ true → (entries ≢ []) × (new.waiting ≡ []) × (after ≡ None)
+  pub still : old.down ≡ true → (new ≡ old) × (later ≡ book)
   pub after_is : (after ≡ None) ⊎ (after ≡ next)

@@ -1,5 +1,5 @@
 -- What a node owes its workers: the jobs of their batches that are neither applied nor run, and what becomes of a batch.
-use Rattle.std.specs.Prelude.{◌≡◌, ℕ, zero, suc, ◌<◌, Bool, true, false, List, ◌++◌, length, map, Option, Some, None, is_some, slice_index_or, slice_set}
+use Rattle.std.specs.Prelude.{◌≡◌, ℕ, zero, suc, ◌<◌, Bool, true, false, List, [], ◌++◌, length, map, Option, Some, None, is_some, slice_index_or, slice_set}
 use Rattle.std.specs.List.{AllByRecursion, range_with_len}
 use Rattle.std.specs.FinMap as finmap
 use Rattle.nr_model.specs.Items.{Item}
@@ -37,10 +37,14 @@ pub record IsOwing (members : List Member) (owed : List (Option ℕ)) (jobs : Jo
   pub opened : AreOpened (length members) jobs
   pub counts : (worker : ℕ) → count_owed (slice_index_or owed worker None) ≡ length (jobs_of_worker worker members jobs)
 
--- each connection of the node that was opened has an account, which is of the worker that serves it
+-- a job is of a connection that was opened, and that this worker serves
+abbrev pub IsServedBy : ℕ → List Member → Item → Type 0
+IsServedBy worker members job = (job.connection.serial < length members) × (worker_of members job.connection ≡ worker)
+
+-- each account is of a connection of the node that was opened, and of the worker that serves it
 abbrev pub HasAccounts : ℕ → List Member → Held → Type 0
-HasAccounts node members held = (serial : ℕ) → serial < length members
-    → (account : Account) × (finmap.get held serial ≡ Some account) × (account.worker ≡ worker_of members (connection_at node serial))
+HasAccounts node members held = (serial : ℕ) (account : Account) → finmap.get held serial ≡ Some account
+    → (serial < length members) × (account.worker ≡ worker_of members (connection_at node serial))
 
 -- what became of the batch that was taken last from a worker: nothing yet where a job of it is owed
 abbrev pub answer_by : Option ℕ → Bool → Option Outcome
@@ -56,7 +60,9 @@ answer_of n worker = answer_by (slice_index_or n.replica.owed worker None) n.rep
 abbrev pub answered_node : ℕ → NodeState → NodeState
 answered_node worker n = record n { replica = record n.replica { owed = slice_set n.replica.owed worker None } }
 
--- each job that was taken from a connection of the worker is in the record: its jobs there are numbered 0, 1, 2 and so on, as many as its account says
+-- Each job that was taken from a connection of the worker is in the record: none goes on waiting, and those of a connection that has an account are numbered 0,
+-- 1, 2 and so on there, as many as it says.
 pub record HasAllExecuted (worker : ℕ) (n : NodeState) : Type 0 where
+  pub none : jobs_of_worker worker n.replica.members (unexecuted n.seat.standing n.next n.replica.waiting) ≡ []
   pub executed : (serial : ℕ) (account : Account) → finmap.get n.book.held serial ≡ Some account → account.worker ≡ worker
       → numbers_in (connection_at n.book.node serial) (record_of n.seat.standing.history) ≡ range_with_len 0 account.next

@@ -1,5 +1,5 @@
 -- What the calls of a node come to.
-use Rattle.std.specs.Prelude.{◌≡◌, ◌≢◌, ◌⊎◌, ℕ, ◌≤◌, true, false, List, [], ◌∷◌, ◌++◌, map, length, slice_set, slice_index_or, replicate, Some, None}
+use Rattle.std.specs.Prelude.{◌≡◌, ◌≢◌, ◌⊎◌, ℕ, ◌≤◌, ◌+◌, ◌-◌, true, false, List, [], ◌∷◌, ◌++◌, map, length, slice_set, slice_index_or, replicate, Some, None}
 use Rattle.std.specs.FinMap as finmap
 use Rattle.nr_model.specs.Servers.{fresh}
 use Rattle.nr_model.specs.Entries.{read_jobs, left_by_reads}
@@ -11,15 +11,15 @@ use Rattle.nr_entry.specs.declared.job.Job.{Job}
 use Rattle.nr_log_end.specs.declared.standing.Look.{Look}
 use Rattle.nr_log_end.specs.declared.standing.Look.TheVariants.{Tail}
 use Rattle.nr_log_end.specs.declared.standing.Turn.TheVariants.{Applied, Ran}
-use Rattle.nr_log_end.specs.Standings.{passed_of}
+use Rattle.nr_log_end.specs.Standings.{passed_of, record_of}
 use Rattle.nr_oplog.specs.declared.view.LogView.{LogView}
 use Rattle.nr_accounts.specs.Account.{fresh_account}
-use Rattle.nr_accounts.specs.Book.{with_batch}
+use Rattle.nr_accounts.specs.Book.{with_batch, without_ended}
 use Rattle.nr_replica.specs.Members.{Member, fresh_member, closed_member, handed_member}
 use Rattle.nr_replica.specs.Replicas.{fallen}
 use Rattle.nr_node.specs.Level.{NodeState, connection_at, unpassed, jobs_reserved}
 use Rattle.nr_node.specs.Owing.{awaited}
-use Rattle.nr_node.specs.Advanced.{HaveGot, jobs_of_own}
+use Rattle.nr_node.specs.Advanced.{HaveGot, HasClosed, jobs_of_own, jobs_of_all}
 use Rattle.nr_node.specs.Reserved.{due_jobs, left_jobs, LeavesWaiting, HasMet, IsReserved}
 
 abbrev pub nobody : Member
@@ -92,21 +92,24 @@ pub record HasFallen (n m : NodeState) : Type 0 where
 abbrev pub HasLoaded : ℕ → List Look → List Look → Type 0
 HasLoaded tail looks after = (more : List Look) × (after ≡ looks ++ (Tail tail ∷ more))
 
--- entries were passed, and then reads were run, behind all that was in the record; those of the node's own among them are the first that it had reserved and
--- hadn't passed; the same workers wait for an answer; the replica goes down over an entry alone, and
--- what waited is dropped then, or waits on
+-- Entries were passed, and then reads were run, behind all that was in the record. The entries of the node's own among them are the first that it had reserved and
+-- hadn't passed. The same workers wait for an answer. A node that is up passes one entry at most behind the tail that the call loaded, and the account of each
+-- connection whose end is among them goes. Its replica goes down only where an entry was passed, and what waited is dropped then. One that is down stays as it was.
 pub record GoesOnBy (entries : List Entry) (ran : List Job) (tail : ℕ) (n m : NodeState) : Type 0 where
   pub standing : m.seat.standing ≡ record n.seat.standing { history = n.seat.standing.history ++ (map Applied entries ++ map Ran ran); seen = m.seat.standing.seen }
   pub own : jobs_reserved (unpassed n.seat.standing) ≡ jobs_of_own n.book.node entries ++ jobs_reserved (unpassed m.seat.standing)
   pub loaded : HasLoaded tail n.seat.looks m.seat.looks
   pub from : n.seat.standing.seen ≤ tail
-  pub book : m.book ≡ n.book
+  pub closed : HasClosed (record_of m.seat.standing.history) n.book m.book
+  pub ended : m.replica.down ≡ false → m.book ≡ without_ended (jobs_of_all entries) n.book
   pub owed : awaited m.replica.owed ≡ awaited n.replica.owed
   pub got : HaveGot n.replica.members m.replica.members
   pub refused : m.replica.down ≡ false → m.replica.refused ≡ n.replica.refused
   pub up : m.replica.down ≡ false → n.replica.down ≡ false
-  pub fell : n.replica.down ≡ false → m.replica.down ≡ true → entries ≢ []
-  pub waits : m.replica.down ≡ true → ((m.replica.waiting ≡ []) ⊎ (m.replica.waiting ≡ n.replica.waiting)) × ((m.next ≡ []) ⊎ (m.next ≡ n.next))
+  pub few : n.replica.down ≡ false → length entries ≤ (tail - passed_of n.seat.standing) + 1
+  pub fell : n.replica.down ≡ false → m.replica.down ≡ true → (entries ≢ []) × (m.replica.waiting ≡ []) × (m.next ≡ [])
+  pub still : n.replica.down ≡ true → (m.replica ≡ n.replica) × (m.book ≡ n.book)
+  pub dropped : n.replica.down ≡ true → (m.next ≡ []) ⊎ (m.next ≡ n.next)
 
 -- all entries that there were when the call loaded the tail are passed, the node's own among them; the reads that led were run, and no entry of the node was due
 -- before them

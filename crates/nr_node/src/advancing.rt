@@ -1,39 +1,45 @@
 // A replica goes on along its end of the log.
-ghost use Rattle.std.specs.Prelude.{◌≡◌, ◌<◌, ◌≤◌, [], ◌∷◌, ◌++◌, length, true, false, None, List};
+ghost use Rattle.std.specs.Prelude.{◌≡◌, ◌<◌, ◌≤◌, ◌+◌, ◌-◌, [], ◌∷◌, ◌++◌, length, true, false, None, List};
 ghost use Rattle.nr_entry.specs.declared.entry.Entry.{Entry};
+ghost use Rattle.nr_entry.specs.Jobs.{items_of};
 ghost use Rattle.nr_log_end.specs.Standings.{StandsInLog, passed_of};
+ghost use Rattle.nr_accounts.specs.Book.{without_ended};
 ghost use Rattle.nr_node.specs.Level.{IsLevel};
 ghost use Rattle.nr_node.specs.Advanced.{IsTakenIn, GoesOn};
 
 use crate::keeping::NodeEnd;
 use crate::next::Next;
+use nr_accounts::Accounts;
 use nr_entry::Entry;
 use nr_log_end::Look;
 use nr_oplog::LogName;
 use nr_replica::Replica;
 
-/// Lets go of the shares that are kept of entries which all nodes have passed. Takes all entries in that there are when it begins, and passes them, and the next one where that is there. False where one isn't there yet. Where the
-/// replica falls over one of them, or is down, the next entry of its own is dropped.
+/// Lets go of the shares that are kept of entries which all nodes have passed. Takes all entries in that there are when it begins, and passes them, and the next
+/// one where that is there. False where one isn't there yet. The account of each connection whose end is among them goes. Where the replica falls over one of
+/// them, or is down, the next entry of its own is dropped.
 pub(crate) fn catch_up<B: LogName>(
     end: &mut NodeEnd<B>,
     replica: &mut Replica,
+    accounts: &mut Accounts,
     next: &mut Option<Next>,
 ) -> bool
     requires idle { end.old.standing.held ≡ None }
     requires level { IsLevel end.old.standing replica.old }
     ensures idle { end.new.standing.held ≡ None }
-    ensures goes { (entries : List Entry) × GoesOn entries end.old.standing end.new.standing replica.old replica.new next.old next.new }
+    ensures goes { (entries : List Entry) × GoesOn entries end.old.standing end.new.standing replica.old replica.new next.old next.new accounts.old accounts.new }
     ensures looks { (more : List Look) × (end.new.looks ≡ end.old.looks ++ Look.Tail end.new.standing.seen ∷ more) }
     ensures reached { result ≡ true → replica.new.down ≡ false → (end.new.standing.seen ≤ passed_of end.new.standing) × StandsInLog end.new.standing }
     ensures behind { result ≡ false → replica.new.down ≡ false → passed_of end.new.standing < end.new.standing.seen }
+    ensures few { replica.old.down ≡ false → passed_of end.new.standing ≤ (passed_of end.old.standing + (end.new.standing.seen - passed_of end.old.standing)) + 1 }
 {
     let tail = end.tail();
     end.let_go();
     let count = tail.saturating_sub(replica.applied());
-    if !advance_by(end, replica, next, count) {
+    if !advance_by(end, replica, accounts, next, count) {
         return false;
     }
-    advance(end, replica, next);
+    advance(end, replica, accounts, next);
     true
 }
 
@@ -41,17 +47,18 @@ pub(crate) fn catch_up<B: LogName>(
 fn advance_by<B: LogName>(
     end: &mut NodeEnd<B>,
     replica: &mut Replica,
+    accounts: &mut Accounts,
     next: &mut Option<Next>,
     count: u64,
 ) -> bool
     requires idle { end.old.standing.held ≡ None }
     ensures idle { end.new.standing.held ≡ None }
     ensures met { (end.new.standing.seen ≡ end.old.standing.seen) × (end.new.looks ≡ end.old.looks) }
-    ensures all { result ≡ true → (entries : List Entry) × (length entries ≡ count) × GoesOn entries end.old.standing end.new.standing replica.old replica.new next.old next.new }
-    ensures fewer { result ≡ false → (entries : List Entry) × (length entries < count) × GoesOn entries end.old.standing end.new.standing replica.old replica.new next.old next.new }
+    ensures all { result ≡ true → (entries : List Entry) × (length entries ≡ count) × GoesOn entries end.old.standing end.new.standing replica.old replica.new next.old next.new accounts.old accounts.new }
+    ensures fewer { result ≡ false → (entries : List Entry) × (length entries < count) × GoesOn entries end.old.standing end.new.standing replica.old replica.new next.old next.new accounts.old accounts.new }
 {
     for _ in 0..count {
-        if !advance(end, replica, next) {
+        if !advance(end, replica, accounts, next) {
             return false;
         }
     }
@@ -59,18 +66,24 @@ fn advance_by<B: LogName>(
 }
 
 // Takes the next entry in, and passes it. False where it isn't there yet.
-fn advance<B: LogName>(end: &mut NodeEnd<B>, replica: &mut Replica, next: &mut Option<Next>) -> bool
+fn advance<B: LogName>(
+    end: &mut NodeEnd<B>,
+    replica: &mut Replica,
+    accounts: &mut Accounts,
+    next: &mut Option<Next>,
+) -> bool
     requires idle { end.old.standing.held ≡ None }
     ensures idle { end.new.standing.held ≡ None }
     ensures met { (end.new.standing.seen ≡ end.old.standing.seen) × (end.new.looks ≡ end.old.looks) }
     ensures log { StandsInLog end.new.standing }
-    ensures some { result ≡ true → (entry : Entry) × GoesOn (entry ∷ []) end.old.standing end.new.standing replica.old replica.new next.old next.new }
-    ensures none { result ≡ false → (end.new.standing ≡ end.old.standing) × (replica.new ≡ replica.old) × (next.new ≡ next.old) }
+    ensures some { result ≡ true → (entry : Entry) × GoesOn (entry ∷ []) end.old.standing end.new.standing replica.old replica.new next.old next.new accounts.old accounts.new }
+    ensures none { result ≡ false → (end.new.standing ≡ end.old.standing) × (replica.new ≡ replica.old) × (next.new ≡ next.old) × (accounts.new ≡ accounts.old) }
 {
     let Some(entry) = end.fetch() else {
         return false;
     };
     take_in(replica, &entry);
+    close_ended(replica, accounts, &entry);
     end.pass();
     drop_next(replica, next);
     true
@@ -84,6 +97,17 @@ fn take_in(replica: &mut Replica, entry: &Entry)
         return;
     }
     replica.apply(entry);
+}
+
+// The account of each connection whose end is in an entry goes, unless the replica is down.
+fn close_ended(replica: &Replica, accounts: &mut Accounts, entry: &Entry)
+    ensures down { replica.now.down ≡ true → accounts.new ≡ accounts.old }
+    ensures up { replica.now.down ≡ false → accounts.new ≡ without_ended (items_of entry.now.jobs.items) accounts.old }
+{
+    if replica.is_down() {
+        return;
+    }
+    accounts.close(&entry.jobs);
 }
 
 // The entry that a node takes to the log next is dropped where its replica is down.

@@ -1,7 +1,8 @@
 // What all workers of a node share.
 ghost use Rattle.std.specs.Prelude.{◌≡◌, ◌≢◌, ◌↔◌, ◌⊎◌, ◌+◌, ◌++◌, ◌<◌, ◌≤◌, [], ℕ, List, length, true, false, Ok, Err, Some, None, IfOk, IfErr, IfSome, IfNone, OnOk, OnErr, slice_index_or};
 ghost use Rattle.std.specs.FinMap as finmap;
-ghost use Rattle.nr_entry.specs.Jobs.{connection_of};
+ghost use Rattle.std.specs.List.{AllByRecursion};
+ghost use Rattle.nr_entry.specs.Jobs.{connection_of, items_of};
 ghost use Rattle.nr_entry.specs.declared.entry.Entry.{Entry};
 ghost use Rattle.nr_entry.specs.declared.job.Job.{Job};
 ghost use Rattle.nr_log_end.specs.Standings.{passed_of};
@@ -10,7 +11,7 @@ ghost use Rattle.nr_oplog.specs.Rule.{opening_view};
 ghost use Rattle.nr_replica.specs.Members.{next_ready};
 ghost use Rattle.nr_node.specs.Level.{connection_at, queue_at, is_closed_at};
 ghost use Rattle.nr_node.specs.Batches.{AreSame, refusal, IsOpened, IsPiece};
-ghost use Rattle.nr_node.specs.Owing.{answer_of, answered_node, HasAllExecuted};
+ghost use Rattle.nr_node.specs.Owing.{answer_of, answered_node, IsServedBy, HasAllExecuted};
 ghost use Rattle.nr_node.specs.Sound.{IsSound};
 ghost use Rattle.nr_node.specs.Steps.{fresh_node, opened_node, closed_node, taken_node, HasReserved, GoesOnWaiting, HasNoneDue, HasFallen, GoesOnBy, HasRead, IsStill, HasHandedOut};
 
@@ -147,6 +148,7 @@ impl<B: LogName> Core<B> {
         requires idle { slice_index_or self.old.replica.owed batch.worker None ≡ None }
         ensures taken { OnOk result (self.new ≡ taken_node batch self.old) }
         ensures due { OnOk result (refusal self.old batch ≡ None) }
+        ensures served { OnOk result (AllByRecursion (IsServedBy batch.worker self.old.replica.members) (items_of batch.jobs.items)) }
         ensures refused { IfErr result (λ r. (refusal self.old batch ≡ Some r.1) ⊎ ((refusal self.old batch ≡ None) × (r.1 ≡ TakeError.Memory))) }
         ensures back { IfErr result (λ r. AreSame r.0 batch) }
         ensures unchanged { OnErr result (self.new ≡ self.old) }
@@ -239,7 +241,12 @@ impl<B: LogName> Core<B> {
         ensures down { (result ≡ Round.Down) ↔ (self.new.replica.down ≡ true) }
         ensures waiting { self.new.replica.down ≡ false → (self.old.replica.down ≡ false) × (self.new.replica.waiting ≡ self.old.replica.waiting) × (self.new.next ≡ self.old.next) }
     {
-        let reached = catch_up(&mut self.end, &mut self.replica, &mut self.next);
+        let reached = catch_up(
+            &mut self.end,
+            &mut self.replica,
+            &mut self.accounts,
+            &mut self.next,
+        );
         if self.replica.is_down() {
             return Round::Down;
         }
@@ -256,7 +263,12 @@ impl<B: LogName> Core<B> {
         ensures again { result ≡ Ok Round.Again → self.old.next ≢ [] }
         ensures never_full { result ≢ Ok Round.Full }
     {
-        let reached = catch_up(&mut self.end, &mut self.replica, &mut self.next);
+        let reached = catch_up(
+            &mut self.end,
+            &mut self.replica,
+            &mut self.accounts,
+            &mut self.next,
+        );
         if self.replica.is_down() {
             return Ok(Round::Down);
         }

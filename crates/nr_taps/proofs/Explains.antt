@@ -27,6 +27,7 @@ use Rattle.nr_accounts.specs.Held.{numbers_in}
 use Rattle.nr_node.specs.Level.{connection_at}
 use Rattle.nr_node.specs.Sound.{IsSound}
 use Rattle.nr_taps.specs.Sequence.{sequence_of, updates_of, AreRun, IsExplainedBy, HaveOneSequence}
+use Rattle.nr_taps.proofs.Known.{sequence_known}
 use Rattle.nr_taps.proofs.Longest.{longest_known, longest_past, known_begin, pasts_begin, past_has}
 use Rattle.nr_taps.proofs.Weave.{IsReadOf, IsReader, woven, woven_length, woven_part, woven_run}
 
@@ -172,4 +173,4 @@ one_sequence standings sound are =
     let run = woven_run 0 upto past log reads in
     let parts = λ (node : ℕ) (below : node < upto).
     subst (λ (n : ℕ). IsBeginningOf (record_of (past node)) (part_from node n taken)) (sym long) (woven_part node 0 upto past log below (applied node)) in
-    (taken, run, each_explained taken upto past standings run parts same sound (pasts_begin standings are))
+    (taken, run, each_explained taken upto past standings run parts same sound (pasts_begin standings are), sequence_known upto standings)

@@ -1,4 +1,5 @@
 mod Accepts
+mod Known
 mod Longest
 mod Weave
 pub mod Explains

@@ -98,3 +98,8 @@ past_has P (s ∷ more) none all node =
     cond_both (s.node == node) (longer s.history (longest_past more node)) (longest_past more node) (P node)
     (λ same. longer_has (P node) s.history (longest_past more node) (subst (λ (n : ℕ). P n s.history) (eqb-true s.node node same) all.0) rest)
     (λ _. rest)
+
+-- so does what holds of what each knows
+pub known_has : (P : List Entry → Type 0) (standings : List Standing) → P [] → AllByRecursion (λ (s : Standing). P (known_of s)) standings → P (longest_known standings)
+known_has P [] none all = none
+known_has P (s ∷ more) none all = longer_has P (known_of s) (longest_known more) all.0 (known_has P more none all.1)

@@ -16,13 +16,8 @@ use Rattle.nr_oplog.specs.declared.view.LogView.{LogView}
 use Rattle.nr_oplog.specs.Plays.{AreOfOneLog}
 use Rattle.nr_node.specs.Sound.{IsSound}
 use Rattle.nr_taps.specs.Sequence.{AreAllOfOneLog, IsExplainedBy, sequence_of}
-use Rattle.nr_taps.specs.Taps.{TapState, IsTapped, IsSoundAt, HaveMet, HasAccepted, AreOfOneSequence, HasMetFrom, MeetsOthers, accepted, bytes_accepted, emitted_by, record_in, standing_of}
+use Rattle.nr_taps.specs.Taps.{TapState, IsTapped, IsSoundAt, HaveMet, HasAccepted, AreOfOneSequence, HasMetFrom, MeetsOthers, accepted, bytes_accepted, emitted_by, record_in, standing_of, standings_in}
 use Rattle.nr_taps.proofs.Explains.{one_sequence}
-
--- the standings of those that have one
-abbrev pub standings_in : List TapState → List Standing
-standings_in [] = []
-standings_in (t ∷ taps) = option_to_list t.standing ++ standings_in taps
 
 -- each of these meets those behind it
 abbrev pub AreMet : List TapState → Type 0
@@ -122,7 +117,7 @@ all_accepted taken (t ∷ taps) are all =
 pub of_one_sequence : (taps : List TapState) → AreMet taps → AreOfOneSequence taps
 of_one_sequence taps are =
     let one = one_sequence (standings_in taps) (sound_all taps are) (one_log_all taps are) in
-    (one.0, one.1, all_accepted one.0 taps are one.2)
+    (one.0, one.1, all_accepted one.0 taps are one.2, one.3)
 
 -- tokens that met are those of the taps
 pub tokens_met : (t u : TapState) (o p : Option LogView) (v w : LogView) → standing_of o ≡ t.standing → standing_of p ≡ u.standing → o ≡ Some v → p ≡ Some w

@@ -9,6 +9,7 @@ use Rattle.nr_model.specs.Items.{Item, is_update}
 use Rattle.nr_model.specs.Entries.{Jobs, entry_items}
 use Rattle.nr_model.specs.Nodes as nodes
 use Rattle.nr_model.specs.Nodes.{Taken, Reads, Logged, log_of, part_from}
+use Rattle.nr_model.proofs.JobLists.{All-append}
 use Rattle.nr_model.proofs.NodesPartsEmitted.{none_begins, front_begins}
 use Rattle.nr_entry.specs.Jobs.{item_of, items_of}
 use Rattle.nr_entry.specs.declared.entry.Entry.{Entry}
@@ -16,7 +17,7 @@ use Rattle.nr_entry.specs.declared.job.Job.{Job}
 use Rattle.nr_log_end.specs.declared.standing.Turn.{Turn}
 use Rattle.nr_log_end.specs.declared.standing.Turn.TheVariants.{Applied, Ran}
 use Rattle.nr_log_end.specs.Standings.{applied_of, ran_from, record_of}
-use Rattle.nr_taps.specs.Sequence.{AreRun}
+use Rattle.nr_taps.specs.Sequence.{AreRun, sequence_of}
 
 -- what a node ran before the first entry that it passed
 abbrev pub leading : List Turn → List Job
@@ -162,27 +163,52 @@ woven_part r count upto past (entry ∷ log) below b =
 abbrev pub IsReadOf : ℕ → Item → Type 0
 IsReadOf node job = (job.connection.node ≡ node) × (is_update job.deed ≡ false)
 
+-- P holds of each read that was run
+abbrev pub HaveRun : (Item → Type 0) → ℕ → List Turn → Type 0
+HaveRun P count turns = AllByRecursion (λ (r : Job × ℕ). P (item_of r.0)) (ran_from count turns)
+
 abbrev pub IsReader : ℕ → ℕ → List Turn → Type 0
-IsReader node count turns = AllByRecursion (λ (r : Job × ℕ). IsReadOf node (item_of r.0)) (ran_from count turns)
+IsReader node count turns = HaveRun (IsReadOf node) count turns
 
-leading_read : (node count : ℕ) (turns : List Turn) → IsReader node count turns → AllByRecursion (IsReadOf node) (items_of (leading turns))
-leading_read node count [] all = tt
-leading_read node count (Applied entry ∷ turns) all = tt
-leading_read node count (Ran job ∷ turns) all = (all.0, leading_read node count turns all.1)
+leading_have : (P : Item → Type 0) (count : ℕ) (turns : List Turn) → HaveRun P count turns → AllByRecursion P (items_of (leading turns))
+leading_have P count [] all = tt
+leading_have P count (Applied entry ∷ turns) all = tt
+leading_have P count (Ran job ∷ turns) all = (all.0, leading_have P count turns all.1)
 
-later_read : (node count : ℕ) (turns : List Turn) → IsReader node count turns → IsReader node (suc count) (behind turns)
-later_read node count [] all = tt
-later_read node count (Applied entry ∷ turns) all = all
-later_read node count (Ran job ∷ turns) all = later_read node count turns all.1
+later_have : (P : Item → Type 0) (count : ℕ) (turns : List Turn) → HaveRun P count turns → HaveRun P (suc count) (behind turns)
+later_have P count [] all = tt
+later_have P count (Applied entry ∷ turns) all = all
+later_have P count (Ran job ∷ turns) all = later_have P count turns all.1
 
 runs_run : (count upto : ℕ) (past : ℕ → List Turn) (more : List Taken) → ((node : ℕ) → IsReader node count (past node)) → AreRun more
     → AreRun (runs_below count upto past ++ more)
 runs_run count zero past more reads run = run
-runs_run count (suc upto) past more reads run = (leading_read upto count (past upto) (reads upto), runs_run count upto past more reads run)
+runs_run count (suc upto) past more reads run = (leading_have (IsReadOf upto) count (past upto) (reads upto), runs_run count upto past more reads run)
 
 pub woven_run : (count upto : ℕ) (past : ℕ → List Turn) (log : List Entry) → ((node : ℕ) → IsReader node count (past node))
     → AreRun (woven count upto past log)
 woven_run count upto past [] reads = runs_run count upto past [] reads tt
 woven_run count upto past (entry ∷ log) reads =
     runs_run count upto past (nodes.Entry entry.node (items_of entry.jobs.items) ∷ woven (suc count) upto (λ node. behind (past node)) log) reads
-    (tt, woven_run (suc count) upto (λ node. behind (past node)) log (λ node. later_read node count (past node) (reads node)))
+    (tt, woven_run (suc count) upto (λ node. behind (past node)) log (λ node. later_have (IsReadOf node) count (past node) (reads node)))
+
+-- P holds of each item that an entry puts into the sequence
+abbrev pub EntryHas : (Item → Type 0) → Entry → Type 0
+EntryHas P entry = AllByRecursion P (entry_items (items_of entry.jobs.items))
+
+-- what holds of each item of the log, and of each read that was run, holds of each item of the sequence
+runs_have : (P : Item → Type 0) (count upto : ℕ) (past : ℕ → List Turn) (more : List Taken) → ((node : ℕ) → HaveRun P count (past node))
+    → AllByRecursion P (sequence_of more) → AllByRecursion P (sequence_of (runs_below count upto past ++ more))
+runs_have P count zero past more reads all = all
+runs_have P count (suc upto) past more reads all =
+    All-append P (items_of (leading (past upto))) (sequence_of (runs_below count upto past ++ more)) (leading_have P count (past upto) (reads upto))
+    (runs_have P count upto past more reads all)
+
+pub woven_have : (P : Item → Type 0) (count upto : ℕ) (past : ℕ → List Turn) (log : List Entry) → AllByRecursion (EntryHas P) log
+    → ((node : ℕ) → HaveRun P count (past node)) → AllByRecursion P (sequence_of (woven count upto past log))
+woven_have P count upto past [] logged reads = runs_have P count upto past [] reads tt
+woven_have P count upto past (entry ∷ log) logged reads =
+    let later = woven (suc count) upto (λ node. behind (past node)) log in
+    runs_have P count upto past (nodes.Entry entry.node (items_of entry.jobs.items) ∷ later) reads
+    (All-append P (entry_items (items_of entry.jobs.items)) (sequence_of later) logged.0
+    (woven_have P (suc count) upto (λ node. behind (past node)) log logged.1 (λ node. later_have P count (past node) (reads node))))

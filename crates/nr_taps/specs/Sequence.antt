@@ -1,10 +1,13 @@
 -- One sequence behind all that the nodes of one log hand out.
-use Rattle.std.specs.Prelude.{◌≡◌, ℕ, false, List, [], ◌∷◌, length, filter, flat_map}
+use Rattle.std.specs.Prelude.{◌≡◌, ◌⊎◌, ℕ, false, List, [], ◌∷◌, ◌++◌, length, filter, flat_map, Option, Some, None}
 use Rattle.std.specs.List.{AllByRecursion}
 use Rattle.nr_model.specs.Bytes.{IsBeginningOf}
 use Rattle.nr_model.specs.Items.{Item, Sequence, is_update}
 use Rattle.nr_model.specs.Sequential.{emitted_for}
+use Rattle.nr_model.specs.Entries.{entry_items}
 use Rattle.nr_model.specs.Nodes.{Taken, Entry, Reads, log_of, items_taken, part_from}
+use Rattle.nr_entry.specs.Jobs.{items_of}
+use Rattle.nr_entry.specs.declared.entry.Entry as entries
 use Rattle.nr_log_end.specs.declared.standing.Standing.{Standing}
 use Rattle.nr_log_end.specs.Standings.{record_of}
 use Rattle.nr_accounts.specs.Held.{numbers_in}
@@ -40,9 +43,27 @@ pub record IsExplainedBy (taken : List Taken) (s : Standing) : Type 0 where
   pub emitted : (serial : ℕ) → IsBeginningOf (emitted_for (connection_at s.node serial) (record_of s.history))
       (emitted_for (connection_at s.node serial) (sequence_of taken))
 
--- one sequence explains all of these
+-- the items of a standing's record, and behind them those of the entry that it holds
+abbrev pub items_held : Option entries.Entry → Sequence
+items_held None = []
+items_held (Some entry) = entry_items (items_of entry.jobs.items)
+
+abbrev pub items_known : Standing → Sequence
+items_known s = record_of s.history ++ items_held s.held
+
+-- an item is one of these
+abbrev pub IsAmong : Item → Sequence → Type 0
+IsAmong item items = (front : Sequence) × (back : Sequence) × (items ≡ front ++ item ∷ back)
+
+-- one of these standings knows it
+abbrev pub IsKnown : List Standing → Item → Type 0
+IsKnown [] item = ⊥
+IsKnown (s ∷ more) item = IsAmong item (items_known s) ⊎ IsKnown more item
+
+-- one sequence explains all of these, and each item of it is one that one of them knows
 abbrev pub OneSequence : List Standing → Type 0
-OneSequence standings = (taken : List Taken) × AreRun taken × AllByRecursion (IsExplainedBy taken) standings
+OneSequence standings =
+    (taken : List Taken) × AreRun taken × AllByRecursion (IsExplainedBy taken) standings × AllByRecursion (IsKnown standings) (sequence_of taken)
 
 -- each two of these are of one log
 abbrev pub AreAllOfOneLog : List Standing → Type 0

@@ -1,5 +1,5 @@
 -- A connection's tap: what was handed out for it and isn't written yet.
-use Rattle.std.specs.Prelude.{◌≡◌, ℕ, ◌+◌, ◌^◌, ◌<◌, ◌≤◌, ◌==◌, cond, List, [], ◌++◌, length, take, drop, Option, Some, None, IfSome, option_map, slice_index_or, refl}
+use Rattle.std.specs.Prelude.{◌≡◌, ℕ, ◌+◌, ◌^◌, ◌<◌, ◌≤◌, ◌==◌, cond, List, [], ◌∷◌, ◌++◌, length, take, drop, Option, Some, None, IfSome, option_map, option_to_list, slice_index_or, refl}
 use Rattle.std.specs.Coded.{Coded, code_by, coded×, coded_ℕ, coded_option}
 use Rattle.std.specs.List.{AllByRecursion}
 use Rattle.std.specs.Ordering.{nat_cmp}
@@ -18,7 +18,7 @@ use Rattle.nr_replica.specs.declared.outbox.Piece.{Piece}
 use Rattle.nr_node.specs.Sound.{IsSound}
 use Rattle.nr_taps.specs.declared.tap.Refused.{Refused}
 use Rattle.nr_taps.specs.declared.tap.Refused.TheVariants as refusals
-use Rattle.nr_taps.specs.Sequence.{AreRun, IsExplainedBy, sequence_of}
+use Rattle.nr_taps.specs.Sequence.{AreRun, IsExplainedBy, sequence_of, IsKnown}
 
 -- Its connection, the bytes that aren't written yet, how many were written before them, and what the node had done when it handed out the last that were
 -- accepted
@@ -109,9 +109,15 @@ pub record HasAccepted (taken : List Taken) (t : TapState) : Type 0 where
   pub begins : IsBeginningOf (bytes_accepted t) (emitted_for t.connection (sequence_of taken))
   pub pending : t.pending ≡ drop t.written (bytes_accepted t)
 
--- one sequence explains all of these taps
+-- the standings of those that have one
+abbrev pub standings_in : List TapState → List Standing
+standings_in [] = []
+standings_in (t ∷ taps) = option_to_list t.standing ++ standings_in taps
+
+-- one sequence explains all of these taps, and each item of it is one that a standing of them knows
 abbrev pub AreOfOneSequence : List TapState → Type 0
-AreOfOneSequence taps = (taken : List Taken) × AreRun taken × AllByRecursion (HasAccepted taken) taps
+AreOfOneSequence taps =
+    (taken : List Taken) × AreRun taken × AllByRecursion (HasAccepted taken) taps × AllByRecursion (IsKnown (standings_in taps)) (sequence_of taken)
 
 -- the standings of a tap and of each in these places are of one log
 abbrev pub HasMetFrom : ℕ → ℕ → TapState → List TapState → Type 0

@@ -1,5 +1,5 @@
 use Rattle.std.proofs.Common.{[], ◌≡◌, true, false, ◌-◌, ◌++◌, ◌∙◌, rules}
-use Rattle.nr_node.proofs.Advances.{looks_on, met_on, looked_on, counted, goes_tail, goes_then, went_or_not, behind_tail, reached_tail}
+use Rattle.nr_node.proofs.Advances.{looks_on, met_on, looked_on, counted, goes_tail, goes_then, went_or_not, behind_tail, reached_tail, few_stopped, few_more}
 use Rattle.nr_node.proofs.advancing.catch_up.Goals as goal
 
 pub returns-then-not-advance_by-clause-goes : goal.returns-then-not-advance_by-clause-goes
@@ -11,7 +11,7 @@ returns-then-not-advance_by-clause-goes g c =
     let fewer = c.advance_by.ensures.fewer stopped in (
       fewer.0,
       goes_then [] fewer.0 s m c.advance_by.new.end.standing c.args.replica.now c.args.replica.now c.advance_by.new.replica c.args.next.now c.args.next.now
-          c.advance_by.new.next (goes_tail s m c.args.replica.now c.args.next.now on) fewer.2,
+          c.advance_by.new.next c.args.accounts.now c.args.accounts.now c.advance_by.new.accounts (goes_tail s m c.args.replica.now c.args.next.now c.args.accounts.now on) fewer.2,
     )
 
 pub returns-then-not-advance_by-clause-behind : goal.returns-then-not-advance_by-clause-behind
@@ -27,6 +27,18 @@ returns-then-not-advance_by-clause-behind g c = λ _ up.
     behind_tail s m c.advance_by.new.end.standing fewer.0 c.saturating_sub-count.result c.applied.result on fewer.2.passed c.advance_by.ensures.met.0 fewer.1 count
     (c.applied.ensures ∙ c.requires.level.applied was)
 
+pub returns-then-not-advance_by-clause-few : goal.returns-then-not-advance_by-clause-few
+returns-then-not-advance_by-clause-few g c = λ was.
+    let s = c.args.end.now.standing in
+    let m = c.let_go.new.self.standing in
+    let on = looked_on s c.tail-tail.new.self.standing m c.tail-tail.ensures.standing c.let_go.ensures.standing in
+    let stopped : c.advance_by.result ≡ false = search (c.if-not-advance_by.true) in
+    let fewer = c.advance_by.ensures.fewer stopped in
+    let count : c.saturating_sub-count.result ≡ m.seen - c.applied.result = counted c.saturating_sub-count.result c.tail-tail.result c.applied.result c.tail-tail.new.self.standing m (search rules) c.tail-tail.ensures.tail
+    c.let_go.ensures.standing in
+    few_stopped s m c.advance_by.new.end.standing fewer.0 c.saturating_sub-count.result c.applied.result on fewer.2.passed c.advance_by.ensures.met.0 fewer.1 count
+    (c.applied.ensures ∙ c.requires.level.applied was)
+
 pub returns-clause-goes : goal.returns-clause-goes
 returns-clause-goes g c =
     let s = c.args.end.now.standing in
@@ -36,12 +48,12 @@ returns-clause-goes g c =
     let went : c.advance_by.result ≡ true = search (c.if-not-advance_by.false) in
     let all = c.advance_by.ensures.all went in
     let last = went_or_not c.advance.result t c.advance.new.end.standing c.advance_by.new.replica c.advance.new.replica c.advance_by.new.next c.advance.new.next
-    c.advance.ensures.some c.advance.ensures.none in
+    c.advance_by.new.accounts c.advance.new.accounts c.advance.ensures.some c.advance.ensures.none in
     let first = goes_then [] all.0 s m t c.args.replica.now c.args.replica.now c.advance_by.new.replica c.args.next.now c.args.next.now c.advance_by.new.next
-    (goes_tail s m c.args.replica.now c.args.next.now on) all.2 in (
+    c.args.accounts.now c.args.accounts.now c.advance_by.new.accounts (goes_tail s m c.args.replica.now c.args.next.now c.args.accounts.now on) all.2 in (
       all.0 ++ last.0,
       goes_then all.0 last.0 s t c.advance.new.end.standing c.args.replica.now c.advance_by.new.replica c.advance.new.replica c.args.next.now c.advance_by.new.next
-          c.advance.new.next first last.1,
+          c.advance.new.next c.args.accounts.now c.advance_by.new.accounts c.advance.new.accounts first last.1,
     )
 
 pub returns-clause-reached : goal.returns-clause-reached
@@ -53,7 +65,7 @@ returns-clause-reached g c = λ _ up.
     let went : c.advance_by.result ≡ true = search (c.if-not-advance_by.false) in
     let all = c.advance_by.ensures.all went in
     let last = went_or_not c.advance.result t c.advance.new.end.standing c.advance_by.new.replica c.advance.new.replica c.advance_by.new.next c.advance.new.next
-    c.advance.ensures.some c.advance.ensures.none in
+    c.advance_by.new.accounts c.advance.new.accounts c.advance.ensures.some c.advance.ensures.none in
     let count : c.saturating_sub-count.result ≡ m.seen - c.applied.result = counted c.saturating_sub-count.result c.tail-tail.result c.applied.result c.tail-tail.new.self.standing m (search rules) c.tail-tail.ensures.tail
     c.let_go.ensures.standing in
     let was = (all.2.up (last.1.up up).0).0 in (
@@ -61,6 +73,21 @@ returns-clause-reached g c = λ _ up.
           (c.advance.ensures.met.0 ∙ c.advance_by.ensures.met.0) all.1 count (c.applied.ensures ∙ c.requires.level.applied was),
       c.advance.ensures.log,
     )
+
+pub returns-clause-few : goal.returns-clause-few
+returns-clause-few g c = λ was.
+    let s = c.args.end.now.standing in
+    let m = c.let_go.new.self.standing in
+    let on = looked_on s c.tail-tail.new.self.standing m c.tail-tail.ensures.standing c.let_go.ensures.standing in
+    let t = c.advance_by.new.end.standing in
+    let went : c.advance_by.result ≡ true = search (c.if-not-advance_by.false) in
+    let all = c.advance_by.ensures.all went in
+    let last = went_or_not c.advance.result t c.advance.new.end.standing c.advance_by.new.replica c.advance.new.replica c.advance_by.new.next c.advance.new.next
+    c.advance_by.new.accounts c.advance.new.accounts c.advance.ensures.some c.advance.ensures.none in
+    let count : c.saturating_sub-count.result ≡ m.seen - c.applied.result = counted c.saturating_sub-count.result c.tail-tail.result c.applied.result c.tail-tail.new.self.standing m (search rules) c.tail-tail.ensures.tail
+    c.let_go.ensures.standing in
+    few_more s m t c.advance.new.end.standing all.0 last.0 c.saturating_sub-count.result c.applied.result on all.2.passed last.1.passed
+    (c.advance.ensures.met.0 ∙ c.advance_by.ensures.met.0) all.1 last.2 count (c.applied.ensures ∙ c.requires.level.applied was)
 
 pub returns-then-not-advance_by-clause-looks : goal.returns-then-not-advance_by-clause-looks
 returns-then-not-advance_by-clause-looks g c =

@@ -13,13 +13,14 @@ invariant_of-self g c =
     let tried = c.try_to_reserve-tried.new.core in
     let looked = c.look-looked.new.self in
     let goes = c.look-looked.ensures.goes in
-    let book : looked.book ≡ inside.core.book = goes.1.1.1.book ∙ tried_book g.B.LogName.places c.try_to_reserve-tried.result inside.core tried c.try_to_reserve-tried.ensures.comes in (
+    let node : looked.book.node ≡ inside.core.book.node = goes.1.1.1.closed.node
+    ∙ ap (λ (b : Book). b.node) (tried_book g.B.LogName.places c.try_to_reserve-tried.result inside.core tried c.try_to_reserve-tried.ensures.comes) in (
       looked_served c.look-looked.result goes.0 goes.1.0 goes.1.1.0 tried looked inside.seat inside.numbers.items
           (looked_by c.look-looked.result tried looked goes c.look-looked.ensures.waiting c.look-looked.ensures.again
           c.look-looked.ensures.never_full c.look-looked.ensures.down)
           (tried_served g.B.LogName.places c.try_to_reserve-tried.result inside.core tried inside.seat inside.numbers.items c.try_to_reserve-tried.ensures.comes keeps.0),
       keeps.1,
-      keeps.2 ∙ ap (λ (b : Book). b.node) (sym book),
+      keeps.2 ∙ sym node,
     )
 
 pub lift_all-requires : goal.lift_all-requires

@@ -34,7 +34,7 @@ invariant_of-self-in_default-take_in g c =
     c.in-Some.ensures.unanswered c.self.invariant.0 in
     let taken = c.in_default-take_in.ensures.taken in (
       lifted_served inside.core c.take_in.new.core inside.seat c.lift.new.self inside.numbers.items c.args.worker c.in-Some.batch near idle
-          c.in_default-take_in.ensures.due taken c.in-Some.ensures.lifted c.self.invariant.0,
+          c.in_default-take_in.ensures.due c.in_default-take_in.ensures.served taken c.in-Some.ensures.lifted c.self.invariant.0,
       ap (λ (v : CombinerView). v.slots) c.in-Some.ensures.lifted ∙ c.self.invariant.1,
       c.self.invariant.2 ∙ sym (ap (λ (n : NodeState). n.book.node) taken),
     )

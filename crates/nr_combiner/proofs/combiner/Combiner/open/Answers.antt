@@ -5,6 +5,6 @@ use Rattle.nr_combiner.proofs.combiner.Combiner.open.Goals as goal
 pub invariant_of-self : goal.invariant_of-self
 invariant_of-self g c =
     let inside = c.self.inside in
-    let there = opened_served c.open.result inside.core c.open.new.self inside.seat inside.numbers.items c.args.limit c.args.worker c.open.ensures.conn
-    c.open.ensures.opened c.open.ensures.unchanged c.open.ensures.new c.self.invariant.0 in
+    let there = opened_served c.open.result inside.core c.open.new.self inside.seat inside.numbers.items c.args.limit c.args.worker
+    c.open.ensures.opened c.open.ensures.unchanged c.self.invariant.0 in
     (there.0, c.self.invariant.1, c.self.invariant.2 ∙ there.1)

@@ -1,4 +1,4 @@
-use Rattle.std.proofs.Common.{◌≡◌, None, Some, sym, ◌∙◌, ap}
+use Rattle.std.proofs.Common.{◌≡◌, None, Some, refl, sym, ◌∙◌, ap}
 use Rattle.std.specs.Prelude.{slice_index_or}
 use Rattle.nr_entry.specs.declared.batch.Outcome.TheVariants as outcomes
 use Rattle.nr_node.specs.Level.{NodeState}
@@ -30,4 +30,4 @@ returns-clause-executed g c = λ e.
     ap (λ (n : NodeState). answer_of n worker) c.self.view_is ∙ sym c.outcome.ensures ∙ c.in-Some.is ∙ e in
     let up = executed_up _ _ known in
     let v : NodeState = record { seat = inside.end; replica = inside.replica; book = inside.accounts; next = jobs_next inside.next } in
-    executed_still v worker c.answered.new.self c.answered.ensures (all_executed v inside.next inside.nodes worker up (none_owed_by _ _ _ known up) c.self.invariant.0)
+    executed_still v worker c.answered.new.self c.answered.ensures (all_executed v inside.next inside.nodes worker up (none_owed_by _ _ _ known up) c.self.invariant.0 refl)

@@ -1,48 +1,44 @@
 use Rattle.std.proofs.Common.{◌≡◌, ◌≤◌, true, false, [], ap, sym, ◌∙◌, refl, subst}
-use Rattle.std.specs.Prelude.{◌≢◌, ◌⊎◌, is_some, is_err}
+use Rattle.std.specs.Prelude.{is_some, is_err}
 use Rattle.nr_log_end.specs.Standings.{passed_of}
 use Rattle.nr_oplog.specs.declared.view.LogView.{LogView}
 use Rattle.nr_replica.specs.Replicas.{ReplicaState}
-use Rattle.nr_node.specs.Advanced.{HaveGot}
 use Rattle.nr_node.specs.Level.{NodeState}
 use Rattle.nr_node.specs.Next.{jobs_next}
-use Rattle.nr_node.specs.Owing.{awaited}
 use Rattle.nr_node.specs.Steps.{GoesOnBy, HasRead}
 use Rattle.nr_node.proofs.Lists.{none_unpassed}
 use Rattle.nr_node.proofs.Taking.{goes_within, failed_within, noted_within, read_awaited}
-use Rattle.nr_node.proofs.Caught.{next_after, caught_up, read_on, read_got, has_read, next_has, none_of}
+use Rattle.nr_node.proofs.Caught.{caught_by, failed_by, read_on, read_got, has_read, next_has, none_of}
 use Rattle.nr_node.proofs.within.Core.look.Goals as goal
 
 pub invariant_of-self : goal.invariant_of-self
 invariant_of-self g c =
     let inside = c.self.inside in
     let went = c.catch_up-reached.ensures.goes in
-    goes_within went.0 inside.end.standing c.catch_up-reached.new.end.standing inside.replica c.catch_up-reached.new.replica inside.accounts inside.next
+    goes_within went.0 inside.end.standing c.catch_up-reached.new.end.standing inside.replica c.catch_up-reached.new.replica inside.accounts c.catch_up-reached.new.accounts inside.next
     c.catch_up-reached.new.next inside.nodes went.1 c.catch_up-reached.ensures.idle c.self.invariant
 
 pub invariant_of-self-then-not-reached : goal.invariant_of-self-then-not-reached
 invariant_of-self-then-not-reached g c =
     let inside = c.self.inside in
     let went = c.catch_up-reached.ensures.goes in
-    goes_within went.0 inside.end.standing c.catch_up-reached.new.end.standing inside.replica c.catch_up-reached.new.replica inside.accounts inside.next
+    goes_within went.0 inside.end.standing c.catch_up-reached.new.end.standing inside.replica c.catch_up-reached.new.replica inside.accounts c.catch_up-reached.new.accounts inside.next
     c.catch_up-reached.new.next inside.nodes went.1 c.catch_up-reached.ensures.idle c.self.invariant
 
 pub invariant_of-self-then-is_some : goal.invariant_of-self-then-is_some
 invariant_of-self-then-is_some g c =
     let inside = c.self.inside in
     let went = c.catch_up-reached.ensures.goes in
-    goes_within went.0 inside.end.standing c.catch_up-reached.new.end.standing inside.replica c.catch_up-reached.new.replica inside.accounts inside.next
+    goes_within went.0 inside.end.standing c.catch_up-reached.new.end.standing inside.replica c.catch_up-reached.new.replica inside.accounts c.catch_up-reached.new.accounts inside.next
     c.catch_up-reached.new.next inside.nodes went.1 c.catch_up-reached.ensures.idle c.self.invariant
 
 pub returns-then-is_down-clause-goes : goal.returns-then-is_down-clause-goes
 returns-then-is_down-clause-goes g c =
     let inside = c.self.inside in
     let went = c.catch_up-reached.ensures.goes in
-    let v : NodeState = record { seat = inside.end; replica = inside.replica; book = inside.accounts; next = jobs_next inside.next } in
-    let m : NodeState = record { seat = c.catch_up-reached.new.end; replica = c.catch_up-reached.new.replica; book = inside.accounts; next = jobs_next c.catch_up-reached.new.next } in
     let tail = c.catch_up-reached.new.end.standing.seen in
-    let by = subst (λ (n : NodeState). GoesOnBy went.0 [] tail n m) c.self.view_is (caught_up v m went.0 went.1.passed went.1.own c.self.invariant.0.order.book_is c.catch_up-reached.ensures.looks refl went.1.owed went.1.got went.1.refused went.1.fell
-    (λ up. (went.1.up up).0) (went.1.waits, next_after inside.next c.catch_up-reached.new.next went.1.after_is)) in
+    let by = caught_by went.0 inside.end c.catch_up-reached.new.end inside.replica c.catch_up-reached.new.replica inside.accounts c.catch_up-reached.new.accounts inside.next c.catch_up-reached.new.next
+    c.args.self.now c.self.view_is went.1 c.catch_up-reached.ensures.looks c.catch_up-reached.ensures.few c.self.invariant.0.order in
     let down : c.catch_up-reached.new.replica.down ≡ true = sym c.is_down.ensures ∙ c.if-is_down.true in
     (went.0, ([], (tail, by, λ e. absurd (cc e), λ _. refl, λ _ up. absurd (cc (up, down)), λ e. absurd (cc e))))
 
@@ -50,11 +46,9 @@ pub returns-then-not-reached-clause-goes : goal.returns-then-not-reached-clause-
 returns-then-not-reached-clause-goes g c =
     let inside = c.self.inside in
     let went = c.catch_up-reached.ensures.goes in
-    let v : NodeState = record { seat = inside.end; replica = inside.replica; book = inside.accounts; next = jobs_next inside.next } in
-    let m : NodeState = record { seat = c.catch_up-reached.new.end; replica = c.catch_up-reached.new.replica; book = inside.accounts; next = jobs_next c.catch_up-reached.new.next } in
     let tail = c.catch_up-reached.new.end.standing.seen in
-    let by = subst (λ (n : NodeState). GoesOnBy went.0 [] tail n m) c.self.view_is (caught_up v m went.0 went.1.passed went.1.own c.self.invariant.0.order.book_is c.catch_up-reached.ensures.looks refl went.1.owed went.1.got went.1.refused went.1.fell
-    (λ up. (went.1.up up).0) (went.1.waits, next_after inside.next c.catch_up-reached.new.next went.1.after_is)) in
+    let by = caught_by went.0 inside.end c.catch_up-reached.new.end inside.replica c.catch_up-reached.new.replica inside.accounts c.catch_up-reached.new.accounts inside.next c.catch_up-reached.new.next
+    c.args.self.now c.self.view_is went.1 c.catch_up-reached.ensures.looks c.catch_up-reached.ensures.few c.self.invariant.0.order in
     let up : c.catch_up-reached.new.replica.down ≡ false = sym c.is_down.ensures ∙ c.if-is_down.false in
     (went.0, ([], (tail, by, λ e. absurd (cc e), λ _. refl, λ reached _. absurd (reached refl), λ _. c.catch_up-reached.ensures.behind c.if-not-reached.true up)))
 
@@ -62,11 +56,9 @@ pub returns-then-is_some-clause-goes : goal.returns-then-is_some-clause-goes
 returns-then-is_some-clause-goes g c =
     let inside = c.self.inside in
     let went = c.catch_up-reached.ensures.goes in
-    let v : NodeState = record { seat = inside.end; replica = inside.replica; book = inside.accounts; next = jobs_next inside.next } in
-    let m : NodeState = record { seat = c.catch_up-reached.new.end; replica = c.catch_up-reached.new.replica; book = inside.accounts; next = jobs_next c.catch_up-reached.new.next } in
     let tail = c.catch_up-reached.new.end.standing.seen in
-    let by = subst (λ (n : NodeState). GoesOnBy went.0 [] tail n m) c.self.view_is (caught_up v m went.0 went.1.passed went.1.own c.self.invariant.0.order.book_is c.catch_up-reached.ensures.looks refl went.1.owed went.1.got went.1.refused went.1.fell
-    (λ up. (went.1.up up).0) (went.1.waits, next_after inside.next c.catch_up-reached.new.next went.1.after_is)) in
+    let by = caught_by went.0 inside.end c.catch_up-reached.new.end inside.replica c.catch_up-reached.new.replica inside.accounts c.catch_up-reached.new.accounts inside.next c.catch_up-reached.new.next
+    c.args.self.now c.self.view_is went.1 c.catch_up-reached.ensures.looks c.catch_up-reached.ensures.few c.self.invariant.0.order in
     (went.0, ([], (tail, by, λ e. absurd (cc e), λ _. refl, λ _ up. (c.catch_up-reached.ensures.reached c.if-not-reached.false up).0, λ e. absurd (cc e))))
 
 pub returns-then-is_some-clause-again : goal.returns-then-is_some-clause-again
@@ -82,26 +74,18 @@ pub invariant_of-self-in_err-read : goal.invariant_of-self-in_err-read
 invariant_of-self-in_err-read g c =
     let inside = c.self.inside in
     let went = c.catch_up-reached.ensures.goes in
-    failed_within went.0 inside.end.standing c.catch_up-reached.new.end c.read.new.end inside.replica c.catch_up-reached.new.replica c.read.new.replica inside.accounts inside.next
+    failed_within went.0 inside.end.standing c.catch_up-reached.new.end c.read.new.end inside.replica c.catch_up-reached.new.replica c.read.new.replica inside.accounts c.catch_up-reached.new.accounts inside.next
     c.catch_up-reached.new.next inside.nodes went.1 c.catch_up-reached.ensures.idle c.in_err-read.ensures.end c.in_err-read.ensures.replica c.self.invariant
 
 pub returns-in_err-read-clause-goes : goal.returns-in_err-read-clause-goes
 returns-in_err-read-clause-goes g c =
     let inside = c.self.inside in
     let went = c.catch_up-reached.ensures.goes in
-    let next = jobs_next c.catch_up-reached.new.next in
-    let v : NodeState = record { seat = inside.end; replica = inside.replica; book = inside.accounts; next = jobs_next inside.next } in
-    let m : NodeState = record { seat = c.catch_up-reached.new.end; replica = c.read.new.replica; book = inside.accounts; next = next } in
     let tail = c.catch_up-reached.new.end.standing.seen in
-    let by = subst (λ (x : LogView). GoesOnBy went.0 [] tail v (record { seat = x; replica = c.read.new.replica; book = inside.accounts; next = next })) (sym c.in_err-read.ensures.end)
-    (caught_up v m went.0 went.1.passed went.1.own c.self.invariant.0.order.book_is c.catch_up-reached.ensures.looks refl (ap (λ (r : ReplicaState). awaited r.owed) c.in_err-read.ensures.replica ∙ went.1.owed)
-    (subst (λ (r : ReplicaState). HaveGot inside.replica.members r.members) (sym c.in_err-read.ensures.replica) went.1.got)
-    (subst (λ (r : ReplicaState). r.down ≡ false → r.refused ≡ inside.replica.refused) (sym c.in_err-read.ensures.replica) went.1.refused)
-    (subst (λ (r : ReplicaState). inside.replica.down ≡ false → r.down ≡ true → went.0 ≢ []) (sym c.in_err-read.ensures.replica) went.1.fell)
-    (subst (λ (r : ReplicaState). r.down ≡ false → inside.replica.down ≡ false) (sym c.in_err-read.ensures.replica) (λ up. (went.1.up up).0)) (
-      subst (λ (r : ReplicaState). (r.waiting ≡ []) ⊎ (r.waiting ≡ inside.replica.waiting)) (sym c.in_err-read.ensures.replica) went.1.waits,
-      next_after inside.next c.catch_up-reached.new.next went.1.after_is,
-    )) in
+    let by = caught_by went.0 inside.end c.catch_up-reached.new.end inside.replica c.catch_up-reached.new.replica inside.accounts c.catch_up-reached.new.accounts inside.next c.catch_up-reached.new.next
+    c.args.self.now c.self.view_is went.1 c.catch_up-reached.ensures.looks c.catch_up-reached.ensures.few c.self.invariant.0.order in
+    let failed = failed_by went.0 tail c.args.self.now c.catch_up-reached.new.end c.read.new.end c.catch_up-reached.new.replica c.read.new.replica c.catch_up-reached.new.accounts
+    (jobs_next c.catch_up-reached.new.next) c.in_err-read.ensures.end c.in_err-read.ensures.replica by in
     let up : c.catch_up-reached.new.replica.down ≡ false = sym c.is_down.ensures ∙ c.if-is_down.false in
     let reached = (c.catch_up-reached.ensures.reached c.if-not-reached.false up).0 in (
       went.0,
@@ -109,7 +93,7 @@ returns-in_err-read-clause-goes g c =
         [],
         (
           tail,
-          subst (λ (n : NodeState). GoesOnBy went.0 [] tail n (record { seat = c.read.new.end; replica = c.read.new.replica; book = inside.accounts; next = next })) c.self.view_is by,
+          failed,
           λ e. absurd (cc (sym c.from_residual.ensures.0 ∙ ap is_err e)),
           λ _. refl,
           λ _ _. subst (λ (x : LogView). tail ≤ passed_of x.standing) (sym c.in_err-read.ensures.end) reached,
@@ -125,7 +109,7 @@ invariant_of-self-2 g c =
     let next = c.catch_up-reached.new.next in
     let up : c.catch_up-reached.new.replica.down ≡ false = sym c.is_down.ensures ∙ c.if-is_down.false in
     noted_within went.0 inside.end.standing c.catch_up-reached.new.end.standing c.read.new.end.standing c.in_ok-read.field-0.items inside.replica c.catch_up-reached.new.replica
-    c.read.new.replica inside.accounts inside.next next inside.nodes went.1 c.catch_up-reached.ensures.idle (c.catch_up-reached.ensures.reached c.if-not-reached.false up)
+    c.read.new.replica inside.accounts c.catch_up-reached.new.accounts inside.next next inside.nodes went.1 c.catch_up-reached.ensures.idle (c.catch_up-reached.ensures.reached c.if-not-reached.false up)
     c.in_ok-read.ensures.noted c.in_ok-read.ensures.read c.in_ok-read.ensures.ran up (none_of next (sym c.is_some.ensures ∙ c.if-is_some.false)) c.self.invariant
 
 pub returns-clause-goes : goal.returns-clause-goes
@@ -136,17 +120,19 @@ returns-clause-goes g c =
     let next = c.catch_up-reached.new.next in
     let ran = c.in_ok-read.field-0.items in
     let v : NodeState = record { seat = inside.end; replica = inside.replica; book = inside.accounts; next = jobs_next inside.next } in
-    let m : NodeState = record { seat = c.read.new.end; replica = c.read.new.replica; book = inside.accounts; next = jobs_next next } in
+    let m : NodeState = record { seat = c.read.new.end; replica = c.read.new.replica; book = c.catch_up-reached.new.accounts; next = jobs_next next } in
     let up : c.catch_up-reached.new.replica.down ≡ false = sym c.is_down.ensures ∙ c.if-is_down.false in
     let all = c.catch_up-reached.ensures.reached c.if-not-reached.false up in
     let same = went.1.up up in
-    let none = none_unpassed t all.1 c.catch_up-reached.ensures.idle all.0 (went.1.order inside.accounts c.self.invariant.0.order).met in
+    let none = none_unpassed t all.1 c.catch_up-reached.ensures.idle all.0 (went.1.order c.self.invariant.0.order).met in
     let still = ap jobs_next (none_of next (sym c.is_some.ensures ∙ c.if-is_some.false)) in
     let looks = c.in_ok-read.ensures.looks in
-    let by = read_on v m t went.0 ran c.catch_up-reached.new.end.looks looks.0 went.1.passed went.1.own c.self.invariant.0.order.book_is c.in_ok-read.ensures.noted c.catch_up-reached.ensures.looks looks.1 refl
+    let by = read_on v m t went.0 ran c.catch_up-reached.new.end.looks looks.0 went.1.passed went.1.own c.self.invariant.0.order.book_is c.in_ok-read.ensures.noted c.catch_up-reached.ensures.looks looks.1
+    (went.1.closed c.self.invariant.0.order) (went.1.ended up)
     (read_awaited c.catch_up-reached.new.replica c.read.new.replica c.in_ok-read.ensures.read ∙ went.1.owed)
     (read_got inside.replica c.catch_up-reached.new.replica c.read.new.replica went.1.got c.in_ok-read.ensures.read)
-    (λ _. ap (λ (r : ReplicaState). r.refused) c.in_ok-read.ensures.read.state ∙ went.1.refused up) (went.1.up up).0 (ap (λ (r : ReplicaState). r.down) c.in_ok-read.ensures.read.state ∙ up) in
+    (λ _. ap (λ (r : ReplicaState). r.refused) c.in_ok-read.ensures.read.state ∙ went.1.refused up) (went.1.up up).0 (ap (λ (r : ReplicaState). r.down) c.in_ok-read.ensures.read.state ∙ up)
+    (c.catch_up-reached.ensures.few (went.1.up up).0) in
     let read = has_read v m t c.catch_up-reached.new.replica ran c.in_ok-read.ensures.noted c.in_ok-read.ensures.read up (all.0, none) c.in_ok-read.ensures.ran same.2
     (ap jobs_next (sym same.1) ∙ still) still in (
       went.0,

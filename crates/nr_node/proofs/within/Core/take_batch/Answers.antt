@@ -1,5 +1,6 @@
 use Rattle.std.proofs.Common.{◌≡◌, ℕ, ◌++◌, ap, sym, ◌∙◌, subst}
 use Rattle.std.specs.Prelude.{IsTrue, None, slice_index_or}
+use Rattle.std.specs.List.{AllByRecursion}
 use Rattle.nr_entry.specs.Entry.{are_of}
 use Rattle.nr_entry.specs.Jobs.{items_of}
 use Rattle.nr_model.specs.Entries.{Jobs}
@@ -8,7 +9,9 @@ use Rattle.nr_accounts.proofs.Batches.{all_of_due}
 use Rattle.nr_node.specs.Kept.{IsKept}
 use Rattle.nr_node.specs.Level.{NodeState}
 use Rattle.nr_node.proofs.Served.{all_are_of}
-use Rattle.nr_node.proofs.Taking.{batch_kept}
+use Rattle.nr_node.specs.Next.{jobs_next}
+use Rattle.nr_node.specs.Owing.{IsServedBy}
+use Rattle.nr_node.proofs.Taking.{batch_kept, batch_served}
 use Rattle.nr_node.proofs.within.Core.take_batch.Goals as goal
 
 pub lift-requires-clause-own : goal.lift-requires-clause-own
@@ -36,3 +39,11 @@ invariant_of-self-in-Ok-lift g c =
       keeps.3,
       keeps.4,
     )
+
+pub returns-in-Ok-lift-clause-served : goal.returns-in-Ok-lift-clause-served
+returns-in-Ok-lift-clause-served g c =
+    let keeps = c.self.invariant in
+    let inside = c.self.inside in
+    let batch = c.args.batch in
+    subst (λ (n : NodeState). AllByRecursion (IsServedBy batch.worker n.replica.members) (items_of batch.jobs.items)) c.self.view_is
+    (batch_served inside.end.standing inside.replica inside.accounts (jobs_next inside.next) batch c.in-Ok.ensures.due keeps.0.order keeps.0.accounts).0
