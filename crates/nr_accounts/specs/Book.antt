@@ -51,7 +51,7 @@ with_jobs worker number jobs book = record book { held = taken_all book.held job
 abbrev pub with_batch : Batch → Book → Book
 with_batch batch book = with_jobs batch.worker batch.number (items_of batch.jobs.items) book
 
--- without the accounts of the connections whose end is among these jobs
+-- without the account of each of the node's connections whose end is among these jobs, and was taken last of it
 abbrev pub without_ended : Jobs → Book → Book
 without_ended jobs book = record book { held = closed_all book.node book.held jobs }
 

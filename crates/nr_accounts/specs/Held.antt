@@ -63,7 +63,7 @@ has_stranger node worker held before [] = false
 has_stranger node worker held before (job ∷ jobs) =
     (is_stranger node worker held job.connection || has_end_of job.connection before) || has_stranger node worker held (before ++ job ∷ []) jobs
 
--- a job is its connection's end, and the last that was taken of it: then its account goes
+-- a job is its connection's end, which was taken last of it: then its account goes
 abbrev pub ends_by : Item → Option Account → Bool
 ends_by job None = false
 ends_by job (Some account) = ends_with job account

@@ -45,10 +45,10 @@ impl Account {
         self.is_ended = false;
     }
 
-    /// Whether a job is its end, and the last one that was taken.
+    /// Whether its end was taken, and a job is that: the last one that was taken.
     pub(crate) fn ends_with(&self, job: &Job) -> bool
         ensures { result ≡ ends_with (item_of job.now) self.now }
     {
-        job.kind.is_end() && job.number < self.next && self.next - job.number == 1
+        self.is_ended && job.kind.is_end() && job.number < self.next && self.next - job.number == 1
     }
 }

@@ -108,8 +108,8 @@ impl Accounts {
         self.last[batch.worker] = before;
     }
 
-    /// These jobs were executed: the account of a connection whose end is among them goes, where that is the last job that was taken of it. Linear in them, and
-    /// logarithmic in the connections for each end.
+    /// These jobs were executed: the account of each of the node's connections whose end is among them goes, where that is the last job that was taken of it.
+    /// Linear in them, and logarithmic in the connections for each job of the node.
     pub fn close(&mut self, jobs: &[Job])
         ensures { self.new ≡ without_ended (items_of jobs.now) self.old }
     {

@@ -1,7 +1,6 @@
 //! The accounts of the batches that a node takes in from its workers: the number of each connection's next job, and whether its end was taken.
 //!
-//! A connection's jobs are numbered 0, 1, 2 and so on, and taken in in this order. Its account goes once its end was executed, so accounts are as many as there
-//! are connections whose end is still to come.
+//! A connection's jobs are numbered 0, 1, 2 and so on, and taken in in this order. Its account goes once its end was executed.
 #![tactic(auto)]
 
 pub use account::Account;

@@ -34,14 +34,14 @@ one_added xs ys x P is last all k a e = elim (at_end xs x k a (ap (λ l. slice_g
 ]
 
 -- workers that were made, and those that are to be made, are all
-pub one_made : (shared : NodeView) (node whole : ℕ) (ws vs : List WorkerState) (w : WorkerState) (count left : ℕ) → vs ≡ ws ++ w ∷ [] → w ≡ fresh_worker shared node (length ws)
-    → count ≡ suc left → ws ++ fresh_workers shared node (length ws) count ≡ fresh_workers shared node 0 whole
-    → vs ++ fresh_workers shared node (length vs) left ≡ fresh_workers shared node 0 whole
-one_made shared node whole ws vs w count left more is fewer all =
+pub one_made : (shared : NodeView) (whole : ℕ) (ws vs : List WorkerState) (w : WorkerState) (count left : ℕ) → vs ≡ ws ++ w ∷ [] → w ≡ fresh_worker shared (length ws)
+    → count ≡ suc left → ws ++ fresh_workers shared (length ws) count ≡ fresh_workers shared 0 whole
+    → vs ++ fresh_workers shared (length vs) left ≡ fresh_workers shared 0 whole
+one_made shared whole ws vs w count left more is fewer all =
     let long : length vs ≡ suc (length ws) = omega (arith, ap length more, length-append ws (w ∷ [])) in
-    ap (λ n. vs ++ fresh_workers shared node n left) long
-    ∙ ap (λ l. l ++ fresh_workers shared node (suc (length ws)) left) more
-    ∙ append_assoc ws (w ∷ []) (fresh_workers shared node (suc (length ws)) left)
-    ∙ ap (λ v. ws ++ v ∷ fresh_workers shared node (suc (length ws)) left) is
-    ∙ ap (λ n. ws ++ fresh_workers shared node (length ws) n) (sym fewer)
+    ap (λ n. vs ++ fresh_workers shared n left) long
+    ∙ ap (λ l. l ++ fresh_workers shared (suc (length ws)) left) more
+    ∙ append_assoc ws (w ∷ []) (fresh_workers shared (suc (length ws)) left)
+    ∙ ap (λ v. ws ++ v ∷ fresh_workers shared (suc (length ws)) left) is
+    ∙ ap (λ n. ws ++ fresh_workers shared (length ws) n) (sym fewer)
     ∙ all

@@ -51,7 +51,7 @@ still_there done c (Some a) y same = inl (a, same, refl, le_refl a.next)
 gone_there : (done : Sequence) (c : Connection) (x y : Option Account) → IsClosedAt done c x y → StaysAt done c x y
 gone_there done c x y (inl same) = still_there done c x y same
 gone_there done c None y (inr gone) = gone.0
-gone_there done c (Some a) y (inr gone) = inr gone
+gone_there done c (Some a) y (inr gone) = inr (gone.0, gone.1.1)
 
 -- accounts go alone once their ends are in the record, which grows
 grows_by : (n m : NodeState) → HasClosed (record_of m.seat.standing.history) n.book m.book → length m.replica.owed ≡ length n.replica.owed

@@ -11,7 +11,7 @@ use Rattle.nr_oplog.specs.declared.view.LogView.{LogView}
 use Rattle.nr_replica.specs.declared.outbox.Piece.{Piece}
 use Rattle.nr_node.specs.Sound.{IsSound}
 
--- at most so many bytes for a connection of the node that stands so, which are emitted for it along the record, behind those handed out before
+-- at most so many bytes for a connection of the node that stands so, which are emitted for it along the record, behind as many as the piece says
 pub record IsPieceOf (c : Connection) (most : ℕ) (piece : Piece) (s : Standing) : Type 0 where
   pub connection : connection_of piece.conn ≡ c
   pub node : (connection_of piece.conn).node ≡ s.node

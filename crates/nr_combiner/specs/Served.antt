@@ -39,7 +39,7 @@ owed_at worker n = slice_index_or n.replica.owed worker None
 abbrev pub StandsIn : Sequence → Item → Type 0
 StandsIn done job = IsBeginningOf (range_with_len 0 (suc job.number)) (numbers_in job.connection done)
 
--- its connection's account counts it, or is gone, as it is once the connection's end is in the record: then the job stands there
+-- its connection's account counts it, or there is none any more: then the job stands in the record
 abbrev pub IsCounted : ℕ → Sequence → Item → Option Account → Type 0
 IsCounted worker done job (Some account) = (account.worker ≡ worker) × (job.number < account.next)
 IsCounted worker done job None = StandsIn done job
@@ -59,7 +59,7 @@ pub record HoldsBatch (n : NodeState) (worker number : ℕ) (desk : Desk) : Type
   pub named : (batch.node ≡ n.book.node) × (batch.worker ≡ worker) × (batch.number ≡ number)
   pub jobs : AllByRecursion (IsTakenOf n worker) (items_of batch.jobs.items)
 
--- a worker's desk: all batches are answered where nothing is owed
+-- a worker's desk: all batches are answered where it waits for no answer
 abbrev pub IsDesk : NodeState → ℕ → ℕ → Desk → Option ℕ → Type 0
 IsDesk n worker number desk None = length desk.lifted ≡ length desk.answered
 IsDesk n worker number desk (Some owed) = HoldsBatch n worker number desk
@@ -103,7 +103,7 @@ pub record AllJobs (P : Item → Type 0) (n : NodeState) : Type 0 where
 abbrev pub HasNoJobs : NodeState → Type 0
 HasNoJobs n = (n.seat.standing.history ≡ []) × (n.seat.standing.reservations ≡ []) × (n.next ≡ []) × (n.replica.waiting ≡ [])
 
--- Between two calls a desk has no batch without an answer but the one whose jobs the node is about to execute; each job of a batch that was
+-- Between two calls a desk has no batch without an answer but the one of which it isn't known what became; each job of a batch that was
 -- answered as executed is in the node's record; and each job of a connection of the node, wherever it is, is one of a batch that was lifted.
 pub record IsServed (n : NodeState) (seat : CombinerView) (numbers : List ℕ) : Type 0 where
   pub workers : length seat.desks ≡ length n.replica.owed

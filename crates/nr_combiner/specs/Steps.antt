@@ -104,7 +104,7 @@ abbrev pub HasPut : NodeState → NodeState → Type 0
 HasPut n m = ((at : ℕ) × (entry : Entry) × HasReserved at entry n m) ⊎ HasNoneDue n m
 
 -- What a try to reserve comes to: the updates that were due stand in the log, or there were none; or they go on waiting, since the log was full as the try met
--- it, or another node's entry was there first; or the replica is down, or falls. Where memory runs out no job is lost.
+-- it, or another node's entry was there first; or the replica is down, or falls, and what waited is lost. An error for want of memory loses no job.
 abbrev pub ComesTo : ℕ → Result Round Memory → NodeState → NodeState → Type 0
 ComesTo places (Ok rounds.Done) n m = HasPut n m
 ComesTo places (Ok rounds.Full) n m = GoesOnWaiting n m × IsFull n.seat.standing n.seat.looks places m.seat.standing m.seat.looks

@@ -28,23 +28,24 @@ coded_worker =
 
 -- what its node shows
 abbrev pub shared_of : WorkerState → NodeView
-shared_of w = record { slots = record { id = w.seat.slots; workers = w.workers }; connections = w.connections; limit = w.limit }
+shared_of w = record { node = w.node; slots = record { id = w.seat.slots; workers = w.workers }; connections = w.connections; limit = w.limit }
 
 -- one that has handed in nothing yet
-abbrev pub fresh_worker : NodeView → ℕ → ℕ → WorkerState
-fresh_worker shared node worker = record { node = node; workers = shared.slots.workers; connections = shared.connections; limit = shared.limit; seat = new_worker shared.slots.id worker; next = 0 }
+abbrev pub fresh_worker : NodeView → ℕ → WorkerState
+fresh_worker shared worker = record { node = shared.node; workers = shared.slots.workers; connections = shared.connections; limit = shared.limit; seat = new_worker shared.slots.id worker; next = 0 }
 
 -- so many of a node, numbered from one on
-abbrev pub fresh_workers : NodeView → ℕ → ℕ → ℕ → List WorkerState
-fresh_workers shared node first zero = []
-fresh_workers shared node first (suc more) = fresh_worker shared node first ∷ fresh_workers shared node (suc first) more
+abbrev pub fresh_workers : NodeView → ℕ → ℕ → List WorkerState
+fresh_workers shared first zero = []
+fresh_workers shared first (suc more) = fresh_worker shared first ∷ fresh_workers shared (suc first) more
 
 -- a node's workers, so many, none of which has handed in anything yet
 pub record IsNode (workers connections limit node : ℕ) (list : List WorkerState) : Type 0 where
   pub shared : NodeView
+  pub named : shared.node ≡ node
   pub wide : shared.slots.workers ≡ workers
   pub limited : (shared.connections ≡ connections) × (shared.limit ≡ limit)
-  pub all : list ≡ fresh_workers shared node 0 workers
+  pub all : list ≡ fresh_workers shared 0 workers
 
 -- it handed in these jobs as its next batch
 pub record HasPosted (jobs : List Job) (w v : WorkerState) : Type 0 where

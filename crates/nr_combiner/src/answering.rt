@@ -26,7 +26,7 @@ pub enum OpenError {
 pub struct Turned {
     /// Of the combiner's turn.
     pub combined: Result<Round, Memory>,
-    /// Of handing out: all that waited for the worker's connections, or less, since memory ran out.
+    /// Of handing out: a piece for each of the worker's connections for which bytes waited, or fewer, since memory ran out.
     pub collected: Result<(), Memory>,
 }
 

@@ -1,5 +1,5 @@
 // The nodes of a server, over one log.
-ghost use Rattle.std.specs.Prelude.{ℕ, ◌≡◌, ◌↔◌, ◌+◌, ◌<◌, ◌≤◌, length, slice_get, replicate, Some, None, IfOk, Err};
+ghost use Rattle.std.specs.Prelude.{ℕ, ◌≡◌, ◌↔◌, ◌+◌, ◌<◌, ◌≤◌, [], length, slice_get, replicate, Some, None, IfOk, Err};
 ghost use Rattle.std.specs.Arc.{arc_value};
 ghost use Rattle.nr_oplog.specs.Rule.{opening_view};
 ghost use Rattle.nr_oplog.specs.Opening.{name_of, nodes_of, places_of};
@@ -118,6 +118,7 @@ fn seat_node<B: LogName>(
     requires node { core.book.node ≡ shape.node }
     requires owed { core.replica.owed ≡ replicate shape.workers None }
     requires idle { HasNoJobs core }
+    requires connections { core.replica.members ≡ [] }
     requires workers { (1 ≤ shape.workers) × (shape.workers ≤ 16) }
     ensures { IfOk result (λ workers. IsNode shape.workers plan.connections plan.limit shape.node workers.items) }
 {
@@ -131,28 +132,34 @@ fn seat_node<B: LogName>(
     let combiner = Combiner::new(alloc, shape, core, desk, own)?;
     let Ok(shared) = Arc::new(
         alloc,
-        Node::new(combiner, log, slots, plan.connections, plan.limit),
+        Node::new(
+            shape.node,
+            combiner,
+            log,
+            slots,
+            plan.connections,
+            plan.limit,
+        ),
     ) else {
         return Err(Memory);
     };
-    workers_of(alloc, &shared, shape.node, seats)
+    workers_of(alloc, &shared, seats)
 }
 
 // The workers of a node, one for each seat.
 fn workers_of<B: LogName>(
     alloc: Global,
     shared: &Arc<Node<B>, Global>,
-    node: usize,
     seats: Vec<WorkerSeat>,
 ) -> Result<Vec<Worker<B>>, Memory>
     requires seats { (worker : ℕ) → worker < length seats.items → slice_get seats.items worker ≡ Some (new_worker (arc_value shared.now).slots.id worker) }
     requires workers { (length seats.items ≡ (arc_value shared.now).slots.workers) × (length seats.items ≤ 16) }
-    ensures { IfOk result (λ workers. workers.items ≡ fresh_workers (arc_value shared.now) node 0 (length seats.items)) }
+    ensures { IfOk result (λ workers. workers.items ≡ fresh_workers (arc_value shared.now) 0 (length seats.items)) }
 {
     let mut workers = Vec::with_capacity(alloc, seats.len())?;
     for seat in seats {
         let worker = workers.len();
-        workers.push(Worker::new(Arc::try_clone(shared)?, node, worker, seat))?;
+        workers.push(Worker::new(Arc::try_clone(shared)?, worker, seat))?;
     }
     Ok(workers)
 }

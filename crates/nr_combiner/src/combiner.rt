@@ -53,7 +53,7 @@ impl<B: LogName> Model for Combiner<B> {
 }
 
 impl<B: LogName> Combiner<B> {
-    /// A node that has no job yet, with the seat of its combiner at these slots.
+    /// A node that has no job and no connection yet, with the seat of its combiner at these slots.
     pub fn new(
         alloc: Global,
         shape: Shape,
@@ -64,6 +64,7 @@ impl<B: LogName> Combiner<B> {
         requires node { core.book.node ≡ shape.node }
         requires owed { core.replica.owed ≡ replicate shape.workers None }
         requires idle { HasNoJobs core }
+        requires connections { core.replica.members ≡ [] }
         requires seat { seat ≡ new_combiner (arc_value slots).id shape.workers }
         ensures { IfOk result (λ combiner. combiner ≡ record { node = core; seat = seat; taken = 0 }) }
     {
@@ -163,12 +164,14 @@ impl<B: LogName> Combiner<B> {
         }
     }
 
-    /// A turn of the combiner: it lifts the batches that its workers offer, one each, and takes in their jobs; puts the updates that lead into the log, in one
-    /// entry; applies and passes the entries that are there, and runs the reads that lead behind them; and answers the batches that are executed.
+    /// A turn of the combiner: it lifts the batches that its workers offer, one each, and takes in their jobs; puts one entry of updates into the log, those of an
+    /// entry that found no place before, else the first that lead, at most 1,024; applies and passes the entries that are there, and runs the reads that lead
+    /// behind them; and answers the batches that are executed.
     ///
-    /// It is [`Round::Done`] where all that was due was done; [`Round::Full`] or [`Round::Again`] where updates go on waiting, as the next turn will find them,
-    /// and no read was run before them; [`Round::NotYet`] where an entry isn't filled yet; [`Round::Down`] where the replica is down. Where memory runs out no
-    /// job is lost. Its cost is that of its steps: two loads for each worker, and then for each job and each entry what it costs there.
+    /// It is [`Round::Done`] where the entry that was due stands in the log, or none was, and the reads that led were run: more updates may lead, which the next
+    /// turn takes. It is [`Round::Full`] or [`Round::Again`] where updates go on waiting, as the next turn will find them, and no read was run before them;
+    /// [`Round::NotYet`] where an entry isn't filled yet; [`Round::Down`] where the replica is down, or fell, with which all that waited is lost. An error for want
+    /// of memory loses no job. Its cost is that of its steps: two loads for each worker, and then for each job and each entry what it costs there.
     pub fn combine(&mut self) -> Result<Round, Memory>
         ensures combined { HasCombined B.places result (length self.old.seat.desks) self.old self.new }
         ensures down { (result ≡ Ok Round.Down) ↔ (self.new.node.replica.down ≡ true) }

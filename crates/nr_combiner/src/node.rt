@@ -16,10 +16,11 @@ use std::alloc::Global;
 use std::marker::Model;
 use std::sync::{Arc, Mutex, Wait};
 
-/// A node, as its workers share it. Each call takes its lock once, for as long as its work takes. Contracts see which its slots are, and its limits: what stands
+/// A node, as its workers share it. Each call takes its lock once, for as long as its work takes. Contracts see which it is, its slots and its limits: what stands
 /// behind the lock changes between any two calls, so what they say of it is what was handed out.
 #[derive(Drop)]
 pub struct Node<B: LogName> {
+    node: usize,
     combiner: Mutex<Combiner<B>>,
     log: Arc<Oplog<B>, Global>,
     slots: Arc<Slots, Global>,
@@ -34,29 +35,39 @@ impl<B: LogName> Model for Node<B> {
 
     ghost Value = { NodeView };
 
-    ghost view = { λ n. record { slots = arc_value n.slots; connections = n.connections; limit = n.limit } };
+    ghost view = { λ n. record { node = n.node; slots = arc_value n.slots; connections = n.connections; limit = n.limit } };
 }
 
 impl<B: LogName> Node<B> {
-    /// A node behind its lock, with its slots and the log beside it, of which at most so many connections are open, and for each of which at most `limit` bytes
-    /// wait.
+    /// The node of this number behind its lock, with its slots and the log beside it, of which at most so many connections are open, and for each of which at most
+    /// `limit` bytes wait.
     pub fn new(
+        node: usize,
         combiner: Combiner<B>,
         log: Arc<Oplog<B>, Global>,
         slots: Arc<Slots, Global>,
         connections: usize,
         limit: usize,
     ) -> Node<B>
-        requires { combiner.seat.slots ≡ (arc_value slots).id }
-        ensures { result ≡ record { slots = arc_value slots; connections = connections; limit = limit } }
+        requires node { combiner.node.book.node ≡ node }
+        requires slots { combiner.seat.slots ≡ (arc_value slots).id }
+        ensures { result ≡ record { node = node; slots = arc_value slots; connections = connections; limit = limit } }
     {
         Node {
+            node,
             combiner: Mutex::new(combiner),
             log,
             slots,
             connections,
             limit,
         }
+    }
+
+    /// Which node it is, from 0 on.
+    pub fn node(&self) -> usize
+        ensures { result ≡ self.now.node }
+    {
+        self.node
     }
 
     /// The log that all nodes share.

@@ -19,7 +19,6 @@ use std::sync::{Arc, Wait};
 #[derive(Drop)]
 pub struct Worker<B: LogName> {
     shared: Arc<Node<B>, Global>,
-    node: usize,
     worker: usize,
     seat: WorkerSeat,
     // The number of its next batch.
@@ -35,26 +34,20 @@ impl<B: LogName> Model for Worker<B> {
 
     ghost coded = { coded_worker };
 
-    ghost view = { λ w. record { node = w.node; workers = (arc_value w.shared).slots.workers; connections = (arc_value w.shared).connections; limit = (arc_value w.shared).limit; seat = w.seat; next = w.next } };
+    ghost view = { λ w. record { node = (arc_value w.shared).node; workers = (arc_value w.shared).slots.workers; connections = (arc_value w.shared).connections; limit = (arc_value w.shared).limit; seat = w.seat; next = w.next } };
 
     ghost invariant = { λ w. (w.seat.slots ≡ (arc_value w.shared).slots.id) × (w.worker ≡ w.seat.worker) × (w.worker < 16) × (w.worker < (arc_value w.shared).slots.workers) };
 }
 
 impl<B: LogName> Worker<B> {
     // A worker of a node that has handed in nothing yet, by its seat.
-    pub(crate) fn new(
-        shared: Arc<Node<B>, Global>,
-        node: usize,
-        worker: usize,
-        seat: WorkerSeat,
-    ) -> Worker<B>
+    pub(crate) fn new(shared: Arc<Node<B>, Global>, worker: usize, seat: WorkerSeat) -> Worker<B>
         requires seat { seat ≡ new_worker (arc_value shared).slots.id worker }
         requires worker { (worker < 16) × (worker < (arc_value shared).slots.workers) }
-        ensures { result ≡ fresh_worker (arc_value shared) node worker }
+        ensures { result ≡ fresh_worker (arc_value shared) worker }
     {
         Worker {
             shared,
-            node,
             worker,
             seat,
             next: 0,
@@ -93,7 +86,7 @@ impl<B: LogName> Worker<B> {
             return Err(jobs);
         }
         let batch = Batch {
-            node: self.node,
+            node: self.shared.node(),
             worker: self.worker,
             number: self.next,
             jobs,

@@ -96,10 +96,11 @@ begins_numbers : (c : Connection) (done more : Sequence) → IsBeginningOf done 
 begins_numbers c done more b = (numbers_in c b.0, sym (numbers-append c done b.0) ∙ ap (numbers_in c) b.1)
 
 if_later : (c : Connection) (done more : Sequence) (o : Option Account) → IsBeginningOf done more
-    → IfSome o (λ (account : Account). IsBeginningOf (range_with_len 0 account.next) (numbers_in c done))
-    → IfSome o (λ (account : Account). IsBeginningOf (range_with_len 0 account.next) (numbers_in c more))
+    → IfSome o (λ (account : Account). (account.is_ended ≡ true) × IsBeginningOf (range_with_len 0 account.next) (numbers_in c done))
+    → IfSome o (λ (account : Account). (account.is_ended ≡ true) × IsBeginningOf (range_with_len 0 account.next) (numbers_in c more))
 if_later c done more None grows h = tt
-if_later c done more (Some account) grows h = begins_on (range_with_len 0 account.next) (numbers_in c done) (numbers_in c more) h (begins_numbers c done more grows)
+if_later c done more (Some account) grows h =
+    (h.0, begins_on (range_with_len 0 account.next) (numbers_in c done) (numbers_in c more) h.1 (begins_numbers c done more grows))
 
 -- some were, and then others
 closed_at_then : (c : Connection) (done more : Sequence) (x y z : Option Account) → IsBeginningOf done more → IsClosedAt done c x y → IsClosedAt more c y z
@@ -109,7 +110,8 @@ closed_at_then c done more x y z grows first last = elim last [
   | inr gone ↦ elim first [
     | inl before ↦ inr (
       gone.0,
-      subst (λ (o : Option Account). IfSome o (λ (account : Account). IsBeginningOf (range_with_len 0 account.next) (numbers_in c more))) before gone.1,
+      subst (λ (o : Option Account). IfSome o (λ (account : Account). (account.is_ended ≡ true) × IsBeginningOf (range_with_len 0 account.next) (numbers_in c more)))
+          before gone.1,
     )
     | inr early ↦ inr (gone.0, if_later c done more x grows early.1)
   ]
@@ -167,12 +169,13 @@ one_order t new book next job o = record {
   met = o.met;
 }
 
-last_number : (job : Item) (a : Account) → ends_with job a ≡ true → job.number + 1 ≡ a.next
+last_number : (job : Item) (a : Account) → ends_with job a ≡ true → (a.is_ended ≡ true) × (job.number + 1 ≡ a.next)
 last_number job a e =
-    let both = and_parts (is_end job.deed && ltb job.number a.next) (eqb (a.next - job.number) 1) e in
-    let less = ltb-true job.number a.next (and_parts (is_end job.deed) (ltb job.number a.next) both.0).1 in
+    let both = and_parts ((a.is_ended && is_end job.deed) && ltb job.number a.next) (eqb (a.next - job.number) 1) e in
+    let front = and_parts (a.is_ended && is_end job.deed) (ltb job.number a.next) both.0 in
+    let less = ltb-true job.number a.next front.1 in
     let one = eqb-true (a.next - job.number) 1 both.1 in
-    omega (arith, less, one)
+    ((and_parts a.is_ended (is_end job.deed) front.0).0, omega (arith, less, one))
 
 -- numbers with the last of all are all
 done_whole : (numbers more : List ℕ) (next number : ℕ) → numbers ++ more ≡ range_with_len 0 next → number < length numbers → number + 1 ≡ next
@@ -200,7 +203,7 @@ one_closed t new book next job up there o = record {
         | inl same ↦ inl same
         | inr gone ↦ inr (
           gone.0,
-          if_some (finmap.get book.held serial) (λ a. IsBeginningOf (range_with_len 0 a.next) (numbers_in c done)) (λ a at.
+          if_some (finmap.get book.held serial) (λ a. (a.is_ended ≡ true) × IsBeginningOf (range_with_len 0 a.next) (numbers_in c done)) (λ a at.
               let here : finmap.get book.held job.connection.serial ≡ Some a = ap (finmap.get book.held) (sym gone.1) ∙ at in
               let last = last_number job a (sym (ap (ends_by job) here) ∙ gone.3) in
               let rest = unexecuted t next new.waiting in
@@ -209,8 +212,8 @@ one_closed t new book next job up there o = record {
               let apart : all_jobs t next new.waiting ≡ done ++ rest = append_assoc done (jobs_reserved (unpassed t)) (items_of next ++ items_of new.waiting) in
               let same : job.connection ≡ c = λ i. record { node = gone.2 i; serial = sym gone.1 i } in
               let inside : job.number < length (numbers_in c done) = subst (λ (d : Connection). job.number < length (numbers_in d done)) same (there (gone.2 ∙ o.book_is)) in
-              let whole = done_whole (numbers_in c done) (numbers_in c rest) a.next job.number (sym (numbers-append c done rest) ∙ sym (ap (numbers_in c) apart) ∙ taken) inside last in
-              ([], append-nil (range_with_len 0 a.next) ∙ sym whole)),
+              let whole = done_whole (numbers_in c done) (numbers_in c rest) a.next job.number (sym (numbers-append c done rest) ∙ sym (ap (numbers_in c) apart) ∙ taken) inside last.1 in
+              (last.0, ([], append-nil (range_with_len 0 a.next) ∙ sym whole))),
         )
       ];
 }

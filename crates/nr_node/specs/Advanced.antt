@@ -42,7 +42,7 @@ abbrev pub jobs_of_own : ℕ → List Entry → Jobs
 jobs_of_own node [] = []
 jobs_of_own node (entry ∷ entries) = cond (entry.node == node) (items_of entry.jobs.items ++ jobs_of_own node entries) (jobs_of_own node entries)
 
--- texts came one after the other, each in or out for itself, behind what waits for a connection, until its queue was cut: by its limit, or where memory was refused
+-- texts came, whatever they are, one after the other, each in or out for itself, behind what waits for a connection, until its queue was cut: by its limit, or where memory was refused
 abbrev pub all_received : Queue → List (Option ℕ × List Bytes) → Queue
 all_received q [] = q
 all_received q (one ∷ more) = all_received (received one.0 q one.1) more
@@ -61,10 +61,10 @@ HaveGot (old ∷ olds) (new ∷ news) = HasGot old new × HaveGot olds news
 abbrev pub jobs_of_all : List Entry → Jobs
 jobs_of_all entries = flat_map (λ (entry : Entry). items_of entry.jobs.items) entries
 
--- an account is as it was, or it is gone, and all jobs that were taken of its connection are in a record
+-- an account is as it was, or it is gone: then its connection's end was taken, and all jobs that were taken of it are in a record
 abbrev pub IsClosedAt : Sequence → Connection → Option Account → Option Account → Type 0
 IsClosedAt done c old new =
-    (new ≡ old) ⊎ ((new ≡ None) × IfSome old (λ (account : Account). IsBeginningOf (range_with_len 0 account.next) (numbers_in c done)))
+    (new ≡ old) ⊎ ((new ≡ None) × IfSome old (λ (account : Account). (account.is_ended ≡ true) × IsBeginningOf (range_with_len 0 account.next) (numbers_in c done)))
 
 -- so is each of a node's, and nothing else of its book changed
 pub record HasClosed (done : Sequence) (old new : Book) : Type 0 where

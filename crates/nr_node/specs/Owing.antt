@@ -37,7 +37,7 @@ pub record IsOwing (members : List Member) (owed : List (Option ℕ)) (jobs : Jo
   pub opened : AreOpened (length members) jobs
   pub counts : (worker : ℕ) → count_owed (slice_index_or owed worker None) ≡ length (jobs_of_worker worker members jobs)
 
--- a job is of a connection that was opened, and that this worker serves
+-- a job is of a connection that was opened, by its serial, and that this worker serves; of which node it is isn't asked
 abbrev pub IsServedBy : ℕ → List Member → Item → Type 0
 IsServedBy worker members job = (job.connection.serial < length members) × (worker_of members job.connection ≡ worker)
 
@@ -60,8 +60,8 @@ answer_of n worker = answer_by (slice_index_or n.replica.owed worker None) n.rep
 abbrev pub answered_node : ℕ → NodeState → NodeState
 answered_node worker n = record n { replica = record n.replica { owed = slice_set n.replica.owed worker None } }
 
--- Each job that was taken from a connection of the worker is in the record: none goes on waiting, and those of a connection that has an account are numbered 0,
--- 1, 2 and so on there, as many as it says.
+-- No job of a worker's connections goes on waiting, and of a connection that has an account as many as it says are in the record, numbered 0, 1, 2 and so on: so
+-- all that were taken are there.
 pub record HasAllExecuted (worker : ℕ) (n : NodeState) : Type 0 where
   pub none : jobs_of_worker worker n.replica.members (unexecuted n.seat.standing n.next n.replica.waiting) ≡ []
   pub executed : (serial : ℕ) (account : Account) → finmap.get n.book.held serial ≡ Some account → account.worker ≡ worker

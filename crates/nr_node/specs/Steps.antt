@@ -93,8 +93,9 @@ abbrev pub HasLoaded : ℕ → List Look → List Look → Type 0
 HasLoaded tail looks after = (more : List Look) × (after ≡ looks ++ (Tail tail ∷ more))
 
 -- Entries were passed, and then reads were run, behind all that was in the record. The entries of the node's own among them are the first that it had reserved and
--- hadn't passed. The same workers wait for an answer. A node that is up passes one entry at most behind the tail that the call loaded, and the account of each
--- connection whose end is among them goes. Its replica goes down only where an entry was passed, and what waited is dropped then. One that is down stays as it was.
+-- hadn't passed. The same workers wait for an answer. A node that is up passes one entry at most behind the tail that the call loaded, and the account of each of
+-- its connections whose end is among them goes. Its replica goes down only where an entry was passed, and what waited is dropped then. One that is down stays as it
+-- was.
 pub record GoesOnBy (entries : List Entry) (ran : List Job) (tail : ℕ) (n m : NodeState) : Type 0 where
   pub standing : m.seat.standing ≡ record n.seat.standing { history = n.seat.standing.history ++ (map Applied entries ++ map Ran ran); seen = m.seat.standing.seen }
   pub own : jobs_reserved (unpassed n.seat.standing) ≡ jobs_of_own n.book.node entries ++ jobs_reserved (unpassed m.seat.standing)

@@ -197,7 +197,8 @@ impl<B: LogName> Core<B> {
     }
 
     /// Puts the updates that lead into the log, at most 1,024 of them in one entry: first those of an entry that found no place before. Its cost is that of
-    /// [`Waiting::lend_updates`](nr_entry::Waiting::lend_updates), and some loads and stores for each node. Where memory runs out no job is lost.
+    /// [`Waiting::lend_updates`](nr_entry::Waiting::lend_updates), and some loads and stores for each node. An error for want
+    /// of memory loses no job; but where an entry was shared out and can't be had back the replica falls, which is [`Round::Down`], and all that waited is lost.
     pub fn reserve(&mut self) -> Result<Round, Memory>
         ensures done { result ≡ Ok Round.Done → ((at : ℕ) × (entry : Entry) × HasReserved at entry self.old self.new) ⊎ HasNoneDue self.old self.new }
         ensures full { result ≡ Ok Round.Full → GoesOnWaiting self.old self.new }

@@ -2,7 +2,7 @@
 use Rattle.std.proofs.Common.{◌≡◌, ℕ, zero, suc, ◌+◌, ◌<◌, ◌≤◌, Bool, false, cond, not, inl, inr, List, [], ◌∷◌, ◌++◌, length, map, refl, ap, sym, ◌∙◌, subst, arith}
 use Rattle.std.specs.Prelude.{◌==◌, filter, option_to_list}
 use Rattle.std.specs.List.{AllByRecursion}
-use Rattle.std.proofs.lemmas.Bool.{cases_Bool, eqb-false}
+use Rattle.std.proofs.lemmas.Bool.{cases_Bool, cases_lt, eqb-false}
 use Rattle.std.proofs.lemmas.List.{map-append}
 use Rattle.std.proofs.lemmas.List.Elements.{filter-append}
 use Rattle.nr_model.specs.Bytes.{IsBeginningOf}
@@ -26,10 +26,9 @@ use Rattle.nr_oplog.proofs.Fronts.{applied_append}
 use Rattle.nr_accounts.specs.Held.{numbers_in}
 use Rattle.nr_node.specs.Level.{connection_at}
 use Rattle.nr_node.specs.Sound.{IsSound}
-use Rattle.nr_taps.specs.Sequence.{sequence_of, updates_of, AreRun, IsExplainedBy, HaveOneSequence}
-use Rattle.nr_taps.proofs.Known.{sequence_known}
-use Rattle.nr_taps.proofs.Longest.{longest_known, longest_past, known_begin, pasts_begin, past_has}
-use Rattle.nr_taps.proofs.Weave.{IsReadOf, IsReader, woven, woven_length, woven_part, woven_run}
+use Rattle.nr_taps.specs.Sequence.{sequence_of, updates_of, AreRun, IsExplainedBy, HaveOneSequence, reads_by, IsLogOf, AreReadsOf}
+use Rattle.nr_taps.proofs.Longest.{longest_known, longest_past, known_begin, pasts_begin, past_has, longest_log, longest_reads, no_reads}
+use Rattle.nr_taps.proofs.Weave.{IsReadOf, IsReader, woven, woven_length, woven_logged, woven_of_none, woven_part, woven_reads, woven_run}
 
 -- reads of a node's connections, in the words of the lemmas on parts
 reads_of : (node : ℕ) (jobs : Jobs) → AllByRecursion (IsReadOf node) jobs → AreReads jobs × AreOfNode node jobs
@@ -173,4 +172,9 @@ one_sequence standings sound are =
     let run = woven_run 0 upto past log reads in
     let parts = λ (node : ℕ) (below : node < upto).
     subst (λ (n : ℕ). IsBeginningOf (record_of (past node)) (part_from node n taken)) (sym long) (woven_part node 0 upto past log below (applied node)) in
-    (taken, run, each_explained taken upto past standings run parts same sound (pasts_begin standings are), sequence_known upto standings)
+    let logged = subst (IsLogOf standings) (sym (woven_logged 0 upto past log)) (longest_log standings) in
+    let ran = λ (node : ℕ). elim (cases_lt node upto) as (λ _. AreReadsOf standings node (reads_by node taken)) [
+      | inl below ↦ subst (AreReadsOf standings node) (sym (woven_reads node 0 upto past log below (applied node))) (longest_reads standings node)
+      | inr above ↦ subst (AreReadsOf standings node) (sym (woven_of_none node 0 upto past log above)) (no_reads standings node)
+    ] in
+    (taken, run, each_explained taken upto past standings run parts same sound (pasts_begin standings are), logged, ran)

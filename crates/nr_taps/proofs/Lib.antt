@@ -1,5 +1,4 @@
 mod Accepts
-mod Known
 mod Longest
 mod Weave
 pub mod Explains

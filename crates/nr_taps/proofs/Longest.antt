@@ -1,5 +1,5 @@
 -- The longest of lists each two of which are comparable: each begins it.
-use Rattle.std.proofs.Common.{ℕ, cond, List, [], ◌∷◌, length, refl, sym, subst, arith}
+use Rattle.std.proofs.Common.{ℕ, cond, inl, inr, List, [], ◌∷◌, length, map, refl, sym, subst, arith}
 use Rattle.std.specs.Prelude.{◌==◌, nat_le}
 use Rattle.std.specs.List.{AllByRecursion}
 use Rattle.std.proofs.lemmas.Bool.{cond_both, eqb-true, eq-eqb, leb-true, leb-false}
@@ -10,7 +10,7 @@ use Rattle.nr_log_end.specs.declared.standing.Standing.{Standing}
 use Rattle.nr_log_end.specs.declared.standing.Turn.{Turn}
 use Rattle.nr_log_end.specs.Standings.{known_of}
 use Rattle.nr_oplog.specs.Plays.{AreComparable, AreOfOneLog}
-use Rattle.nr_taps.specs.Sequence.{AreAllOfOneLog}
+use Rattle.nr_taps.specs.Sequence.{AreAllOfOneLog, logged_of, ran_items, IsLogOf, AreReadsOf}
 
 abbrev pub longer : {A : Type 0} → List A → List A → List A
 longer xs ys = cond (nat_le (length xs) (length ys)) ys xs
@@ -99,7 +99,20 @@ past_has P (s ∷ more) none all node =
     (λ same. longer_has (P node) s.history (longest_past more node) (subst (λ (n : ℕ). P n s.history) (eqb-true s.node node same) all.0) rest)
     (λ _. rest)
 
--- so does what holds of what each knows
-pub known_has : (P : List Entry → Type 0) (standings : List Standing) → P [] → AllByRecursion (λ (s : Standing). P (known_of s)) standings → P (longest_known standings)
-known_has P [] none all = none
-known_has P (s ∷ more) none all = longer_has P (known_of s) (longest_known more) all.0 (known_has P more none all.1)
+-- the most is what one of them knows, or did
+pub longest_log : (standings : List Standing) → IsLogOf standings (map logged_of (longest_known standings))
+longest_log [] = refl
+longest_log (s ∷ more) = longer_has (λ (log : List Entry). IsLogOf (s ∷ more) (map logged_of log)) (known_of s) (longest_known more) (inl refl) (inr (longest_log more))
+
+pub longest_reads : (standings : List Standing) (node : ℕ) → AreReadsOf standings node (ran_items (longest_past standings node))
+longest_reads [] node = refl
+longest_reads (s ∷ more) node =
+    let rest = longest_reads more node in
+    cond_both (s.node == node) (longer s.history (longest_past more node)) (longest_past more node) (λ (turns : List Turn). AreReadsOf (s ∷ more) node (ran_items turns))
+    (λ same. longer_has (λ (turns : List Turn). AreReadsOf (s ∷ more) node (ran_items turns)) s.history (longest_past more node)
+    (inl (eqb-true s.node node same, refl)) (inr rest))
+    (λ _. inr rest)
+
+pub no_reads : (standings : List Standing) (node : ℕ) → AreReadsOf standings node []
+no_reads [] node = refl
+no_reads (s ∷ more) node = inr (no_reads more node)

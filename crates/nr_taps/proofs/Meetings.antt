@@ -96,6 +96,7 @@ has_accepted : (taken : List Taken) (t : TapState) → IsTapped t → IfSome t.s
 has_accepted taken t k explained =
     let emitted = emitted_by t in
     let seam : take (length t.pending) (t.pending ++ k.begins.0) ≡ t.pending = take-append_seam t.pending k.begins.0 in record {
+      within = k.within;
       explained = explained;
       begins = begins_on (bytes_accepted t) emitted (emitted_for t.connection (sequence_of taken)) (drop (accepted t) emitted, take-append-drop (accepted t) emitted)
           (emitted_on taken t.connection t.standing k.sound explained);
@@ -117,7 +118,7 @@ all_accepted taken (t ∷ taps) are all =
 pub of_one_sequence : (taps : List TapState) → AreMet taps → AreOfOneSequence taps
 of_one_sequence taps are =
     let one = one_sequence (standings_in taps) (sound_all taps are) (one_log_all taps are) in
-    (one.0, one.1, all_accepted one.0 taps are one.2, one.3)
+    (one.0, one.1, all_accepted one.0 taps are one.2, one.3, one.4)
 
 -- tokens that met are those of the taps
 pub tokens_met : (t u : TapState) (o p : Option LogView) (v w : LogView) → standing_of o ≡ t.standing → standing_of p ≡ u.standing → o ≡ Some v → p ≡ Some w

@@ -1,5 +1,5 @@
 -- One sequence of what nodes of one log did: before each entry, and behind the last, what each node ran there.
-use Rattle.std.proofs.Common.{◌≡◌, ℕ, zero, suc, ◌<◌, ◌≤◌, Bool, false, cond, inl, inr, List, [], ◌∷◌, ◌++◌, length, refl, ap, sym, ◌∙◌, subst, arith}
+use Rattle.std.proofs.Common.{◌≡◌, ℕ, zero, suc, ◌<◌, ◌≤◌, Bool, false, cond, inl, inr, List, [], ◌∷◌, ◌++◌, length, map, refl, ap, sym, ◌∙◌, subst, arith}
 use Rattle.std.specs.Prelude.{◌==◌}
 use Rattle.std.specs.List.{AllByRecursion}
 use Rattle.std.proofs.lemmas.Bool.{cases_Bool, eqb-false, eqb-true, eq-eqb, ne_eqb}
@@ -9,7 +9,6 @@ use Rattle.nr_model.specs.Items.{Item, is_update}
 use Rattle.nr_model.specs.Entries.{Jobs, entry_items}
 use Rattle.nr_model.specs.Nodes as nodes
 use Rattle.nr_model.specs.Nodes.{Taken, Reads, Logged, log_of, part_from}
-use Rattle.nr_model.proofs.JobLists.{All-append}
 use Rattle.nr_model.proofs.NodesPartsEmitted.{none_begins, front_begins}
 use Rattle.nr_entry.specs.Jobs.{item_of, items_of}
 use Rattle.nr_entry.specs.declared.entry.Entry.{Entry}
@@ -17,7 +16,7 @@ use Rattle.nr_entry.specs.declared.job.Job.{Job}
 use Rattle.nr_log_end.specs.declared.standing.Turn.{Turn}
 use Rattle.nr_log_end.specs.declared.standing.Turn.TheVariants.{Applied, Ran}
 use Rattle.nr_log_end.specs.Standings.{applied_of, ran_from, record_of}
-use Rattle.nr_taps.specs.Sequence.{AreRun, sequence_of}
+use Rattle.nr_taps.specs.Sequence.{AreRun, logged_of, reads_by, ran_items}
 
 -- what a node ran before the first entry that it passed
 abbrev pub leading : List Turn → List Job
@@ -163,52 +162,93 @@ woven_part r count upto past (entry ∷ log) below b =
 abbrev pub IsReadOf : ℕ → Item → Type 0
 IsReadOf node job = (job.connection.node ≡ node) × (is_update job.deed ≡ false)
 
--- P holds of each read that was run
-abbrev pub HaveRun : (Item → Type 0) → ℕ → List Turn → Type 0
-HaveRun P count turns = AllByRecursion (λ (r : Job × ℕ). P (item_of r.0)) (ran_from count turns)
-
 abbrev pub IsReader : ℕ → ℕ → List Turn → Type 0
-IsReader node count turns = HaveRun (IsReadOf node) count turns
+IsReader node count turns = AllByRecursion (λ (r : Job × ℕ). IsReadOf node (item_of r.0)) (ran_from count turns)
 
-leading_have : (P : Item → Type 0) (count : ℕ) (turns : List Turn) → HaveRun P count turns → AllByRecursion P (items_of (leading turns))
-leading_have P count [] all = tt
-leading_have P count (Applied entry ∷ turns) all = tt
-leading_have P count (Ran job ∷ turns) all = (all.0, leading_have P count turns all.1)
+leading_read : (node count : ℕ) (turns : List Turn) → IsReader node count turns → AllByRecursion (IsReadOf node) (items_of (leading turns))
+leading_read node count [] all = tt
+leading_read node count (Applied entry ∷ turns) all = tt
+leading_read node count (Ran job ∷ turns) all = (all.0, leading_read node count turns all.1)
 
-later_have : (P : Item → Type 0) (count : ℕ) (turns : List Turn) → HaveRun P count turns → HaveRun P (suc count) (behind turns)
-later_have P count [] all = tt
-later_have P count (Applied entry ∷ turns) all = all
-later_have P count (Ran job ∷ turns) all = later_have P count turns all.1
+later_read : (node count : ℕ) (turns : List Turn) → IsReader node count turns → IsReader node (suc count) (behind turns)
+later_read node count [] all = tt
+later_read node count (Applied entry ∷ turns) all = all
+later_read node count (Ran job ∷ turns) all = later_read node count turns all.1
 
 runs_run : (count upto : ℕ) (past : ℕ → List Turn) (more : List Taken) → ((node : ℕ) → IsReader node count (past node)) → AreRun more
     → AreRun (runs_below count upto past ++ more)
 runs_run count zero past more reads run = run
-runs_run count (suc upto) past more reads run = (leading_have (IsReadOf upto) count (past upto) (reads upto), runs_run count upto past more reads run)
+runs_run count (suc upto) past more reads run = (leading_read upto count (past upto) (reads upto), runs_run count upto past more reads run)
 
 pub woven_run : (count upto : ℕ) (past : ℕ → List Turn) (log : List Entry) → ((node : ℕ) → IsReader node count (past node))
     → AreRun (woven count upto past log)
 woven_run count upto past [] reads = runs_run count upto past [] reads tt
 woven_run count upto past (entry ∷ log) reads =
     runs_run count upto past (nodes.Entry entry.node (items_of entry.jobs.items) ∷ woven (suc count) upto (λ node. behind (past node)) log) reads
-    (tt, woven_run (suc count) upto (λ node. behind (past node)) log (λ node. later_have (IsReadOf node) count (past node) (reads node)))
+    (tt, woven_run (suc count) upto (λ node. behind (past node)) log (λ node. later_read node count (past node) (reads node)))
 
--- P holds of each item that an entry puts into the sequence
-abbrev pub EntryHas : (Item → Type 0) → Entry → Type 0
-EntryHas P entry = AllByRecursion P (entry_items (items_of entry.jobs.items))
+-- its log is that one
+pub woven_logged : (count upto : ℕ) (past : ℕ → List Turn) (log : List Entry) → log_of (woven count upto past log) ≡ map logged_of log
+woven_logged count upto past [] = runs_logged count upto past []
+woven_logged count upto past (entry ∷ log) =
+    let later = λ (node : ℕ). behind (past node) in
+    runs_logged count upto past (nodes.Entry entry.node (items_of entry.jobs.items) ∷ woven (suc count) upto later log)
+    ∙ ap (λ (more : List Logged). logged_of entry ∷ more) (woven_logged (suc count) upto later log)
 
--- what holds of each item of the log, and of each read that was run, holds of each item of the sequence
-runs_have : (P : Item → Type 0) (count upto : ℕ) (past : ℕ → List Turn) (more : List Taken) → ((node : ℕ) → HaveRun P count (past node))
-    → AllByRecursion P (sequence_of more) → AllByRecursion P (sequence_of (runs_below count upto past ++ more))
-runs_have P count zero past more reads all = all
-runs_have P count (suc upto) past more reads all =
-    All-append P (items_of (leading (past upto))) (sequence_of (runs_below count upto past ++ more)) (leading_have P count (past upto) (reads upto))
-    (runs_have P count upto past more reads all)
+-- a node of a higher number ran nothing in it
+runs_of_none : (r count upto : ℕ) (past : ℕ → List Turn) (more : List Taken) → upto ≤ r → reads_by r (runs_below count upto past ++ more) ≡ reads_by r more
+runs_of_none r count zero past more h = refl
+runs_of_none r count (suc upto) past more h =
+    let below : upto ≤ r = omega (arith, h) in
+    let jobs = items_of (leading (past upto)) in
+    let rest = reads_by r (runs_below count upto past ++ more) in
+    ap (λ (b : Bool). cond b (jobs ++ rest) rest) (ne_eqb upto r (λ e. omega (arith, h, e))) ∙ runs_of_none r count upto past more below
 
-pub woven_have : (P : Item → Type 0) (count upto : ℕ) (past : ℕ → List Turn) (log : List Entry) → AllByRecursion (EntryHas P) log
-    → ((node : ℕ) → HaveRun P count (past node)) → AllByRecursion P (sequence_of (woven count upto past log))
-woven_have P count upto past [] logged reads = runs_have P count upto past [] reads tt
-woven_have P count upto past (entry ∷ log) logged reads =
-    let later = woven (suc count) upto (λ node. behind (past node)) log in
-    runs_have P count upto past (nodes.Entry entry.node (items_of entry.jobs.items) ∷ later) reads
-    (All-append P (entry_items (items_of entry.jobs.items)) (sequence_of later) logged.0
-    (woven_have P (suc count) upto (λ node. behind (past node)) log logged.1 (λ node. later_have P count (past node) (reads node))))
+pub woven_of_none : (r count upto : ℕ) (past : ℕ → List Turn) (log : List Entry) → upto ≤ r → reads_by r (woven count upto past log) ≡ []
+woven_of_none r count upto past [] h = runs_of_none r count upto past [] h
+woven_of_none r count upto past (entry ∷ log) h =
+    let later = λ (node : ℕ). behind (past node) in
+    runs_of_none r count upto past (nodes.Entry entry.node (items_of entry.jobs.items) ∷ woven (suc count) upto later log) h
+    ∙ woven_of_none r (suc count) upto later log h
+
+-- one of a lower number ran what leads, and then the others
+runs_of_own : (r count upto : ℕ) (past : ℕ → List Turn) (more : List Taken) → r < upto
+    → reads_by r (runs_below count upto past ++ more) ≡ items_of (leading (past r)) ++ reads_by r more
+runs_of_own r count zero past more h = absurd (omega (arith, h))
+runs_of_own r count (suc upto) past more h =
+    let jobs = items_of (leading (past upto)) in
+    let rest = reads_by r (runs_below count upto past ++ more) in
+    let at = λ (b : Bool). cond b (jobs ++ rest) rest in
+    elim (cases_Bool (upto == r)) [
+      | inl own ↦
+          let same = eqb-true upto r own in
+          let last : upto ≤ r = omega (arith, same) in
+          ap at own ∙ (λ i. items_of (leading (past (same i))) ++ runs_of_none r count upto past more last i)
+      | inr other ↦
+          let apart = eqb-false upto r other in
+          let below : r < upto = omega (arith, h, apart) in
+          ap at other ∙ runs_of_own r count upto past more below
+    ]
+
+leads_and_behind : (turns : List Turn) → items_of (leading turns) ++ ran_items (behind turns) ≡ ran_items turns
+leads_and_behind [] = refl
+leads_and_behind (Applied entry ∷ turns) = refl
+leads_and_behind (Ran job ∷ turns) = ap (λ (items : List Item). item_of job ∷ items) (leads_and_behind turns)
+
+none_ran_behind : (turns : List Turn) → IsBeginningOf (applied_of turns) [] → ran_items (behind turns) ≡ []
+none_ran_behind [] b = refl
+none_ran_behind (Applied entry ∷ turns) b = absurd (cc b.1)
+none_ran_behind (Ran job ∷ turns) b = none_ran_behind turns b
+
+-- the reads of a node in it are all that it ran
+pub woven_reads : (r count upto : ℕ) (past : ℕ → List Turn) (log : List Entry) → r < upto → IsBeginningOf (applied_of (past r)) log
+    → reads_by r (woven count upto past log) ≡ ran_items (past r)
+woven_reads r count upto past [] below b =
+    runs_of_own r count upto past [] below ∙ ap (λ (items : List Item). items_of (leading (past r)) ++ items) (sym (none_ran_behind (past r) b))
+    ∙ leads_and_behind (past r)
+woven_reads r count upto past (entry ∷ log) below b =
+    let later = λ (node : ℕ). behind (past node) in
+    let rest = woven (suc count) upto later log in
+    runs_of_own r count upto past (nodes.Entry entry.node (items_of entry.jobs.items) ∷ rest) below
+    ∙ ap (λ (items : List Item). items_of (leading (past r)) ++ items) (woven_reads r (suc count) upto later log below (later_begins (past r) entry log b))
+    ∙ leads_and_behind (past r)

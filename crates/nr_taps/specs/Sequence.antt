@@ -1,15 +1,16 @@
 -- One sequence behind all that the nodes of one log hand out.
-use Rattle.std.specs.Prelude.{◌≡◌, ◌⊎◌, ℕ, false, List, [], ◌∷◌, ◌++◌, length, filter, flat_map, Option, Some, None}
+use Rattle.std.specs.Prelude.{◌≡◌, ◌⊎◌, ◌==◌, ℕ, false, cond, List, [], ◌∷◌, ◌++◌, length, map, filter, flat_map}
 use Rattle.std.specs.List.{AllByRecursion}
 use Rattle.nr_model.specs.Bytes.{IsBeginningOf}
 use Rattle.nr_model.specs.Items.{Item, Sequence, is_update}
 use Rattle.nr_model.specs.Sequential.{emitted_for}
-use Rattle.nr_model.specs.Entries.{entry_items}
-use Rattle.nr_model.specs.Nodes.{Taken, Entry, Reads, log_of, items_taken, part_from}
-use Rattle.nr_entry.specs.Jobs.{items_of}
+use Rattle.nr_model.specs.Nodes.{Taken, Entry, Reads, Logged, log_of, items_taken, part_from}
+use Rattle.nr_entry.specs.Jobs.{item_of, items_of}
 use Rattle.nr_entry.specs.declared.entry.Entry as entries
 use Rattle.nr_log_end.specs.declared.standing.Standing.{Standing}
-use Rattle.nr_log_end.specs.Standings.{record_of}
+use Rattle.nr_log_end.specs.declared.standing.Turn.{Turn}
+use Rattle.nr_log_end.specs.declared.standing.Turn.TheVariants.{Applied, Ran}
+use Rattle.nr_log_end.specs.Standings.{record_of, known_of}
 use Rattle.nr_accounts.specs.Held.{numbers_in}
 use Rattle.nr_oplog.specs.Plays.{AreOfOneLog}
 use Rattle.nr_node.specs.Level.{IsCount, connection_at}
@@ -43,27 +44,35 @@ pub record IsExplainedBy (taken : List Taken) (s : Standing) : Type 0 where
   pub emitted : (serial : ℕ) → IsBeginningOf (emitted_for (connection_at s.node serial) (record_of s.history))
       (emitted_for (connection_at s.node serial) (sequence_of taken))
 
--- the items of a standing's record, and behind them those of the entry that it holds
-abbrev pub items_held : Option entries.Entry → Sequence
-items_held None = []
-items_held (Some entry) = entry_items (items_of entry.jobs.items)
+-- the log is what one of these knows of it, or none of it
+abbrev pub logged_of : entries.Entry → Logged
+logged_of entry = record { node = entry.node; jobs = items_of entry.jobs.items }
 
-abbrev pub items_known : Standing → Sequence
-items_known s = record_of s.history ++ items_held s.held
+abbrev pub IsLogOf : List Standing → List Logged → Type 0
+IsLogOf [] log = log ≡ []
+IsLogOf (s ∷ more) log = (log ≡ map logged_of (known_of s)) ⊎ IsLogOf more log
 
--- an item is one of these
-abbrev pub IsAmong : Item → Sequence → Type 0
-IsAmong item items = (front : Sequence) × (back : Sequence) × (items ≡ front ++ item ∷ back)
+-- the reads that a node ran, in what was taken and along a history
+abbrev pub reads_by : ℕ → List Taken → Sequence
+reads_by r [] = []
+reads_by r (Entry node jobs ∷ more) = reads_by r more
+reads_by r (Reads node count jobs ∷ more) = let rest = reads_by r more in cond (node == r) (jobs ++ rest) rest
 
--- one of these standings knows it
-abbrev pub IsKnown : List Standing → Item → Type 0
-IsKnown [] item = ⊥
-IsKnown (s ∷ more) item = IsAmong item (items_known s) ⊎ IsKnown more item
+abbrev pub ran_items : List Turn → Sequence
+ran_items [] = []
+ran_items (Applied entry ∷ turns) = ran_items turns
+ran_items (Ran job ∷ turns) = item_of job ∷ ran_items turns
 
--- one sequence explains all of these, and each item of it is one that one of them knows
+-- these are the reads that one of these standings of a node ran, or none
+abbrev pub AreReadsOf : List Standing → ℕ → Sequence → Type 0
+AreReadsOf [] node items = items ≡ []
+AreReadsOf (s ∷ more) node items = ((s.node ≡ node) × (items ≡ ran_items s.history)) ⊎ AreReadsOf more node items
+
+-- One sequence explains all of these. Its log is what one of them knows, and the reads of each node in it are those that one of them ran: so it has no job that none
+-- of them knows, and each as often as one of them does.
 abbrev pub OneSequence : List Standing → Type 0
-OneSequence standings =
-    (taken : List Taken) × AreRun taken × AllByRecursion (IsExplainedBy taken) standings × AllByRecursion (IsKnown standings) (sequence_of taken)
+OneSequence standings = (taken : List Taken) × AreRun taken × AllByRecursion (IsExplainedBy taken) standings × IsLogOf standings (log_of taken)
+    × ((node : ℕ) → AreReadsOf standings node (reads_by node taken))
 
 -- each two of these are of one log
 abbrev pub AreAllOfOneLog : List Standing → Type 0

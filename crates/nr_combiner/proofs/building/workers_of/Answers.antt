@@ -25,9 +25,9 @@ loop-seat-preserved g c =
     let at : c.len-worker.result ≡ length ws = omega (arith, c.len-worker.ensures, c.loop-seat.workers.ok.0) in
     let fewer : length rest ≡ suc (length left) = ap length c.in-Some.ensures.steps.0 in
     let more : length c.push.new.self.items ≡ length ws + 1 = ap length c.in_ok-push.ensures.items ∙ length-append ws (c.new.result ∷ []) in
-    let is : c.new.result ≡ fresh_worker shared c.args.node (length ws) =
-    c.new.ensures ∙ ap (λ (v : NodeView). fresh_worker v c.args.node c.len-worker.result) c.in_ok-try_clone.ensures ∙ ap (λ worker. fresh_worker shared c.args.node worker) at in (
+    let is : c.new.result ≡ fresh_worker shared (length ws) =
+    c.new.ensures ∙ ap (λ (v : NodeView). fresh_worker v c.len-worker.result) c.in_ok-try_clone.ensures ∙ ap (λ worker. fresh_worker shared worker) at in (
       omega (arith, i.0, fewer, more),
       others_are rest left c.in-Some.seat (λ worker. new_worker shared.slots.id worker) (length ws) (length c.push.new.self.items) c.in-Some.ensures.steps.0 more i.1,
-      one_made shared c.args.node (length c.args.seats.items) ws c.push.new.self.items c.new.result (length rest) (length left) c.in_ok-push.ensures.items is fewer i.2,
+      one_made shared (length c.args.seats.items) ws c.push.new.self.items c.new.result (length rest) (length left) c.in_ok-push.ensures.items is fewer i.2,
     )
