@@ -1,14 +1,15 @@
 -- The jobs of a node's connections stay what their batches held, wherever they are.
-use Rattle.std.proofs.Common.{◌≡◌, ℕ, zero, suc, ◌<◌, inl, inr, ◌⊎◌, Bool, true, IsTrue, cond, Option, Some, None, List, [], ◌∷◌, ◌++◌, map, length, drop, refl, ap, sym, ◌∙◌, subst, append_assoc, get_or, set, get_or-set_same, get_or-set_other}
+use Rattle.std.proofs.Common.{◌≡◌, ℕ, zero, suc, ◌+◌, ◌<◌, inl, inr, ◌⊎◌, Bool, true, IsTrue, cond, List, [], ◌∷◌, ◌++◌, map, length, drop, Contains, refl, ap, sym, ◌∙◌, subst, arith, append_assoc, get_or, set, get_or-set_same, get_or-set_other}
 use Rattle.std.specs.Prelude.{◌≢◌, ◌==◌, Result, Ok, Err}
-use Rattle.std.specs.List.{AllByRecursion}
+use Rattle.std.specs.List.{AllByRecursion, slice_get}
 use Rattle.std.proofs.lemmas.Bool.{cases_Bool, and_parts, eqb-true}
 use Rattle.std.proofs.lemmas.Bool.Decides.{eqb_tells}
-use Rattle.std.proofs.lemmas.List.{map-append}
+use Rattle.std.proofs.lemmas.List.{map-append, length-append, append-nil}
 use Rattle.nr_blob.specs.declared.memory.Memory.{Memory}
 use Rattle.nr_model.specs.Items.{Item, Sequence}
 use Rattle.nr_model.specs.Entries.{Jobs}
 use Rattle.nr_model.proofs.JobLists.{All-append}
+use Rattle.nr_model.proofs.NodesExecutedLists.{in_middle}
 use Rattle.nr_model.proofs.NodesOwnLists.{All-weaker, All-entry, All-left_by_entry, All-reads, All-left_by_reads}
 use Rattle.nr_entry.specs.Jobs.{item_of, items_of}
 use Rattle.nr_entry.specs.Entry.{are_of}
@@ -21,7 +22,6 @@ use Rattle.nr_log_end.specs.declared.standing.Standing.{Standing}
 use Rattle.nr_log_end.specs.declared.standing.Turn.{Turn}
 use Rattle.nr_log_end.specs.declared.standing.Turn.TheVariants.{Applied, Ran}
 use Rattle.nr_log_end.specs.Standings.{record_of, applied_of, own_entries, reservation}
-use Rattle.nr_accounts.specs.declared.account.Account.{Account}
 use Rattle.nr_replica.specs.Replicas.{ReplicaState}
 use Rattle.nr_slots.specs.declared.view.Desk.{Desk}
 use Rattle.nr_slots.specs.Rule.{no_desk}
@@ -34,7 +34,7 @@ use Rattle.nr_node.specs.declared.answers.Round.{Round}
 use Rattle.nr_node.specs.declared.answers.Round.TheVariants as rounds
 use Rattle.nr_node.proofs.Lists.{record-append}
 use Rattle.nr_node.proofs.Owed.{all_front, all_back}
-use Rattle.nr_combiner.specs.Served.{IsCounted, IsTakenOf, IsLifted, IsOwnOfBatch, AllJobs, HasNoJobs}
+use Rattle.nr_combiner.specs.Served.{IsOfWorker, IsNoRefusal, HandsNoneBack, IsLifted, IsOwnOfBatch, AllJobs, HasNoJobs}
 use Rattle.nr_combiner.specs.Steps.{ComesTo, HasLooked}
 
 -- ---- lists
@@ -42,6 +42,15 @@ reserved-append : (rs more : List (ℕ × Entry)) → jobs_reserved (rs ++ more)
 reserved-append [] more = refl
 reserved-append (r ∷ rs) more =
     ap (λ (js : Jobs). items_of r.1.jobs.items ++ js) (reserved-append rs more) ∙ sym (append_assoc (items_of r.1.jobs.items) (jobs_reserved rs) (jobs_reserved more))
+
+-- whether a look was done
+pub is_done : (r : Result Round Memory) → (r ≡ Ok rounds.Done) ⊎ (r ≢ Ok rounds.Done)
+is_done (Ok rounds.Done) = inl refl
+is_done (Ok rounds.Full) = inr (λ e. absurd (cc e))
+is_done (Ok rounds.Again) = inr (λ e. absurd (cc e))
+is_done (Ok rounds.NotYet) = inr (λ e. absurd (cc e))
+is_done (Ok rounds.Down) = inr (λ e. absurd (cc e))
+is_done (Err memory) = inr (λ e. absurd (cc e))
 
 module _ (Q : Item → Type 0) where
   -- ---- what holds of all jobs of a node goes on to do so
@@ -178,14 +187,6 @@ module _ (Q : Item → Type 0) where
   ran_all [] a = tt
   ran_all (job ∷ ran) a = (a.0, ran_all ran a.1)
 
-  is_done : (r : Result Round Memory) → (r ≡ Ok rounds.Done) ⊎ (r ≢ Ok rounds.Done)
-  is_done (Ok rounds.Done) = inl refl
-  is_done (Ok rounds.Full) = inr (λ e. absurd (cc e))
-  is_done (Ok rounds.Again) = inr (λ e. absurd (cc e))
-  is_done (Ok rounds.NotYet) = inr (λ e. absurd (cc e))
-  is_done (Ok rounds.Down) = inr (λ e. absurd (cc e))
-  is_done (Err memory) = inr (λ e. absurd (cc e))
-
   either_all : (new old : List Job) → (new ≡ []) ⊎ (new ≡ old) → AllByRecursion Q (items_of old) → AllByRecursion Q (items_of new)
   either_all new old is a = elim is [
     | inl none ↦ subst (λ (js : List Job). AllByRecursion Q (items_of js)) (sym none) tt
@@ -252,12 +253,6 @@ jobs_weaker Q R f n a = record {
   waits = All-weaker Q R f (items_of n.replica.waiting) a.waits;
 }
 
--- whether it is counted doesn't depend on its moment
-moved_counted : (done : Sequence) (worker : ℕ) (job : Item) (moment : ℕ) (o : Option Account) → IsCounted worker done job o
-    → IsCounted worker done (record job { moment = moment }) o
-moved_counted done worker job moment (Some a) h = h
-moved_counted done worker job moment None h = h
-
 -- of which batch a job is doesn't depend on its moment, and is said of the node's connections alone
 pub speaks_of : (n : NodeState) (desks : List Desk) → SpeaksOf (IsOwnOfBatch n desks) n.book.node
 speaks_of n desks = (
@@ -265,91 +260,144 @@ speaks_of n desks = (
       let b = of own in
       record {
         worker = b.worker;
-        taken = record { node = b.taken.node; served = b.taken.served; counted = moved_counted (record_of n.seat.standing.history) b.worker job moment _ b.taken.counted };
+        own = record { node = b.own.node; served = b.own.served };
         batch = b.batch;
         lifted = b.lifted;
-        item = b.item;
-        holds = b.holds;
-        same = b.same;
+        has = record { item = b.has.item; there = b.has.there; connection = b.has.connection; number = b.has.number; deed = b.has.deed };
       },
   λ job apart own. absurd (apart own),
 )
 
 -- what was lifted before stays so
-pub of_lifted : (n m : NodeState) (v w : List Desk) → ((worker : ℕ) (job : Item) → IsTakenOf n worker job → IsTakenOf m worker job) → n.book.node ≡ m.book.node
+pub of_lifted : (n m : NodeState) (v w : List Desk) → ((worker : ℕ) (job : Item) → IsOfWorker n worker job → IsOfWorker m worker job) → n.book.node ≡ m.book.node
     → ((worker : ℕ) (batch : Batch) → IsLifted v worker batch → IsLifted w worker batch) → (job : Item) → IsOwnOfBatch n v job → IsOwnOfBatch m w job
-of_lifted n m v w taken node lifted job of own =
+of_lifted n m v w moves node lifted job of own =
     let b = of (own ∙ sym node) in
     record {
       worker = b.worker;
-      taken = taken b.worker job b.taken;
+      own = moves b.worker job b.own;
       batch = b.batch;
       lifted = lifted b.worker b.batch b.lifted;
-      item = b.item;
-      holds = b.holds;
-      same = b.same;
+      has = b.has;
     }
 
--- one that is lifted, or answered, takes none away
+-- answers behind others
+answered_more : (xs : List Answer) (x : Answer) (k : ℕ) → (k ≡ length xs → IsNoRefusal x.outcome) → HandsNoneBack (slice_get xs k) → HandsNoneBack (slice_get (xs ++ x ∷ []) k)
+answered_more [] x zero last h = last refl
+answered_more [] x (suc k) last h = tt
+answered_more (y ∷ xs) x zero last h = h
+answered_more (y ∷ xs) x (suc k) last h = answered_more xs x k (λ e. last (ap suc e)) h
+
+none_yet : (xs : List Answer) (k : ℕ) → k ≡ length xs → HandsNoneBack (slice_get xs k)
+none_yet [] k e = tt
+none_yet (x ∷ xs) zero e = absurd (omega (arith, e))
+none_yet (x ∷ xs) (suc k) e = none_yet xs k (omega (arith, e))
+
+-- a worker's desk changes: what lay on it is there as before, and no answer hands it back
+desk_changed : (desks : List Desk) (worker : ℕ) (desk : Desk) (more : List Batch) → worker < length desks → desk.lifted ≡ (get_or desks worker no_desk).lifted ++ more
+    → ((k : ℕ) → k < length (get_or desks worker no_desk).lifted → HandsNoneBack (slice_get (get_or desks worker no_desk).answered k) → HandsNoneBack (slice_get desk.answered k))
+    → (w : ℕ) (b : Batch) → IsLifted desks w b → IsLifted (set desks worker desk) w b
+desk_changed desks worker desk more near longer kept w b is =
+    let old = get_or desks worker no_desk in
+    elim (eqb_tells w worker) [
+      | inl same ↦
+          let there : get_or (set desks worker desk) w no_desk ≡ desk =
+          ap (λ (k : ℕ). get_or (set desks worker desk) k no_desk) same.1 ∙ get_or-set_same desks worker desk no_desk near in
+          let was : get_or desks w no_desk ≡ old = ap (λ (k : ℕ). get_or desks k no_desk) same.1 in
+          let whole : old.lifted ≡ is.before ++ b ∷ is.after = sym (ap (λ (d : Desk). d.lifted) was) ∙ is.lifted in
+          let long : length old.lifted ≡ length is.before + length (b ∷ is.after) = ap length whole ∙ length-append is.before (b ∷ is.after) in
+          let below : length is.before < length old.lifted = omega (arith, long) in
+          record {
+            before = is.before;
+            after = is.after ++ more;
+            lifted = ap (λ (d : Desk). d.lifted) there ∙ longer ∙ ap (λ (bs : List Batch). bs ++ more) whole ∙ append_assoc is.before (b ∷ is.after) more;
+            kept = subst (λ (d : Desk). HandsNoneBack (slice_get d.answered (length is.before))) (sym there)
+                (kept (length is.before) below (subst (λ (d : Desk). HandsNoneBack (slice_get d.answered (length is.before))) was is.kept));
+          }
+      | inr other ↦
+          let same : get_or (set desks worker desk) w no_desk ≡ get_or desks w no_desk = get_or-set_other desks worker w desk no_desk other.1 in
+          record {
+            before = is.before;
+            after = is.after;
+            lifted = ap (λ (d : Desk). d.lifted) same ∙ is.lifted;
+            kept = subst (λ (d : Desk). HandsNoneBack (slice_get d.answered (length is.before))) (sym same) is.kept;
+          }
+    ]
+
+-- so where one is lifted, or answered, or both
 pub lifted_more : (seat : CombinerView) (worker : ℕ) (batch : Batch) → worker < length seat.desks → (w : ℕ) (b : Batch) → IsLifted seat.desks w b
     → IsLifted (with_lifted worker batch seat).desks w b
-lifted_more seat worker batch near w b is =
+lifted_more seat worker batch near =
+    let old = desk_of seat worker in
+    desk_changed seat.desks worker record { lifted = old.lifted ++ batch ∷ []; answered = old.answered; grip = old.grip } (batch ∷ []) near refl (λ k below h. h)
+
+pub answered_lifted : (seat : CombinerView) (worker : ℕ) (answer : Answer) → worker < length seat.desks → IsNoRefusal answer.outcome → (w : ℕ) (b : Batch)
+    → IsLifted seat.desks w b → IsLifted (with_answered worker answer seat).desks w b
+answered_lifted seat worker answer near told =
+    let old = desk_of seat worker in
+    desk_changed seat.desks worker record { lifted = old.lifted; answered = old.answered ++ answer ∷ []; grip = old.grip } [] near (sym (append-nil old.lifted))
+    (λ k below h. answered_more old.answered answer k (λ _. told) h)
+
+pub back_lifted : (seat : CombinerView) (worker : ℕ) (batch : Batch) (answer : Answer) → worker < length seat.desks
+    → length (desk_of seat worker).lifted ≡ length (desk_of seat worker).answered → (w : ℕ) (b : Batch) → IsLifted seat.desks w b
+    → IsLifted (set seat.desks worker record {
+      lifted = (desk_of seat worker).lifted ++ batch ∷ [];
+      answered = (desk_of seat worker).answered ++ answer ∷ [];
+      grip = (desk_of seat worker).grip;
+    }) w b
+back_lifted seat worker batch answer near even =
+    let old = desk_of seat worker in
+    desk_changed seat.desks worker record { lifted = old.lifted ++ batch ∷ []; answered = old.answered ++ answer ∷ []; grip = old.grip } (batch ∷ []) near refl
+    (λ k below h. answered_more old.answered answer k (λ e. absurd (omega (arith, below, even, e))) h)
+
+lifted_last : (seat : CombinerView) (worker : ℕ) (batch : Batch) → worker < length seat.desks
+    → length (desk_of seat worker).lifted ≡ length (desk_of seat worker).answered → IsLifted (with_lifted worker batch seat).desks worker batch
+lifted_last seat worker batch near even =
     let old = desk_of seat worker in
     let desk : Desk = record { lifted = old.lifted ++ batch ∷ []; answered = old.answered; grip = old.grip } in
-    elim (eqb_tells w worker) [
-      | inl same ↦ (
-        is.0,
-        is.1 ++ batch ∷ [],
-        ap (λ (k : ℕ). (get_or (set seat.desks worker desk) k no_desk).lifted) same.1 ∙ ap (λ (d : Desk). d.lifted) (get_or-set_same seat.desks worker desk no_desk near)
-            ∙ ap (λ (k : ℕ). (desk_of seat k).lifted ++ batch ∷ []) (sym same.1) ∙ ap (λ (bs : List Batch). bs ++ batch ∷ []) is.2 ∙ append_assoc is.0 (b ∷ is.1) (batch ∷ []),
-      )
-      | inr other ↦ (is.0, is.1, ap (λ (d : Desk). d.lifted) (get_or-set_other seat.desks worker w desk no_desk other.1) ∙ is.2)
-    ]
-
-pub lifted_last : (seat : CombinerView) (worker : ℕ) (batch : Batch) → worker < length seat.desks → IsLifted (with_lifted worker batch seat).desks worker batch
-lifted_last seat worker batch near =
-    let old = desk_of seat worker in
-    let desk : Desk = record { lifted = old.lifted ++ batch ∷ []; answered = old.answered; grip = old.grip } in
-    (old.lifted, [], ap (λ (d : Desk). d.lifted) (get_or-set_same seat.desks worker desk no_desk near))
-
-pub answered_lifted : (seat : CombinerView) (worker : ℕ) (answer : Answer) → worker < length seat.desks → (w : ℕ) (b : Batch) → IsLifted seat.desks w b
-    → IsLifted (with_answered worker answer seat).desks w b
-answered_lifted seat worker answer near w b is =
-    let old = desk_of seat worker in
-    let desk : Desk = record { lifted = old.lifted; answered = old.answered ++ answer ∷ []; grip = old.grip } in
-    elim (eqb_tells w worker) [
-      | inl same ↦ (
-        is.0,
-        is.1,
-        ap (λ (k : ℕ). (get_or (set seat.desks worker desk) k no_desk).lifted) same.1 ∙ ap (λ (d : Desk). d.lifted) (get_or-set_same seat.desks worker desk no_desk near)
-            ∙ ap (λ (k : ℕ). (desk_of seat k).lifted) (sym same.1) ∙ is.2,
-      )
-      | inr other ↦ (is.0, is.1, ap (λ (d : Desk). d.lifted) (get_or-set_other seat.desks worker w desk no_desk other.1) ∙ is.2)
-    ]
+    let there : get_or (set seat.desks worker desk) worker no_desk ≡ desk = get_or-set_same seat.desks worker desk no_desk near in
+    record {
+      before = old.lifted;
+      after = [];
+      lifted = ap (λ (d : Desk). d.lifted) there;
+      kept = subst (λ (d : Desk). HandsNoneBack (slice_get d.answered (length old.lifted))) (sym there) (none_yet old.answered (length old.lifted) even);
+    }
 
 -- the jobs of a batch that is taken in
 batch_from : (n : NodeState) (desks : List Desk) (worker : ℕ) (batch : Batch) (front jobs : Jobs) → IsLifted desks worker batch → items_of batch.jobs.items ≡ front ++ jobs
-    → AllByRecursion (IsTakenOf n worker) jobs → AllByRecursion (IsOwnOfBatch n desks) jobs
+    → AllByRecursion (IsOfWorker n worker) jobs → AllByRecursion (IsOwnOfBatch n desks) jobs
 batch_from n desks worker batch front [] lifted is all = tt
 batch_from n desks worker batch front (job ∷ jobs) lifted is all = (
-  λ own. record { worker = worker; taken = all.0; batch = batch; lifted = lifted; item = job; holds = (front, jobs, is); same = (refl, refl, refl) },
+  λ _. record {
+    worker = worker;
+    own = all.0;
+    batch = batch;
+    lifted = lifted;
+    has = record {
+      item = job;
+      there = subst (λ (js : Jobs). Contains js job) (sym is) (in_middle job front jobs);
+      connection = refl;
+      number = refl;
+      deed = refl;
+    };
+  },
   batch_from n desks worker batch (front ++ job ∷ []) jobs lifted (is ∙ sym (append_assoc front (job ∷ []) jobs)) all.1,
 )
 
 pub taken_jobs : (n : NodeState) (seat : CombinerView) (batch : Batch) → batch.worker < length seat.desks
-    → ((worker : ℕ) (job : Item) → IsTakenOf n worker job → IsTakenOf (taken_node batch n) worker job)
-    → AllByRecursion (IsTakenOf (taken_node batch n) batch.worker) (items_of batch.jobs.items) → AllJobs (IsOwnOfBatch n seat.desks) n
+    → length (desk_of seat batch.worker).lifted ≡ length (desk_of seat batch.worker).answered
+    → AllByRecursion (IsOfWorker (taken_node batch n) batch.worker) (items_of batch.jobs.items) → AllJobs (IsOwnOfBatch n seat.desks) n
     → AllJobs (IsOwnOfBatch (taken_node batch n) (with_lifted batch.worker batch seat).desks) (taken_node batch n)
-taken_jobs n seat batch near taken all a =
+taken_jobs n seat batch near even all a =
     let m = taken_node batch n in
     let desks = (with_lifted batch.worker batch seat).desks in
     let Q : Item → Type 0 = IsOwnOfBatch m desks in
-    let b = jobs_weaker (IsOwnOfBatch n seat.desks) Q (of_lifted n m seat.desks desks taken refl (lifted_more seat batch.worker batch near)) n a in
+    let b = jobs_weaker (IsOwnOfBatch n seat.desks) Q (of_lifted n m seat.desks desks (λ worker job own. record { node = own.node; served = own.served }) refl (lifted_more seat batch.worker batch near)) n a in
     record {
       done = b.done;
       reserved = b.reserved;
       due = b.due;
       waits = subst (AllByRecursion Q) (sym (map-append item_of n.replica.waiting batch.jobs.items))
           (All-append Q (items_of n.replica.waiting) (items_of batch.jobs.items) b.waits
-          (batch_from m desks batch.worker batch [] (items_of batch.jobs.items) (lifted_last seat batch.worker batch near) refl all));
+          (batch_from m desks batch.worker batch [] (items_of batch.jobs.items) (lifted_last seat batch.worker batch near even) refl all));
     }

@@ -24,7 +24,7 @@ use Rattle.nr_node.specs.Level.{NodeState}
 use Rattle.nr_node.specs.Steps.{taken_node}
 use Rattle.nr_node.specs.declared.answers.TakeError.{TakeError}
 use Rattle.nr_node.specs.declared.answers.TakeError.TheVariants as errors
-use Rattle.nr_combiner.specs.Served.{CombinerState, owed_at, IsDesk, IsServed}
+use Rattle.nr_combiner.specs.Served.{CombinerState, owed_at, IsDesk, IsNoRefusal, IsServed}
 use Rattle.nr_combiner.specs.Steps.{refusal_at, IsRefusedFor, IsOutcomeOf, HandsBack}
 use Rattle.nr_node.specs.Owing.{answer_by, answer_of, answered_node, IsServedBy, HasAllExecuted}
 use Rattle.nr_combiner.proofs.Lifts.{taken_served, back_served, is_last, holds_some, answered_served}
@@ -135,6 +135,21 @@ owes : (o : Option ℕ) (down : Bool) (x : Outcome) → answer_by o down ≡ Som
 owes None down x e = absurd (cc e)
 owes (Some owed) down x e = (owed, refl)
 
+-- none is handed back by then
+told_by : (o : Option ℕ) (down : Bool) (x : Outcome) → answer_by o down ≡ Some x → IsNoRefusal x
+told_by o down Executed e = tt
+told_by o down Down e = tt
+told_by None down (Refused why back) e = absurd (cc e)
+told_by (Some owed) true (Refused why back) e = absurd (cc e)
+told_by (Some zero) false (Refused why back) e = absurd (cc e)
+told_by (Some (suc owed)) false (Refused why back) e = absurd (cc e)
+
+-- one is executed only where the replica is up
+up_executed : (o : Option ℕ) (down : Bool) (x : Outcome) → answer_by o down ≡ Some x → x ≡ Executed → down ≡ false
+up_executed None down x e is = absurd (cc e)
+up_executed (Some owed) true x e is = absurd (cc (e, is))
+up_executed (Some owed) false x e is = refl
+
 -- it is the one that the desk holds
 pub is_held : (n : NodeState) (seat : CombinerView) (numbers : List ℕ) (worker : ℕ) (answer : Answer) (o : Outcome) → worker < length seat.desks
     → answer_of n worker ≡ Some o → answer.node ≡ n.book.node → answer.worker ≡ worker → answer.batch ≡ get_or numbers worker 0
@@ -150,8 +165,8 @@ pub answered_kept : (n m : NodeState) (seat after : CombinerView) (numbers : Lis
 answered_kept n m seat after numbers worker answer near known m_is is all s =
     let some = owes (owed_at worker n) n.replica.down answer.outcome known in
     subst (λ (v : CombinerView). IsServed m v numbers) (sym is)
-    (answered_served n m seat numbers worker some.0 answer (near_of n seat numbers worker near s) some.1 m_is
-    (λ e. (subst (HasAllExecuted worker) m_is (all e)).executed) s)
+    (answered_served n m seat numbers worker some.0 answer (near_of n seat numbers worker near s) some.1 (told_by (owed_at worker n) n.replica.down answer.outcome known) m_is
+    (λ e. (up_executed (owed_at worker n) n.replica.down answer.outcome known e, (subst (HasAllExecuted worker) m_is (all e)).none)) s)
 
 get_any : (xs : List ℕ) (i d e : ℕ) → i < length xs → get_or xs i d ≡ get_or xs i e
 get_any [] i d e near = absurd (omega arith)

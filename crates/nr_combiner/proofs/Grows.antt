@@ -1,22 +1,18 @@
 -- What a combiner keeps of its node holds on as the node goes on.
-use Rattle.std.proofs.Common.{◌≡◌, ℕ, zero, suc, ◌+◌, ◌<◌, ◌≤◌, inl, inr, ◌⊎◌, List, [], ◌∷◌, ◌++◌, length, Option, Some, None, refl, ap, sym, ◌∙◌, subst, arith, get_or}
-use Rattle.std.specs.List.{AllByRecursion, range_with_len}
-use Rattle.std.specs.FinMap as finmap
+use Rattle.std.proofs.Common.{◌≡◌, ℕ, ◌<◌, List, [], ◌∷◌, ◌++◌, length, Option, Some, None, sym, ◌∙◌, subst, get_or}
+use Rattle.std.specs.List.{AllByRecursion}
 use Rattle.nr_model.specs.Bytes.{IsBeginningOf}
 use Rattle.nr_model.specs.Items.{Connection, Item, Sequence}
-use Rattle.nr_model.proofs.NodesExecutedGrows.{begins_on}
 use Rattle.nr_entry.specs.Jobs.{items_of}
 use Rattle.nr_entry.specs.declared.batch.Batch.{Batch}
 use Rattle.nr_entry.specs.declared.batch.Answer.{Answer}
 use Rattle.nr_log_end.specs.Standings.{record_of}
-use Rattle.nr_accounts.specs.declared.account.Account.{Account}
-use Rattle.nr_accounts.specs.Held.{numbers_in}
 use Rattle.nr_slots.specs.declared.view.Desk.{Desk}
 use Rattle.nr_slots.specs.Seats.{CombinerView, desk_of}
 use Rattle.nr_replica.specs.Members.{Member, worker_of}
-use Rattle.nr_node.specs.Level.{NodeState, connection_at}
-use Rattle.nr_node.proofs.Lists.{numbers-append}
-use Rattle.nr_combiner.specs.Served.{owed_at, StandsIn, IsCounted, IsTakenOf, HoldsBatch, IsDesk, StandIn, AreExecuted, IsOwnOfBatch, AllJobs, IsServed}
+use Rattle.nr_node.specs.Level.{NodeState}
+use Rattle.nr_combiner.specs.Served.{owed_at, IsAmong, IsOfWorker, IsTakenOf, HoldsBatch, IsDesk, StandIn, AreExecuted, IsOwnOfBatch, AllJobs, IsServed}
+use Rattle.nr_combiner.proofs.Among.{Keeps, among_left}
 use Rattle.nr_combiner.proofs.Deeds.{jobs_weaker, of_lifted}
 
 -- a batch is owed where one was
@@ -30,15 +26,6 @@ pub still_itself : (o : Option ℕ) → IsStill o o
 still_itself None = tt
 still_itself (Some n) = tt
 
--- an account of the same worker, which counts no fewer jobs
-abbrev pub HasGrown : Account → Option Account → Type 0
-HasGrown a o = (b : Account) × (o ≡ Some b) × (b.worker ≡ a.worker) × (a.next ≤ b.next)
-
--- so is one that was there, or it is gone, and all that it counted are in the record; where there was none there is none
-abbrev pub StaysAt : Sequence → Connection → Option Account → Option Account → Type 0
-StaysAt done c (Some a) o = HasGrown a o ⊎ ((o ≡ None) × IsBeginningOf (range_with_len 0 a.next) (numbers_in c done))
-StaysAt done c None o = o ≡ None
-
 -- the same worker serves a connection that was opened
 abbrev pub AreServedOn : List Member → List Member → Type 0
 AreServedOn olds news = (c : Connection) → c.serial < length olds → (c.serial < length news) × (worker_of news c ≡ worker_of olds c)
@@ -47,8 +34,7 @@ pub record Grows (n m : NodeState) : Type 0 where
   pub node : m.book.node ≡ n.book.node
   pub workers : length m.replica.owed ≡ length n.replica.owed
   pub members : AreServedOn n.replica.members m.replica.members
-  pub accounts : (serial : ℕ) → serial < length n.replica.members
-      → StaysAt (record_of m.seat.standing.history) (connection_at n.book.node serial) (finmap.get n.book.held serial) (finmap.get m.book.held serial)
+  pub keeps : Keeps n m
   pub log : IsBeginningOf (record_of n.seat.standing.history) (record_of m.seat.standing.history)
 
 -- each of some
@@ -56,44 +42,20 @@ pub all_still : {P Q : Item → Type 0} → ((job : Item) → P job → Q job) �
 all_still f [] all = tt
 all_still f (job ∷ jobs) all = (f job all.0, all_still f jobs all.1)
 
--- in a longer record
-stands_still : (old new : Sequence) (job : Item) → IsBeginningOf old new → StandsIn old job → StandsIn new job
-stands_still old new job more b =
-    begins_on (range_with_len 0 (suc job.number)) (numbers_in job.connection old) (numbers_in job.connection new) b
-    (numbers_in job.connection more.0, sym (numbers-append job.connection old more.0) ∙ ap (numbers_in job.connection) more.1)
+-- a job of a worker's connection stays so, and one that was taken is still there
+pub own_still : (n m : NodeState) → Grows n m → (worker : ℕ) (job : Item) → IsOfWorker n worker job → IsOfWorker m worker job
+own_still n m grows worker job own =
+    let on = grows.members job.connection own.served.0 in
+    record { node = own.node ∙ sym grows.node; served = (on.0, on.1 ∙ own.served.1) }
 
--- a number below another begins less
-pub range_begins : (k i j : ℕ) → i ≤ j → IsBeginningOf (range_with_len k i) (range_with_len k j)
-range_begins k zero j h = (range_with_len k j, refl)
-range_begins k (suc i) zero h = absurd (omega arith)
-range_begins k (suc i) (suc j) h =
-    let r = range_begins (k + 1) i j (omega arith) in (r.0, ap (λ (ns : List ℕ). k ∷ ns) r.1)
-
-counted_by : (worker : ℕ) (old new : Sequence) (job : Item) (x y : Option Account) → IsBeginningOf old new → StaysAt new job.connection x y
-    → IsCounted worker old job x → IsCounted worker new job y
-counted_by worker old new job None y more stays h = subst (IsCounted worker new job) (sym stays) (stands_still old new job more h)
-counted_by worker old new job (Some a) y more (inl grown) h =
-    subst (IsCounted worker new job) (sym grown.1) (grown.2 ∙ h.0, omega (arith, grown.3, h.1))
-counted_by worker old new job (Some a) y more (inr gone) h =
-    subst (IsCounted worker new job) (sym gone.0)
-    (begins_on (range_with_len 0 (suc job.number)) (range_with_len 0 a.next) (numbers_in job.connection new) (range_begins 0 (suc job.number) a.next (omega (arith, h.1))) gone.1)
-
-pub taken_still : (n m : NodeState) → Grows n m → (worker : ℕ) (job : Item) → IsTakenOf n worker job → IsTakenOf m worker job
-taken_still n m grows worker job t =
-    let serial = job.connection.serial in
-    let same : connection_at n.book.node serial ≡ job.connection = λ i. record { node = sym t.node i; serial = serial } in
-    let on = grows.members job.connection t.served.0 in
-    record {
-      node = t.node ∙ sym grows.node;
-      served = (on.0, on.1 ∙ t.served.1);
-      counted = counted_by worker (record_of n.seat.standing.history) (record_of m.seat.standing.history) job (finmap.get n.book.held serial) (finmap.get m.book.held serial)
-          grows.log
-          (subst (λ (c : Connection). StaysAt (record_of m.seat.standing.history) c (finmap.get n.book.held serial) (finmap.get m.book.held serial)) same (grows.accounts serial t.served.0))
-          t.counted;
-    }
+taken_still : (n m : NodeState) → Grows n m → (worker : ℕ) (job : Item) → IsTakenOf n worker job → IsTakenOf m worker job
+taken_still n m grows worker job t = record {
+  own = own_still n m grows worker job t.own;
+  has = λ up. let kept = grows.keeps up in kept.1 job (t.has kept.0);
+}
 
 pub stand_still : (old more : Sequence) (jobs : List Item) → StandIn old jobs → StandIn (old ++ more) jobs
-stand_still old more jobs all = all_still (λ (job : Item). λ (b : StandsIn old job). stands_still old (old ++ more) job (more, refl) b) jobs all
+stand_still old more jobs all = all_still (λ (job : Item). λ (a : IsAmong job old). among_left job old more a) jobs all
 
 pub executed_still : (old more : Sequence) (batches : List Batch) (answers : List Answer) → AreExecuted old batches answers → AreExecuted (old ++ more) batches answers
 executed_still old more [] answers all = tt
@@ -129,5 +91,5 @@ served_still n m seat numbers grows still jobs s = record {
       (executed_still (record_of n.seat.standing.history) grows.log.0 (desk_of seat worker).lifted (desk_of seat worker).answered
       (s.executed worker (subst (λ k. worker < k) grows.workers near)));
   handed_in = jobs_weaker (IsOwnOfBatch n seat.desks) (IsOwnOfBatch m seat.desks)
-      (of_lifted n m seat.desks seat.desks (taken_still n m grows) (sym grows.node) (λ worker batch lifted. lifted)) m jobs;
+      (of_lifted n m seat.desks seat.desks (own_still n m grows) (sym grows.node) (λ worker batch lifted. lifted)) m jobs;
 }

@@ -1,4 +1,5 @@
 pub mod Deeds
+pub mod Among
 mod Grows
 pub mod Desks
 pub mod Lifts

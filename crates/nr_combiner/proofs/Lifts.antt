@@ -1,32 +1,31 @@
 -- A batch was lifted and taken in, or handed back, or answered.
-use Rattle.std.proofs.Common.{◌≡◌, ℕ, suc, ◌+◌, ◌<◌, inl, inr, true, List, [], ◌∷◌, ◌++◌, length, length-set, Option, Some, None, refl, ap, sym, ◌∙◌, subst, arith, get_or, set, get_or-set_same, get_or-set_other}
-use Rattle.std.specs.List.{AllByRecursion, range_with_len}
-use Rattle.std.specs.FinMap as finmap
+use Rattle.std.proofs.Common.{◌≡◌, ℕ, ◌+◌, ◌<◌, inl, inr, true, false, List, [], ◌∷◌, ◌++◌, length, length-set, Option, Some, None, refl, ap, sym, ◌∙◌, subst, arith, get_or, set, get_or-set_same, get_or-set_other}
+use Rattle.std.specs.List.{AllByRecursion}
 use Rattle.std.proofs.lemmas.Bool.Decides.{eqb_tells}
 use Rattle.std.proofs.lemmas.List.{length-append, set-get_or}
 use lib.Seq.{set-set}
-use Rattle.nr_model.specs.Bytes.{IsBeginningOf}
-use Rattle.nr_model.specs.Items.{Connection, Item, Sequence}
+use Rattle.nr_model.specs.Items.{Item, Sequence}
+use Rattle.nr_model.specs.Entries.{Jobs}
 use Rattle.nr_model.proofs.NodesExecutedGrows.{begins_itself}
 use Rattle.nr_entry.specs.Jobs.{items_of}
 use Rattle.nr_entry.specs.declared.batch.Batch.{Batch}
 use Rattle.nr_entry.specs.declared.batch.Answer.{Answer}
 use Rattle.nr_entry.specs.declared.batch.Outcome.TheVariants.{Executed}
 use Rattle.nr_log_end.specs.Standings.{record_of}
-use Rattle.nr_accounts.specs.declared.account.Account.{Account}
-use Rattle.nr_accounts.specs.Held.{numbers_in, takes_all}
+use Rattle.nr_accounts.specs.Held.{takes_all}
+use Rattle.nr_replica.specs.Members.{jobs_of_worker}
 use Rattle.nr_slots.specs.declared.view.Desk.{Desk}
 use Rattle.nr_slots.specs.Seats.{CombinerView, desk_of, with_lifted, with_answered}
 use Rattle.nr_slots.specs.Rule.{no_desk}
 use Rattle.nr_slots.specs.Names.{IsForLast}
-use Rattle.nr_node.specs.Level.{NodeState, connection_at}
-use Rattle.nr_node.specs.Owing.{IsServedBy}
+use Rattle.nr_node.specs.Level.{NodeState}
+use Rattle.nr_node.specs.Owing.{IsServedBy, unexecuted}
 use Rattle.nr_node.specs.Steps.{taken_node}
-use Rattle.nr_combiner.specs.Served.{owed_at, StandsIn, IsCounted, IsTakenOf, HoldsBatch, IsDesk, StandIn, AreExecuted, IsOwnOfBatch, AllJobs, IsServed}
-use Rattle.nr_combiner.proofs.Deeds.{same_jobs, jobs_weaker, of_lifted, lifted_more, answered_lifted, taken_jobs}
-use Rattle.nr_combiner.proofs.Grows.{Grows, still_itself, range_begins, desk_still, all_still, taken_still}
-use Rattle.nr_combiner.proofs.Desks.{IsTakenIn, stays_all, all_taken, executed_more, executed_front, executed_answered}
-use Rattle.nr_combiner.proofs.Turns.{still_there}
+use Rattle.nr_combiner.specs.Served.{owed_at, IsAmong, IsOfWorker, IsTakenOf, HoldsBatch, IsDesk, StandIn, AreExecuted, IsNoRefusal, IsLifted, IsOwnOfBatch, AllJobs, IsServed}
+use Rattle.nr_combiner.proofs.Among.{all_among, among_done, newly_there, taken_keeps}
+use Rattle.nr_combiner.proofs.Deeds.{same_jobs, jobs_weaker, of_lifted, answered_lifted, back_lifted, taken_jobs}
+use Rattle.nr_combiner.proofs.Grows.{Grows, still_itself, desk_still, all_still, own_still}
+use Rattle.nr_combiner.proofs.Desks.{all_of_node, executed_more, executed_front, executed_answered}
 
 -- at one worker's desk another one lies, and the numbers and what is owed are changed there alone
 pub at_desk : (n m : NodeState) (seat : CombinerView) (numbers : List ℕ) (worker number : ℕ) (desk : Desk) (owed : Option ℕ) (v : CombinerView)
@@ -73,27 +72,25 @@ at_desk n m seat numbers worker number desk owed v near grows owed_is desks_is s
       handed_in = jobs;
     }
 
--- jobs with accounts of the worker, which count them, were taken from the worker's connections
-both_taken : (m : NodeState) (worker : ℕ) (jobs : List Item) → AllByRecursion (IsTakenIn m.book.node worker m.book.held) jobs
-    → AllByRecursion (IsServedBy worker m.replica.members) jobs → AllByRecursion (IsTakenOf m worker) jobs
-both_taken m worker [] all served = tt
-both_taken m worker (job ∷ jobs) all served = (
-  record {
-    node = all.0.0;
-    served = served.0;
-    counted = subst (IsCounted worker (record_of m.seat.standing.history) job) (sym all.0.2) (all.0.3, all.0.4);
-  },
-  both_taken m worker jobs all.1 served.1,
+-- the jobs of a batch that is taken in are there
+each_taken : (n : NodeState) (batch : Batch) (jobs : Jobs) → AllByRecursion (λ (job : Item). job.connection.node ≡ n.book.node) jobs
+    → AllByRecursion (IsServedBy batch.worker n.replica.members) jobs → AllByRecursion (λ (job : Item). IsAmong job (items_of batch.jobs.items)) jobs
+    → AllByRecursion (IsTakenOf (taken_node batch n) batch.worker) jobs
+each_taken n batch [] own served there = tt
+each_taken n batch (job ∷ jobs) own served there = (
+  record { own = record { node = own.0; served = served.0 }; has = λ _. newly_there n batch job there.0 },
+  each_taken n batch jobs own.1 served.1 there.1,
 )
 
--- a batch is taken in
-taken_grows : (n : NodeState) (batch : Batch) → takes_all n.book.node batch.worker n.book.held (items_of batch.jobs.items) ≡ true → Grows n (taken_node batch n)
-taken_grows n batch all = record {
+each_own : (n : NodeState) (worker : ℕ) (jobs : Jobs) → AllByRecursion (IsTakenOf n worker) jobs → AllByRecursion (IsOfWorker n worker) jobs
+each_own n worker jobs all = all_still (λ (job : Item). λ (t : IsTakenOf n worker job). t.own) jobs all
+
+taken_grows : (n : NodeState) (batch : Batch) → Grows n (taken_node batch n)
+taken_grows n batch = record {
   node = refl;
   workers = length-set n.replica.owed batch.worker (Some (length batch.jobs.items));
   members = λ c near. (near, refl);
-  accounts = λ serial near. stays_all n.book.node batch.worker n.book.held (items_of batch.jobs.items) serial (record_of n.seat.standing.history)
-      (connection_at n.book.node serial) (finmap.get n.book.held serial) all refl;
+  keeps = taken_keeps n batch;
   log = begins_itself (record_of n.seat.standing.history);
 }
 
@@ -107,10 +104,11 @@ taken_served n seat numbers batch near idle node all served s =
     let m = taken_node batch n in
     let even : length old.lifted ≡ length old.answered = subst (IsDesk n worker (get_or numbers worker 0) old) idle (s.desks worker near) in
     let near' : worker < length seat.desks = subst (λ k. worker < k) (sym s.workers) near in
-    let jobs : AllByRecursion (IsTakenOf m worker) (items_of batch.jobs.items) =
-    both_taken m worker (items_of batch.jobs.items) (all_taken n.book.node worker n.book.held (items_of batch.jobs.items) all) served in
+    let items = items_of batch.jobs.items in
+    let jobs : AllByRecursion (IsTakenOf m worker) items =
+    each_taken n batch items (all_of_node n.book.node worker n.book.held items all) served (all_among [] items) in
     at_desk n m seat numbers worker batch.number record { lifted = old.lifted ++ batch ∷ []; answered = old.answered; grip = old.grip } (Some (length batch.jobs.items))
-    (with_lifted worker batch seat) near (taken_grows n batch all) refl refl refl
+    (with_lifted worker batch seat) near (taken_grows n batch) refl refl refl
     record {
       before = old.lifted;
       batch = batch;
@@ -120,7 +118,7 @@ taken_served n seat numbers batch near idle node all served s =
       jobs = jobs;
     }
     (executed_more (record_of n.seat.standing.history) old.lifted batch old.answered (omega (arith, even)) (s.executed worker near))
-    (taken_jobs n seat batch near' (taken_still n m (taken_grows n batch all)) jobs s.handed_in) s
+    (taken_jobs n seat batch near' even (each_own m worker items jobs) s.handed_in) s
 
 -- the node stays, and nothing is owed by it for another reason
 grows_itself : (n : NodeState) → Grows n n
@@ -128,7 +126,7 @@ grows_itself n = record {
   node = refl;
   workers = refl;
   members = λ c near. (near, refl);
-  accounts = λ serial near. still_there (record_of n.seat.standing.history) (connection_at n.book.node serial) (finmap.get n.book.held serial) (finmap.get n.book.held serial) refl;
+  keeps = λ up. (up, λ job a. a);
   log = begins_itself (record_of n.seat.standing.history);
 }
 
@@ -153,9 +151,8 @@ back_served n seat numbers worker batch answer near idle other s =
     (length-append old.lifted (batch ∷ []) ∙ ap (λ k. k + 1) even ∙ sym (length-append old.answered (answer ∷ [])))
     (executed_answered (record_of n.seat.standing.history) old.lifted batch old.answered answer (sym even) (λ e. absurd (other e)) (s.executed worker near))
     (jobs_weaker (IsOwnOfBatch n seat.desks) (IsOwnOfBatch n v.desks)
-    (of_lifted n n seat.desks v.desks (λ w job t. t) refl
-    (λ w b is. answered_lifted (with_lifted worker batch seat) worker answer (subst (λ k. worker < k) (sym (length-set seat.desks worker mid)) near') w b
-    (lifted_more seat worker batch near' w b is))) n s.handed_in) s)
+    (of_lifted n n seat.desks v.desks (λ w job own. own) refl
+    (λ w b is. subst (λ (ds : List Desk). IsLifted ds w b) (sym desks_is) (back_lifted seat worker batch answer near' even w b is))) n s.handed_in) s)
 
 -- the answer is for the batch that the desk holds
 pub is_last : (n : NodeState) (worker number : ℕ) (desk : Desk) (answer : Answer) → HoldsBatch n worker number desk
@@ -168,32 +165,20 @@ pub holds_some : (n : NodeState) (seat : CombinerView) (numbers : List ℕ) (wor
     → IsServed n seat numbers → HoldsBatch n worker (get_or numbers worker 0) (desk_of seat worker)
 holds_some n seat numbers worker owed near is s = subst (IsDesk n worker (get_or numbers worker 0) (desk_of seat worker)) is (s.desks worker near)
 
--- a job that is counted, where all that are counted are in the record
-stands_by : (worker : ℕ) (done : Sequence) (job : Item) (o : Option Account)
-    → ((a : Account) → o ≡ Some a → a.worker ≡ worker → numbers_in job.connection done ≡ range_with_len 0 a.next) → IsCounted worker done job o → StandsIn done job
-stands_by worker done job None whole h = h
-stands_by worker done job (Some a) whole h =
-    subst (IsBeginningOf (range_with_len 0 (suc job.number))) (sym (whole a refl h.0)) (range_begins 0 (suc job.number) a.next (omega (arith, h.1)))
-
--- all jobs that were taken from a worker's connections are in the record
-pub stand_all : (n : NodeState) (worker : ℕ) (jobs : List Item)
-    → ((serial : ℕ) (a : Account) → finmap.get n.book.held serial ≡ Some a → a.worker ≡ worker
-    → numbers_in (connection_at n.book.node serial) (record_of n.seat.standing.history) ≡ range_with_len 0 a.next)
-    → AllByRecursion (IsTakenOf n worker) jobs → StandIn (record_of n.seat.standing.history) jobs
-stand_all n worker jobs done all =
-    let r = record_of n.seat.standing.history in
-    all_still (λ (job : Item). λ (t : IsTakenOf n worker job).
-    let own : connection_at n.book.node job.connection.serial ≡ job.connection = λ i. record { node = sym t.node i; serial = job.connection.serial } in
-    stands_by worker r job (finmap.get n.book.held job.connection.serial)
-    (λ a at of_worker. sym (ap (λ (c : Connection). numbers_in c r) own) ∙ done job.connection.serial a at of_worker) t.counted) jobs all
+-- all jobs that were taken from a worker's connections are in the record, where none of them is left
+pub stand_all : (n : NodeState) (worker : ℕ) (jobs : List Item) → n.replica.down ≡ false
+    → jobs_of_worker worker n.replica.members (unexecuted n.seat.standing n.next n.replica.waiting) ≡ [] → AllByRecursion (IsTakenOf n worker) jobs
+    → StandIn (record_of n.seat.standing.history) jobs
+stand_all n worker jobs up none all =
+    all_still (λ (job : Item). λ (t : IsTakenOf n worker job). among_done n worker job none t.own.served.1 (t.has up)) jobs all
 
 -- it is answered
 pub answered_served : (n m : NodeState) (seat : CombinerView) (numbers : List ℕ) (worker owed : ℕ) (answer : Answer) → worker < length n.replica.owed
-    → owed_at worker n ≡ Some owed → m ≡ record n { replica = record n.replica { owed = set n.replica.owed worker None } }
-    → (answer.outcome ≡ Executed → (serial : ℕ) (a : Account) → finmap.get n.book.held serial ≡ Some a → a.worker ≡ worker
-    → numbers_in (connection_at n.book.node serial) (record_of n.seat.standing.history) ≡ range_with_len 0 a.next)
+    → owed_at worker n ≡ Some owed → IsNoRefusal answer.outcome → m ≡ record n { replica = record n.replica { owed = set n.replica.owed worker None } }
+    → (answer.outcome ≡ Executed
+    → (n.replica.down ≡ false) × (jobs_of_worker worker n.replica.members (unexecuted n.seat.standing n.next n.replica.waiting) ≡ []))
     → IsServed n seat numbers → IsServed m (with_answered worker answer seat) numbers
-answered_served n m seat numbers worker owed answer near is m_is done s =
+answered_served n m seat numbers worker owed answer near is told m_is done s =
     let r = record_of n.seat.standing.history in
     let old = desk_of seat worker in
     let h = holds_some n seat numbers worker owed near is s in
@@ -202,7 +187,7 @@ answered_served n m seat numbers worker owed answer near is m_is done s =
     let all : AreExecuted r (h.before ++ h.batch ∷ []) old.answered = subst (λ (bs : List Batch). AreExecuted r bs old.answered) h.lifted (s.executed worker near) in
     let now : AreExecuted r old.lifted (old.answered ++ answer ∷ []) =
     subst (λ (bs : List Batch). AreExecuted r bs (old.answered ++ answer ∷ [])) (sym h.lifted)
-    (executed_answered r h.before h.batch old.answered answer h.answered (λ e. stand_all n worker (items_of h.batch.jobs.items) (done e) h.jobs)
+    (executed_answered r h.before h.batch old.answered answer h.answered (λ e. stand_all n worker (items_of h.batch.jobs.items) (done e).0 (done e).1 h.jobs)
     (executed_front r h.before h.batch old.answered (omega (arith, h.answered)) all)) in
     let even : length old.lifted ≡ length (old.answered ++ answer ∷ []) =
     ap length h.lifted ∙ length-append h.before (h.batch ∷ []) ∙ ap (λ k. k + 1) (sym h.answered) ∙ sym (length-append old.answered (answer ∷ [])) in
@@ -211,13 +196,13 @@ answered_served n m seat numbers worker owed answer near is m_is done s =
       node = refl;
       workers = length-set n.replica.owed worker None;
       members = λ c near. (near, refl);
-      accounts = λ serial near. still_there r (connection_at n.book.node serial) (finmap.get n.book.held serial) (finmap.get n.book.held serial) refl;
+      keeps = λ up. (up, λ job a. a);
       log = begins_itself r;
     } in
     subst (λ (ns : List ℕ). IsServed m v ns) (set-get_or numbers worker 0)
     (at_desk n m seat numbers worker (get_or numbers worker 0) desk None v near grows (ap (λ (x : NodeState). x.replica.owed) m_is) refl
     (ap (λ (x : NodeState). record_of x.seat.standing.history) m_is) even now
     (jobs_weaker (IsOwnOfBatch n seat.desks) (IsOwnOfBatch m v.desks)
-    (of_lifted n m seat.desks v.desks (taken_still n m grows) (sym grows.node) (answered_lifted seat worker answer near')) m
+    (of_lifted n m seat.desks v.desks (own_still n m grows) (sym grows.node) (answered_lifted seat worker answer near' told)) m
     (same_jobs (IsOwnOfBatch n seat.desks) n m (ap (λ (x : NodeState). x.seat.standing) m_is) (ap (λ (x : NodeState). x.next) m_is)
     (ap (λ (x : NodeState). x.replica.waiting) m_is) s.handed_in)) s)

@@ -1,7 +1,6 @@
 -- Connections are opened and closed, and bytes are handed out: what was kept holds on.
 use Rattle.std.proofs.Common.{◌≡◌, ℕ, zero, suc, ◌<◌, inl, inr, ◌⊎◌, List, [], ◌∷◌, ◌++◌, length, replicate, Option, Some, None, refl, ap, sym, ◌∙◌, subst, arith, get_or, set, length-set}
 use Rattle.std.specs.Prelude.{Result, Ok, Err, OnOk, OnErr, IfOk, IfSome, IfNone}
-use Rattle.std.specs.FinMap as finmap
 use Rattle.std.proofs.lemmas.Bool.{cases_lt}
 use Rattle.std.proofs.lemmas.Bool.Decides.{eqb_tells}
 use Rattle.std.proofs.lemmas.List.{get_or-replicate, get_or_append_left, length-append}
@@ -13,9 +12,7 @@ use Rattle.nr_entry.specs.Jobs.{connection_of}
 use Rattle.nr_entry.specs.declared.conn.ConnId.{ConnId}
 use Rattle.nr_log_end.specs.declared.standing.Standing.{Standing}
 use Rattle.nr_log_end.specs.Standings.{record_of}
-use Rattle.nr_accounts.specs.Account.{fresh_account}
 use Rattle.nr_accounts.specs.Book.{Book}
-use Rattle.nr_accounts.proofs.Strangers.{put_elsewhere}
 use Rattle.nr_oplog.specs.declared.view.LogView.{LogView}
 use Rattle.nr_replica.specs.declared.outbox.Piece.{Piece}
 use Rattle.nr_replica.specs.Members.{Member, fresh_member, closed_member, handed_member}
@@ -29,9 +26,10 @@ use Rattle.nr_node.specs.Level.{NodeState, connection_at}
 use Rattle.nr_node.specs.Steps.{nobody, opened_node, closed_node, HasHandedOut}
 use Rattle.nr_node.specs.declared.answers.OpenError.{OpenError}
 use Rattle.nr_combiner.specs.Served.{owed_at, IsDesk, AreExecuted, IsOwnOfBatch, AllJobs, IsServed}
+use Rattle.nr_combiner.proofs.Among.{same_keeps}
 use Rattle.nr_combiner.proofs.Deeds.{same_jobs}
 use Rattle.nr_combiner.proofs.Grows.{AreServedOn, Grows, still_itself, served_still}
-use Rattle.nr_combiner.proofs.Turns.{still_there, served_same}
+use Rattle.nr_combiner.proofs.Turns.{served_same}
 
 -- all is kept, and the node stays the same one
 abbrev pub GoesOn : NodeState → NodeState → CombinerView → List ℕ → Type 0
@@ -67,10 +65,7 @@ opened_on n seat numbers limit worker s =
       node = refl;
       workers = refl;
       members = served_more n.replica.members (fresh_member (connection_at n.replica.node count) worker limit);
-      accounts = λ serial near.
-          let apart : serial ≡ count → ⊥ = λ e. omega (arith, near, e) in
-          still_there (record_of n.seat.standing.history) (connection_at n.book.node serial) (finmap.get n.book.held serial)
-          (finmap.get (finmap.insert n.book.held count (fresh_account worker)) serial) (put_elsewhere n.book.held count serial (fresh_account worker) apart);
+      keeps = λ up. (up, λ job a. a);
       log = begins_itself (record_of n.seat.standing.history);
     } in (
       served_still n (opened_node limit worker n) seat numbers grows (λ w. still_itself (owed_at w n))
@@ -99,7 +94,7 @@ pub closed_served : (n m : NodeState) (seat : CombinerView) (numbers : List ℕ)
 closed_served n m seat numbers conn closed other s = elim (is_opened n (connection_of conn)) [
   | inl o ↦ subst (λ (x : NodeState). GoesOn n x seat numbers) (sym (closed o)) (
     served_same n (closed_node conn.serial n) seat numbers refl refl (served_changed n.replica.members conn.serial closed_member (λ m. refl)) refl
-        (same_jobs (IsOwnOfBatch n seat.desks) n (closed_node conn.serial n) refl refl refl s.handed_in) s,
+        (same_keeps n (closed_node conn.serial n) refl refl refl refl) (same_jobs (IsOwnOfBatch n seat.desks) n (closed_node conn.serial n) refl refl refl s.handed_in) s,
     refl,
   )
   | inr apart ↦ same_on n m seat numbers (other apart) s
@@ -108,9 +103,10 @@ closed_served n m seat numbers conn closed other s = elim (is_opened n (connecti
 -- bytes are handed out
 handed_on : (n m : NodeState) (seat : CombinerView) (numbers : List ℕ) (serial most : ℕ) → HasHandedOut serial most n m → IsServed n seat numbers → GoesOn n m seat numbers
 handed_on n m seat numbers serial most h s = (
-  served_same n m seat numbers h.book (ap (λ (r : ReplicaState). r.owed) h.replica)
+  served_same n m seat numbers (ap (λ (b : Book). b.node) h.book) (ap (λ (r : ReplicaState). r.owed) h.replica)
       (subst (AreServedOn n.replica.members) (sym (ap (λ (r : ReplicaState). r.members) h.replica)) (served_changed n.replica.members serial (handed_member most) (λ m. refl)))
       (ap (λ (x : Standing). x.history) h.standing)
+      (same_keeps n m h.standing h.next (ap (λ (r : ReplicaState). r.waiting) h.replica) (ap (λ (r : ReplicaState). r.down) h.replica))
       (same_jobs (IsOwnOfBatch n seat.desks) n m h.standing h.next (ap (λ (r : ReplicaState). r.waiting) h.replica) s.handed_in) s,
   ap (λ (b : Book). b.node) (sym h.book),
 )

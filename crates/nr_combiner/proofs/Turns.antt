@@ -1,9 +1,7 @@
 -- What a turn of the combiner does to its node: what was kept holds on.
-use Rattle.std.proofs.Common.{◌≡◌, ℕ, zero, suc, inl, inr, ◌⊎◌, true, false, List, [], ◌∷◌, ◌++◌, map, length, Option, Some, None, refl, ap, sym, ◌∙◌, subst, arith, le_refl, get_or}
+use Rattle.std.proofs.Common.{◌≡◌, ℕ, zero, suc, inl, inr, ◌⊎◌, true, false, List, [], ◌∷◌, ◌++◌, map, length, Option, Some, None, refl, ap, sym, ◌∙◌, subst, arith, get_or}
 use Rattle.std.specs.Prelude.{◌≢◌, ◌↔◌, ◌<◌, ◌≤◌, OnErr, Result, Ok, Err}
-use Rattle.std.specs.FinMap as finmap
 use Rattle.nr_model.specs.Bytes.{IsBeginningOf}
-use Rattle.nr_model.specs.Items.{Connection, Sequence}
 use Rattle.nr_model.proofs.NodesExecutedGrows.{begins_itself}
 use Rattle.nr_blob.specs.declared.memory.Memory.{Memory}
 use Rattle.nr_entry.specs.declared.entry.Entry.{Entry}
@@ -13,13 +11,12 @@ use Rattle.nr_log_end.specs.declared.standing.Turn.{Turn}
 use Rattle.nr_log_end.specs.declared.standing.Turn.TheVariants.{Applied, Ran}
 use Rattle.nr_log_end.specs.Standings.{record_of, passed_of}
 use Rattle.nr_log_end.specs.Tries.{IsFull, IsLost}
-use Rattle.nr_accounts.specs.declared.account.Account.{Account}
 use Rattle.nr_accounts.specs.Book.{Book}
 use Rattle.nr_replica.specs.Members.{Member, fresh_member}
 use Rattle.nr_replica.specs.Replicas.{ReplicaState}
 use Rattle.nr_slots.specs.Seats.{CombinerView}
-use Rattle.nr_node.specs.Advanced.{HaveGot, IsClosedAt, HasClosed}
-use Rattle.nr_node.specs.Level.{NodeState, connection_at}
+use Rattle.nr_node.specs.Advanced.{HaveGot}
+use Rattle.nr_node.specs.Level.{NodeState}
 use Rattle.nr_node.specs.Owing.{awaited}
 use Rattle.nr_node.specs.Steps.{GoesOnWaiting, HasFallen, GoesOnBy, HasRead}
 use Rattle.nr_node.specs.declared.answers.Round.{Round}
@@ -28,8 +25,9 @@ use Rattle.nr_node.proofs.Lists.{record-append}
 use Rattle.nr_node.proofs.Owed.{as_many}
 use Rattle.nr_combiner.specs.Served.{owed_at, IsOwnOfBatch, AllJobs, IsServed}
 use Rattle.nr_combiner.specs.Steps.{HasPut, ComesTo, HasLooked, by_try, outcome_of}
+use Rattle.nr_combiner.proofs.Among.{Keeps, tried_keeps, looked_keeps}
 use Rattle.nr_combiner.proofs.Deeds.{speaks_of, tried_all, looked_all}
-use Rattle.nr_combiner.proofs.Grows.{IsStill, still_itself, StaysAt, AreServedOn, Grows, served_still}
+use Rattle.nr_combiner.proofs.Grows.{IsStill, still_itself, AreServedOn, Grows, served_still}
 
 -- what is owed at one worker
 pub still_at : (a b : List (Option ℕ)) → awaited b ≡ awaited a → (worker : ℕ) → IsStill (get_or a worker None) (get_or b worker None)
@@ -42,76 +40,57 @@ still_at (Some x ∷ a) (None ∷ b) same zero = absurd (cc same)
 still_at (Some x ∷ a) (Some y ∷ b) same zero = tt
 still_at (x ∷ a) (y ∷ b) same (suc worker) = still_at a b (cc same) worker
 
--- an account that is as it was
-pub still_there : (done : Sequence) (c : Connection) (x y : Option Account) → y ≡ x → StaysAt done c x y
-still_there done c None y same = same
-still_there done c (Some a) y same = inl (a, same, refl, le_refl a.next)
-
--- or that went
-gone_there : (done : Sequence) (c : Connection) (x y : Option Account) → IsClosedAt done c x y → StaysAt done c x y
-gone_there done c x y (inl same) = still_there done c x y same
-gone_there done c None y (inr gone) = gone.0
-gone_there done c (Some a) y (inr gone) = inr (gone.0, gone.1.1)
-
--- accounts go alone once their ends are in the record, which grows
-grows_by : (n m : NodeState) → HasClosed (record_of m.seat.standing.history) n.book m.book → length m.replica.owed ≡ length n.replica.owed
-    → AreServedOn n.replica.members m.replica.members → IsBeginningOf (record_of n.seat.standing.history) (record_of m.seat.standing.history) → Grows n m
-grows_by n m book owed members log = record {
-  node = book.node;
-  workers = owed;
-  members = members;
-  accounts = λ serial near. gone_there (record_of m.seat.standing.history) (connection_at n.book.node serial) (finmap.get n.book.held serial) (finmap.get m.book.held serial)
-      (book.accounts serial);
-  log = log;
-}
-
-same_book : (done : Sequence) (old new : Book) → new ≡ old → HasClosed done old new
-same_book done old new same = subst (HasClosed done old) (sym same) record { node = refl; last = refl; accounts = λ serial. inl refl }
-
 -- connections are as many, of the same workers
 pub served_as : (olds news : List Member) → news ≡ olds → AreServedOn olds news
 served_as olds news same = subst (AreServedOn olds) (sym same) (λ c near. (near, refl))
 
 -- the record and what is owed stay too
-pub served_same : (n m : NodeState) (seat : CombinerView) (numbers : List ℕ) → m.book ≡ n.book → m.replica.owed ≡ n.replica.owed
-    → AreServedOn n.replica.members m.replica.members → m.seat.standing.history ≡ n.seat.standing.history → AllJobs (IsOwnOfBatch n seat.desks) m
+pub served_same : (n m : NodeState) (seat : CombinerView) (numbers : List ℕ) → m.book.node ≡ n.book.node → m.replica.owed ≡ n.replica.owed
+    → AreServedOn n.replica.members m.replica.members → m.seat.standing.history ≡ n.seat.standing.history → Keeps n m → AllJobs (IsOwnOfBatch n seat.desks) m
     → IsServed n seat numbers → IsServed m seat numbers
-served_same n m seat numbers book owed members history jobs s =
+served_same n m seat numbers node owed members history keeps jobs s =
     let r = record_of n.seat.standing.history in
-    served_still n m seat numbers
-    (grows_by n m (same_book (record_of m.seat.standing.history) n.book m.book book) (ap length owed) members
-    (subst (λ (h : List Turn). IsBeginningOf r (record_of h)) (sym history) (begins_itself r)))
+    let grows : Grows n m = record {
+      node = node;
+      workers = ap length owed;
+      members = members;
+      keeps = keeps;
+      log = subst (λ (h : List Turn). IsBeginningOf r (record_of h)) (sym history) (begins_itself r);
+    } in
+    served_still n m seat numbers grows
     (λ worker. subst (λ (os : List (Option ℕ)). IsStill (owed_at worker n) (get_or os worker None)) (sym owed) (still_itself (owed_at worker n))) jobs s
 
 still_served : (n m : NodeState) (seat : CombinerView) (numbers : List ℕ) → m ≡ n → IsServed n seat numbers → IsServed m seat numbers
 still_served n m seat numbers same s = subst (λ (x : NodeState). IsServed x seat numbers) (sym same) s
 
-waiting_served : (n m : NodeState) (seat : CombinerView) (numbers : List ℕ) → GoesOnWaiting n m → AllJobs (IsOwnOfBatch n seat.desks) m → IsServed n seat numbers → IsServed m seat numbers
-waiting_served n m seat numbers h jobs s =
-    served_same n m seat numbers h.book (ap (λ (r : ReplicaState). r.owed) h.left.replica)
-    (served_as n.replica.members m.replica.members (ap (λ (r : ReplicaState). r.members) h.left.replica)) (ap (λ (x : Standing). x.history) h.met.standing) jobs s
+waiting_served : (n m : NodeState) (seat : CombinerView) (numbers : List ℕ) → GoesOnWaiting n m → Keeps n m → AllJobs (IsOwnOfBatch n seat.desks) m
+    → IsServed n seat numbers → IsServed m seat numbers
+waiting_served n m seat numbers h keeps jobs s =
+    served_same n m seat numbers (ap (λ (b : Book). b.node) h.book) (ap (λ (r : ReplicaState). r.owed) h.left.replica)
+    (served_as n.replica.members m.replica.members (ap (λ (r : ReplicaState). r.members) h.left.replica)) (ap (λ (x : Standing). x.history) h.met.standing) keeps jobs s
 
-tried_by_cases : (places : ℕ) (r : Result Round Memory) (n m : NodeState) (seat : CombinerView) (numbers : List ℕ) → ComesTo places r n m
+tried_by_cases : (places : ℕ) (r : Result Round Memory) (n m : NodeState) (seat : CombinerView) (numbers : List ℕ) → ComesTo places r n m → Keeps n m
     → AllJobs (IsOwnOfBatch n seat.desks) m → IsServed n seat numbers → IsServed m seat numbers
-tried_by_cases places (Ok rounds.Done) n m seat numbers (inl (at, entry, h)) jobs s =
-    served_same n m seat numbers h.book (ap (λ (r : ReplicaState). r.owed) h.left.replica)
-    (served_as n.replica.members m.replica.members (ap (λ (r : ReplicaState). r.members) h.left.replica)) (ap (λ (x : Standing). x.history) h.reserved.standing) jobs s
-tried_by_cases places (Ok rounds.Done) n m seat numbers (inr h) jobs s =
-    served_same n m seat numbers (ap (λ (x : NodeState). x.book) h.same) (ap (λ (r : ReplicaState). r.owed) h.left.replica)
-    (served_as n.replica.members m.replica.members (ap (λ (r : ReplicaState). r.members) h.left.replica)) (ap (λ (x : NodeState). x.seat.standing.history) h.same) jobs s
-tried_by_cases places (Ok rounds.Full) n m seat numbers h jobs s = waiting_served n m seat numbers h.0 jobs s
-tried_by_cases places (Ok rounds.Again) n m seat numbers h jobs s = waiting_served n m seat numbers h.0 jobs s
-tried_by_cases places (Ok rounds.NotYet) n m seat numbers h jobs s = absurd h
-tried_by_cases places (Ok rounds.Down) n m seat numbers (inl h) jobs s = still_served n m seat numbers h.1 s
-tried_by_cases places (Ok rounds.Down) n m seat numbers (inr (up, h)) jobs s =
-    served_same n m seat numbers h.book (ap (λ (r : ReplicaState). r.owed) h.replica)
-    (served_as n.replica.members m.replica.members (ap (λ (r : ReplicaState). r.members) h.replica)) (ap (λ x. x.standing.history) h.seat) jobs s
-tried_by_cases places (Err memory) n m seat numbers (inl same) jobs s = still_served n m seat numbers same s
-tried_by_cases places (Err memory) n m seat numbers (inr h) jobs s = waiting_served n m seat numbers h jobs s
+tried_by_cases places (Ok rounds.Done) n m seat numbers (inl (at, entry, h)) keeps jobs s =
+    served_same n m seat numbers (ap (λ (b : Book). b.node) h.book) (ap (λ (r : ReplicaState). r.owed) h.left.replica)
+    (served_as n.replica.members m.replica.members (ap (λ (r : ReplicaState). r.members) h.left.replica)) (ap (λ (x : Standing). x.history) h.reserved.standing) keeps jobs s
+tried_by_cases places (Ok rounds.Done) n m seat numbers (inr h) keeps jobs s =
+    served_same n m seat numbers (ap (λ (x : NodeState). x.book.node) h.same) (ap (λ (r : ReplicaState). r.owed) h.left.replica)
+    (served_as n.replica.members m.replica.members (ap (λ (r : ReplicaState). r.members) h.left.replica)) (ap (λ (x : NodeState). x.seat.standing.history) h.same) keeps jobs s
+tried_by_cases places (Ok rounds.Full) n m seat numbers h keeps jobs s = waiting_served n m seat numbers h.0 keeps jobs s
+tried_by_cases places (Ok rounds.Again) n m seat numbers h keeps jobs s = waiting_served n m seat numbers h.0 keeps jobs s
+tried_by_cases places (Ok rounds.NotYet) n m seat numbers h keeps jobs s = absurd h
+tried_by_cases places (Ok rounds.Down) n m seat numbers (inl h) keeps jobs s = still_served n m seat numbers h.1 s
+tried_by_cases places (Ok rounds.Down) n m seat numbers (inr (up, h)) keeps jobs s =
+    served_same n m seat numbers (ap (λ (b : Book). b.node) h.book) (ap (λ (r : ReplicaState). r.owed) h.replica)
+    (served_as n.replica.members m.replica.members (ap (λ (r : ReplicaState). r.members) h.replica)) (ap (λ x. x.standing.history) h.seat) keeps jobs s
+tried_by_cases places (Err memory) n m seat numbers (inl same) keeps jobs s = still_served n m seat numbers same s
+tried_by_cases places (Err memory) n m seat numbers (inr h) keeps jobs s = waiting_served n m seat numbers h keeps jobs s
 
 pub tried_served : (places : ℕ) (r : Result Round Memory) (n m : NodeState) (seat : CombinerView) (numbers : List ℕ) → ComesTo places r n m
     → IsServed n seat numbers → IsServed m seat numbers
-tried_served places r n m seat numbers h s = tried_by_cases places r n m seat numbers h (tried_all (IsOwnOfBatch n seat.desks) places r n m h s.handed_in) s
+tried_served places r n m seat numbers h s =
+    tried_by_cases places r n m seat numbers h (tried_keeps places r n m h) (tried_all (IsOwnOfBatch n seat.desks) places r n m h s.handed_in) s
 
 pub tried_book : (places : ℕ) (r : Result Round Memory) (n m : NodeState) → ComesTo places r n m → m.book ≡ n.book
 tried_book places (Ok rounds.Done) n m (inl (at, entry, h)) = h.book
@@ -145,9 +124,14 @@ looked_served looked entries ran tail n m seat numbers h s =
     let r = record_of n.seat.standing.history in
     let longer : record_of m.seat.standing.history ≡ r ++ record_of more =
     ap (λ (x : Standing). record_of x.history) h.by.standing ∙ record-append n.seat.standing.history more in
-    served_still n m seat numbers
-    (grows_by n m h.by.closed (as_many m.replica.owed n.replica.owed h.by.owed) (got_served n.replica.members m.replica.members h.by.got) (record_of more, sym longer))
-    (still_at n.replica.owed m.replica.owed h.by.owed) (looked_all (IsOwnOfBatch n seat.desks) looked entries ran tail n m (speaks_of n seat.desks) h s.handed_in) s
+    let grows : Grows n m = record {
+      node = h.by.closed.node;
+      workers = as_many m.replica.owed n.replica.owed h.by.owed;
+      members = got_served n.replica.members m.replica.members h.by.got;
+      keeps = looked_keeps looked entries ran tail n m h;
+      log = (record_of more, sym longer);
+    } in
+    served_still n m seat numbers grows (still_at n.replica.owed m.replica.owed h.by.owed) (looked_all (IsOwnOfBatch n seat.desks) looked entries ran tail n m (speaks_of n seat.desks) h s.handed_in) s
 
 -- what a look came to
 pub looked_by : (r : Result Round Memory) (n m : NodeState)

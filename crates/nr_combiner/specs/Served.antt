@@ -1,23 +1,20 @@
 -- What a combiner keeps of its node and of the batches that it lifted.
-use Rattle.std.specs.Prelude.{◌≡◌, ℕ, suc, ◌<◌, List, [], ◌∷◌, ◌++◌, length, Option, Some, None, slice_index_or, refl}
-use Rattle.std.specs.List.{AllByRecursion, range_with_len}
-use Rattle.std.specs.FinMap as finmap
+use Rattle.std.specs.Prelude.{◌≡◌, ℕ, ◌<◌, false, List, [], ◌∷◌, ◌++◌, length, Contains, Option, Some, None, slice_index_or, refl}
+use Rattle.std.specs.List.{AllByRecursion, slice_get}
 use Rattle.std.specs.Coded.{Coded, code_by, coded×, coded_ℕ}
-use Rattle.nr_model.specs.Bytes.{IsBeginningOf}
 use Rattle.nr_model.specs.Items.{Item, Sequence}
 use Rattle.nr_model.specs.Entries.{Jobs}
 use Rattle.nr_entry.specs.Jobs.{items_of}
 use Rattle.nr_entry.specs.declared.batch.Batch.{Batch}
 use Rattle.nr_entry.specs.declared.batch.Answer.{Answer}
-use Rattle.nr_entry.specs.declared.batch.Outcome.TheVariants.{Executed}
+use Rattle.nr_entry.specs.declared.batch.Outcome.{Outcome}
+use Rattle.nr_entry.specs.declared.batch.Outcome.TheVariants.{Executed, Down, Refused}
 use Rattle.nr_log_end.specs.Standings.{record_of}
-use Rattle.nr_accounts.specs.declared.account.Account.{Account}
-use Rattle.nr_accounts.specs.Held.{numbers_in}
 use Rattle.nr_slots.specs.declared.view.Desk.{Desk}
 use Rattle.nr_slots.specs.Rule.{no_desk}
 use Rattle.nr_slots.specs.Seats.{CombinerView, desk_of}
 use Rattle.nr_slots.specs.Codes.{combiner_code}
-use Rattle.nr_node.specs.Level.{NodeState, coded_node, unpassed, jobs_reserved}
+use Rattle.nr_node.specs.Level.{NodeState, coded_node, unpassed, jobs_reserved, all_jobs}
 use Rattle.nr_node.specs.Owing.{IsServedBy}
 
 -- the node, the combiner's seat at its workers' slots, and how many connections aren't closed
@@ -35,20 +32,27 @@ coded_combiner =
 abbrev pub owed_at : ℕ → NodeState → Option ℕ
 owed_at worker n = slice_index_or n.replica.owed worker None
 
--- a job stands in the record, behind those of its connection with lower numbers
-abbrev pub StandsIn : Sequence → Item → Type 0
-StandsIn done job = IsBeginningOf (range_with_len 0 (suc job.number)) (numbers_in job.connection done)
+-- one of these is the job, but for its moment: it is of the same connection, and has its number and its deed
+pub record IsAmong (job : Item) (jobs : Jobs) : Type 0 where
+  pub item : Item
+  pub there : Contains jobs item
+  pub connection : item.connection ≡ job.connection
+  pub number : item.number ≡ job.number
+  pub deed : item.deed ≡ job.deed
 
--- its connection's account counts it, or there is none any more: then the job stands in the record
-abbrev pub IsCounted : ℕ → Sequence → Item → Option Account → Type 0
-IsCounted worker done job (Some account) = (account.worker ≡ worker) × (job.number < account.next)
-IsCounted worker done job None = StandsIn done job
+-- the jobs that a node has: those in its record, and those that it has still to pass, to reserve or to run
+abbrev pub jobs_of : NodeState → Jobs
+jobs_of n = all_jobs n.seat.standing n.next n.replica.waiting
 
--- a job that was taken from a worker's connection
-pub record IsTakenOf (n : NodeState) (worker : ℕ) (job : Item) : Type 0 where
+-- a job is of a connection of the node, and of one that this worker serves
+pub record IsOfWorker (n : NodeState) (worker : ℕ) (job : Item) : Type 0 where
   pub node : job.connection.node ≡ n.book.node
   pub served : IsServedBy worker n.replica.members job
-  pub counted : IsCounted worker (record_of n.seat.standing.history) job (finmap.get n.book.held job.connection.serial)
+
+-- one that was taken: the node has it, unless its replica is down
+pub record IsTakenOf (n : NodeState) (worker : ℕ) (job : Item) : Type 0 where
+  pub own : IsOfWorker n worker job
+  pub has : n.replica.down ≡ false → IsAmong job (jobs_of n)
 
 -- the batch that was lifted last is the only one that isn't answered; it names the worker and this number, and its jobs were taken
 pub record HoldsBatch (n : NodeState) (worker number : ℕ) (desk : Desk) : Type 0 where
@@ -64,30 +68,42 @@ abbrev pub IsDesk : NodeState → ℕ → ℕ → Desk → Option ℕ → Type 0
 IsDesk n worker number desk None = length desk.lifted ≡ length desk.answered
 IsDesk n worker number desk (Some owed) = HoldsBatch n worker number desk
 
--- each of these jobs does
+-- each of these jobs is in the record
 abbrev pub StandIn : Sequence → List Item → Type 0
-StandIn done jobs = AllByRecursion (StandsIn done) jobs
+StandIn done jobs = AllByRecursion (λ (job : Item). IsAmong job done) jobs
 
--- so do those of each batch that was answered as executed
+-- so are those of each batch that was answered as executed
 abbrev pub AreExecuted : Sequence → List Batch → List Answer → Type 0
 AreExecuted done [] answers = Unit {0}
 AreExecuted done (batch ∷ batches) [] = Unit {0}
 AreExecuted done (batch ∷ batches) (answer ∷ answers) =
     (answer.outcome ≡ Executed → StandIn done (items_of batch.jobs.items)) × AreExecuted done batches answers
 
--- a batch that was lifted from a worker's slot
-abbrev pub IsLifted : List Desk → ℕ → Batch → Type 0
-IsLifted desks worker batch = (before : List Batch) × (after : List Batch) × ((slice_index_or desks worker no_desk).lifted ≡ before ++ batch ∷ after)
+-- it doesn't hand a batch back
+abbrev pub IsNoRefusal : Outcome → Type 0
+IsNoRefusal Executed = Unit {0}
+IsNoRefusal Down = Unit {0}
+IsNoRefusal (Refused why jobs) = ⊥
 
--- a batch that was lifted from the slot of the worker that serves the job's connection held it: that connection's job of this number, and its deed
+-- nor does the answer, where there is one
+abbrev pub HandsNoneBack : Option Answer → Type 0
+HandsNoneBack None = Unit {0}
+HandsNoneBack (Some answer) = IsNoRefusal answer.outcome
+
+-- a batch was lifted from a worker's slot, and wasn't handed back
+pub record IsLifted (desks : List Desk) (worker : ℕ) (batch : Batch) : Type 0 where
+  pub before : List Batch
+  pub after : List Batch
+  pub lifted : (slice_index_or desks worker no_desk).lifted ≡ before ++ batch ∷ after
+  pub kept : HandsNoneBack (slice_get (slice_index_or desks worker no_desk).answered (length before))
+
+-- a batch that was lifted from the slot of the worker that serves the job's connection, and wasn't handed back, has it
 pub record IsOfBatch (n : NodeState) (desks : List Desk) (job : Item) : Type 0 where
   pub worker : ℕ
-  pub taken : IsTakenOf n worker job
+  pub own : IsOfWorker n worker job
   pub batch : Batch
   pub lifted : IsLifted desks worker batch
-  pub item : Item
-  pub holds : (before : Jobs) × (after : Jobs) × (items_of batch.jobs.items ≡ before ++ item ∷ after)
-  pub same : (item.connection ≡ job.connection) × (item.number ≡ job.number) × (item.deed ≡ job.deed)
+  pub has : IsAmong job (items_of batch.jobs.items)
 
 abbrev pub IsOwnOfBatch : NodeState → List Desk → Item → Type 0
 IsOwnOfBatch n desks job = job.connection.node ≡ n.book.node → IsOfBatch n desks job
@@ -103,8 +119,9 @@ pub record AllJobs (P : Item → Type 0) (n : NodeState) : Type 0 where
 abbrev pub HasNoJobs : NodeState → Type 0
 HasNoJobs n = (n.seat.standing.history ≡ []) × (n.seat.standing.reservations ≡ []) × (n.next ≡ []) × (n.replica.waiting ≡ [])
 
--- Between two calls a desk has no batch without an answer but the one of which it isn't known what became; each job of a batch that was
--- answered as executed is in the node's record; and each job of a connection of the node, wherever it is, is one of a batch that was lifted.
+-- Between two calls a desk has no batch without an answer but the one that was lifted last, where the node has still to answer it; each job of a
+-- batch that was answered as executed is in the node's record; and each job of a connection of the node, wherever it is, is one of a batch that
+-- was lifted and not handed back.
 pub record IsServed (n : NodeState) (seat : CombinerView) (numbers : List ℕ) : Type 0 where
   pub workers : length seat.desks ≡ length n.replica.owed
   pub numbered : length numbers ≡ length n.replica.owed

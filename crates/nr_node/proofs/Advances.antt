@@ -5,7 +5,7 @@ use Rattle.std.proofs.lemmas.Bool.{cases_Bool}
 use Rattle.std.proofs.lemmas.List.{append-nil, length-append, map-append}
 use Rattle.nr_model.specs.Bytes.{IsBeginningOf}
 use Rattle.nr_model.specs.Items.{Connection, Sequence}
-use Rattle.nr_model.specs.Servers.{emitted_all}
+use Rattle.nr_model.specs.Servers.{fresh, emitted_all}
 use Rattle.nr_model.specs.Entries.{Jobs, entry_items}
 use Rattle.nr_model.specs.Nodes.Steps.{texts_for}
 use Rattle.nr_entry.specs.Jobs.{items_of}
@@ -143,8 +143,9 @@ goes_then es fs s t u a b c n m k x y z first last = record {
           some_first es fs by.0,
           ap (λ (r : ReplicaState). r.waiting) (last.still gone).0 ∙ by.1,
           elim last.after_is [ inl none ↦ none | inr same ↦ same ∙ by.2 ],
+          ap (λ (r : ReplicaState). r.server) (last.still gone).0 ∙ by.3,
         )
-    | inr on ↦ let by = last.fell on down in (some_last es fs by.0, by.1, by.2)
+    | inr on ↦ let by = last.fell on down in (some_last es fs by.0, by.1, by.2, by.3)
   ];
   still = λ down.
       let same = first.still down in
@@ -165,7 +166,7 @@ record Leaves (old new : ReplicaState) : Type 0 where
   pub refused : new.down ≡ false → new.refused ≡ old.refused
   pub up : new.down ≡ false → (old.down ≡ false) × (new.waiting ≡ old.waiting)
   pub waits : (new.waiting ≡ []) ⊎ (new.waiting ≡ old.waiting)
-  pub fell : old.down ≡ false → new.down ≡ true → new.waiting ≡ []
+  pub fell : old.down ≡ false → new.down ≡ true → (new.waiting ≡ []) × (new.server ≡ fresh)
   pub still : old.down ≡ true → new ≡ old
 
 leaves : (e : Entry) (old new : ReplicaState) → IsTakenIn e old new → Leaves old new
@@ -203,7 +204,7 @@ leaves e old new taken = elim taken [
       refused = λ up. absurd (cc (up, ap (λ (r : ReplicaState). r.down) fell));
       up = λ up. absurd (cc (up, ap (λ (r : ReplicaState). r.down) fell));
       waits = inl (ap (λ (r : ReplicaState). r.waiting) fell);
-      fell = λ _ _. ap (λ (r : ReplicaState). r.waiting) fell;
+      fell = λ _ _. (ap (λ (r : ReplicaState). r.waiting) fell, ap (λ (r : ReplicaState). r.server) fell);
       still = λ gone. absurd (apart old.down up.0 gone);
     }
   ]
@@ -303,7 +304,7 @@ goes_by_entry s held t e old new next after book later idle fetched passed stand
       got = l.got;
       refused = l.refused;
       up = λ up. ((l.up up).0, same up, (l.up up).1);
-      fell = λ up down. (λ none_is. absurd (cc none_is), l.fell up down, none down);
+      fell = λ up down. let by = l.fell up down in (λ none_is. absurd (cc none_is), by.0, none down, by.1);
       still = λ down. let same_replica = l.still down in (same_replica, stays (ap (λ (r : ReplicaState). r.down) same_replica ∙ down));
       after_is = after_by new.down next after none same;
     }

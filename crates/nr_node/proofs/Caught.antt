@@ -62,7 +62,7 @@ caught_by es end last old new book later next after n is g looks few order =
       refused = g.refused;
       up = λ up. (g.up up).0;
       few = λ up. few_entries es end.standing last.standing g.passed (few up);
-      fell = λ up down. let by = g.fell up down in (by.0, by.1, ap jobs_next by.2);
+      fell = λ up down. let by = g.fell up down in (by.0, by.1, ap jobs_next by.2, by.3);
       still = g.still;
       dropped = λ _. next_after next after g.after_is;
     }

@@ -4,6 +4,7 @@ use Rattle.std.specs.List.{range_with_len}
 use Rattle.std.specs.FinMap as finmap
 use Rattle.nr_model.specs.Bytes.{Bytes, IsBeginningOf}
 use Rattle.nr_model.specs.Items.{Connection, Sequence}
+use Rattle.nr_model.specs.Servers.{fresh}
 use Rattle.nr_model.specs.Entries.{Jobs}
 use Rattle.nr_model.specs.Queues.{Queue, received}
 use Rattle.nr_entry.specs.Jobs.{items_of}
@@ -88,6 +89,6 @@ pub record GoesOn (entries : List Entry) (s t : Standing) (old new : ReplicaStat
   pub got : HaveGot old.members new.members
   pub refused : new.down ≡ false → new.refused ≡ old.refused
   pub up : new.down ≡ false → (old.down ≡ false) × (after ≡ next) × (new.waiting ≡ old.waiting)
-  pub fell : old.down ≡ false → new.down ≡ true → (entries ≢ []) × (new.waiting ≡ []) × (after ≡ None)
+  pub fell : old.down ≡ false → new.down ≡ true → (entries ≢ []) × (new.waiting ≡ []) × (after ≡ None) × (new.server ≡ fresh)
   pub still : old.down ≡ true → (new ≡ old) × (later ≡ book)
   pub after_is : (after ≡ None) ⊎ (after ≡ next)

@@ -56,12 +56,13 @@ taken_node batch n =
       book = with_batch batch n.book;
     }
 
--- the jobs that are due, of which there are some, stand in the log under this number, and wait no more
+-- the jobs that are due, of which there are some, stand in the log under this number, behind those that the node has still to pass, and wait no more
 pub record HasReserved (at : ℕ) (entry : Entry) (n m : NodeState) : Type 0 where
   pub due : due_jobs n.next n.replica.waiting ≢ []
   pub jobs : items_of entry.jobs.items ≡ due_jobs n.next n.replica.waiting
   pub node : entry.node ≡ n.replica.node
   pub reserved : IsReserved at (shares_of entry n.seat.standing.nodes) n.seat.standing m.seat.standing
+  pub behind : jobs_reserved (unpassed m.seat.standing) ≡ jobs_reserved (unpassed n.seat.standing) ++ items_of entry.jobs.items
   pub next : m.next ≡ []
   pub left : LeavesWaiting (left_jobs n.next n.replica.waiting) n.replica m.replica
   pub book : m.book ≡ n.book
@@ -94,7 +95,7 @@ HasLoaded tail looks after = (more : List Look) × (after ≡ looks ++ (Tail tai
 
 -- Entries were passed, and then reads were run, behind all that was in the record. The entries of the node's own among them are the first that it had reserved and
 -- hadn't passed. The same workers wait for an answer. A node that is up passes one entry at most behind the tail that the call loaded, and the account of each of
--- its connections whose end is among them goes. Its replica goes down only where an entry was passed, and what waited is dropped then. One that is down stays as it
+-- its connections whose end is among them goes. Its replica goes down only where an entry was passed: then what waited is dropped, and all keys. One that is down stays as it
 -- was.
 pub record GoesOnBy (entries : List Entry) (ran : List Job) (tail : ℕ) (n m : NodeState) : Type 0 where
   pub standing : m.seat.standing ≡ record n.seat.standing { history = n.seat.standing.history ++ (map Applied entries ++ map Ran ran); seen = m.seat.standing.seen }
@@ -108,7 +109,7 @@ pub record GoesOnBy (entries : List Entry) (ran : List Job) (tail : ℕ) (n m : 
   pub refused : m.replica.down ≡ false → m.replica.refused ≡ n.replica.refused
   pub up : m.replica.down ≡ false → n.replica.down ≡ false
   pub few : n.replica.down ≡ false → length entries ≤ (tail - passed_of n.seat.standing) + 1
-  pub fell : n.replica.down ≡ false → m.replica.down ≡ true → (entries ≢ []) × (m.replica.waiting ≡ []) × (m.next ≡ [])
+  pub fell : n.replica.down ≡ false → m.replica.down ≡ true → (entries ≢ []) × (m.replica.waiting ≡ []) × (m.next ≡ []) × (m.replica.server ≡ fresh)
   pub still : n.replica.down ≡ true → (m.replica ≡ n.replica) × (m.book ≡ n.book)
   pub dropped : n.replica.down ≡ true → (m.next ≡ []) ⊎ (m.next ≡ n.next)
 

@@ -14,7 +14,7 @@ use Rattle.nr_log_end.specs.Standings.{items_of_turn, record_of}
 use Rattle.nr_oplog.specs.Plays.{AreComparable, AreOfOneLog}
 use Rattle.nr_oplog.specs.declared.view.LogView.{LogView}
 use Rattle.nr_node.specs.Sound.{IsSound}
-use Rattle.nr_taps.specs.Taps.{TapState, IsTapped, IsSoundAt, HaveMet, accepted, emitted_by, fresh_tap, record_in, refusal, standing_of, with_piece, with_written}
+use Rattle.nr_taps.specs.Taps.{TapState, IsTapped, IsSoundAt, HaveMet, accepted, bytes_accepted, emitted_by, fresh_tap, record_in, refusal, standing_of, with_piece, with_written}
 use Rattle.nr_taps.specs.declared.tap.Refused.TheVariants as refusals
 use Rattle.nr_taps.proofs.Explains.{begins_emitted}
 use Rattle.nr_taps.proofs.Accepts.{OneBegins, piece_accepted}
@@ -50,19 +50,20 @@ one_emits c (Some t) s sound met node =
           inr (begins_emitted c (record_of s.history) (record_of t.history) (begins_flat_map items_of_turn s.history t.history (comparable.1 below)))
     ]
 
-pub piece_tapped : (t : TapState) (bytes : Bytes) (s : Standing) → IsTapped t → HaveMet t.standing (Some s) → IsSound s → t.connection.node ≡ s.node
+-- a piece is taken in: the bytes that were accepted before stay as they were, in front of it
+abbrev pub TakesIn : Bytes → TapState → TapState → Type 0
+TakesIn bytes t u = IsTapped u × (bytes_accepted u ≡ bytes_accepted t ++ bytes)
+
+piece_tapped : (t : TapState) (bytes : Bytes) (s : Standing) → IsTapped t → HaveMet t.standing (Some s) → IsSound s → t.connection.node ≡ s.node
     → IsBeginningOf bytes (drop (accepted t) (emitted_for t.connection (record_of s.history))) → 0 < length bytes → accepted t + length bytes < 2 ^ 64
-    → IsTapped (with_piece bytes s t)
+    → TakesIn bytes t (with_piece bytes s t)
 piece_tapped t bytes s k met sound node from some few =
     let c = t.connection in
     let one = one_emits c t.standing s k.sound met node in
     let both = piece_accepted t.written t.pending bytes (emitted_by t) (emitted_for c (record_of s.history)) k.within k.begins one from some in
-    let long = length-append t.pending bytes in record {
-      within = both.0;
-      begins = both.1;
-      sound = (sound, node);
-      counted = omega (arith, few, long);
-    }
+    let long = length-append t.pending bytes in
+    let tapped : IsTapped (with_piece bytes s t) = record { within = both.0; begins = both.1; sound = (sound, node); counted = omega (arith, few, long) } in
+    (tapped, both.2)
 
 -- a piece that isn't refused is of the tap's connection, and begins behind the last byte that was accepted
 not_refused : (same next : Bool) → cond same (cond next None (Some refusals.Gap)) (Some refusals.OtherConnection) ≡ None → (same ≡ true) × (next ≡ true)
@@ -80,7 +81,7 @@ same_one c d e =
 pub accepted_tapped : (t : TapState) (c : Connection) (from : ℕ) (bytes now : Bytes) (s : Standing) (after : Option Standing) → IsTapped t → refusal t c from ≡ None
     → HaveMet t.standing (Some s) → IsSound s → c.node ≡ s.node → IsBeginningOf bytes (drop from (emitted_for c (record_of s.history))) → 0 < length bytes
     → from + length bytes < 2 ^ 64 → now ≡ t.pending ++ bytes → after ≡ Some s
-    → IsTapped (record { connection = t.connection; pending = now; written = t.written; standing = after })
+    → TakesIn bytes t (record { connection = t.connection; pending = now; written = t.written; standing = after })
 accepted_tapped t c from bytes now s after k due met sound node begins some few now_is after_is =
     let both = not_refused (same_connection c t.connection) (from == accepted t) due in
     let own : c ≡ t.connection = same_one c t.connection both.0 in
@@ -91,8 +92,8 @@ accepted_tapped t c from bytes now s after k due met sound node begins some few 
     let own_node : t.connection.node ≡ s.node = sym (ap (λ (d : Connection). d.node) own) ∙ node in
     let fits : accepted t + length bytes < 2 ^ 64 = subst (λ (n : ℕ). n + length bytes < 2 ^ 64) next few in
     let tapped = piece_tapped t bytes s k met sound own_node here some fits in
-    subst (λ (o : Option Standing). IsTapped (record { connection = t.connection; pending = now; written = t.written; standing = o })) (sym after_is)
-    (subst (λ (p : Bytes). IsTapped (record { connection = t.connection; pending = p; written = t.written; standing = Some s })) (sym now_is) tapped)
+    subst (λ (o : Option Standing). TakesIn bytes t (record { connection = t.connection; pending = now; written = t.written; standing = o })) (sym after_is)
+    (subst (λ (p : Bytes). TakesIn bytes t (record { connection = t.connection; pending = p; written = t.written; standing = Some s })) (sym now_is) tapped)
 
 -- a token that met the last one
 pub met_with : (held : Option LogView) (last : LogView) (s : Standing) → held ≡ Some last → AreOfOneLog last.standing s → HaveMet (standing_of held) (Some s)

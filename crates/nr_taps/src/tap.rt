@@ -1,11 +1,11 @@
 // A connection's tap.
-ghost use Rattle.std.specs.Prelude.{◌≡◌, ◌≤◌, ◌<◌, ◌+◌, ◌^◌, ◌⊎◌, ◌↔◌, [], true, length, drop, None, Some, IfErr, IfSome, IsOk, OnOk, OnErr, option_map};
+ghost use Rattle.std.specs.Prelude.{◌≡◌, ◌≤◌, ◌<◌, ◌+◌, ◌^◌, ◌⊎◌, ◌↔◌, [], ◌++◌, true, length, drop, None, Some, IfErr, IfSome, IsOk, OnOk, OnErr, option_map};
 ghost use Rattle.nr_model.specs.Bytes.{IsBeginningOf};
 ghost use Rattle.nr_model.specs.Sequential.{emitted_for};
 ghost use Rattle.nr_entry.specs.Jobs.{connection_of};
 ghost use Rattle.nr_log_end.specs.Standings.{record_of};
 ghost use Rattle.nr_node.specs.Sound.{IsSound};
-ghost use Rattle.nr_taps.specs.Taps.{HaveMet, IsSamePiece, accepted, fresh_tap, refusal, standing_of, with_piece, with_written};
+ghost use Rattle.nr_taps.specs.Taps.{HaveMet, IsSamePiece, accepted, bytes_accepted, fresh_tap, refusal, standing_of, with_piece, with_written};
 
 use crate::buffer::Buffer;
 use nr_entry::ConnId;
@@ -76,8 +76,8 @@ impl<B: LogName> Tap<B> {
     }
 
     /// Takes in a piece that a node handed out, with the token that came with it. Where nothing is pending its bytes are taken over, else they are copied. The
-    /// token is compared with the last one by three loads; one that is older than that does no harm. A piece that is refused comes back with its token, and
-    /// nothing changes; the reasons are told in the order of [`Refused`]'s.
+    /// token is compared with the last one by three loads; one that is older than that does no harm: the bytes that were accepted stay as they were. A piece
+    /// that is refused comes back with its token, and nothing changes; the reasons are told in the order of [`Refused`]'s.
     pub fn accept(
         &mut self,
         log: &Oplog<B>,
@@ -89,6 +89,7 @@ impl<B: LogName> Tap<B> {
         requires sound { IsSound token.standing }
         requires node { (connection_of piece.conn).node ≡ token.standing.node }
         ensures accepted { OnOk result (self.new ≡ with_piece piece.bytes.items token.standing self.old) }
+        ensures bytes { OnOk result (bytes_accepted self.new ≡ bytes_accepted self.old ++ piece.bytes.items) }
         ensures due { OnOk result (refusal self.old (connection_of piece.conn) piece.from ≡ None) }
         ensures met { OnOk result (HaveMet self.old.standing (Some token.standing)) }
         ensures refused { IfErr result (λ r. (refusal self.old (connection_of piece.conn) piece.from ≡ Some r.2) ⊎ ((refusal self.old (connection_of piece.conn) piece.from ≡ None) × (r.2 ≡ Refused.Memory))) }

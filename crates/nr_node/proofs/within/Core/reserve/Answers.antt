@@ -1,10 +1,12 @@
-use Rattle.std.proofs.Common.{◌≡◌, ℕ, inl, List, Option, false, refl, ap, sym, ◌∙◌, subst}
+use Rattle.std.proofs.Common.{◌≡◌, ℕ, ◌<◌, inl, List, Option, false, refl, ap, sym, ◌∙◌, subst}
 use Rattle.nr_entry.specs.Shares.{shares_of}
 use Rattle.nr_entry.specs.declared.entry.Entry.{Entry}
-use Rattle.nr_node.specs.Level.{NodeState}
+use Rattle.nr_log_end.specs.declared.standing.Standing.{Standing}
+use Rattle.nr_node.specs.Level.{NodeState, unpassed, jobs_reserved}
 use Rattle.nr_node.specs.Next.{jobs_next, IsNextOf}
 use Rattle.nr_node.specs.Reserved.{IsReserved}
 use Rattle.nr_node.specs.Steps.{HasReserved}
+use Rattle.nr_node.proofs.Lists.{jobs_reserved_more}
 use Rattle.nr_node.proofs.Taking.{some_is, none_is, memory_kept, none_kept, reserved_within, back_within}
 use Rattle.nr_node.proofs.within.Core.reserve.Goals as goal
 
@@ -91,6 +93,8 @@ returns-in-Taken-clause-done g c = λ _.
         jobs = got.3.due;
         node = got.2;
         reserved = reserved;
+        behind = ap (λ (x : Standing). jobs_reserved (unpassed x)) reserved.standing
+            ∙ jobs_reserved_more inside.end.standing c.in-Taken.field-0 got.0 (subst (λ (k : ℕ). 0 < k) keeps.3 keeps.4) keeps.0.order.passed;
         next = ap jobs_next got.3.none;
         left = got.3.left;
         book = refl;
