@@ -2,7 +2,7 @@
 //! why it failed.
 #![tactic(auto)]
 
-use nr_config::{Task, WordsError, words};
+use nr_config::{Settings, Task, WordsError, words};
 use nr_server::{Fault, listen_on, play_on, run_on, serve_on, settings_on};
 use nr_service::{MachineClock, Open};
 use std::hash::RandomState;
@@ -14,7 +14,10 @@ fn serve_input(rt: &HostRuntime) -> io::Result<Result<(), Fault>> {
     let alloc = rt.alloc();
     let keys = RandomState::new(rt)?;
     let clock = MachineClock { runtime: rt };
-    Ok(run_on(alloc, keys, rt.stdin(), rt.stdout(), clock))
+    match run_on(alloc, keys, rt.stdin(), rt.stdout(), clock) {
+        Ok(ran) => Ok(ran.done),
+        Err(memory) => Ok(Err(Fault::from(memory))),
+    }
 }
 
 // The bytes of a file, or the fault of one that can't be read.
@@ -41,6 +44,15 @@ fn serve_clients(rt: &HostRuntime, file: &str) -> io::Result<Result<(), Fault>> 
     }
 }
 
+// Says where it listens, and, where standard error takes it, by how many threads it serves.
+fn announce(rt: &HostRuntime, settings: &Settings) -> Result<(), Fault> {
+    if println!(rt; "noderedis: listening on {}", settings.listen).is_err() {
+        return Err(Fault::Write);
+    }
+    let _ = eprintln!(rt; "noderedis: one thread serves all nodes");
+    Ok(())
+}
+
 // Serves with the settings of this text.
 fn serve_with(rt: &HostRuntime, text: &[u8]) -> io::Result<Result<(), Fault>> {
     let alloc = rt.alloc();
@@ -52,8 +64,9 @@ fn serve_with(rt: &HostRuntime, text: &[u8]) -> io::Result<Result<(), Fault>> {
         Ok(sockets) => sockets,
         Err(fault) => return Ok(Err(fault)),
     };
-    println!(rt; "noderedis: listening on {}", settings.listen)?;
-    eprintln!(rt; "noderedis: one thread serves all nodes")?;
+    if let Err(fault) = announce(rt, &settings) {
+        return Ok(Err(fault));
+    }
     let keys = RandomState::new(rt)?;
     let clock = MachineClock { runtime: rt };
     Ok(serve_on(alloc, keys, &settings, sockets, clock, &Open))

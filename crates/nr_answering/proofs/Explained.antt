@@ -9,7 +9,8 @@ use Rattle.nr_answering.specs.Led.{StoryLaw}
 use Rattle.nr_answering.proofs.Occurred.{told_handed}
 
 pub stories_are_explained : StoryLaw
-stories_are_explained a story led =
+stories_are_explained a story once =
+    let led = once.led in
     let law = nodes_are_explained.explained story.setup led.events led.world led.is.past in
     record {
       events = led.events;

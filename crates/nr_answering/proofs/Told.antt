@@ -23,7 +23,7 @@ use Rattle.nr_service.proofs.Occurrences.{going_none}
 use Rattle.nr_answering.specs.Kept.{Taps, is_conn, kept_at, IsPut, AreKept, IsTapped}
 use Rattle.nr_answering.specs.State.{AnsweringState, IsSound}
 use Rattle.nr_answering.specs.Told.{told_of, told_in, opening}
-use Rattle.nr_answering.specs.Led.{IsOf, HasLedTo, IsAtRest}
+use Rattle.nr_answering.specs.Led.{IsOf, HasLedTo, IsAtRest, HasOnceLed}
 use Rattle.nr_answering.specs.Moves.{IsFurther, Moves, FindsFull, Rests, Closes}
 use Rattle.nr_answering.specs.Stands.{is_gone, IsGone, IsFull}
 use Rattle.nr_answering.proofs.Apart.{same_client, other_client, grows_absent}
@@ -262,3 +262,7 @@ pub full_told : (old : WorldState) (taps : Taps) (opened : Option ConnId) → Is
     → IfNone opened (IsFull old)
 full_told old taps None sound full = full sound.events sound.shown sound.past sound.shows
 full_told old taps (Some conn) sound full = tt
+
+-- what led to it once is left of it, whatever became of it
+pub once_led : (a : AnsweringState) (story : Story) → HasLedTo a story → HasOnceLed story
+once_led a story led = record { to = a; led = led }

@@ -27,6 +27,11 @@ pub record HasLedTo (a : AnsweringState) (story : Story) : Type 0 where
   pub sized : a.world.setup ≡ story.setup
   pub shows : Shows a.world world
 
+-- What is left of a story where memory ran out: it led to a server before.
+pub record HasOnceLed (story : Story) : Type 0 where
+  pub to : AnsweringState
+  pub led : HasLedTo to story
+
 -- And nothing is left to be done: that world is settled. Bytes are kept for connections of it alone.
 pub record IsAtRest (a : AnsweringState) (story : Story) : Type 0 where
   pub events : List Event
@@ -49,4 +54,4 @@ pub record IsExplained (story : Story) : Type 0 where
   pub begins : (c : Connection) → IsBeginningOf (bytes_handed c story) (emitted_for c items)
 
 abbrev pub StoryLaw : Type 0
-StoryLaw = (a : AnsweringState) (story : Story) → HasLedTo a story → IsExplained story
+StoryLaw = (a : AnsweringState) (story : Story) → HasOnceLed story → IsExplained story

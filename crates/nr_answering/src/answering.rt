@@ -82,14 +82,20 @@ fn open_tapped(world: &mut World, taps: &mut Taps, number: u64) -> Result<Option
 }
 
 impl Answers for Answering {
+    ghost use Rattle.std.specs.Prelude.{false};
     ghost use Rattle.nr_answering.specs.Kept.{kept_at};
-    ghost use Rattle.nr_answering.specs.Led.{HasLedTo, IsAtRest};
+    ghost use Rattle.nr_answering.specs.Led.{HasLedTo, HasOnceLed, IsAtRest};
     ghost use Rattle.nr_answering.specs.Stands.{Stands, AreDown, IsFull, IsGone};
     ghost use Rattle.nr_answering.specs.Placing.{IsPlaced};
 
     ghost is_past = { HasLedTo };
 
     ghost is_settled = { IsAtRest };
+
+    ghost is_left = { λ _ story. HasOnceLed story };
+
+    // Its work is always at its end.
+    ghost busy = { λ _. false };
 
     ghost kept = { λ a c. kept_at c a.taps };
 
@@ -144,6 +150,18 @@ impl Answers for Answering {
         self.taps.put_each(handed)?;
         self.has_failed = false;
         Ok(())
+    }
+
+    fn is_busy(&self) -> bool {
+        false
+    }
+
+    fn leaves(&self) {}
+
+    fn pass_on(&self) {}
+
+    fn told(&self, place: usize) -> Option<ConnId> {
+        self.taps.told(place)
     }
 
     fn pending(&self, conn: ConnId) -> &[u8] {

@@ -20,6 +20,13 @@ use std::collections::BTreeMap;
 pub(crate) struct Taps {
     pub(crate) alloc: Global,
     pub(crate) by_conn: BTreeMap<ConnId, Tap>,
+    // For which connections pieces came last. A hint.
+    told: Vec<ConnId>,
+}
+
+// Tells of a connection, where there is room for that.
+fn tell(told: &mut Vec<ConnId>, conn: ConnId) {
+    let _ = told.push(conn);
 }
 
 impl Taps {
@@ -29,6 +36,7 @@ impl Taps {
         Taps {
             alloc,
             by_conn: BTreeMap::new(alloc),
+            told: Vec::new(alloc),
         }
     }
 
@@ -47,6 +55,11 @@ impl Taps {
         ensures { IsPut conn None self.old.by_conn.entries self.new.by_conn.entries }
     {
         self.by_conn.remove(&conn);
+    }
+
+    /// A connection for which a piece came last, the first at place 0 and so on.
+    pub(crate) fn told(&self, place: usize) -> Option<ConnId> {
+        self.told.get(place).copied()
     }
 
     /// What is kept for a connection. Logarithmic.
@@ -74,6 +87,7 @@ impl Taps {
     fn put(&mut self, handed: Handed) -> Result<(), Memory>
         ensures { OnOk result (AreKept (handed_seen handed ∷ []) self.old.by_conn.entries self.new.by_conn.entries) }
     {
+        tell(&mut self.told, handed.conn);
         if let Some(tap) = self.by_conn.get_mut(&handed.conn) {
             tap.put(handed.bytes)?;
         }
@@ -84,6 +98,7 @@ impl Taps {
     pub(crate) fn put_each(&mut self, mut handed: Vec<Handed>) -> Result<(), Memory>
         ensures { OnOk result (AreKept (map handed_seen handed.items) self.old.by_conn.entries self.new.by_conn.entries) }
     {
+        self.told.clear();
         handed.reverse();
         while let Some(piece) = handed.pop() {
             self.put(piece)?;

@@ -8,8 +8,7 @@ use Rattle.nr_model.specs.Nodes.{World, sequence_of}
 use Rattle.nr_model.specs.Nodes.Pasts.{Event, IsPast, handed_in}
 use Rattle.nr_model.specs.Nodes.Explained.{waiting_for}
 use Rattle.nr_service.specs.declared.client.Client.{Client}
-use Rattle.nr_service.specs.Serving.{connection}
-use Rattle.nr_service.specs.Steps.{IsLeft}
+use Rattle.nr_service.specs.Serving.{connection, IsLeft}
 use Rattle.nr_service.specs.Readings.{AreFedByClock}
 use Rattle.nr_service.specs.Stories.{Story, fed_in, closed_in, bytes_fed, bytes_handed}
 use Rattle.nr_answering.specs.Led.{IsOf}

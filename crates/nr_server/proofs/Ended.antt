@@ -8,14 +8,13 @@ use Rattle.nr_model.specs.Items.{Connection}
 use Rattle.nr_model.specs.Nodes.{sequence_of}
 use Rattle.nr_service.specs.declared.client.Client.{Client}
 use Rattle.nr_service.specs.Readings.{AreFedByClock, IsNeverFed}
-use Rattle.nr_service.specs.Serving.{connection, AreServed, IsServed as IsServedSo}
-use Rattle.nr_service.specs.Steps.{IsLeft}
+use Rattle.nr_service.specs.Serving.{connection, AreServed, IsLeft, IsServed as IsServedSo}
 use Rattle.nr_service.proofs.Left.{still_left}
 use Rattle.nr_service.specs.Stories.{Occurrence, Story, beginning, fed_in, closed_in, going_on}
 use Rattle.nr_service.proofs.Occurrences.{closed_both, fed_on}
 use Rattle.nr_service.proofs.Timed.{fed_unread, none_fed, none_timed}
 use Rattle.nr_answering.specs.Kept.{kept_at}
-use Rattle.nr_answering.specs.Led.{HasLedTo, IsAtRest}
+use Rattle.nr_answering.specs.Led.{HasLedTo, HasOnceLed, IsAtRest}
 use Rattle.nr_answering.specs.Stands.{Stands}
 use Rattle.nr_answering.specs.State.{AnsweringState}
 use Rattle.nr_server.specs.Going.{HasEnded}
@@ -58,7 +57,7 @@ begun_fed gives clock made admitted made_at admitted_at next more is none made_i
 first_served : {S M : Type 0} (was_received was_sent : S → Option Bytes) (course : S → Option Course) (gives : M → M → Option ℕ → Type 0)
     (first last : M) (now : ℕ) (a : AnsweringState) (story : Story) (client : Client S)
     (more : List (Client S)) (done : Done) → story.setup ≡ alone → closed_in story.occurrences ≡ []
-    → HasEnded was_received was_sent course HasLedTo IsAtRest Kept Stands (AreFedByClock gives first last now) story a (client ∷ more) done
+    → HasEnded was_received was_sent course HasLedTo (λ _. HasOnceLed) IsAtRest Kept Stands (AreFedByClock gives first last now) story a (client ∷ more) done
     → IsServed was_received was_sent course gives first (record { stream = client.stream; done = done })
 first_served was_received was_sent course gives first last now a story client more dones.Whole sized calm ended =
     let o = ended.whole refl in
@@ -77,22 +76,22 @@ first_served was_received was_sent course gives first last now a story client mo
 first_served was_received was_sent course gives first last now a story client more dones.Broken sized calm ended =
     let l = ended.left in (
       connection client,
-      l.past.events,
-      l.past.world,
-      sequence_of l.past.world,
-      begins was_received was_sent gives first last now l.next l.past.events l.past.world client (sized_on story l.next l.more l.is sized)
-          (calm_on story l.next l.more l.is l.closed calm) l.past.is l.timed (All-head (IsLeft was_received was_sent l.next) client more l.each),
+      l.left.led.events,
+      l.left.led.world,
+      sequence_of l.left.led.world,
+      begins was_received was_sent gives first last now l.next l.left.led.events l.left.led.world client (sized_on story l.next l.more l.is sized)
+          (calm_on story l.next l.more l.is l.closed calm) l.left.led.is l.timed (All-head (IsLeft was_received was_sent l.next) client more l.each),
       λ e. absurd (cc e),
       λ e. ended.broken refl,
     )
 first_served was_received was_sent course gives first last now a story client more dones.Memory sized calm ended =
     let l = ended.left in (
       connection client,
-      l.past.events,
-      l.past.world,
-      sequence_of l.past.world,
-      begins was_received was_sent gives first last now l.next l.past.events l.past.world client (sized_on story l.next l.more l.is sized)
-          (calm_on story l.next l.more l.is l.closed calm) l.past.is l.timed (All-head (IsLeft was_received was_sent l.next) client more l.each),
+      l.left.led.events,
+      l.left.led.world,
+      sequence_of l.left.led.world,
+      begins was_received was_sent gives first last now l.next l.left.led.events l.left.led.world client (sized_on story l.next l.more l.is sized)
+          (calm_on story l.next l.more l.is l.closed calm) l.left.led.is l.timed (All-head (IsLeft was_received was_sent l.next) client more l.each),
       λ e. absurd (cc e),
       λ e. absurd (cc e),
     )
@@ -100,7 +99,7 @@ first_served was_received was_sent course gives first last now a story client mo
 pub served : {S M : Type 0} (was_received was_sent : S → Option Bytes) (course : S → Option Course) (gives : M → M → Option ℕ → Type 0)
     (first last : M) (now : ℕ) (a : AnsweringState) (story : Story)
     (clients : List (Client S)) (client : Client S) (done : Done) → story.setup ≡ alone → closed_in story.occurrences ≡ [] → 0 < length clients
-    → client ≡ get_or clients 0 client → HasEnded was_received was_sent course HasLedTo IsAtRest Kept Stands
+    → client ≡ get_or clients 0 client → HasEnded was_received was_sent course HasLedTo (λ _. HasOnceLed) IsAtRest Kept Stands
     (AreFedByClock gives first last now) story a clients done
     → IsServed was_received was_sent course gives first (record { stream = client.stream; done = done })
 served was_received was_sent course gives first last now a story [] client done sized calm some is ended = absurd (omega arith)

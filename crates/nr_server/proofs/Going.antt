@@ -1,16 +1,16 @@
 -- How a service's clients go on from exchange to exchange, whatever answers them.
-use Rattle.std.proofs.Common.{◌≡◌, ℕ, List, [], ◌∷◌, ◌++◌, refl, sym, ap, ◌∙◌, subst}
+use Rattle.std.proofs.Common.{◌≡◌, ℕ, Bool, List, [], ◌∷◌, ◌++◌, refl, sym, ap, ◌∙◌, subst}
 use Rattle.std.specs.Prelude.{map, Option, All}
 use Rattle.std.proofs.lemmas.List.Elements.{All-head, All-weaker}
 use Rattle.nr_model.specs.Bytes.{Bytes}
 use Rattle.nr_model.specs.Items.{Connection}
 use Rattle.nr_service.specs.declared.client.Client.{Client}
-use Rattle.nr_service.specs.Readings.{AreFedByClock, IsFedAmong, IsFedAt, Reads}
-use Rattle.nr_service.specs.Serving.{connection, AreServed, IsServed}
-use Rattle.nr_service.specs.Steps.{Exchanges, IsLeft, Leaves}
+use Rattle.nr_service.specs.Readings.{AreFedByClock, IsFedAmong, IsFedAt, IsFedAtRest, Reads}
+use Rattle.nr_service.specs.Serving.{connection, AreServed, IsLeft, IsServed}
+use Rattle.nr_service.specs.Steps.{Exchanges, Leaves}
 use Rattle.nr_service.proofs.Left.{still_left}
 use Rattle.nr_service.proofs.Timed.{fed_then}
-use Rattle.nr_service.specs.Stories.{Occurrence, Story, Past, Kept, opened_in, fed_in, closed_in, going_on}
+use Rattle.nr_service.specs.Stories.{Occurrence, Story, Past, Kept, IsLeftOf, opened_in, fed_in, closed_in, going_on}
 use Rattle.nr_service.proofs.Occurrences.{opened_both, closed_both, fed_on, going_none, going_both}
 use Rattle.nr_service.specs.declared.answers.Standing.{Standing}
 use Rattle.nr_server.specs.Going.{AreCutOff, HasEnded, HasFirstFailed, InTime, IsDone}
@@ -46,12 +46,13 @@ pub record Rests {A S : Type 0} (was_received was_sent : S → Option Bytes) (co
 
 -- behind an exchange
 pub exchanged : {A S M : Type 0} (was_received was_sent : S → Option Bytes) (course : S → Option Course) (is_past is_settled : A → Past) (keeps : A → Kept)
+    (busy : A → Bool)
     (gives : M → M → Option ℕ → Type 0) (first clock read : M) (before now : ℕ) (story : Story) (a b : A) (old new : List (Client S))
     → Reads gives clock read before now
     → Goes was_received was_sent course is_past keeps (AreFedByClock gives first clock before) story a old
-    → Exchanges was_received was_sent course is_past is_settled keeps now a b old new
+    → Exchanges was_received was_sent course is_past is_settled keeps busy now a b old new
     → Rests was_received was_sent course is_past is_settled keeps (AreFedByClock gives first read now) story b new
-exchanged was_received was_sent course is_past is_settled keeps gives first clock read before now story a b old new reads goes exchanges =
+exchanged was_received was_sent course is_past is_settled keeps busy gives first clock read before now story a b old new reads goes exchanges =
     let s = exchanges.further goes.next goes.served in
     record {
       goes = record {
@@ -62,46 +63,46 @@ exchanged was_received was_sent course is_past is_settled keeps gives first cloc
         closed = closed_both goes.more s.has.more ∙ (λ i. goes.closed i ++ s.has.closed i);
         timed = fed_then gives first clock read before now (fed_in goes.next.occurrences) (fed_in s.has.more) (fed_in s.has.next.occurrences)
             (fed_on goes.next s.has.next s.has.more s.has.is) reads
-            (All-weaker (IsFedAmong now (map connection old)) (IsFedAt now) (λ feeding is. is.0) (fed_in s.has.more) s.has.feeds) goes.timed;
+            (All-weaker (IsFedAtRest (busy exchanges.ready) now (map connection old)) (IsFedAt now) (λ feeding is. is.1.0) (fed_in s.has.more) s.has.feeds)
+            goes.timed;
         served = s.has.served;
       };
       rest = s.rest;
     }
 
 -- or where memory ran out in it
-pub failed : {A S M : Type 0} (was_received was_sent : S → Option Bytes) (course : S → Option Course) (is_past : A → Past) (keeps : A → Kept)
-    (gives : M → M → Option ℕ → Type 0) (first clock read : M) (before now : ℕ) (story : Story) (a : A) (old new : List (Client S))
+pub failed : {A S M : Type 0} (was_received was_sent : S → Option Bytes) (course : S → Option Course) (is_past is_left : A → Past) (keeps : A → Kept)
+    (gives : M → M → Option ℕ → Type 0) (first clock read : M) (before now : ℕ) (story : Story) (a b : A) (old new : List (Client S))
     → Reads gives clock read before now
     → Goes was_received was_sent course is_past keeps (AreFedByClock gives first clock before) story a old
-    → Leaves was_received was_sent course is_past keeps (IsFedAmong now (map connection old)) a old new
-    → AreCutOff was_received was_sent is_past (AreFedByClock gives first read now) story new
-failed was_received was_sent course is_past keeps gives first clock read before now story a old new reads goes leaves =
+    → Leaves was_received was_sent course is_past is_left keeps (IsFedAmong now (map connection old)) a b old new
+    → AreCutOff was_received was_sent is_left (AreFedByClock gives first read now) story b new
+failed was_received was_sent course is_past is_left keeps gives first clock read before now story a b old new reads goes leaves =
     let l = leaves.further goes.next goes.served in
     record {
       next = l.next;
       more = goes.more ++ l.more;
-      answers = l.answers;
       is = l.is ∙ ap (λ (at : Story). going_on at l.more) goes.is ∙ going_both story goes.more l.more;
       closed = closed_both goes.more l.more ∙ (λ i. goes.closed i ++ l.closed i);
       timed = fed_then gives first clock read before now (fed_in goes.next.occurrences) (fed_in l.more) (fed_in l.next.occurrences)
           (fed_on goes.next l.next l.more l.is) reads
           (All-weaker (IsFedAmong now (map connection old)) (IsFedAt now) (λ feeding is. is.0) (fed_in l.more) l.feeds) goes.timed;
-      past = l.past;
+      left = l.left;
       each = l.each;
     }
 
 -- where all were served they are left so
-pub goes_left : {A S : Type 0} (was_received was_sent : S → Option Bytes) (course : S → Option Course) (is_past : A → Past) (keeps : A → Kept)
-    (in_time : InTime) (story : Story) (answers : A) (clients : List (Client S))
-    → Goes was_received was_sent course is_past keeps in_time story answers clients → AreCutOff was_received was_sent is_past in_time story clients
-goes_left was_received was_sent course is_past keeps in_time story answers clients goes = record {
+pub goes_left : {A S : Type 0} (was_received was_sent : S → Option Bytes) (course : S → Option Course) (is_past is_left : A → Past) (keeps : A → Kept)
+    (in_time : InTime) (story : Story) (answers : A) (clients : List (Client S)) → IsLeftOf (is_past answers) (is_left answers)
+    → Goes was_received was_sent course is_past keeps in_time story answers clients
+    → AreCutOff was_received was_sent is_left in_time story answers clients
+goes_left was_received was_sent course is_past is_left keeps in_time story answers clients left goes = record {
   next = goes.next;
   more = goes.more;
-  answers = answers;
   is = goes.is;
   closed = goes.closed;
   timed = goes.timed;
-  past = goes.served.past;
+  left = left goes.next goes.served.past;
   each = All-weaker (IsServed was_received was_sent course (keeps answers) goes.next) (IsLeft was_received was_sent goes.next)
       (λ client s. still_left was_received was_sent course (keeps answers) goes.next client s) clients goes.served.each;
 }
@@ -113,30 +114,31 @@ first_failed : {A S : Type 0} (was_received was_sent : S → Option Bytes) (cour
     → HasFirstFailed course clients
 first_failed was_received was_sent course keeps stands story a [] done all is e = tt
 first_failed was_received was_sent course keeps stands story a (client ∷ clients) done all is e =
-    course_failed (course client.stream) client.is_ending client.is_broken (is.1 e)
+    course_failed (course client.stream) client.is_ending client.is_broken client.is_full (is.1 e)
     (All-head (IsServed was_received was_sent course (keeps a) story) client clients all).course_is
 
 -- so they end, however that is
-pub ends_failed : {A S M : Type 0} (was_received was_sent : S → Option Bytes) (course : S → Option Course) (is_past is_settled : A → Past) (keeps : A → Kept)
+pub ends_failed : {A S M : Type 0} (was_received was_sent : S → Option Bytes) (course : S → Option Course) (is_past is_left is_settled : A → Past) (keeps : A → Kept)
     (stands : A → Connection → Standing → Type 0) (gives : M → M → Option ℕ → Type 0) (first clock read : M) (before now : ℕ) (story : Story) (a b : A)
     (old new : List (Client S)) → Reads gives clock read before now
     → Goes was_received was_sent course is_past keeps (AreFedByClock gives first clock before) story a old
-    → Leaves was_received was_sent course is_past keeps (IsFedAmong now (map connection old)) a old new
-    → HasEnded was_received was_sent course is_past is_settled keeps stands (AreFedByClock gives first read now) story b new dones.Memory
-ends_failed was_received was_sent course is_past is_settled keeps stands gives first clock read before now story a b old new reads goes leaves =
+    → Leaves was_received was_sent course is_past is_left keeps (IsFedAmong now (map connection old)) a b old new
+    → HasEnded was_received was_sent course is_past is_left is_settled keeps stands (AreFedByClock gives first read now) story b new dones.Memory
+ends_failed was_received was_sent course is_past is_left is_settled keeps stands gives first clock read before now story a b old new reads goes leaves =
     record {
-      left = failed was_received was_sent course is_past keeps gives first clock read before now story a old new reads goes leaves;
+      left = failed was_received was_sent course is_past is_left keeps gives first clock read before now story a b old new reads goes leaves;
       broken = λ e. absurd (cc e);
       whole = λ e. absurd (cc e);
     }
 
-pub ends_by : {A S : Type 0} (was_received was_sent : S → Option Bytes) (course : S → Option Course) (is_past is_settled : A → Past) (keeps : A → Kept)
+pub ends_by : {A S : Type 0} (was_received was_sent : S → Option Bytes) (course : S → Option Course) (is_past is_left is_settled : A → Past) (keeps : A → Kept)
     (stands : A → Connection → Standing → Type 0) (in_time : InTime) (story : Story) (a : A) (clients : List (Client S)) (done : Done)
+    → IsLeftOf (is_past a) (is_left a)
     → Rests was_received was_sent course is_past is_settled keeps in_time story a clients → IsDone keeps stands a clients done
-    → HasEnded was_received was_sent course is_past is_settled keeps stands in_time story a clients done
-ends_by was_received was_sent course is_past is_settled keeps stands in_time story a clients done rests is =
+    → HasEnded was_received was_sent course is_past is_left is_settled keeps stands in_time story a clients done
+ends_by was_received was_sent course is_past is_left is_settled keeps stands in_time story a clients done left rests is =
     record {
-      left = goes_left was_received was_sent course is_past keeps in_time story a clients rests.goes;
+      left = goes_left was_received was_sent course is_past is_left keeps in_time story a clients left rests.goes;
       broken = first_failed was_received was_sent course keeps stands rests.goes.next a clients done rests.goes.served.each is;
       whole = λ e. record {
         next = rests.goes.next;
@@ -151,9 +153,9 @@ ends_by was_received was_sent course is_past is_settled keeps stands in_time sto
       };
     }
 
-pub ends_at_last : {A S : Type 0} (was_received was_sent : S → Option Bytes) (course : S → Option Course) (is_past is_settled : A → Past) (keeps : A → Kept)
+pub ends_at_last : {A S : Type 0} (was_received was_sent : S → Option Bytes) (course : S → Option Course) (is_past is_left is_settled : A → Past) (keeps : A → Kept)
     (stands : A → Connection → Standing → Type 0) (in_time : InTime) (story : Story) (a : A) (clients : List (Client S))
-    → Goes was_received was_sent course is_past keeps in_time story a clients
-    → HasEnded was_received was_sent course is_past is_settled keeps stands in_time story a clients dones.Memory
-ends_at_last was_received was_sent course is_past is_settled keeps stands in_time story a clients goes =
-    record { left = goes_left was_received was_sent course is_past keeps in_time story a clients goes; broken = λ e. absurd (cc e); whole = λ e. absurd (cc e) }
+    → IsLeftOf (is_past a) (is_left a) → Goes was_received was_sent course is_past keeps in_time story a clients
+    → HasEnded was_received was_sent course is_past is_left is_settled keeps stands in_time story a clients dones.Memory
+ends_at_last was_received was_sent course is_past is_left is_settled keeps stands in_time story a clients left goes =
+    record { left = goes_left was_received was_sent course is_past is_left keeps in_time story a clients left goes; broken = λ e. absurd (cc e); whole = λ e. absurd (cc e) }

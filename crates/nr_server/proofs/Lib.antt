@@ -4,3 +4,5 @@ pub mod Begun
 pub mod Whole
 pub mod Ended
 pub mod Explained
+pub mod Read
+pub mod Both

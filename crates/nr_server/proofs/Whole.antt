@@ -88,11 +88,11 @@ whole was_received was_sent course a story client sized calm rest served over =
       | inl stands ↦
           inr (ended_or_cut (is_client world c) (client_of c world).ended (client_of c world).closed (client_of c world).queue.cut there shut
           (over_where node.down (takes_no_more world c) (stands.works rest.works world rest.shows)))
-      | inr stands ↦ inl (course_ended (course client.stream) client.is_ending client.is_broken stands.1 served.course_is)
+      | inr stands ↦ inl (course_ended (course client.stream) client.is_ending client.is_broken client.is_full stands.1 served.course_is)
     ] in
     record {
       over = end;
-      sound = course_sound (course client.stream) client.is_ending client.is_broken over.sound served.course_is;
+      sound = course_sound (course client.stream) client.is_ending client.is_broken client.is_full over.sound served.course_is;
       there = there;
       up = up;
       fed = all_fed (was_received client.stream) (bytes_fed c story) (fed_to c world.fed) (bytes_fed_in story rest.events world c rest.is) served.received;

@@ -4,8 +4,7 @@ use Rattle.nr_model.specs.Bytes.{Bytes}
 use Rattle.nr_model.specs.Items.{Connection}
 use Rattle.nr_model.specs.Connections.{Feeding}
 use Rattle.nr_service.specs.declared.client.Client.{Client}
-use Rattle.nr_service.specs.Serving.{connection, AreServed}
-use Rattle.nr_service.specs.Steps.{IsLeft}
+use Rattle.nr_service.specs.Serving.{connection, AreServed, IsLeft}
 use Rattle.nr_service.specs.Stories.{Occurrence, Story, Past, Kept, kept_bytes, opened_in, fed_in, closed_in, going_on}
 use Rattle.nr_service.specs.declared.answers.Standing.{Standing}
 use Rattle.nr_service.specs.declared.answers.Standing.TheVariants as standings
@@ -47,28 +46,27 @@ pub record AreOver {A S : Type 0} (was_received was_sent : S → Option Bytes) (
   pub rest : is_settled answers next
   pub first : IsDone keeps stands answers clients dones.Whole
 
--- Nothing was closed, and the clients are left, by a story that may have led to what answered them at last.
-pub record AreCutOff {A S : Type 0} (was_received was_sent : S → Option Bytes) (is_past : A → Past) (in_time : InTime) (story : Story)
+-- Nothing was closed, and the clients are left, by a story of which is left what answers then.
+pub record AreCutOff {A S : Type 0} (was_received was_sent : S → Option Bytes) (is_left : A → Past) (in_time : InTime) (story : Story) (answers : A)
     (clients : List (Client S)) : Type 0 where
   pub next : Story
   pub more : List Occurrence
-  pub answers : A
   pub is : next ≡ going_on story more
   pub closed : closed_in more ≡ []
   pub timed : in_time (fed_in next.occurrences)
-  pub past : is_past answers next
+  pub left : is_left answers next
   pub each : All (IsLeft was_received was_sent next) clients
 
 -- What holds at the end, by a story by which the clients were served at the beginning: in any case of those that are left; the more where it didn't fail.
-pub record HasEnded {A S : Type 0} (was_received was_sent : S → Option Bytes) (course : S → Option Course) (is_past is_settled : A → Past) (keeps : A → Kept)
+pub record HasEnded {A S : Type 0} (was_received was_sent : S → Option Bytes) (course : S → Option Course) (is_past is_left is_settled : A → Past) (keeps : A → Kept)
     (stands : A → Connection → Standing → Type 0) (in_time : InTime) (story : Story) (answers : A) (clients : List (Client S)) (done : Done) : Type 0 where
-  pub left : AreCutOff was_received was_sent is_past in_time story clients
+  pub left : AreCutOff was_received was_sent is_left in_time story answers clients
   pub broken : done ≡ dones.Broken → HasFirstFailed course clients
   pub whole : done ≡ dones.Whole → AreOver was_received was_sent course is_past is_settled keeps stands in_time story answers clients
 
 -- so it is by each story by which they were served, and whose bytes were fed in time
-abbrev pub Ends : {A S : Type 0} → (S → Option Bytes) → (S → Option Bytes) → (S → Option Course) → (A → Past) → (A → Past) → (A → Kept)
+abbrev pub Ends : {A S : Type 0} → (S → Option Bytes) → (S → Option Bytes) → (S → Option Course) → (A → Past) → (A → Past) → (A → Past) → (A → Kept)
     → (A → Connection → Standing → Type 0) → InTime → InTime → Story → A → List (Client S) → A → List (Client S) → Done → Type 0
-Ends was_received was_sent course is_past is_settled keeps stands in_time_before in_time_after story before old after new done =
+Ends was_received was_sent course is_past is_left is_settled keeps stands in_time_before in_time_after story before old after new done =
     AreServed was_received was_sent course (is_past before) (keeps before) story old → in_time_before (fed_in story.occurrences)
-    → HasEnded was_received was_sent course is_past is_settled keeps stands in_time_after story after new done
+    → HasEnded was_received was_sent course is_past is_left is_settled keeps stands in_time_after story after new done

@@ -1,6 +1,12 @@
 pub mod Runs
+pub mod Written
+pub mod Known
+pub mod Ran
 pub mod Going
 pub mod Faults
 pub mod Files
 pub mod Answered
 pub mod Sizes
+pub mod Plays
+pub mod Serving
+pub mod Listening

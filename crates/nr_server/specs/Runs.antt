@@ -1,5 +1,5 @@
 -- What serving one connection has done: the theorem of `serve_stream` is `IsServed`.
-use Rattle.std.specs.Prelude.{◌≡◌, ℕ, Bool, true, false, ◌||◌, ◌⊎◌, if◌then◌else◌, List, [], Option, Some, None, IfSome, Result, Ok, Err}
+use Rattle.std.specs.Prelude.{◌≡◌, ℕ, true, false, ◌⊎◌, List, [], Option, IfSome}
 use Rattle.nr_model.specs.Bytes.{Bytes, IsBeginningOf}
 use Rattle.nr_model.specs.Items.{Connection, Sequence}
 use Rattle.nr_model.specs.Sequential.{emitted_for}
@@ -10,9 +10,6 @@ use Rattle.nr_model.specs.Nodes.Steps.{is_client}
 use Rattle.nr_model.specs.Nodes.Pasts.{Event, IsPast}
 use Rattle.nr_model.specs.Nodes.Explained.{jobs_executed, asked_jobs, Explains}
 use Rattle.nr_service.specs.Readings.{AreFedFrom}
-use Rattle.nr_server.specs.declared.fault.Fault.{Fault}
-use Rattle.nr_server.specs.declared.fault.Fault.TheVariants as faults
-use Rattle.nr_server.specs.declared.line.Line.{Line}
 use Rattle.nr_server.specs.declared.run.Done.{Done}
 use Rattle.nr_server.specs.declared.run.Done.TheVariants as dones
 use Rattle.nr_server.specs.declared.run.Served.{Served}
@@ -71,19 +68,3 @@ IsServed was_received was_sent course gives clock served =
     × IsBegun was_received was_sent gives clock c events world items served.stream
     × (served.done ≡ dones.Whole → IsWhole was_received was_sent course c world items served.stream)
     × (served.done ≡ dones.Broken → IfSome (course served.stream) (λ at. at.failed ≡ true))
-
--- a reader and a writer as one stream: its end was read, and a read or a write failed
-abbrev pub line_course : {R W : Type 0} → Line R W → Option Course
-line_course line = Some (record { ended = line.has_ended; failed = line.has_read_failed || line.has_write_failed })
-
--- what comes of a connection on these, as it ended, where a read failed, or a write did: a read that failed is told before a write
-abbrev pub run_answer : Done → Bool → Result (Unit {0}) Fault
-run_answer dones.Whole has_read_failed = Ok tt
-run_answer dones.Broken has_read_failed = if has_read_failed then Err faults.Read else Err faults.Write
-run_answer dones.Memory has_read_failed = Err faults.Memory
-
--- There was no memory for the server, or the connection was served, and this came of it.
-abbrev pub HasRunOn : (R W : Type 0) {M : Type 0} → (M → M → Option ℕ → Type 0) → M → Result (Unit {0}) Fault → Type 0
-HasRunOn R W gives clock result =
-    (result ≡ Err faults.Memory) ⊎ ((served : Served (Line R W))
-    × IsServed (λ _. None) (λ _. None) line_course gives clock served × (result ≡ run_answer served.done served.stream.has_read_failed))

@@ -4,7 +4,7 @@
 
 pub use answered::serve_answered;
 pub use fault::Fault;
-pub use line::run_on;
+pub use line::{Ran, run_on};
 pub use run::{Done, Served, serve_stream};
 pub use script::play_on;
 pub use serve::{listen_on, serve_on};
@@ -13,6 +13,7 @@ pub use settings::settings_on;
 mod answered;
 mod bytes;
 mod fault;
+mod joined;
 mod line;
 mod run;
 mod script;

@@ -1,102 +1,94 @@
 // One connection on a reader and a writer, as the program has it on standard input and output.
-ghost use Rattle.std.specs.Prelude.{◌≡◌, ◌≤◌, length};
-ghost use Rattle.nr_service.specs.Streams.{sent_count, IsSomeSent};
-ghost use Rattle.nr_server.specs.Runs.{run_answer, HasRunOn};
+ghost use Rattle.std.specs.Prelude.{◌≡◌, IfOk};
+ghost use Rattle.nr_server.specs.Ran.{run_answer, HasRunOn};
 
-use crate::bytes::{read_some, write_some};
 use crate::fault::Fault;
+use crate::joined::{Beginning, Line};
 use crate::run::{Done, Served, serve_stream};
-use nr_service::{Moments, Received, Sent, Stream};
+use nr_blob::Memory;
+use nr_service::Moments;
+use nr_transcript::Transcript;
 use std::alloc::Global;
 use std::hash::RandomState;
 use std::io::{Read, Write};
+use std::marker::Brand;
 
-/// A reader and a writer as one stream, which knows how it stands. A read waits for bytes, and a write until some are taken.
+/// A reader and a writer on which a connection was served, and what is told of it.
 #[derive(Drop)]
-struct Line<R, W> {
-    reader: R,
-    writer: W,
-    has_ended: bool,
-    has_read_failed: bool,
-    has_write_failed: bool,
+pub struct Ran<R, W> {
+    pub reader: R,
+    pub writer: W,
+    /// What was read.
+    pub read: Transcript,
+    /// What was written.
+    pub written: Transcript,
+    pub done: Result<(), Fault>,
 }
 
-impl<R: Read, W: Write> Stream for Line<R, W> {
-    ghost use Rattle.std.specs.Prelude.{None};
-    ghost use Rattle.nr_server.specs.Runs.{line_course};
-
-    ghost received = { λ _. None };
-
-    ghost sent = { λ _. None };
-
-    ghost course = { line_course };
-
-    fn receive(&mut self, buffer: &mut [u8]) -> Received {
-        let received = read_some(&mut self.reader, buffer);
-        match received {
-            Received::End => self.has_ended = true,
-            Received::Failed => self.has_read_failed = true,
-            Received::Bytes(_) | Received::Nothing => {}
-        }
-        received
-    }
-
-    // What was taken is passed on at once.
-    fn send(&mut self, bytes: &[u8]) -> Sent {
-        let sent = write_through(&mut self.writer, bytes);
-        if sent == Sent::Failed {
-            self.has_write_failed = true;
-        }
-        sent
-    }
-}
-
-// Writes once, and passes on what was taken.
-fn write_through<W: Write>(writer: &mut W, bytes: &[u8]) -> Sent
-    ensures some { IsSomeSent result }
-    ensures bound { sent_count result ≤ length bytes.now }
+// What is told of it.
+fn answer_of(done: Done, has_read_failed: bool, is_stuck: bool) -> Result<(), Fault>
+    ensures { result ≡ run_answer done has_read_failed is_stuck }
 {
-    let sent = write_some(writer, bytes);
-    match writer.flush() {
-        Ok(()) => sent,
-        Err(_) => Sent::Failed,
-    }
-}
-
-// What came of it.
-fn answer_of<R, W>(served: &Served<Line<R, W>>) -> Result<(), Fault>
-    ensures { result ≡ run_answer served.now.done served.now.stream.has_read_failed }
-{
-    match served.done {
+    match done {
+        Done::Whole if is_stuck => Err(Fault::Write),
         Done::Whole => Ok(()),
         Done::Memory => Err(Fault::Memory),
-        Done::Broken if served.stream.has_read_failed => Err(Fault::Read),
+        Done::Broken if has_read_failed => Err(Fault::Read),
         Done::Broken => Err(Fault::Write),
     }
 }
 
-/// Serves one connection on a reader and a writer, as [`serve_stream`] does on a stream.
+// Serves one connection on a reader and a writer whose bytes have these names.
+fn run_named<R, W, B, M>(
+    alloc: Global,
+    keys: RandomState,
+    reader: R,
+    writer: W,
+    clock: M,
+) -> Result<Ran<R, W>, Memory>
+where
+    R: Read + Drop,
+    W: Write + Drop,
+    B: Beginning,
+    M: Moments + Drop,
+    requires input { R.remaining reader ≡ B.input }
+    requires output { W.contents writer ≡ B.output }
+    ensures { IfOk result (HasRunOn R.remaining W.contents M.gives clock reader writer) }
+{
+    let line = Line::<R, W, B>::new(reader, writer);
+    let Served { stream, done } = serve_stream(alloc, keys, line, clock)?;
+    let done = answer_of(done, stream.has_read_failed, stream.is_stuck);
+    let Line {
+        reader,
+        writer,
+        received,
+        sent,
+        ..
+    } = stream;
+    Ok(Ran {
+        reader,
+        writer,
+        read: received,
+        written: sent,
+        done,
+    })
+}
+
+/// Serves one connection on a reader and a writer, as [`serve_stream`] does on a stream, and hands them back with what is told of it: nothing where the
+/// connection ended whole; `Read` or `Write` where the reader or the writer failed, or bytes that were written weren't passed on; `Memory` where memory
+/// ran out, also where the node fell by that. What was written is a beginning of the replies, and all of them where it ended whole.
 ///
 /// # Errors
 ///
-/// `Read` or `Write` where the reader or the writer fails, `Memory` where memory runs out, also where the node falls by that. What was written
-/// by then is a beginning of the replies.
+/// `Memory` where there is no room for the server: nothing was read or written.
 pub fn run_on<R: Read + Drop, W: Write + Drop, M: Moments + Drop>(
     alloc: Global,
     keys: RandomState,
     reader: R,
     writer: W,
     clock: M,
-) -> Result<(), Fault>
-    ensures { HasRunOn R W M.gives clock result }
+) -> Result<Ran<R, W>, Memory>
+    ensures { IfOk result (HasRunOn R.remaining W.contents M.gives clock reader writer) }
 {
-    let line = Line {
-        reader,
-        writer,
-        has_ended: false,
-        has_read_failed: false,
-        has_write_failed: false,
-    };
-    let served = serve_stream(alloc, keys, line, clock)?;
-    answer_of(&served)
+    run_named::<R, W, Brand, M>(alloc, keys, reader, writer, clock)
 }

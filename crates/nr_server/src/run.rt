@@ -72,7 +72,7 @@ fn done_of<A: Answers, S: Stream>(answers: &A, clients: &[Client<S>]) -> Option<
 fn exchange_all<A: Answers + Drop, S: Stream + Drop, M: Moments + Drop>(
     service: &mut Service<A, S, Nowhere, M>,
 ) -> Done
-    ensures { (first : M) (story : Story) → Ends S.received S.sent S.course A.is_past A.is_settled A.kept A.stands
+    ensures { (first : M) (story : Story) → Ends S.received S.sent S.course A.is_past A.is_left A.is_settled A.kept A.stands
         (AreFedByClock M.gives first service.old.clock service.old.moment) (AreFedByClock M.gives first service.new.clock service.new.moment) story
         service.old.answers service.old.clients.items service.new.answers service.new.clients.items result }
 {
@@ -80,14 +80,16 @@ fn exchange_all<A: Answers + Drop, S: Stream + Drop, M: Moments + Drop>(
         let Ok(()) = service.exchange() else {
             return Done::Memory;
         };
+        service.answers.leaves();
         if let Some(done) = done_of(&service.answers, &service.clients) {
             return done;
         }
     }
+    service.answers.leaves();
     Done::Memory
 }
 
-/// Serves one connection on a stream on which nothing was received or sent yet: it reads what comes, at most 4,096 bytes at a time, feeds it at the
+/// Serves one connection on a stream on which nothing was received or sent yet: it reads what comes, at most 65,536 bytes at a time, feeds it at the
 /// clock's moment, has all work done that it asks for, and sends what is handed out, until the input has ended or the connection takes no more: its
 /// bytes ended it, or more waited for it than its queue holds. The clock is asked once before each read. The stream comes back.
 ///
@@ -104,7 +106,7 @@ pub fn serve_stream<S: Stream + Drop, M: Moments + Drop>(
     ensures { IfOk result (IsServed S.received S.sent S.course M.gives clock) }
 {
     let answering = Answering::new(alloc, keys, alone())?;
-    let mut service = Service::new(alloc, answering, Nowhere, clock, LIMIT)?;
+    let mut service = Service::new(alloc, 0, 0, answering, Nowhere, clock, LIMIT)?;
     if !service.admit(stream)? {
         return Err(Memory);
     }

@@ -1,9 +1,11 @@
 // Serving by TCP, in one thread.
-ghost use Rattle.std.specs.Prelude.{◌≡◌, [], IfOk};
-ghost use Rattle.nr_answering.specs.Kept.{kept_at};
-ghost use Rattle.nr_answering.specs.Led.{HasLedTo};
-ghost use Rattle.nr_service.specs.Serving.{IsServing};
+ghost use Rattle.std.specs.Prelude.{◌≡◌, IfOk, IfErr, string_bytes};
+ghost use Rattle.nr_server.specs.Answered.{AreAnswered};
+ghost use Rattle.nr_server.specs.Listening.{IsUnheard};
+ghost use Rattle.nr_server.specs.Serving.{HasServed, IsSetUp, told_of};
 ghost use Rattle.nr_server.specs.Sizes.{size_of};
+ghost use Rattle.nr_service.specs.Endings.{BreaksOff, IsDone, IsGoing, TakesTurns};
+ghost use Rattle.nr_service.specs.Turns.{Turns};
 
 use crate::answered::serve_answered;
 use crate::fault::Fault;
@@ -11,7 +13,7 @@ use nr_answering::{Answering, story_law};
 use nr_blob::Memory;
 use nr_config::Settings;
 use nr_nodes::Setup;
-use nr_service::{Device, Ended, Gate, Moments, Service, Stream};
+use nr_service::{Answers, Device, Ended, Gate, Moments, Service, Stream};
 use nr_sockets::Sockets;
 use std::alloc::Global;
 use std::hash::RandomState;
@@ -28,7 +30,10 @@ pub fn listen_on<'a, R: Clock + Net>(
     alloc: Global,
     runtime: &'a R,
     settings: &Settings,
-) -> Result<Sockets<'a, R>, Fault> {
+) -> Result<Sockets<'a, R>, Fault>
+    ensures named { IfOk result (λ sockets. string_bytes sockets.named ≡ string_bytes settings.now.listen) }
+    ensures refused { IfErr result (IsUnheard settings.now) }
+{
     match Sockets::listen(alloc, runtime, runtime, settings.listen.as_str()) {
         Ok(sockets) => Ok(sockets),
         Err(error) if error.kind() == ErrorKind::OutOfMemory => Err(Fault::Memory),
@@ -58,35 +63,58 @@ fn service_of<S: Stream + Drop, D: Device<S> + Drop, M: Moments + Drop>(
     device: D,
     clock: M,
 ) -> Result<Service<Answering, S, D, M>, Memory>
-    ensures serving { IfOk result (IsServing S.received S.sent S.course M.gives HasLedTo (λ answering c. kept_at c answering.taps) clock
-        (size_of settings.now)) }
-    ensures none { IfOk result (λ service. service.clients.items ≡ []) }
-    ensures limit { IfOk result (λ service. service.limit ≡ settings.now.queue_limit) }
-    ensures device { IfOk result (λ service. service.device ≡ device) }
+    ensures { IfOk result (IsSetUp S.received S.sent S.course M.gives ⟦<Answering as Answers>⟧.is_past ⟦<Answering as Answers>⟧.kept D.parted
+        settings.now device clock) }
 {
     let answering = Answering::new(alloc, keys, setup_of(settings))?;
-    let service = Service::new(alloc, answering, device, clock, settings.queue_limit)?;
+    let service = Service::new(alloc, 0, 0, answering, device, clock, settings.queue_limit)?;
     Ok(service)
 }
 
-/// Serves connections until the gate says stop. Strangers choose the keys, so the hashers take a seed of their own.
-///
-/// # Errors
-///
-/// `Memory` where memory runs out, also where every node is down by that; `Listener` where no connection can come any more.
-pub fn serve_on<'a, C: Clock, M: Moments + Drop, G: Gate>(
-    alloc: Global,
-    keys: RandomState,
-    settings: &Settings,
-    sockets: Sockets<'a, C>,
-    clock: M,
-    gate: &G,
-) -> Result<(), Fault> {
-    let mut service = service_of(alloc, keys, settings, sockets, clock)?;
-    story_law();
-    match serve_answered(&mut service, gate) {
+// What is told of how it ended.
+fn told_of(ended: Ended) -> Result<(), Fault>
+    ensures { result ≡ told_of ended }
+{
+    match ended {
         Ended::Stopped => Ok(()),
         Ended::Memory => Err(Fault::Memory),
         Ended::Device => Err(Fault::Listener),
     }
+}
+
+/// Serves the connections of a device by a server as large as the settings say, until the gate says stop. Strangers choose the keys, so the hashers
+/// take a seed of their own.
+///
+/// # Errors
+///
+/// `Memory` where memory runs out, also where every node is down by that; `Listener` where no connection can come any more.
+pub fn serve_on<S, D, M, G>(
+    alloc: Global,
+    keys: RandomState,
+    settings: &Settings,
+    device: D,
+    clock: M,
+    gate: &G,
+) -> Result<(), Fault>
+where
+    S: Stream + Drop,
+    D: Device<S> + Drop,
+    M: Moments + Drop,
+    G: Gate,
+    ensures { HasServed
+        (IsSetUp S.received S.sent S.course M.gives ⟦<Answering as Answers>⟧.is_past ⟦<Answering as Answers>⟧.kept D.parted settings.now device clock)
+        (λ ended old new. TakesTurns (G.says gate.now old.node old.worker) (IsGoing ⟦<Answering as Answers>⟧.falls)
+        (Turns S.received S.sent S.course ⟦<Answering as Answers>⟧.is_past ⟦<Answering as Answers>⟧.is_settled ⟦<Answering as Answers>⟧.kept
+        ⟦<Answering as Answers>⟧.stands ⟦<Answering as Answers>⟧.busy ⟦<Answering as Answers>⟧.is_full ⟦<Answering as Answers>⟧.is_placed ⟦<Answering as Answers>⟧.is_gone
+        D.parted D.waits M.gives)
+        (BreaksOff S.received S.sent S.course ⟦<Answering as Answers>⟧.is_past ⟦<Answering as Answers>⟧.is_left ⟦<Answering as Answers>⟧.is_settled
+        ⟦<Answering as Answers>⟧.kept ⟦<Answering as Answers>⟧.busy ⟦<Answering as Answers>⟧.is_full ⟦<Answering as Answers>⟧.is_placed D.parted M.gives)
+        (IsDone ⟦<Answering as Answers>⟧.falls) ended old new
+        × AreAnswered S.received S.sent M.gives clock (size_of settings.now) (D.parted new.device) new.clients.items)
+        result }
+{
+    let mut service = service_of(alloc, keys, settings, device, clock)?;
+    story_law();
+    let ended = serve_answered(&mut service, gate);
+    told_of(ended)
 }

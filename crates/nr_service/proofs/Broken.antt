@@ -1,132 +1,177 @@
 -- What holds of a service where memory ran out in a turn.
-use Rattle.std.proofs.Common.{◌≡◌, ℕ, inl, inr, List, ◌++◌, ap, ◌∙◌, subst, sym, append-nil}
-use Rattle.std.specs.Prelude.{map, Option, Result, Ok, Err, IfErr}
-use Rattle.std.proofs.lemmas.List.Elements.{All-weaker}
+use Rattle.std.proofs.Common.{◌≡◌, ℕ, Bool, true, false, ◌||◌, inl, inr, List, [], ◌++◌, map, refl, ap, ◌∙◌, subst, sym, append_assoc, append-nil}
+use Rattle.std.specs.Prelude.{Option, Result, Ok, Err, IfErr, All}
+use Rattle.std.specs.List.{Contains}
+use Rattle.std.specs.List.Sorted.{IsPermutation}
+use Rattle.std.proofs.lemmas.List.{map-append}
+use Rattle.std.proofs.lemmas.List.Elements.{All-append, All-weaker}
 use Rattle.nr_model.specs.Bytes.{Bytes}
+use Rattle.nr_model.specs.Items.{Connection}
 use Rattle.nr_model.specs.Connections.{Setup, Feeding}
-use Rattle.nr_service.specs.Endings.{ByCause, ByEnding, BreaksOff, RanOut}
-use Rattle.nr_service.specs.Readings.{IsFedAmong, IsFedAt, IsNeverFed, Reads}
-use Rattle.nr_service.specs.Serving.{connection, IsServed, IsServing}
-use Rattle.nr_service.specs.Steps.{Accepts, Exchanges, IsLeft, Leaves, LeavesSome}
+use Rattle.nr_service.specs.Arriving.{refused}
+use Rattle.nr_service.specs.Devices.{Abandoned, AreGivenBack, Parting}
+use Rattle.nr_service.specs.Endings.{ByCause, ByEnding, BreaksOff, BreaksOffAccepting, BreaksOffExchanging, BreaksOffLettingGo, RanOut}
+use Rattle.nr_service.specs.Readings.{IsFedAmong, IsFedAt, IsNeverFed}
+use Rattle.nr_service.specs.Serving.{connection, streams_of, IsApart, IsLeft, IsServing}
 use Rattle.nr_service.specs.declared.client.Client.{Client}
 use Rattle.nr_service.specs.declared.ended.Ended.{Ended}
 use Rattle.nr_service.specs.declared.ended.Ended.TheVariants as endings
 use Rattle.nr_service.specs.declared.service.Service.{Service}
-use Rattle.nr_service.specs.Stories.{Story, Past, Kept, fed_in}
-use Rattle.nr_service.proofs.Left.{exchange_serves, leaves_some, leaves_some_then, leaves_then, left_weaker, still_left}
-use Rattle.nr_service.proofs.Occurrences.{fed_on}
-use Rattle.nr_service.proofs.Served.{serves_then, serves_weaker}
+use Rattle.nr_service.specs.Stories.{IsLeftOf, Story, Past, Kept, fed_in, opened_in}
+use Rattle.nr_service.proofs.Left.{all_left, left_on}
+use Rattle.nr_service.proofs.Occurrences.{fed_on, opened_on, still_apart}
+use Rattle.nr_service.proofs.Parted.{left_through, more_back, opened_gone, opened_same, others_back}
 use Rattle.nr_service.proofs.Timed.{fed_then, fed_unread, none_fed}
+use Rattle.nr_service.proofs.Turns.{goes_to, served_to}
 use Rattle.nr_service.specs.Streams.{Course}
 
 -- memory ran out while connections were accepted
-pub broke_accepting : {A S D M : Type 0} (was_received was_sent : S → Option Bytes) (course : S → Option Course) (gives : M → M → Option ℕ → Type 0)
-    (is_past : A → Past) (keeps : A → Kept) (old new : Service A S D M) → new.clock ≡ old.clock → new.moment ≡ old.moment
-    → Leaves was_received was_sent course is_past keeps IsNeverFed old.answers old.clients.items new.clients.items
-    → BreaksOff was_received was_sent course gives is_past keeps old new
-broke_accepting was_received was_sent course gives is_past keeps old new clock same leaves = record {
-  way = inl (record { unread = record { clock_is = clock; moment_is = same }; left = leaves });
-}
-
--- or in the exchange
-pub broke_exchanging : {A S D M : Type 0} (was_received was_sent : S → Option Bytes) (course : S → Option Course) (gives : M → M → Option ℕ → Type 0)
-    (is_past : A → Past) (keeps : A → Kept) (old new : Service A S D M) (opened : A) (taken : List (Client S))
-    → Reads gives old.clock new.clock old.moment new.moment
-    → Accepts was_received was_sent course is_past keeps old.answers opened old.clients.items taken
-    → Leaves was_received was_sent course is_past keeps (IsFedAmong new.moment (map connection taken)) opened taken new.clients.items
-    → BreaksOff was_received was_sent course gives is_past keeps old new
-broke_exchanging was_received was_sent course gives is_past keeps old new opened taken reads accepts leaves =
-    let allowed = IsFedAmong new.moment (map connection taken) in
+ran_accepting : {A S D M : Type 0} (was_received was_sent : S → Option Bytes) (course : S → Option Course) (gives : M → M → Option ℕ → Type 0) (is_past is_left : A → Past)
+    (keeps : A → Kept) (is_full : A → Type 0) (is_placed : A → A → ℕ → Connection → Type 0) (parted : D → Option (List (Parting S)))
+    (old new : Service A S D M) → BreaksOffAccepting was_received was_sent course is_past is_left keeps is_full is_placed parted old new
+    → (first : M) (setup : Setup) → IsServing was_received was_sent course gives is_past keeps parted first setup old
+    → RanOut was_received was_sent gives is_left parted first setup new
+ran_accepting was_received was_sent course gives is_past is_left keeps is_full is_placed parted old new way first setup s =
+    let until = way.until in
+    let done = until.accepts.serves.further s.story s.served in
+    let goes = goes_to was_received was_sent course IsNeverFed (map connection until.accepts.accepted) (is_past until.opened) (keeps until.opened)
+    s.story s.gone old.clients.items until.accepts.accepted new.clients.items new.clients.items done refl until.accepts.items refl
+    (λ feeding never. absurd never) (record { left = s.left; opened = s.opened; apart = s.apart }) in
     record {
-      way = inr (record {
-        opened = opened;
-        taken = taken;
-        accepts = accepts;
-        reads = reads;
-        left = leaves_some was_received was_sent course is_past keeps allowed old.answers old.clients.items new.clients.items
-            (leaves_then was_received was_sent course is_past keeps allowed old.answers opened old.clients.items taken new.clients.items
-            (serves_weaker was_received was_sent course is_past keeps IsNeverFed allowed old.answers opened old.clients.items taken
-            (λ feeding never. absurd never) accepts.serves) leaves);
-      });
+      story = done.next;
+      gone = s.gone;
+      sized = ap (λ (story : Story). story.setup) done.is ∙ s.sized;
+      known = until.left done.next done.served.past;
+      left = All-append (IsLeft was_received was_sent done.next) s.gone new.clients.items goes.left
+          (all_left was_received was_sent course (keeps until.opened) done.next new.clients.items done.served.each);
+      given_back = others_back (streams_of s.gone) (map Abandoned (refused until.arrives.came)) (parted old.device) (parted new.device) until.arrives.away
+          s.given_back;
+      opened = goes.opened;
+      apart = goes.apart;
+      in_time = fed_unread gives first old.clock new.clock old.moment new.moment (fed_in s.story.occurrences) (fed_in done.next.occurrences)
+          (fed_on s.story done.next done.more done.is ∙ ap (λ (fed : List Feeding). fed_in s.story.occurrences ++ fed) (none_fed (fed_in done.more) done.feeds)
+          ∙ append-nil (fed_in s.story.occurrences))
+          way.unread s.in_time;
+    }
+
+-- while bytes were exchanged
+ran_exchanging : {A S D M : Type 0} (was_received was_sent : S → Option Bytes) (course : S → Option Course) (gives : M → M → Option ℕ → Type 0) (is_past is_left : A → Past)
+    (keeps : A → Kept) (is_full : A → Type 0) (is_placed : A → A → ℕ → Connection → Type 0) (parted : D → Option (List (Parting S)))
+    (old new : Service A S D M) → BreaksOffExchanging was_received was_sent course is_past is_left keeps is_full is_placed parted gives old new
+    → (first : M) (setup : Setup) → IsServing was_received was_sent course gives is_past keeps parted first setup old
+    → RanOut was_received was_sent gives is_left parted first setup new
+ran_exchanging was_received was_sent course gives is_past is_left keeps is_full is_placed parted old new way first setup s =
+    let done = way.accepts.serves.further s.story s.served in
+    let goes = goes_to was_received was_sent course IsNeverFed (map connection way.accepts.accepted) (is_past way.opened) (keeps way.opened)
+    s.story s.gone old.clients.items way.accepts.accepted way.taken way.taken done refl way.accepts.items refl
+    (λ feeding never. absurd never) (record { left = s.left; opened = s.opened; apart = s.apart }) in
+    let l = way.leaves.further done.next done.served in
+    let still : opened_in l.next.occurrences ≡ opened_in done.next.occurrences =
+    opened_on done.next l.next l.more l.is ∙ ap (λ (opened : List Connection). opened_in done.next.occurrences ++ opened) l.opens
+    ∙ append-nil (opened_in done.next.occurrences) in
+    let opened = subst (λ (all : List Connection). IsPermutation all (map connection (s.gone ++ way.taken))) (sym still) goes.opened in
+    let apart = subst (λ (story : Story). IsApart story) (sym l.is) (still_apart done.next l.more l.opens goes.apart) in
+    let fed : fed_in l.next.occurrences ≡ fed_in s.story.occurrences ++ fed_in l.more =
+    fed_on done.next l.next l.more l.is ∙ ap (λ (fed : List Feeding). fed ++ fed_in l.more)
+    (fed_on s.story done.next done.more done.is ∙ ap (λ (fed : List Feeding). fed_in s.story.occurrences ++ fed) (none_fed (fed_in done.more) done.feeds)
+    ∙ append-nil (fed_in s.story.occurrences)) in
+    record {
+      story = l.next;
+      gone = s.gone;
+      sized = ap (λ (story : Story). story.setup) l.is ∙ ap (λ (story : Story). story.setup) done.is ∙ s.sized;
+      known = l.left;
+      left = All-append (IsLeft was_received was_sent l.next) s.gone new.clients.items
+          (left_through was_received was_sent done.next l.next l.more s.gone way.taken l.is opened apart
+          (All-weaker (IsFedAmong new.moment (map connection way.taken)) (λ (feeding : Feeding). Contains (map connection way.taken) feeding.connection)
+          (λ feeding is. is.1) (fed_in l.more) l.feeds) goes.left)
+          l.each;
+      given_back = others_back (streams_of s.gone) (map Abandoned (refused way.arrives.came)) (parted old.device) (parted new.device) way.arrives.away
+          s.given_back;
+      opened = opened_same (opened_in l.next.occurrences) s.gone way.taken new.clients.items opened way.same;
+      apart = apart;
+      in_time = fed_then gives first old.clock new.clock old.moment new.moment (fed_in s.story.occurrences) (fed_in l.more)
+          (fed_in l.next.occurrences) fed way.reads
+          (All-weaker (IsFedAmong new.moment (map connection way.taken)) (IsFedAt new.moment) (λ feeding is. is.0) (fed_in l.more) l.feeds) s.in_time;
     }
 
 -- or while some were let go
-pub broke_letting_go : {A S D M : Type 0} (was_received was_sent : S → Option Bytes) (course : S → Option Course) (gives : M → M → Option ℕ → Type 0)
-    (is_past is_settled : A → Past) (keeps : A → Kept) (old new : Service A S D M) (opened worked : A) (taken served : List (Client S))
-    → Reads gives old.clock new.clock old.moment new.moment
-    → Accepts was_received was_sent course is_past keeps old.answers opened old.clients.items taken
-    → Exchanges was_received was_sent course is_past is_settled keeps new.moment opened worked taken served
-    → LeavesSome was_received was_sent course is_past keeps IsNeverFed worked served new.clients.items
-    → BreaksOff was_received was_sent course gives is_past keeps old new
-broke_letting_go was_received was_sent course gives is_past is_settled keeps old new opened worked taken served reads accepts exchanges leaves =
-    let allowed = IsFedAmong new.moment (map connection taken) in
-    let none : (feeding : Feeding) → IsNeverFed feeding → allowed feeding = λ feeding never. absurd never in
+ran_letting_go : {A S D M : Type 0} (was_received was_sent : S → Option Bytes) (course : S → Option Course) (gives : M → M → Option ℕ → Type 0)
+    (is_past is_left is_settled : A → Past) (keeps : A → Kept) (busy : A → Bool) (is_full : A → Type 0) (is_placed : A → A → ℕ → Connection → Type 0)
+    (parted : D → Option (List (Parting S))) (old new : Service A S D M)
+    → BreaksOffLettingGo was_received was_sent course is_past is_left is_settled keeps busy is_full is_placed parted gives old new
+    → (first : M) (setup : Setup) → IsServing was_received was_sent course gives is_past keeps parted first setup old
+    → RanOut was_received was_sent gives is_left parted first setup new
+ran_letting_go {A} {S} {D} {M} was_received was_sent course gives is_past is_left is_settled keeps busy is_full is_placed parted old new way first setup s =
+    let done = served_to was_received was_sent course is_past is_settled keeps busy new.moment old.answers way.opened way.worked old.clients.items way.taken
+    way.served s.story way.accepts way.exchanges s.served in
+    let goes = goes_to was_received was_sent course (IsFedAmong new.moment (map connection way.taken)) (map connection way.accepts.accepted ++ [])
+    (is_past way.worked) (keeps way.worked) s.story s.gone old.clients.items way.accepts.accepted way.taken way.served done
+    (append-nil (map connection way.accepts.accepted)) way.accepts.items way.same (λ feeding fed. fed.1)
+    (record { left = s.left; opened = s.opened; apart = s.apart }) in
+    let lost = way.loses in
+    let l = lost.further done.next done.served in
+    let still : opened_in l.next.occurrences ≡ opened_in done.next.occurrences =
+    opened_on done.next l.next l.more l.is ∙ ap (λ (opened : List Connection). opened_in done.next.occurrences ++ opened) l.opens
+    ∙ append-nil (opened_in done.next.occurrences) in
+    let fed : fed_in l.next.occurrences ≡ fed_in s.story.occurrences ++ fed_in done.more =
+    fed_on done.next l.next l.more l.is ∙ ap (λ (fed : List Feeding). fed_in done.next.occurrences ++ fed) l.fed
+    ∙ append-nil (fed_in done.next.occurrences) ∙ fed_on s.story done.next done.more done.is in
     record {
-      way = inr (record {
-        opened = opened;
-        taken = taken;
-        accepts = accepts;
-        reads = reads;
-        left = leaves_some_then was_received was_sent course is_past keeps allowed old.answers worked old.clients.items served new.clients.items
-            (serves_then was_received was_sent course is_past keeps allowed old.answers opened worked old.clients.items taken served
-            (serves_weaker was_received was_sent course is_past keeps IsNeverFed allowed old.answers opened old.clients.items taken none accepts.serves)
-            (exchange_serves was_received was_sent course is_past is_settled keeps new.moment opened worked taken served exchanges))
-            (record {
-              further = λ story s.
-                  let second = leaves.further story s in
-                  record {
-                    shut = second.shut;
-                    left = left_weaker was_received was_sent is_past IsNeverFed allowed story second.shut new.clients.items none second.left;
-                  };
-            });
-      });
+      story = l.next;
+      gone = s.gone ++ lost.missing;
+      sized = ap (λ (story : Story). story.setup) l.is ∙ ap (λ (story : Story). story.setup) done.is ∙ s.sized;
+      known = l.left;
+      left = subst (λ (clients : List (Client S)). All (IsLeft was_received was_sent l.next) clients)
+          (sym (append_assoc s.gone lost.missing new.clients.items))
+          (All-append (IsLeft was_received was_sent l.next) s.gone (lost.missing ++ new.clients.items)
+          (subst (λ (story : Story). All (IsLeft was_received was_sent story) s.gone) (sym l.is)
+          (left_on was_received was_sent done.next l.more s.gone l.fed goes.left)) l.each);
+      given_back = subst (λ (streams : List S). AreGivenBack streams (parted new.device))
+          (ap (λ (streams : List S). streams_of s.gone ++ streams) lost.parts.are
+          ∙ sym (map-append (λ (client : Client S). client.stream) s.gone lost.missing))
+          (more_back (streams_of s.gone) lost.parts.more (parted way.device) (parted new.device) lost.parts.parts
+          (others_back (streams_of s.gone) (map Abandoned (refused way.arrives.came)) (parted old.device) (parted way.device) way.arrives.away
+          s.given_back));
+      opened = subst (λ (all : List Connection). IsPermutation all (map connection ((s.gone ++ lost.missing) ++ new.clients.items))) (sym still)
+          (opened_gone (opened_in done.next.occurrences) s.gone way.served lost.missing new.clients.items goes.opened lost.all);
+      apart = subst (λ (story : Story). IsApart story) (sym l.is) (still_apart done.next l.more l.opens goes.apart);
+      in_time = fed_then gives first old.clock new.clock old.moment new.moment (fed_in s.story.occurrences) (fed_in done.more)
+          (fed_in l.next.occurrences) fed way.reads
+          (All-weaker (IsFedAmong new.moment (map connection way.taken)) (IsFedAt new.moment) (λ feeding is. is.0) (fed_in done.more) done.feeds) s.in_time;
     }
 
--- the clients of a service were left
+-- in any part of a turn
 pub ran_out : {A S D M : Type 0} (was_received was_sent : S → Option Bytes) (course : S → Option Course) (gives : M → M → Option ℕ → Type 0)
-    (is_past : A → Past) (keeps : A → Kept) (old new : Service A S D M) → BreaksOff was_received was_sent course gives is_past keeps old new
-    → (first : M) (setup : Setup) → IsServing was_received was_sent course gives is_past keeps first setup old
-    → RanOut was_received was_sent gives is_past first setup new
-ran_out {A} {S} was_received was_sent course gives is_past keeps old new breaks first setup s =
+    (is_past is_left is_settled : A → Past) (keeps : A → Kept) (busy : A → Bool) (is_full : A → Type 0) (is_placed : A → A → ℕ → Connection → Type 0)
+    (parted : D → Option (List (Parting S))) (old new : Service A S D M)
+    → BreaksOff was_received was_sent course is_past is_left is_settled keeps busy is_full is_placed parted gives old new
+    → (first : M) (setup : Setup) → IsServing was_received was_sent course gives is_past keeps parted first setup old
+    → RanOut was_received was_sent gives is_left parted first setup new
+ran_out was_received was_sent course gives is_past is_left is_settled keeps busy is_full is_placed parted old new breaks first setup s =
     elim breaks.way [
-      | inl way ↦
-          let l = way.left.further s.story s.served in
-          record {
-            story = l.next;
-            answers = l.answers;
-            sized = ap (λ (story : Story). story.setup) l.is ∙ s.sized;
-            past = l.past;
-            left = l.each;
-            in_time = fed_unread gives first old.clock new.clock old.moment new.moment (fed_in s.story.occurrences) (fed_in l.next.occurrences)
-                (fed_on s.story l.next l.more l.is ∙ ap (λ (fed : List Feeding). fed_in s.story.occurrences ++ fed) (none_fed (fed_in l.more) l.feeds)
-                ∙ append-nil (fed_in s.story.occurrences))
-                way.unread s.in_time;
-          }
-      | inr way ↦
-          let l = (way.left.further s.story s.served).left in
-          record {
-            story = l.next;
-            answers = l.answers;
-            sized = ap (λ (story : Story). story.setup) l.is ∙ s.sized;
-            past = l.past;
-            left = l.each;
-            in_time = fed_then gives first old.clock new.clock old.moment new.moment (fed_in s.story.occurrences) (fed_in l.more)
-                (fed_in l.next.occurrences) (fed_on s.story l.next l.more l.is) way.reads
-                (All-weaker (IsFedAmong new.moment (map connection way.taken)) (IsFedAt new.moment) (λ feeding is. is.0) (fed_in l.more) l.feeds) s.in_time;
-          }
+      | inl way ↦ ran_accepting was_received was_sent course gives is_past is_left keeps is_full is_placed parted old new way first setup s
+      | inr rest ↦ elim rest [
+        | inl way ↦ ran_exchanging was_received was_sent course gives is_past is_left keeps is_full is_placed parted old new way first setup s
+        | inr way ↦ ran_letting_go was_received was_sent course gives is_past is_left is_settled keeps busy is_full is_placed parted old new way first setup s
+      ]
     ]
 
 -- they are served yet, and so they are left as they are
 pub ran_out_still : {A S D M : Type 0} (was_received was_sent : S → Option Bytes) (course : S → Option Course) (gives : M → M → Option ℕ → Type 0)
-    (is_past : A → Past) (keeps : A → Kept) (service : Service A S D M) (first : M) (setup : Setup)
-    → IsServing was_received was_sent course gives is_past keeps first setup service → RanOut was_received was_sent gives is_past first setup service
-ran_out_still was_received was_sent course gives is_past keeps service first setup s = record {
+    (is_past is_left : A → Past) (keeps : A → Kept) (parted : D → Option (List (Parting S))) (service : Service A S D M) (first : M) (setup : Setup)
+    → IsLeftOf (is_past service.answers) (is_left service.answers)
+    → IsServing was_received was_sent course gives is_past keeps parted first setup service
+    → RanOut was_received was_sent gives is_left parted first setup service
+ran_out_still was_received was_sent course gives is_past is_left keeps parted service first setup left s = record {
   story = s.story;
-  answers = service.answers;
+  gone = s.gone;
   sized = s.sized;
-  past = s.served.past;
-  left = All-weaker (IsServed was_received was_sent course (keeps service.answers) s.story) (IsLeft was_received was_sent s.story)
-      (λ client one. still_left was_received was_sent course (keeps service.answers) s.story client one) service.clients.items s.served.each;
+  known = left s.story s.served.past;
+  left = All-append (IsLeft was_received was_sent s.story) s.gone service.clients.items s.left
+      (all_left was_received was_sent course (keeps service.answers) s.story service.clients.items s.served.each);
+  given_back = s.given_back;
+  opened = s.opened;
+  apart = s.apart;
   in_time = s.in_time;
 }
 
@@ -140,3 +185,8 @@ pub by_memory : {T : Type 0} (result : Result T Ended) (P Q : Type 0) → IfErr 
     → IfErr result (λ ended. ByEnding ended P Q)
 by_memory (Ok _) P Q is q = tt
 by_memory (Err ended) P Q is q = subst (λ (e : Ended). ByEnding e P Q) (sym is) q
+
+-- where what answers is busy, work is at hand
+pub at_once : (asked told busy : Bool) → told ≡ busy → busy ≡ true → (asked || told) ≡ true
+at_once true told busy is so = refl
+at_once false told busy is so = is ∙ so

@@ -11,18 +11,19 @@ use Rattle.std.proofs.lemmas.Map.Keys.{IsDistinct-tail}
 use Rattle.nr_model.specs.Bytes.{Bytes}
 use Rattle.nr_model.specs.Items.{Connection, same_connection}
 use Rattle.nr_service.specs.Serving.{connection, IsServed, AreServed}
-use Rattle.nr_service.specs.Leaving.{Gone, shut_by, parting, parting_of, client_of, LetsGo, LetsGoOne, TurnsAway}
+use Rattle.nr_service.specs.Leaving.{AreGone, Gone, HasGone, IsEnding, shut_by, parting, parting_of, client_of, LetsGo, LetsGoOne}
+use Rattle.nr_service.specs.declared.answers.Standing.{Standing}
 use Rattle.nr_service.specs.declared.client.Ending.{Ending}
-use Rattle.nr_service.specs.Devices.{Parting, Abandoned, PartsWith}
+use Rattle.nr_service.specs.Devices.{Parting, PartsWith}
 use Rattle.nr_service.specs.declared.client.Client.{Client}
-use Rattle.nr_service.specs.Stories.{Occurrence, Closed, Story, Past, Kept, IsShut, IsClosed, fed_in, handed_in, going_on}
+use Rattle.nr_service.specs.Stories.{Occurrence, Closed, Story, Past, Kept, IsShut, IsClosed, opened_in, fed_in, handed_in, going_on}
 use Rattle.nr_service.proofs.Occurrences.{fed_still, handed_still, going_none, going_both}
 use Rattle.nr_service.proofs.Served.{others_served, served_moved}
 use Rattle.nr_service.proofs.Working.{get_or_within}
 use Rattle.nr_service.specs.Streams.{Course}
 
 -- more closes behind others
-shut_both : {S : Type 0} (xs ys : List (Gone S)) → shut_by (xs ++ ys) ≡ shut_by xs ++ shut_by ys
+shut_both : {A S : Type 0} (xs ys : List (Gone A S)) → shut_by (xs ++ ys) ≡ shut_by xs ++ shut_by ys
 shut_both [] ys = refl
 shut_both (one ∷ xs) ys =
     let more = shut_both xs ys in
@@ -30,6 +31,23 @@ shut_both (one ∷ xs) ys =
     ≡ cond b (Closed (connection one.client) ∷ shut_by xs) (shut_by xs) ++ shut_by ys) [
       | true ↦ ap (λ (l : List Occurrence). Closed (connection one.client) ∷ l) more
       | false ↦ more
+    ]
+
+-- closes feed and open nothing
+pub closes_fed : {A S : Type 0} (gone : List (Gone A S)) → fed_in (shut_by gone) ≡ []
+closes_fed [] = refl
+closes_fed (one ∷ gone) =
+    elim one.closed as (λ b. fed_in (cond b (Closed (connection one.client) ∷ shut_by gone) (shut_by gone)) ≡ []) [
+      | true ↦ closes_fed gone
+      | false ↦ closes_fed gone
+    ]
+
+pub closes_opened : {A S : Type 0} (gone : List (Gone A S)) → opened_in (shut_by gone) ≡ []
+closes_opened [] = refl
+closes_opened (one ∷ gone) =
+    elim one.closed as (λ b. opened_in (cond b (Closed (connection one.client) ∷ shut_by gone) (shut_by gone)) ≡ []) [
+      | true ↦ closes_opened gone
+      | false ↦ closes_opened gone
     ]
 
 -- no stream was given back
@@ -44,41 +62,33 @@ parts_then {S} xs ys (Some before) b c p q =
     q ∙ ap (λ (o : Option (List (Parting S))). option_map (λ (before : List (Parting S)). before ++ ys) o) p
     ∙ ap (λ (l : List (Parting S)). Some l) (append_assoc before xs ys)
 
--- none was turned away
-pub away_none : {S : Type 0} (old new : Option (List (Parting S))) → new ≡ old → TurnsAway old new
-away_none old new same = ([], subst (λ (o : Option (List (Parting _))). PartsWith [] old o) (sym same) (parts_none old))
-
--- one was
-pub away_one : {S : Type 0} (stream : S) (old new : Option (List (Parting S))) → PartsWith (Abandoned stream ∷ []) old new → TurnsAway old new
-away_one stream old new parts = (stream ∷ [], parts)
-
--- some, and then others
-pub away_then : {S : Type 0} (a b c : Option (List (Parting S))) → TurnsAway a b → TurnsAway b c → TurnsAway a c
-away_then {S} a b c p q = (
-  p.0 ++ q.0,
-  subst (λ (more : List (Parting S)). PartsWith more a c) (sym (map-append Abandoned p.0 q.0)) (parts_then (map Abandoned p.0)
-      (map Abandoned q.0) a b c p.1 q.1),
-)
-
 -- none was closed
 pub lets_none : {A S D : Type 0} (was_received was_sent : S → Option Bytes) (course : S → Option Course) (is_past : A → Past) (keeps : A → Kept)
-    (parted : D → Option (List (Parting S))) (state : A) (device : D) (clients : List (Client S))
-    → LetsGo was_received was_sent course is_past keeps parted state state device device clients clients
-lets_none was_received was_sent course is_past keeps parted state device clients = record {
+    (stands : A → Connection → Standing → Type 0) (busy : A → Bool) (is_gone : A → Connection → Type 0) (parted : D → Option (List (Parting S))) (limit : ℕ) (state : A)
+    (device : D) (clients : List (Client S))
+    → LetsGo was_received was_sent course is_past keeps stands busy is_gone parted limit state state device device clients clients
+lets_none {A} {S} was_received was_sent course is_past keeps stands busy is_gone parted limit state device clients = record {
   gone = [];
   all = IsPermutation-refl clients;
-  over = All-nil (λ (one : Gone _). one.client.ending ≡ Some one.ending);
+  in_turn = refl;
+  each = All-nil (HasGone {A = A} {S = S} keeps stands busy is_gone limit);
   parts = parts_none (parted device);
   further = λ story a.
       subst (λ (s : Story). AreServed was_received was_sent course (is_past state) (keeps state) s clients) (sym (going_none story)) a;
 }
 
+-- some went, and then others
+gone_then : {A S : Type 0} (xs ys : List (Gone A S)) (a b c : A) → AreGone a xs b → AreGone b ys c → AreGone a (xs ++ ys) c
+gone_then {A} {S} [] ys a b c p q = subst (λ (state : A). AreGone state ys c) p q
+gone_then (one ∷ xs) ys a b c p q = (p.0, gone_then xs ys one.after b c p.1 q)
+
 -- one step behind another
 pub lets_then : {A S D : Type 0} (was_received was_sent : S → Option Bytes) (course : S → Option Course) (is_past : A → Past) (keeps : A → Kept)
-    (parted : D → Option (List (Parting S))) (a b c : A) (d e f : D) (xs ys zs : List (Client S))
-    → LetsGo was_received was_sent course is_past keeps parted a b d e xs ys
-    → LetsGo was_received was_sent course is_past keeps parted b c e f ys zs → LetsGo was_received was_sent course is_past keeps parted a c d f xs zs
-lets_then {A} {S} {D} was_received was_sent course is_past keeps parted a b c d e f xs ys zs p q =
+    (stands : A → Connection → Standing → Type 0) (busy : A → Bool) (is_gone : A → Connection → Type 0) (parted : D → Option (List (Parting S))) (limit : ℕ) (a b c : A)
+    (d e f : D) (xs ys zs : List (Client S)) → LetsGo was_received was_sent course is_past keeps stands busy is_gone parted limit a b d e xs ys
+    → LetsGo was_received was_sent course is_past keeps stands busy is_gone parted limit b c e f ys zs
+    → LetsGo was_received was_sent course is_past keeps stands busy is_gone parted limit a c d f xs zs
+lets_then {A} {S} {D} was_received was_sent course is_past keeps stands busy is_gone parted limit a b c d e f xs ys zs p q =
     let first = map client_of p.gone in
     let second = map client_of q.gone in
     record {
@@ -87,7 +97,8 @@ lets_then {A} {S} {D} was_received was_sent course is_past keeps parted a b c d 
           (IsPermutation-trans xs (first ++ ys) ((first ++ second) ++ zs) p.all
           (subst (IsPermutation (first ++ ys)) (sym (append_assoc first second zs))
           (IsPermutation-append_right first ys (second ++ zs) q.all)));
-      over = All-append (λ (one : Gone S). one.client.ending ≡ Some one.ending) p.gone q.gone p.over q.over;
+      in_turn = gone_then p.gone q.gone a b c p.in_turn q.in_turn;
+      each = All-append (HasGone keeps stands busy is_gone limit) p.gone q.gone p.each q.each;
       parts = subst (λ (more : List (Parting S)). PartsWith more (parted d) (parted f)) (sym (map-append parting_of p.gone q.gone))
           (parts_then (map parting_of p.gone) (map parting_of q.gone) (parted d) (parted e) (parted f) p.parts q.parts);
       further = λ story s.
@@ -97,32 +108,38 @@ lets_then {A} {S} {D} was_received was_sent course is_past keeps parted a b c d 
     }
 
 -- whether a close closed its connection
-shut_as : {S : Type 0} (client : Client S) (ending : Ending) (was_gone : Type 0) (shut : List Occurrence) → IsShut (connection client) was_gone shut
-    → (closed : Bool) × (shut ≡ shut_by (record { client = client; ending = ending; closed = closed } ∷ []))
-shut_as client ending was_gone shut (inl is) = (true, is.0)
-shut_as client ending was_gone shut (inr is) = (false, is.0)
+shut_as : {A S : Type 0} (client : Client S) (ending : Ending) (before after : A) (was_gone : Type 0) (shut : List Occurrence)
+    → IsShut (connection client) was_gone shut
+    → (closed : Bool) × (shut ≡ shut_by (record { client = client; ending = ending; closed = closed; before = before; after = after } ∷ []))
+shut_as client ending before after was_gone shut (inl is) = (true, is.0)
+shut_as client ending before after was_gone shut (inr is) = (false, is.0)
 
 -- it adds nothing that was fed or handed out
 shut_bytes : (c : Connection) (was_gone : Type 0) (shut : List Occurrence) → IsShut c was_gone shut → (fed_in shut ≡ []) × (handed_in shut ≡ [])
 shut_bytes c was_gone shut (inl is) = (ap fed_in is.0, ap handed_in is.0)
 shut_bytes c was_gone shut (inr is) = (ap fed_in is.0, ap handed_in is.0)
 
--- one of them is some
+-- one of them is some, where it was over
 pub lets_one : {A S D : Type 0} (was_received was_sent : S → Option Bytes) (course : S → Option Course) (is_past : A → Past) (keeps : A → Kept)
-    (is_gone : A → Connection → Type 0) (parted : D → Option (List (Parting S))) (ending : Ending) (index : ℕ) (before after : A)
-    (device_before device_after : D) (old new : List (Client S)) (client : Client S) → index < length old → client ≡ get_or old index client
-    → client.ending ≡ Some ending
+    (stands : A → Connection → Standing → Type 0) (busy : A → Bool) (is_gone : A → Connection → Type 0) (parted : D → Option (List (Parting S))) (limit : ℕ)
+    (ending : Ending) (index : ℕ) (before after : A) (device_before device_after : D) (old new : List (Client S)) (client : Client S)
+    → index < length old → client ≡ get_or old index client → IsEnding (keeps before) (stands before) (busy before) limit client (Some ending)
     → LetsGoOne was_received was_sent course is_past keeps is_gone parted ending index before after device_before device_after old new
-    → LetsGo was_received was_sent course is_past keeps parted before after device_before device_after old new
-lets_one {A} {S} {D} was_received was_sent course is_past keeps is_gone parted ending index before after device_before device_after old new client within is
-    over one =
-    let told = shut_as one.client ending (is_gone before (connection one.client)) one.shut one.is in
+    → LetsGo was_received was_sent course is_past keeps stands busy is_gone parted limit before after device_before device_after old new
+lets_one {A} {S} {D} was_received was_sent course is_past keeps stands busy is_gone parted limit ending index before after device_before device_after old new client
+    within is over one =
+    let told = shut_as one.client ending before after (is_gone before (connection one.client)) one.shut one.is in
     let same : one.client ≡ client = one.at ∙ get_or_within old index one.client client within ∙ sym is in
+    let gone : Gone A S = record { client = one.client; ending = ending; closed = told.0; before = before; after = after } in
     record {
-      gone = record { client = one.client; ending = ending; closed = told.0 } ∷ [];
+      gone = gone ∷ [];
       all = one.moved;
-      over = All-cons (λ (g : Gone S). g.client.ending ≡ Some g.ending) (record { client = one.client; ending = ending; closed = told.0 }) []
-          (ap (λ (c : Client S). c.ending) same ∙ over) (All-nil _);
+      in_turn = (refl, refl);
+      each = All-cons (HasGone keeps stands busy is_gone limit) gone [] (record {
+        over = subst (λ (x : Client S). IsEnding (keeps before) (stands before) (busy before) limit x (Some ending)) (sym same) over;
+        shut = subst (λ (shut : List Occurrence). IsShut (connection one.client) (is_gone before (connection one.client)) shut) told.1 one.is;
+        away = one.gone;
+      }) (All-nil (HasGone keeps stands busy is_gone limit));
       parts = one.parts;
       further = λ story s.
           subst (λ (shut : List Occurrence). AreServed was_received was_sent course (is_past after) (keeps after) (going_on story shut) new) told.1
@@ -136,9 +153,10 @@ pub closed_one : {A S D : Type 0} (was_received was_sent : S → Option Bytes) (
     → client ≡ get_or clients index client → others ≡ swap_remove clients index client
     → PartsWith (parting ending client.stream ∷ []) (parted device_before) (parted device_after)
     → IsClosed (connection client) (is_gone before (connection client)) (is_past before) (is_past after) (keeps before) (keeps after)
+    → is_gone after (connection client)
     → LetsGoOne was_received was_sent course is_past keeps is_gone parted ending index before after device_before device_after clients others
 closed_one {A} {S} {D} was_received was_sent course is_past keeps is_gone parted ending before after device_before device_after client clients others index
-    within is rest parts k =
+    within is rest parts k away =
     let c = connection client in
     let bytes = shut_bytes c (is_gone before c) k.shut k.is in
     let moved : IsPermutation clients (client ∷ others) =
@@ -150,6 +168,7 @@ closed_one {A} {S} {D} was_received was_sent course is_past keeps is_gone parted
       moved = moved;
       parts = parts;
       is = k.is;
+      gone = away;
       further = λ story s.
           let next = going_on story k.shut in
           let a = served_moved was_received was_sent course (is_past before) (keeps before) story clients (client ∷ others) moved s in

@@ -14,7 +14,7 @@ use Rattle.nr_service.specs.Serving.{connection}
 use Rattle.nr_service.specs.Steps.{ServesOne, settled_past}
 use Rattle.nr_service.specs.declared.client.Client.{Client}
 use Rattle.nr_service.specs.Stories.{Fed, Story, Past, Kept, kept_bytes, IsFed, IsWritten, bytes_fed, bytes_handed, going_on}
-use Rattle.nr_service.proofs.Occurrences.{fed_behind, handed_still}
+use Rattle.nr_service.proofs.Occurrences.{fed_behind, handed_still, still_apart}
 use Rattle.nr_service.specs.Streams.{Course, GrowsBy, IsCourse}
 use Rattle.nr_service.proofs.Apart.{flips}
 use Rattle.nr_service.proofs.Known.{grows_none, fed_more, sent_more}
@@ -31,7 +31,7 @@ pub fed_one : {A S : Type 0} (was_received was_sent : S → Option Bytes) (cours
     (before after : A) (old new : Client S) (bytes : Bytes) → new.conn ≡ old.conn
     → was_received new.stream ≡ option_map (λ (front : Bytes). front ++ bytes) (was_received old.stream)
     → was_sent new.stream ≡ was_sent old.stream
-    → (IfSome (course old.stream) (IsCourse old.is_ending old.is_broken) → IfSome (course new.stream) (IsCourse new.is_ending new.is_broken))
+    → (IfSome (course old.stream) (IsCourse old.is_ending old.is_broken old.is_full) → IfSome (course new.stream) (IsCourse new.is_ending new.is_broken new.is_full))
     → IsFed (connection old) now bytes (is_past before) (is_past after) (keeps before) (keeps after)
     → ServesOne was_received was_sent course is_past keeps (IsFedTo now (connection old)) before after old new
 fed_one {A} {S} was_received was_sent course is_past keeps now before after old new bytes same grows sent goes fed =
@@ -49,6 +49,7 @@ fed_one {A} {S} was_received was_sent course is_past keeps now before after old 
               more = Fed (feeding_of c now bytes) ∷ [];
               is = refl;
               opens = refl;
+              apart = still_apart story (Fed (feeding_of c now bytes) ∷ []) refl;
               closed = refl;
               feeds = All-cons (IsFedTo now c) (feeding_of c now bytes) [] (refl, refl) (All-nil _);
               served = one_served was_received was_sent course (is_past before) (is_past after) (keeps before) (keeps after) story next old new others one
@@ -81,7 +82,7 @@ fed_one {A} {S} was_received was_sent course is_past keeps now before after old 
 pub still_one : {A S : Type 0} (was_received was_sent : S → Option Bytes) (course : S → Option Course) (is_past : A → Past) (keeps : A → Kept)
     (allowed : Feedings) (state : A)
     (old new : Client S) → new.conn ≡ old.conn → was_received new.stream ≡ was_received old.stream → was_sent new.stream ≡ was_sent old.stream
-    → (IfSome (course old.stream) (IsCourse old.is_ending old.is_broken) → IfSome (course new.stream) (IsCourse new.is_ending new.is_broken))
+    → (IfSome (course old.stream) (IsCourse old.is_ending old.is_broken old.is_full) → IfSome (course new.stream) (IsCourse new.is_ending new.is_broken new.is_full))
     → ServesOne was_received was_sent course is_past keeps allowed state state old new
 still_one was_received was_sent course is_past keeps allowed state old new same received sent goes =
     let one : connection new ≡ connection old = ap (λ conn. record { node = conn.node; serial = conn.serial }) same in
@@ -109,7 +110,7 @@ pub nothing_read : {A S : Type 0} (was_received was_sent : S → Option Bytes) (
     (allowed : Feedings)
     (state : A) (old new : Client S) (bytes : Bytes)
     → new.conn ≡ old.conn → GrowsBy 0 bytes (was_received old.stream) (was_received new.stream) → was_sent new.stream ≡ was_sent old.stream
-    → (IfSome (course old.stream) (IsCourse old.is_ending old.is_broken) → IfSome (course new.stream) (IsCourse new.is_ending new.is_broken))
+    → (IfSome (course old.stream) (IsCourse old.is_ending old.is_broken old.is_full) → IfSome (course new.stream) (IsCourse new.is_ending new.is_broken new.is_full))
     → ServesOne was_received was_sent course is_past keeps allowed state state old new
 nothing_read was_received was_sent course is_past keeps allowed state old new bytes same received sent goes =
     still_one was_received was_sent course is_past keeps allowed state old new same (grows_none bytes _ _ received) sent goes
@@ -119,7 +120,7 @@ pub nothing_written : {A S : Type 0} (was_received was_sent : S → Option Bytes
     (allowed : Feedings)
     (state : A) (old new : Client S) (bytes : Bytes)
     → new.conn ≡ old.conn → was_received new.stream ≡ was_received old.stream → GrowsBy 0 bytes (was_sent old.stream) (was_sent new.stream)
-    → (IfSome (course old.stream) (IsCourse old.is_ending old.is_broken) → IfSome (course new.stream) (IsCourse new.is_ending new.is_broken))
+    → (IfSome (course old.stream) (IsCourse old.is_ending old.is_broken old.is_full) → IfSome (course new.stream) (IsCourse new.is_ending new.is_broken new.is_full))
     → ServesOne was_received was_sent course is_past keeps allowed state state old new
 nothing_written was_received was_sent course is_past keeps allowed state old new bytes same received sent goes =
     still_one was_received was_sent course is_past keeps allowed state old new same received (grows_none bytes _ _ sent) goes
@@ -129,7 +130,7 @@ pub written_one : {A S : Type 0} (was_received was_sent : S → Option Bytes) (c
     (allowed : Feedings) (before after : A) (old new : Client S) (bytes : Bytes) (count : ℕ) → new.conn ≡ old.conn
     → bytes ≡ kept_bytes ((keeps before) (connection old))
     → was_received new.stream ≡ was_received old.stream → GrowsBy count bytes (was_sent old.stream) (was_sent new.stream)
-    → (IfSome (course old.stream) (IsCourse old.is_ending old.is_broken) → IfSome (course new.stream) (IsCourse new.is_ending new.is_broken))
+    → (IfSome (course old.stream) (IsCourse old.is_ending old.is_broken old.is_full) → IfSome (course new.stream) (IsCourse new.is_ending new.is_broken new.is_full))
     → IsWritten (connection old) count (is_past before) (is_past after) (is_settled before) (is_settled after) (keeps before) (keeps after)
     → ServesOne was_received was_sent course (settled_past is_past is_settled) keeps allowed before after old new
 written_one was_received was_sent course is_past is_settled keeps allowed before after old new bytes count same all received grows goes written =

@@ -40,45 +40,45 @@ none_known None rest e other same = tt
 none_known (Some x) rest e other same = e ∙ same
 
 -- what is known of how a stream stands, behind a call
-pub course_then : (old new : Option Course) (step : Course → Course) (ending broken now_ending now_broken : Bool) → new ≡ option_map step old
-    → ((course : Course) → IsCourse ending broken course → IsCourse now_ending now_broken (step course)) → IfSome old (IsCourse ending broken)
-    → IfSome new (IsCourse now_ending now_broken)
-course_then None new step ending broken now_ending now_broken e steps was =
-    subst (λ (o : Option Course). IfSome o (IsCourse now_ending now_broken)) (sym e) tt
-course_then (Some course) new step ending broken now_ending now_broken e steps was =
-    subst (λ (o : Option Course). IfSome o (IsCourse now_ending now_broken)) (sym e) (steps course was)
+pub course_then : (old new : Option Course) (step : Course → Course) (ending broken full now_ending now_broken now_full : Bool) → new ≡ option_map step old
+    → ((course : Course) → IsCourse ending broken full course → IsCourse now_ending now_broken now_full (step course))
+    → IfSome old (IsCourse ending broken full) → IfSome new (IsCourse now_ending now_broken now_full)
+course_then None new step ending broken full now_ending now_broken now_full e steps was =
+    subst (λ (o : Option Course). IfSome o (IsCourse now_ending now_broken now_full)) (sym e) tt
+course_then (Some course) new step ending broken full now_ending now_broken now_full e steps was =
+    subst (λ (o : Option Course). IfSome o (IsCourse now_ending now_broken now_full)) (sym e) (steps course was)
 
 -- it is as before
-pub course_still : (old new : Option Course) (ending broken now_ending now_broken : Bool) → new ≡ old → now_ending ≡ ending → now_broken ≡ broken
-    → IfSome old (IsCourse ending broken) → IfSome new (IsCourse now_ending now_broken)
-course_still old new ending broken now_ending now_broken e same_end same_fault was =
-    subst (λ (o : Option Course). IfSome o (IsCourse now_ending now_broken)) (sym e)
-    (subst (λ (b : Bool). IfSome old (IsCourse b now_broken)) (sym same_end)
-    (subst (λ (b : Bool). IfSome old (IsCourse ending b)) (sym same_fault) was))
+pub course_still : (old new : Option Course) (ending broken full : Bool) → new ≡ old → IfSome old (IsCourse ending broken full)
+    → IfSome new (IsCourse ending broken full)
+course_still old new ending broken full e was = subst (λ (o : Option Course). IfSome o (IsCourse ending broken full)) (sym e) was
 
 -- at first
-pub course_fresh : (known : Option Course) (ending broken : Bool) → ending ≡ false → broken ≡ false → IfSome known (λ course. course ≡ fresh_course)
-    → IfSome known (IsCourse ending broken)
-course_fresh None ending broken going sound fresh = tt
-course_fresh (Some course) ending broken going sound fresh =
-    (going ∙ sym (ap (λ (c : Course). c.ended) fresh), sound ∙ sym (ap (λ (c : Course). c.failed) fresh))
+pub course_fresh : (known : Option Course) (ending broken full : Bool) → ending ≡ false → broken ≡ false → full ≡ false
+    → IfSome known (λ course. course ≡ fresh_course) → IfSome known (IsCourse ending broken full)
+course_fresh None ending broken full going sound empty fresh = tt
+course_fresh (Some course) ending broken full going sound empty fresh = (
+  going ∙ sym (ap (λ (c : Course). c.ended) fresh),
+  sound ∙ sym (ap (λ (c : Course). c.failed) fresh),
+  empty ∙ sym (ap (λ (c : Course). c.full) fresh),
+)
 
 pub same_course : (known : Option Course) → option_map (λ (course : Course). course) known ≡ known
 same_course None = refl
 same_course (Some course) = refl
 
 -- what it says of one that has ended, failed, or not failed
-pub course_ended : (known : Option Course) (ending broken : Bool) → ending ≡ true → IfSome known (IsCourse ending broken)
+pub course_ended : (known : Option Course) (ending broken full : Bool) → ending ≡ true → IfSome known (IsCourse ending broken full)
     → IfSome known (λ course. course.ended ≡ true)
-course_ended None ending broken is at = tt
-course_ended (Some course) ending broken is at = sym at.0 ∙ is
+course_ended None ending broken full is at = tt
+course_ended (Some course) ending broken full is at = sym at.0 ∙ is
 
-pub course_failed : (known : Option Course) (ending broken : Bool) → broken ≡ true → IfSome known (IsCourse ending broken)
+pub course_failed : (known : Option Course) (ending broken full : Bool) → broken ≡ true → IfSome known (IsCourse ending broken full)
     → IfSome known (λ course. course.failed ≡ true)
-course_failed None ending broken is at = tt
-course_failed (Some course) ending broken is at = sym at.1 ∙ is
+course_failed None ending broken full is at = tt
+course_failed (Some course) ending broken full is at = sym at.1 ∙ is
 
-pub course_sound : (known : Option Course) (ending broken : Bool) → broken ≡ false → IfSome known (IsCourse ending broken)
+pub course_sound : (known : Option Course) (ending broken full : Bool) → broken ≡ false → IfSome known (IsCourse ending broken full)
     → IfSome known (λ course. course.failed ≡ false)
-course_sound None ending broken is at = tt
-course_sound (Some course) ending broken is at = sym at.1 ∙ is
+course_sound None ending broken full is at = tt
+course_sound (Some course) ending broken full is at = sym at.1 ∙ is

@@ -1,6 +1,8 @@
 -- What happened, and more behind it.
-use Rattle.std.proofs.Common.{◌≡◌, List, [], ◌∷◌, ◌++◌, map, refl, ap, ◌∙◌, append_assoc, append-nil}
-use Rattle.nr_model.specs.Items.{Connection}
+use Rattle.std.proofs.Common.{◌≡◌, List, [], ◌∷◌, ◌++◌, map, refl, sym, ap, ◌∙◌, subst, append_assoc, append-nil}
+use Rattle.std.specs.List.{IsDistinct}
+use Rattle.nr_model.specs.Items.{Connection, same_connection}
+use Rattle.nr_service.specs.Serving.{IsApart}
 use Rattle.nr_model.specs.Connections.{Feeding, Handed, fed_to, handed_to}
 use Rattle.nr_model.proofs.Exchanged.{fed_to-append, handed_to-append}
 use Rattle.nr_service.specs.Stories.{Occurrence, Opened, Fed, HandedOut, Closed, Story, opened_in, fed_in, handed_in, closed_in, bytes_fed, bytes_handed, going_on}
@@ -92,3 +94,15 @@ handed_still c story more none = handed_behind c story more ∙ ap (λ l. bytes_
 -- what was fed in a story that goes on
 pub fed_on : (story next : Story) (more : List Occurrence) → next ≡ going_on story more → fed_in next.occurrences ≡ fed_in story.occurrences ++ fed_in more
 fed_on story next more is = ap (λ (s : Story). fed_in s.occurrences) is ∙ fed_both story.occurrences more
+
+-- where no more was opened
+pub still_apart : (story : Story) (more : List Occurrence) → opened_in more ≡ [] → IsApart story → IsApart (going_on story more)
+still_apart story more none apart =
+    subst (λ (l : List Connection). IsDistinct same_connection l)
+    (sym (opened_both story.occurrences more ∙ ap (λ (l : List Connection). opened_in story.occurrences ++ l) none
+    ∙ append-nil (opened_in story.occurrences))) apart
+
+-- what was opened in a story that goes on
+pub opened_on : (story next : Story) (more : List Occurrence) → next ≡ going_on story more
+    → opened_in next.occurrences ≡ opened_in story.occurrences ++ opened_in more
+opened_on story next more is = ap (λ (s : Story). opened_in s.occurrences) is ∙ opened_both story.occurrences more

@@ -11,7 +11,7 @@ use Rattle.nr_model.specs.Bytes.{Bytes}
 use Rattle.nr_model.specs.Items.{Connection, same_connection}
 use Rattle.nr_model.specs.Connections.{Feeding}
 use Rattle.nr_service.specs.Readings.{Feedings, IsNeverFed}
-use Rattle.nr_service.specs.Serving.{connection, IsServed, AreServed}
+use Rattle.nr_service.specs.Serving.{connection, IsApart, IsServed, AreServed}
 use Rattle.nr_service.specs.Steps.{HasServed, Serves, ServesOne, Accepts}
 use Rattle.nr_service.specs.declared.client.Client.{Client}
 use Rattle.nr_service.specs.Stories.{Occurrence, Story, Past, Kept, KeepsOthers, opened_in, fed_in, closed_in, bytes_fed, bytes_handed, going_on}
@@ -87,6 +87,7 @@ has_moved was_received was_sent course allowed opened is_past kept story xs ys m
   more = h.more;
   is = h.is;
   opens = h.opens;
+  apart = h.apart;
   closed = h.closed;
   feeds = h.feeds;
   served = served_moved was_received was_sent course is_past kept h.next xs ys moved h.served;
@@ -96,13 +97,15 @@ has_moved was_received was_sent course allowed opened is_past kept story xs ys m
 pub nothing_fed : {S : Type 0} (was_received was_sent : S → Option Bytes) (course : S → Option Course) (allowed : Feedings) (opened : List Connection)
     (is_past : Past)
     (kept : Kept) (story : Story) (more : List Occurrence) (clients : List (Client S)) → opened_in more ≡ opened → fed_in more ≡ [] → closed_in more ≡ []
+    → (IsApart story → IsApart (going_on story more))
     → AreServed was_received was_sent course is_past kept (going_on story more) clients
     → HasServed was_received was_sent course allowed opened is_past kept story clients
-nothing_fed was_received was_sent course allowed opened is_past kept story more clients opens none shut a = record {
+nothing_fed was_received was_sent course allowed opened is_past kept story more clients opens none shut apart a = record {
   next = going_on story more;
   more = more;
   is = refl;
   opens = opens;
+  apart = apart;
   closed = shut;
   feeds = subst (λ (fed : List Feeding). All allowed fed) (sym none)
       (All-nil allowed);
@@ -119,6 +122,7 @@ nothing_done was_received was_sent course allowed is_past kept story clients a =
   more = [];
   is = sym (going_none story);
   opens = refl;
+  apart = λ apart. apart;
   closed = refl;
   feeds = All-nil allowed;
   served = a;
@@ -143,6 +147,7 @@ has_then was_received was_sent course allowed between after between_kept kept st
   more = first.more ++ second.more;
   is = second.is ∙ ap (λ (s : Story). going_on s second.more) first.is ∙ going_both story first.more second.more;
   opens = opened_both first.more second.more ∙ (λ i. first.opens i ++ second.opens i);
+  apart = λ apart. second.apart (first.apart apart);
   closed = closed_both first.more second.more ∙ (λ i. first.closed i ++ second.closed i);
   feeds = subst (λ (fed : List Feeding). All allowed fed) (sym (fed_both first.more second.more))
       (All-append allowed (fed_in first.more) (fed_in second.more) first.feeds second.feeds);
@@ -172,6 +177,7 @@ has_weaker was_received was_sent course few many opened is_past kept story clien
   more = h.more;
   is = h.is;
   opens = h.opens;
+  apart = h.apart;
   closed = h.closed;
   feeds = All-weaker few many more (fed_in h.more) h.feeds;
   served = h.served;

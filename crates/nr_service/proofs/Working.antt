@@ -1,30 +1,30 @@
 -- What is done for all clients, and how the list of them changes.
-use Rattle.std.proofs.Common.{◌≡◌, ℕ, zero, suc, ◌<◌, false, inl, inr, List, [], ◌∷◌, ◌++◌, length, get_or, refl, sym, ap, ◌∙◌, subst, arith, append-nil, get_or-set_same}
+use Rattle.std.proofs.Common.{◌≡◌, ℕ, zero, suc, ◌<◌, Bool, false, ◌||◌, inl, inr, List, [], ◌∷◌, ◌++◌, length, get_or, refl, sym, ap, ◌∙◌, subst, arith, append-nil, get_or-set_same}
 use Rattle.std.proofs.Math.ListN.{set, length-set}
 use Rattle.std.specs.Prelude.{Option, Some, None, IfSome, map}
-use Rattle.std.specs.List.{Contains, remove}
+use Rattle.std.specs.List.{AllByRecursion, Contains, IsDistinct, remove}
 use Rattle.std.specs.List.Sorted.{IsPermutation}
 use Rattle.std.specs.Option.{option_map}
-use Rattle.std.proofs.lemmas.Bool.{cases_Bool}
+use Rattle.std.proofs.lemmas.Bool.{cases_Bool, true≢false}
 use Rattle.std.proofs.lemmas.List.{take-set, drop-set-lt, get_or-map, length-map}
 use Rattle.std.proofs.lemmas.List.Elements.{All-cons, All-weaker, Contains-get_or}
 use Rattle.std.proofs.lemmas.List.Sorted.{IsPermutation-remove, IsPermutation-sym, IsPermutation-to_front}
-use Rattle.std.proofs.lemmas.Map.Keys.{IsDistinct-cons}
+use Rattle.std.proofs.lemmas.Map.Keys.{IsDistinct-cons, IsDistinct-IsPermutation}
 use Rattle.nr_entry.specs.Jobs.{connection_of}
 use Rattle.nr_entry.specs.declared.conn.ConnId.{ConnId}
 use Rattle.nr_model.specs.Bytes.{Bytes}
 use Rattle.nr_model.specs.Items.{Connection, same_connection}
 use Rattle.nr_model.specs.Connections.{Feeding, handed_to}
 use Rattle.nr_model.proofs.JobLists.{same_is}
-use Rattle.nr_service.specs.Readings.{Feedings, IsFedAmong, IsFedTo, IsNeverFed}
-use Rattle.nr_service.specs.Serving.{connection, IsServed, AreServed}
+use Rattle.nr_service.specs.Readings.{Feedings, IsFedAmong, IsFedAtRest, IsFedTo, IsNeverFed}
+use Rattle.nr_service.specs.Serving.{connection, IsApart, IsServed, AreServed}
 use Rattle.nr_service.specs.Steps.{Serves, ServesOne, Accepts, IsSettledPast, settled_past, HasServed, HasSettled, Exchanges}
 use Rattle.nr_service.specs.declared.client.Client.{Client}
-use Rattle.nr_service.specs.Stories.{Opened, HandedOut, Story, Past, Kept, Keeps, IsOpened, HasWorked, bytes_fed, bytes_handed, going_on}
-use Rattle.nr_service.proofs.Occurrences.{pieces_opened, pieces_fed, pieces_handed, pieces_closed, fed_still, handed_still, handed_behind}
-use Rattle.nr_service.proofs.Apart.{from_others}
+use Rattle.nr_service.specs.Stories.{Opened, HandedOut, Story, Past, Kept, Keeps, IsOpened, HasWorked, bytes_fed, bytes_handed, going_on, is_among, opened_in}
+use Rattle.nr_service.proofs.Occurrences.{opened_both, still_apart, pieces_opened, pieces_fed, pieces_handed, pieces_closed, fed_still, handed_still, handed_behind}
+use Rattle.nr_service.proofs.Apart.{flips, from_others}
 use Rattle.nr_service.proofs.Known.{course_fresh, handed_more, none_known}
-use Rattle.nr_service.proofs.Served.{served_still, others_served, served_moved, has_moved, has_then, has_weaker, nothing_fed, nothing_done}
+use Rattle.nr_service.proofs.Served.{served_still, others_served, served_moved, serves_then, serves_weaker, has_moved, has_then, has_weaker, nothing_fed, nothing_done}
 use Rattle.nr_service.specs.Streams.{Course, fresh_course}
 
 -- bytes were handed out, and nothing is left to be done
@@ -36,7 +36,7 @@ worked_all was_received was_sent course allowed before after settled old_kept ne
     let more = map HandedOut w.handed in
     let next = going_on story more in
     nothing_fed was_received was_sent course allowed [] (IsSettledPast after settled) new_kept story more clients (pieces_opened w.handed)
-    (pieces_fed w.handed) (pieces_closed w.handed)
+    (pieces_fed w.handed) (pieces_closed w.handed) (still_apart story more (pieces_opened w.handed))
     (record {
       past = record { past = w.past story a.past; rest = w.rest story a.past };
       each = All-weaker (IsServed was_received was_sent course old_kept story) (IsServed was_received was_sent course new_kept next)
@@ -67,6 +67,7 @@ has_settled was_received was_sent course allowed is_past is_settled kept story c
     more = h.more;
     is = h.is;
     opens = h.opens;
+    apart = h.apart;
     closed = h.closed;
     feeds = h.feeds;
     served = record { past = h.served.past.past; each = h.served.each; apart = h.served.apart };
@@ -86,17 +87,22 @@ worked was_received was_sent course is_past is_settled keeps allowed before afte
 
 -- the clients were served, all work was done, and what is kept was written
 pub exchanged : {A S : Type 0} (was_received was_sent : S → Option Bytes) (course : S → Option Course) (is_past is_settled : A → Past) (keeps : A → Kept)
-    (now : ℕ) (a b c d : A) (xs ys zs : List (Client S))
-    → Serves was_received was_sent course is_past keeps (IsFedAmong now (map connection xs)) [] a b xs ys
+    (busy : A → Bool) (now : ℕ) (a r b c d : A) (xs ys zs : List (Client S))
+    → Serves was_received was_sent course is_past keeps IsNeverFed [] a r xs xs
+    → Serves was_received was_sent course is_past keeps (IsFedAtRest (busy r) now (map connection xs)) [] r b xs ys
     → HasWorked (is_past b) (is_past c) (is_settled c) (keeps b) (keeps c)
     → Serves was_received was_sent course (settled_past is_past is_settled) keeps IsNeverFed [] c d ys zs
-    → Exchanges was_received was_sent course is_past is_settled keeps now a d xs zs
-exchanged was_received was_sent course is_past is_settled keeps now a b c d xs ys zs p w q =
-    let allowed = IsFedAmong now (map connection xs) in
+    → Exchanges was_received was_sent course is_past is_settled keeps busy now a d xs zs
+exchanged was_received was_sent course is_past is_settled keeps busy now a r b c d xs ys zs before p w q =
+    let allowed = IsFedAtRest (busy r) now (map connection xs) in
     let none : (feeding : Feeding) → IsNeverFed feeding → allowed feeding = λ feeding never. absurd never in
+    let read = serves_then was_received was_sent course is_past keeps allowed a r b xs xs ys
+    (serves_weaker was_received was_sent course is_past keeps IsNeverFed allowed a r xs xs none before) p in
     record {
+      ready = r;
+      readied = before;
       further = λ story s.
-          let first = p.further story s in
+          let first = read.further story s in
           let second = worked_all was_received was_sent course allowed (is_past b) (is_past c) (is_settled c) (keeps b) (keeps c) ys w first.next
           first.served in
           let third = has_weaker was_received was_sent course IsNeverFed allowed [] (settled_past is_past is_settled d) (keeps d) second.next zs none
@@ -132,15 +138,33 @@ kept_apart keeps c d bytes closed kept =
       | inr apart ↦ apart
     ]
 
+-- one that isn't among others differs from each
+not_among : (c : Connection) (others : List Connection) → is_among c others ≡ false → AllByRecursion (λ d. same_connection c d ≡ false) others
+not_among c [] absent = tt
+not_among c (d ∷ others) absent =
+    elim (cases_Bool (same_connection d c)) [
+      | inl one ↦ absurd (true≢false (sym (ap (λ (b : Bool). b || is_among c others) one) ∙ absent))
+      | inr differs ↦ (flips c d ∙ differs, not_among c others (sym (ap (λ (b : Bool). b || is_among c others) differs) ∙ absent))
+    ]
+
+-- a connection more that was opened
+opened_apart : (story : Story) (c : Connection) → is_among c (opened_in story.occurrences) ≡ false → IsApart story
+    → IsApart (going_on story (Opened c ∷ []))
+opened_apart story c absent apart =
+    let was = opened_in story.occurrences in
+    subst (λ (l : List Connection). IsDistinct same_connection l) (sym (opened_both story.occurrences (Opened c ∷ [])))
+    (IsDistinct-IsPermutation same_connection flips (c ∷ was) (was ++ c ∷ []) (IsPermutation-sym _ _ (IsPermutation-to_front was c))
+    (IsDistinct-cons same_connection c was (not_among c was absent) apart))
+
 -- a client more, of a connection that was opened
 pub opened_one : {A S : Type 0} (was_received was_sent : S → Option Bytes) (course : S → Option Course) (is_past : A → Past) (keeps : A → Kept)
     (allowed : Feedings)
     (before after : A) (clients : List (Client S)) (client : Client S)
-    → client.is_ending ≡ false → client.is_broken ≡ false → IfSome (was_received client.stream) (λ bytes. bytes ≡ [])
+    → client.is_ending ≡ false → client.is_broken ≡ false → client.is_full ≡ false → IfSome (was_received client.stream) (λ bytes. bytes ≡ [])
     → IfSome (was_sent client.stream) (λ bytes. bytes ≡ []) → IfSome (course client.stream) (λ at. at ≡ fresh_course)
     → IsOpened (connection client) (is_past before) (is_past after) (keeps before) (keeps after)
     → Serves was_received was_sent course is_past keeps allowed (connection client ∷ []) before after clients (clients ++ client ∷ [])
-opened_one was_received was_sent course is_past keeps allowed before after clients client going sound received sent fresh o = record {
+opened_one was_received was_sent course is_past keeps allowed before after clients client going sound empty received sent fresh o = record {
   further = λ story a.
       let c = connection client in
       let apart = from_others (IsServed was_received was_sent course (keeps before) story) c
@@ -150,6 +174,7 @@ opened_one was_received was_sent course is_past keeps allowed before after clien
       let more = Opened c ∷ [] in
       let next = going_on story more in
       nothing_fed was_received was_sent course allowed (c ∷ []) (is_past after) (keeps after) story more (clients ++ client ∷ []) refl refl refl
+      (opened_apart story c (o.first story a.past))
       (served_moved was_received was_sent course (is_past after) (keeps after) next (client ∷ clients) (clients ++ client ∷ [])
       (IsPermutation-sym _ _ (IsPermutation-to_front clients client))
       (record {
@@ -160,7 +185,7 @@ opened_one was_received was_sent course is_past keeps allowed before after clien
               kept = o.kept;
               received = none_known (was_received client.stream) [] received (bytes_fed c next) (sym (fed_still c story more refl ∙ o.fed story a.past));
               sent = handed_none (was_sent client.stream) (bytes_handed c next) (handed_still c story more refl ∙ o.handed story a.past) sent;
-              course_is = course_fresh (course client.stream) client.is_ending client.is_broken going sound fresh;
+              course_is = course_fresh (course client.stream) client.is_ending client.is_broken client.is_full going sound empty fresh;
             })
             (others_served was_received was_sent course (keeps before) (keeps after) story next client clients
             (record {
@@ -181,19 +206,19 @@ opened_one was_received was_sent course is_past keeps allowed before after clien
 pub opened_behind : {A S : Type 0} (was_received was_sent : S → Option Bytes) (course : S → Option Course) (is_past : A → Past) (keeps : A → Kept)
     (before after : A)
     (clients all : List (Client S)) (client : Client S) (conn : ConnId) (stream : S) → client.conn ≡ conn → client.stream ≡ stream → client.is_ending ≡ false
-    → client.is_broken ≡ false
+    → client.is_broken ≡ false → client.is_full ≡ false
     → all ≡ clients ++ client ∷ []
     → IfSome (was_received stream) (λ bytes. bytes ≡ []) → IfSome (was_sent stream) (λ bytes. bytes ≡ [])
     → IfSome (course stream) (λ at. at ≡ fresh_course) → IsOpened (connection_of conn) (is_past before) (is_past after) (keeps before) (keeps after)
     → Accepts was_received was_sent course is_past keeps before after clients all
-opened_behind {A} {S} was_received was_sent course is_past keeps before after clients all client conn stream same_conn same_stream going sound is received sent
+opened_behind {A} {S} was_received was_sent course is_past keeps before after clients all client conn stream same_conn same_stream going sound empty is received sent
     fresh o =
     record {
       accepted = client ∷ [];
       items = is;
       serves = subst (λ (ys : List (Client S)). Serves was_received was_sent course is_past keeps IsNeverFed (connection client ∷ []) before after clients ys)
           (sym is)
-          (opened_one was_received was_sent course is_past keeps IsNeverFed before after clients client going sound
+          (opened_one was_received was_sent course is_past keeps IsNeverFed before after clients client going sound empty
           (subst (λ (t : S). IfSome (was_received t) (λ bytes. bytes ≡ [])) (sym same_stream) received)
           (subst (λ (t : S). IfSome (was_sent t) (λ bytes. bytes ≡ [])) (sym same_stream) sent)
           (subst (λ (t : S). IfSome (course t) (λ at. at ≡ fresh_course)) (sym same_stream) fresh)

@@ -1,16 +1,21 @@
 -- What holds where a service ended.
-use Rattle.std.specs.Prelude.{◌≡◌, ◌≢◌, ◌<◌, ◌≤◌, ◌⊎◌, ℕ, ◌+◌, ◌-◌, ◌^◌, Bool, true, false, List, [], ◌∷◌, length, map, Option, All}
+use Rattle.std.specs.Prelude.{◌≡◌, ◌≢◌, ◌<◌, ◌≤◌, ◌⊎◌, ℕ, ◌+◌, ◌-◌, ◌^◌, Bool, true, false, List, [], ◌∷◌, ◌++◌, length, map, Option, All}
 use Rattle.nr_model.specs.Bytes.{Bytes}
+use Rattle.nr_model.specs.Items.{Connection}
 use Rattle.nr_model.specs.Connections.{Setup}
-use Rattle.nr_service.specs.Readings.{AreFedByClock, IsFedAmong, IsNeverFed, IsUnread, Reads}
-use Rattle.nr_service.specs.Serving.{connection}
-use Rattle.nr_service.specs.Steps.{Accepts, IsLeft, Leaves, LeavesSome}
+use Rattle.nr_service.specs.Arriving.{Arrives, ArrivesUntil}
+use Rattle.nr_service.specs.Devices.{Parting, AreGivenBack}
+use Rattle.nr_service.specs.Leaving.{Loses}
+use Rattle.nr_service.specs.Readings.{AreFedByClock, IsFedAmong, IsUnread, Reads}
+use Rattle.nr_service.specs.Serving.{connection, streams_of, AreOpened, IsApart, IsLeft}
+use Rattle.nr_service.specs.Steps.{Accepts, Exchanges, Leaves}
 use Rattle.nr_service.specs.declared.client.Client.{Client}
 use Rattle.nr_service.specs.declared.gate.Go.{Go}
 use Rattle.nr_service.specs.declared.gate.Go.TheVariants as told
 use Rattle.nr_service.specs.declared.ended.Ended.{Ended}
 use Rattle.nr_service.specs.declared.ended.Ended.TheVariants.{Stopped, Memory, Device}
 use Rattle.nr_service.specs.declared.service.Service.{Service}
+use Rattle.nr_service.specs.Turns.{IsSameWorker, most_accepted}
 use Rattle.nr_service.specs.Stories.{Story, Past, Kept, fed_in}
 use Rattle.nr_service.specs.Streams.{Course}
 
@@ -20,27 +25,52 @@ ByEnding Stopped P Q = P
 ByEnding Memory P Q = Q
 ByEnding Device P Q = P
 
--- memory ran out before the clock was read
-pub record HasNotRead {A S D M : Type 0} (was_received was_sent : S → Option Bytes) (course : S → Option Course) (is_past : A → Past) (keeps : A → Kept)
-    (old new : Service A S D M) : Type 0 where
+-- Memory ran out while connections were accepted: the clock wasn't read.
+pub record BreaksOffAccepting {A S D M : Type 0} (was_received was_sent : S → Option Bytes) (course : S → Option Course) (is_past is_left : A → Past) (keeps : A → Kept)
+    (is_full : A → Type 0) (is_placed : A → A → ℕ → Connection → Type 0) (parted : D → Option (List (Parting S))) (old new : Service A S D M) : Type 0 where
+  pub until : ArrivesUntil most_accepted was_received was_sent course is_past is_left keeps is_full is_placed parted old.answers new.answers old.accepted old.device
+      new.device old.clients.items new.clients.items
   pub unread : IsUnread old.clock new.clock old.moment new.moment
-  pub left : Leaves was_received was_sent course is_past keeps IsNeverFed old.answers old.clients.items new.clients.items
 
--- memory ran out behind it, and bytes were fed to the clients that there were then alone
-pub record HasReadOnce {A S D M : Type 0} (was_received was_sent : S → Option Bytes) (course : S → Option Course) (gives : M → M → Option ℕ → Type 0)
-    (is_past : A → Past) (keeps : A → Kept) (old new : Service A S D M) : Type 0 where
+-- Some were accepted, the clock was read, and then memory ran out while bytes were exchanged with these clients: they are left.
+pub record BreaksOffExchanging {A S D M : Type 0} (was_received was_sent : S → Option Bytes) (course : S → Option Course) (is_past is_left : A → Past) (keeps : A → Kept)
+    (is_full : A → Type 0) (is_placed : A → A → ℕ → Connection → Type 0) (parted : D → Option (List (Parting S))) (gives : M → M → Option ℕ → Type 0)
+    (old new : Service A S D M) : Type 0 where
   pub opened : A
   pub taken : List (Client S)
   pub accepts : Accepts was_received was_sent course is_past keeps old.answers opened old.clients.items taken
+  pub arrives : Arrives is_full is_placed parted old.answers opened old.accepted new.accepted old.device new.device old.clients.items taken
+  pub few : length arrives.came ≤ most_accepted
   pub reads : Reads gives old.clock new.clock old.moment new.moment
-  pub left : LeavesSome was_received was_sent course is_past keeps
-      (IsFedAmong new.moment (map connection taken)) old.answers old.clients.items new.clients.items
+  pub leaves : Leaves was_received was_sent course is_past is_left keeps (IsFedAmong new.moment (map connection taken)) opened new.answers taken
+      new.clients.items
+  pub same : map connection new.clients.items ≡ map connection taken
 
--- A turn in which memory ran out: the clients that a service still has are left, by each story by which those of the service before were served. The
--- clock wasn't read, and nothing was fed; or it was read once, and bytes were fed at the moment behind that to the clients that were there then.
-pub record BreaksOff {A S D M : Type 0} (was_received was_sent : S → Option Bytes) (course : S → Option Course) (gives : M → M → Option ℕ → Type 0)
-    (is_past : A → Past) (keeps : A → Kept) (old new : Service A S D M) : Type 0 where
-  pub way : HasNotRead was_received was_sent course is_past keeps old new ⊎ HasReadOnce was_received was_sent course gives is_past keeps old new
+-- Bytes were exchanged with them, and then memory ran out while some were let go.
+pub record BreaksOffLettingGo {A S D M : Type 0} (was_received was_sent : S → Option Bytes) (course : S → Option Course)
+    (is_past is_left is_settled : A → Past) (keeps : A → Kept) (busy : A → Bool) (is_full : A → Type 0) (is_placed : A → A → ℕ → Connection → Type 0)
+    (parted : D → Option (List (Parting S))) (gives : M → M → Option ℕ → Type 0) (old new : Service A S D M) : Type 0 where
+  pub opened : A
+  pub worked : A
+  pub device : D
+  pub taken : List (Client S)
+  pub served : List (Client S)
+  pub accepts : Accepts was_received was_sent course is_past keeps old.answers opened old.clients.items taken
+  pub arrives : Arrives is_full is_placed parted old.answers opened old.accepted new.accepted old.device device old.clients.items taken
+  pub few : length arrives.came ≤ most_accepted
+  pub reads : Reads gives old.clock new.clock old.moment new.moment
+  pub exchanges : Exchanges was_received was_sent course is_past is_settled keeps busy new.moment opened worked taken served
+  pub same : map connection served ≡ map connection taken
+  pub loses : Loses was_received was_sent course is_past is_left keeps parted worked new.answers device new.device served new.clients.items
+
+-- A turn in which memory ran out, in one of its parts: who was there is left, whether still there or not.
+pub record BreaksOff {A S D M : Type 0} (was_received was_sent : S → Option Bytes) (course : S → Option Course)
+    (is_past is_left is_settled : A → Past) (keeps : A → Kept) (busy : A → Bool) (is_full : A → Type 0) (is_placed : A → A → ℕ → Connection → Type 0)
+    (parted : D → Option (List (Parting S))) (gives : M → M → Option ℕ → Type 0) (old new : Service A S D M) : Type 0 where
+  pub worker : IsSameWorker old new
+  pub way : BreaksOffAccepting was_received was_sent course is_past is_left keeps is_full is_placed parted old new
+      ⊎ BreaksOffExchanging was_received was_sent course is_past is_left keeps is_full is_placed parted gives old new
+      ⊎ BreaksOffLettingGo was_received was_sent course is_past is_left is_settled keeps busy is_full is_placed parted gives old new
 
 -- the first where the gate stopped it, the second where memory ran out, the third where the device can't wait any more
 abbrev pub ByCause : Ended → Type 0 → Type 0 → Type 0 → Type 0
@@ -48,7 +78,7 @@ ByCause Stopped P Q R = P
 ByCause Memory P Q R = Q
 ByCause Device P Q R = R
 
--- how many turns are taken at most once no connection can be answered any more
+-- behind so many turns it may be done although clients are left
 abbrev pub most_turns_down : ℕ
 most_turns_down = 1000
 
@@ -61,7 +91,7 @@ abbrev pub GoesOn : {A S D M : Type 0} → (A → Bool → Type 0) → ℕ → �
 GoesOn falls before after service =
     (falls service.answers false × (after ≡ before)) ⊎ (falls service.answers true × (service.clients.items ≢ []) × (after + 1 ≡ before))
 
--- It is done behind so many turns and one more: no connection can be answered any more, and no client is left, or as many turns were taken as may be.
+-- It is done behind so many turns and one more: no connection can be answered any more, and no client is left, or so many turns are enough for that.
 abbrev pub IsDone : {A S D M : Type 0} → (A → Bool → Type 0) → ℕ → Service A S D M → Type 0
 IsDone falls count service = falls service.answers true × ((service.clients.items ≡ []) ⊎ (most_turns_down ≤ count))
 
@@ -88,13 +118,17 @@ pub record TakesTurns {T : Type 0} (says : ℕ → Go → Type 0) (goes : T → 
       (says (length whole) told.On × (breaks last new ⊎ (turns true last new × is_done (length whole) new)))
       (says (length whole) told.On × turns false last new)
 
--- Memory ran out: the clients that a service still has are left, by a story of what answers, which is so large, and whose bytes were fed at the moments
--- behind the readings of the clock.
-pub record RanOut {A S D M : Type 0} (was_received was_sent : S → Option Bytes) (gives : M → M → Option ℕ → Type 0) (is_past : A → Past) (first : M)
-    (setup : Setup) (service : Service A S D M) : Type 0 where
+-- Memory ran out: the clients that left and those that are there are left, by a story of which is left what answers then, which is so large, and whose
+-- bytes were fed at the moments behind the readings of the clock. The streams of those that left were given back in their order, and nobody else was ever
+-- there.
+pub record RanOut {A S D M : Type 0} (was_received was_sent : S → Option Bytes) (gives : M → M → Option ℕ → Type 0) (is_left : A → Past)
+    (parted : D → Option (List (Parting S))) (first : M) (setup : Setup) (service : Service A S D M) : Type 0 where
   pub story : Story
-  pub answers : A
+  pub gone : List (Client S)
   pub sized : story.setup ≡ setup
-  pub past : is_past answers story
-  pub left : All (IsLeft was_received was_sent story) service.clients.items
+  pub known : is_left service.answers story
+  pub left : All (IsLeft was_received was_sent story) (gone ++ service.clients.items)
+  pub given_back : AreGivenBack (streams_of gone) (parted service.device)
+  pub opened : AreOpened story gone service.clients.items
+  pub apart : IsApart story
   pub in_time : AreFedByClock gives first service.clock service.moment (fed_in story.occurrences)

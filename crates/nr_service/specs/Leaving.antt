@@ -1,13 +1,13 @@
 -- Which clients are over, and how they are let go of.
-use Rattle.std.specs.Prelude.{◌≡◌, ◌≢◌, ℕ, ◌+◌, ◌-◌, ◌<◌, Bool, true, false, cond, ◌⊎◌, List, [], ◌∷◌, ◌++◌, length, map, slice_index_or, Option, None, Some, All, IsPermutation}
+use Rattle.std.specs.Prelude.{◌≡◌, ◌≢◌, ℕ, ◌<◌, Bool, true, false, cond, ◌⊎◌, List, [], ◌∷◌, ◌++◌, length, map, slice_index_or, Option, None, Some, All, IsPermutation}
 use Rattle.nr_model.specs.Bytes.{Bytes}
 use Rattle.nr_model.specs.Items.{Connection}
-use Rattle.nr_service.specs.Serving.{connection, IsWithin, AreServed}
+use Rattle.nr_service.specs.Serving.{connection, streams_of, IsLeft, IsWithin, AreServed}
 use Rattle.nr_service.specs.declared.client.Client.{Client}
 use Rattle.nr_service.specs.declared.client.Ending.{Ending}
 use Rattle.nr_service.specs.declared.client.Ending.TheVariants as endings
-use Rattle.nr_service.specs.Devices.{Parting, Finished, Abandoned, PartsWith}
-use Rattle.nr_service.specs.Stories.{Occurrence, Closed, Story, Past, Kept, KeepsOthers, IsShut, going_on, kept_bytes}
+use Rattle.nr_service.specs.Devices.{Parting, Finished, Abandoned, GivesBack, PartsWith}
+use Rattle.nr_service.specs.Stories.{Occurrence, Closed, Story, Past, Kept, IsShut, opened_in, fed_in, going_on, kept_bytes}
 use Rattle.nr_service.specs.declared.answers.Standing.{Standing}
 use Rattle.nr_service.specs.declared.answers.Standing.TheVariants as standings
 use Rattle.nr_service.specs.Streams.{Course}
@@ -21,31 +21,27 @@ abbrev pub TakesNone : (Connection → Standing → Type 0) → Connection → T
 TakesNone stands c = (standing : Standing) × stands c standing × (standing ≢ standings.Open)
 
 -- How a client ends, where so many bytes may wait for one. It is lost where its stream failed or more waits for it; else it has finished where nothing
--- waits for it, and its input has ended or its connection takes no more bytes; else it goes on.
-abbrev pub IsEnding : {S : Type 0} → Kept → (Connection → Standing → Type 0) → ℕ → Client S → Option Ending → Type 0
-IsEnding keeps stands limit client None =
-    IsWithin keeps limit client × ((0 < length (kept_for keeps client)) ⊎ ((client.is_ending ≡ false) × stands (connection client) standings.Open))
-IsEnding keeps stands limit client (Some endings.Finished) =
-    IsWithin keeps limit client × (kept_for keeps client ≡ []) × ((client.is_ending ≡ true) ⊎ TakesNone stands (connection client))
-IsEnding keeps stands limit client (Some endings.Lost) = (client.is_broken ≡ true) ⊎ (limit < length (kept_for keeps client))
+-- waits for it, what answers isn't busy, and its input has ended or its connection takes no more bytes; else it goes on.
+abbrev pub IsEnding : {S : Type 0} → Kept → (Connection → Standing → Type 0) → Bool → ℕ → Client S → Option Ending → Type 0
+IsEnding keeps stands busy limit client None =
+    IsWithin keeps limit client
+    × ((0 < length (kept_for keeps client)) ⊎ (busy ≡ true) ⊎ ((client.is_ending ≡ false) × stands (connection client) standings.Open))
+IsEnding keeps stands busy limit client (Some endings.Finished) =
+    IsWithin keeps limit client × (kept_for keeps client ≡ []) × (busy ≡ false)
+    × ((client.is_ending ≡ true) ⊎ TakesNone stands (connection client))
+IsEnding keeps stands busy limit client (Some endings.Lost) = (client.is_broken ≡ true) ⊎ (limit < length (kept_for keeps client))
 
--- a client but for how it ends
-abbrev pub unmarked : {S : Type 0} → Client S → Client S
-unmarked client = record client { ending = None }
-
--- these clients as they were, each with how it ends
-pub record AreMarked {S : Type 0} (keeps : Kept) (stands : Connection → Standing → Type 0) (limit : ℕ) (old new : List (Client S)) : Type 0 where
-  pub same : map unmarked new ≡ map unmarked old
-  pub endings : All (λ client. IsEnding keeps stands limit client client.ending) new
-
--- A client that was let go, how it ended, and whether its connection was closed by that: else it took no room any more.
-pub record Gone (S : Type 0) : Type 0 where
+-- A client that was let go, how it ended, and whether its connection was closed by that: else it took no room any more. And what answers before and
+-- behind that.
+pub record Gone (A S : Type 0) : Type 0 where
   pub client : Client S
   pub ending : Ending
   pub closed : Bool
+  pub before : A
+  pub after : A
 
 -- the connections that were closed
-abbrev pub shut_by : {S : Type 0} → List (Gone S) → List Occurrence
+abbrev pub shut_by : {A S : Type 0} → List (Gone A S) → List Occurrence
 shut_by [] = []
 shut_by (one ∷ gone) = cond one.closed (Closed (connection one.client) ∷ shut_by gone) (shut_by gone)
 
@@ -54,11 +50,23 @@ abbrev pub parting : {S : Type 0} → Ending → S → Parting S
 parting endings.Finished stream = Finished stream
 parting endings.Lost stream = Abandoned stream
 
-abbrev pub parting_of : {S : Type 0} → Gone S → Parting S
+abbrev pub parting_of : {A S : Type 0} → Gone A S → Parting S
 parting_of one = parting one.ending one.client.stream
 
-abbrev pub client_of : {S : Type 0} → Gone S → Client S
+abbrev pub client_of : {A S : Type 0} → Gone A S → Client S
 client_of one = one.client
+
+-- It was over where it went, and was closed then, unless it took no room any more. It takes none behind that.
+pub record HasGone {A S : Type 0} (keeps : A → Kept) (stands : A → Connection → Standing → Type 0) (busy : A → Bool)
+    (is_gone : A → Connection → Type 0) (limit : ℕ) (one : Gone A S) : Type 0 where
+  pub over : IsEnding (keeps one.before) (stands one.before) (busy one.before) limit one.client (Some one.ending)
+  pub shut : IsShut (connection one.client) (is_gone one.before (connection one.client)) (shut_by (one ∷ []))
+  pub away : is_gone one.after (connection one.client)
+
+-- they went one behind the other, and what answers did nothing between
+abbrev pub AreGone : {A S : Type 0} → A → List (Gone A S) → A → Type 0
+AreGone before [] after = after ≡ before
+AreGone before (one ∷ gone) after = (one.before ≡ before) × AreGone one.after gone after
 
 -- The client at this place was let go so: the others are served by each story by which all were before, going on by the close of its connection alone,
 -- unless that took no room before.
@@ -72,34 +80,41 @@ pub record LetsGoOne {A S D : Type 0} (was_received was_sent : S → Option Byte
   pub moved : IsPermutation old (client ∷ new)
   pub parts : PartsWith (parting ending client.stream ∷ []) (parted device_before) (parted device_after)
   pub is : IsShut (connection client) (is_gone before (connection client)) shut
+  pub gone : is_gone after (connection client)
   pub further : (story : Story) → AreServed was_received was_sent course (is_past before) (keeps before) story old
       → AreServed was_received was_sent course (is_past after) (keeps after) (going_on story shut) new
 
--- Those that are over were let go, each as it ended: the others are served by each story by which all were before, going on by the closes of the
+-- Some that were over were let go, each as it ended: the others are served by each story by which all were before, going on by the closes of the
 -- connections of those that are gone, in order.
 pub record LetsGo {A S D : Type 0} (was_received was_sent : S → Option Bytes) (course : S → Option Course) (is_past : A → Past) (keeps : A → Kept)
-    (parted : D → Option (List (Parting S))) (before after : A) (device_before device_after : D) (old new : List (Client S)) : Type 0 where
-  pub gone : List (Gone S)
+    (stands : A → Connection → Standing → Type 0) (busy : A → Bool) (is_gone : A → Connection → Type 0) (parted : D → Option (List (Parting S)))
+    (limit : ℕ) (before after : A) (device_before device_after : D) (old new : List (Client S)) : Type 0 where
+  pub gone : List (Gone A S)
   pub all : IsPermutation old (map client_of gone ++ new)
-  pub over : All (λ one. one.client.ending ≡ Some one.ending) gone
+  pub in_turn : AreGone before gone after
+  pub each : All (HasGone keeps stands busy is_gone limit) gone
   pub parts : PartsWith (map parting_of gone) (parted device_before) (parted device_after)
   pub further : (story : Story) → AreServed was_received was_sent course (is_past before) (keeps before) story old
       → AreServed was_received was_sent course (is_past after) (keeps after) (going_on story (shut_by gone)) new
 
--- The client at this place was taken from the list, the last one stands there, its connection takes no room any more, and the same is kept for the others.
-pub record Removes {A S : Type 0} (keeps : A → Kept) (is_gone : A → Connection → Type 0) (index : ℕ) (before after : A)
-    (old new : List (Client S)) : Type 0 where
-  pub client : Client S
-  pub moved : IsPermutation old (client ∷ new)
-  pub last : (d : Client S) → index + 1 < length old → slice_index_or new index d ≡ slice_index_or old (length old - 1) d
-  pub same : (k : ℕ) (d : Client S) → k ≢ index → k + 1 < length old → slice_index_or new k d ≡ slice_index_or old k d
-  pub gone : is_gone after (connection client)
-  pub others : KeepsOthers (connection client) (keeps before) (keeps after)
+-- What is left of clients where memory ran out, by a story of which is left what answers then: some connections may have been closed since this one,
+-- none was opened, and nothing was fed.
+pub record AreLost {A S : Type 0} (was_received was_sent : S → Option Bytes) (is_left : A → Past) (story : Story) (after : A)
+    (clients : List (Client S)) : Type 0 where
+  pub next : Story
+  pub more : List Occurrence
+  pub is : next ≡ going_on story more
+  pub opens : opened_in more ≡ []
+  pub fed : fed_in more ≡ []
+  pub left : is_left after next
+  pub each : All (IsLeft was_received was_sent next) clients
 
--- the same is kept for each of these clients
-abbrev pub KeepsEach : {S : Type 0} → Kept → Kept → List (Client S) → Type 0
-KeepsEach old new clients = All (λ client. new (connection client) ≡ old (connection client)) clients
-
--- these streams were let go of at once, since there was no room for them
-abbrev pub TurnsAway : {S : Type 0} → Option (List (Parting S)) → Option (List (Parting S)) → Type 0
-TurnsAway {S} old new = (away : List S) × PartsWith (map Abandoned away) old new
+-- Some went, their streams were given back, and then memory ran out: they and the others are left, by each story by which all were served before, and
+-- some connections may have been closed since.
+pub record Loses {A S D : Type 0} (was_received was_sent : S → Option Bytes) (course : S → Option Course) (is_past is_left : A → Past) (keeps : A → Kept)
+    (parted : D → Option (List (Parting S))) (before after : A) (device_before device_after : D) (old new : List (Client S)) : Type 0 where
+  pub missing : List (Client S)
+  pub all : IsPermutation old (missing ++ new)
+  pub parts : GivesBack (streams_of missing) (parted device_before) (parted device_after)
+  pub further : (story : Story) → AreServed was_received was_sent course (is_past before) (keeps before) story old
+      → AreLost was_received was_sent is_left story after (missing ++ new)

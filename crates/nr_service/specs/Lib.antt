@@ -4,6 +4,8 @@ pub mod Readings
 pub mod Devices
 pub mod Serving
 pub mod Steps
+pub mod Arriving
 pub mod Leaving
+pub mod Sweeps
 pub mod Turns
 pub mod Endings

@@ -1,5 +1,5 @@
 -- What a clock gave, and at which moments bytes were fed by it, to whom.
-use Rattle.std.specs.Prelude.{◌≡◌, ℕ, List, [], ◌∷◌, ◌++◌, map, Option, All}
+use Rattle.std.specs.Prelude.{◌≡◌, ℕ, Bool, false, List, [], ◌∷◌, ◌++◌, map, Option, All}
 use Rattle.std.specs.List.{Contains}
 use Rattle.std.specs.Option.{unwrap_or}
 use Rattle.nr_model.specs.Items.{Connection}
@@ -82,3 +82,7 @@ IsFedTo now c feeding = IsFedAt now feeding × (feeding.connection ≡ c)
 -- bytes are fed at this moment to one of these
 abbrev pub IsFedAmong : ℕ → List Connection → Feedings
 IsFedAmong now connections feeding = IsFedAt now feeding × Contains connections feeding.connection
+
+-- so they are where no work is at hand, and else none are
+abbrev pub IsFedAtRest : Bool → ℕ → List Connection → Feedings
+IsFedAtRest busy now connections feeding = (busy ≡ false) × IsFedAmong now connections feeding

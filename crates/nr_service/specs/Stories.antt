@@ -82,6 +82,10 @@ beginning setup = record { setup = setup; occurrences = [] }
 abbrev pub KeepsOthers : Connection → Kept → Kept → Type 0
 KeepsOthers c old new = (other : Connection) → same_connection other c ≡ false → new other ≡ old other
 
+-- what may have led to it before is left of it
+abbrev pub IsLeftOf : Past → Past → Type 0
+IsLeftOf before left = (story : Story) → before story → left story
+
 -- nothing happened
 pub record Keeps (before after : Past) (old new : Kept) : Type 0 where
   pub past : (story : Story) → before story → after story
@@ -102,14 +106,14 @@ pub record IsFed (c : Connection) (time : ℕ) (bytes : Bytes) (before after : P
   pub past : (story : Story) → before story → after (going_on story (Fed (record { connection = c; moment = moment time; bytes = bytes }) ∷ []))
   pub kept : (other : Connection) → new other ≡ old other
 
--- Bytes were handed out, and nothing is left to be done by a past that is settled. They are kept behind those that were, where their connection is open.
+-- Bytes were handed out, and what led to it then is what may have behind its work. They are kept behind those that were, where their connection is open.
 pub record HasWorked (before after settled : Past) (old new : Kept) : Type 0 where
   pub handed : List Handed
   pub past : (story : Story) → before story → after (going_on story (map HandedOut handed))
   pub rest : (story : Story) → before story → settled (going_on story (map HandedOut handed))
   pub kept : (c : Connection) → new c ≡ option_map (λ (bytes : Bytes). bytes ++ handed_to c handed) (old c)
 
--- The first so many of the bytes that are kept for a connection were written. Where nothing was left to be done, nothing is.
+-- The first so many of the bytes that are kept for a connection were written. What may have led to it, also behind its work, may have so still.
 pub record IsWritten (c : Connection) (count : ℕ) (before after settled_before settled_after : Past) (old new : Kept) : Type 0 where
   pub past : (story : Story) → before story → after story
   pub rest : (story : Story) → settled_before story → settled_after story

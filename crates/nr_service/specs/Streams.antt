@@ -35,14 +35,15 @@ IsSomeSent sent.Failed = Unit {0}
 abbrev pub GrowsBy : ℕ → Bytes → Option Bytes → Option Bytes → Type 0
 GrowsBy count bytes old new = new ≡ option_map (λ (before : Bytes). before ++ take count bytes) old
 
--- whether the end of a stream was read, and whether it failed
+-- whether the end of a stream was read, whether it failed, and whether it took nothing when it was written last
 pub record Course : Type 0 where
   pub ended : Bool
   pub failed : Bool
+  pub full : Bool
 
 -- nothing was tried yet
 abbrev pub fresh_course : Course
-fresh_course = record { ended = false; failed = false }
+fresh_course = record { ended = false; failed = false; full = false }
 
 -- what a read and a write make of it
 abbrev pub course_received : Received → Course → Course
@@ -52,10 +53,10 @@ course_received received.End course = record course { ended = true }
 course_received received.Failed course = record course { failed = true }
 
 abbrev pub course_sent : Sent → Course → Course
-course_sent (sent.Bytes count) course = course
-course_sent sent.Nothing course = course
+course_sent (sent.Bytes count) course = record course { full = false }
+course_sent sent.Nothing course = record course { full = true }
 course_sent sent.Failed course = record course { failed = true }
 
--- it has ended, or failed, exactly where these say so
-abbrev pub IsCourse : Bool → Bool → Course → Type 0
-IsCourse is_ending is_broken course = (is_ending ≡ course.ended) × (is_broken ≡ course.failed)
+-- it has ended, failed, or took nothing, exactly where these say so
+abbrev pub IsCourse : Bool → Bool → Bool → Course → Type 0
+IsCourse is_ending is_broken is_full course = (is_ending ≡ course.ended) × (is_broken ≡ course.failed) × (is_full ≡ course.full)

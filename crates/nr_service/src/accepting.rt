@@ -1,13 +1,15 @@
 // Taking the connections that wait.
-ghost use Rattle.std.specs.Prelude.{◌≡◌, ◌+◌, ◌≤◌, false, [], if◌then◌else◌, length, IfOk, IfSome, OnOk, OnErr};
-ghost use Rattle.nr_service.specs.Leaving.{TurnsAway};
-ghost use Rattle.nr_service.specs.Readings.{IsNeverFed};
+ghost use Rattle.std.specs.Prelude.{◌≡◌, false, [], IfOk, IfSome, OnOk, OnErr};
+ghost use Rattle.nr_service.specs.Arriving.{ArrivesFew, ArrivesUntil};
+ghost use Rattle.nr_service.specs.Devices.{PartsWith, turned_away};
 ghost use Rattle.nr_service.specs.Streams.{fresh_course};
-ghost use Rattle.nr_service.specs.Steps.{Accepts, HasCounted, IsTakenOn, Leaves, next_number};
+ghost use Rattle.nr_service.specs.Steps.{Accepts, IsTakenOn, next_number};
+ghost use Rattle.nr_service.specs.Turns.{most_accepted};
 
 use crate::answers::Answers;
-use crate::client::Client;
+use crate::client::{Client, Ending};
 use crate::device::Device;
+use crate::leaving::part;
 use crate::signs::Signs;
 use crate::stream::Stream;
 use nr_blob::Memory;
@@ -28,18 +30,22 @@ pub(crate) fn take_on<A: Answers, S: Stream + Drop, D: Device<S>>(
     requires sent { IfSome (S.sent stream) (λ bytes. bytes ≡ []) }
     requires course { IfSome (S.course stream) (λ course. course ≡ fresh_course) }
     ensures ok { OnOk result (Accepts S.received S.sent S.course A.is_past A.kept answers.old answers.new clients.old.items clients.new.items) }
-    ensures err { OnErr result (Leaves S.received S.sent S.course A.is_past A.kept IsNeverFed answers.old clients.old.items clients.new.items) }
+    ensures err { OnErr result (ArrivesUntil 1 S.received S.sent S.course A.is_past A.is_left A.kept A.is_full A.is_placed D.parted answers.old answers.new
+        accepted.old device.old device.new clients.old.items clients.new.items) }
     ensures taken { IfOk result (λ is_taken. IsTakenOn (A.is_placed answers.old answers.new accepted.old) is_taken stream clients.old.items
         clients.new.items) }
+    ensures device { IfOk result (λ is_taken. PartsWith (turned_away is_taken stream) (D.parted device.old) (D.parted device.new)) }
     ensures counted { accepted.new ≡ next_number accepted.old }
-    ensures few { length clients.new.items ≤ length clients.old.items + 1 }
     ensures full { IfOk result (λ is_taken. is_taken ≡ false → A.is_full answers.old) }
-    ensures away { OnOk result (TurnsAway (D.parted device.old) (D.parted device.new)) }
+    ensures arrives { OnOk result (ArrivesFew 1 A.is_full A.is_placed D.parted answers.old answers.new accepted.old accepted.new device.old device.new
+        clients.old.items clients.new.items) }
 {
     let number = *accepted;
     *accepted = number.wrapping_add(1);
+    answers.leaves();
+    clients.try_reserve(1)?;
     let Some(conn) = answers.open(number)? else {
-        device.abandon(stream);
+        part(device, stream, Ending::Lost);
         return Ok(false);
     };
     signs.has_news = true;
@@ -56,11 +62,12 @@ fn accept_one<A: Answers, S: Stream + Drop, D: Device<S>>(
     signs: &mut Signs,
 ) -> Result<bool, Memory>
     ensures ok { OnOk result (Accepts S.received S.sent S.course A.is_past A.kept answers.old answers.new clients.old.items clients.new.items) }
-    ensures err { OnErr result (Leaves S.received S.sent S.course A.is_past A.kept IsNeverFed answers.old clients.old.items clients.new.items) }
-    ensures away { OnOk result (TurnsAway (D.parted device.old) (D.parted device.new)) }
-    ensures counted { IfOk result (λ more. accepted.new ≡ (if more then next_number accepted.old else accepted.old)) }
-    ensures few { IfOk result (λ more. length clients.new.items ≤ length clients.old.items + (if more then 1 else 0)) }
+    ensures err { OnErr result (ArrivesUntil 1 S.received S.sent S.course A.is_past A.is_left A.kept A.is_full A.is_placed D.parted answers.old answers.new
+        accepted.old device.old device.new clients.old.items clients.new.items) }
+    ensures arrives { OnOk result (ArrivesFew 1 A.is_full A.is_placed D.parted answers.old answers.new accepted.old accepted.new device.old device.new
+        clients.old.items clients.new.items) }
 {
+    answers.leaves();
     let Some(stream) = device.accept()? else {
         return Ok(false);
     };
@@ -77,9 +84,10 @@ pub(crate) fn accept_each<A: Answers, S: Stream + Drop, D: Device<S>>(
     signs: &mut Signs,
 ) -> Result<(), Memory>
     ensures ok { OnOk result (Accepts S.received S.sent S.course A.is_past A.kept answers.old answers.new clients.old.items clients.new.items) }
-    ensures err { OnErr result (Leaves S.received S.sent S.course A.is_past A.kept IsNeverFed answers.old clients.old.items clients.new.items) }
-    ensures away { OnOk result (TurnsAway (D.parted device.old) (D.parted device.new)) }
-    ensures counted { OnOk result (HasCounted accepted.old accepted.new (length clients.old.items) (length clients.new.items)) }
+    ensures err { OnErr result (ArrivesUntil most_accepted S.received S.sent S.course A.is_past A.is_left A.kept A.is_full A.is_placed D.parted answers.old answers.new
+        accepted.old device.old device.new clients.old.items clients.new.items) }
+    ensures arrives { OnOk result (ArrivesFew most_accepted A.is_full A.is_placed D.parted answers.old answers.new accepted.old accepted.new device.old
+        device.new clients.old.items clients.new.items) }
 {
     for _ in 0..MOST_ACCEPTED {
         let more = accept_one(answers, device, clients, accepted, signs)?;

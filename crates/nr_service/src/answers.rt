@@ -1,7 +1,7 @@
 // What answers the connections of a service.
-ghost use Rattle.std.specs.Prelude.{◌≡◌, ◌≤◌, length, IfOk, IfSome, IfNone, OnOk};
+ghost use Rattle.std.specs.Prelude.{◌≡◌, ◌≤◌, length, IfOk, IfSome, IfNone, OnOk, OnErr};
 ghost use Rattle.nr_entry.specs.Jobs.{connection_of};
-ghost use Rattle.nr_service.specs.Stories.{Keeps, IsOpened, IsFed, HasWorked, IsWritten, IsClosed, kept_bytes};
+ghost use Rattle.nr_service.specs.Stories.{Keeps, IsOpened, IsFed, HasWorked, IsWritten, IsClosed, IsLeftOf, kept_bytes};
 ghost use Rattle.nr_service.specs.declared.answers.Standing.TheVariants as standings;
 
 use nr_blob::Memory;
@@ -30,8 +30,14 @@ pub trait Answers {
     // What may have led to it.
     ghost is_past: { Self → Story → Type 0 };
 
-    // What may have led to it where nothing is left to be done: all that was asked for was executed, and what that emits handed out.
+    // What may have led to it behind its work: where that is at its end, all that was asked for was executed, and what that emits handed out.
     ghost is_settled: { Self → Story → Type 0 };
+
+    // What is left of it where memory ran out: what is still known of a story.
+    ghost is_left: { Self → Story → Type 0 };
+
+    // Whether work isn't at its end: bytes may be handed out yet for what was fed.
+    ghost busy: { Self → Bool };
 
     // The bytes that it keeps for a connection that is open here.
     ghost kept: { Self → Connection → Option Bytes };
@@ -57,7 +63,8 @@ pub trait Answers {
             (kept self.new))) }
         ensures none { IfOk result (λ opened. IfNone opened (Keeps (is_past self.old) (is_past self.new) (kept self.old) (kept self.new))) }
         ensures full { IfOk result (λ opened. IfNone opened (is_full self.old)) }
-        ensures placed { IfOk result (λ opened. IfSome opened (λ conn. is_placed self.old self.new number (connection_of conn))) };
+        ensures placed { IfOk result (λ opened. IfSome opened (λ conn. is_placed self.old self.new number (connection_of conn))) }
+        ensures left { OnErr result (IsLeftOf (is_past self.old) (is_left self.new)) };
 
     /// How a connection stands.
     fn standing(&self, conn: ConnId) -> Standing
@@ -70,11 +77,27 @@ pub trait Answers {
     /// Feeds bytes to a connection, at a moment in milliseconds. Linear in the bytes.
     fn feed(&mut self, conn: ConnId, moment: u64, bytes: &[u8]) -> Result<(), Memory>
         requires { stands self.old (connection_of conn) standings.Open }
-        ensures { OnOk result (IsFed (connection_of conn) moment bytes.now (is_past self.old) (is_past self.new) (kept self.old) (kept self.new)) };
+        ensures fed { OnOk result (IsFed (connection_of conn) moment bytes.now (is_past self.old) (is_past self.new) (kept self.old) (kept self.new)) }
+        ensures left { OnErr result (IsLeftOf (is_past self.old) (is_left self.new)) };
 
-    /// Does all work that is at hand, until nothing is left to be done, and keeps what it hands out.
+    /// Does all work that is at hand, until nothing is left to be done or it waits for others, and keeps what it hands out.
     fn work(&mut self) -> Result<(), Memory>
-        ensures { OnOk result (HasWorked (is_past self.old) (is_past self.new) (is_settled self.new) (kept self.old) (kept self.new)) };
+        ensures worked { OnOk result (HasWorked (is_past self.old) (is_past self.new) (is_settled self.new) (kept self.old) (kept self.new)) }
+        ensures left { OnErr result (IsLeftOf (is_past self.old) (is_left self.new)) };
+
+    /// Whether work isn't at its end.
+    fn is_busy(&self) -> bool
+        ensures { result ≡ busy self.now };
+
+    /// Whatever may have led to it is left of it.
+    fn leaves(&self)
+        ensures { IsLeftOf (is_past self.now) (is_left self.now) };
+
+    /// Tells others what its last work put before them. Nobody has to be told: a hint.
+    fn pass_on(&self);
+
+    /// A connection that the last work changed, the first at place 0 and so on. A hint: one of which nothing is told is looked at later.
+    fn told(&self, place: usize) -> Option<ConnId>;
 
     /// The bytes that it keeps for a connection.
     fn pending(&self, conn: ConnId) -> &[u8]
@@ -91,5 +114,6 @@ pub trait Answers {
     fn close(&mut self, conn: ConnId, moment: u64) -> Result<(), Memory>
         ensures closed { OnOk result (IsClosed (connection_of conn) (is_gone self.old (connection_of conn)) (is_past self.old) (is_past self.new)
             (kept self.old) (kept self.new)) }
-        ensures gone { OnOk result (is_gone self.new (connection_of conn)) };
+        ensures gone { OnOk result (is_gone self.new (connection_of conn)) }
+        ensures left { OnErr result (IsLeftOf (is_past self.old) (is_left self.new)) };
 }

@@ -1,7 +1,12 @@
 // A connection that is served, and the stream of its bytes.
-ghost use Rattle.std.specs.Prelude.{◌≡◌, false, None};
+ghost use Rattle.std.specs.Prelude.{◌≡◌, false};
 
 use nr_entry::ConnId;
+
+// How many bytes of a client are read at once, at first and at most.
+pub(crate) const FIRST_ROOM: usize = 4_096;
+
+pub(crate) const MOST_ROOM: usize = 65_536;
 
 /// How a client ends.
 #[derive(Clone, Copy, Debug, PartialEq, Eq)]
@@ -21,10 +26,16 @@ pub struct Client<S> {
     pub is_ending: bool,
     /// Its stream failed.
     pub is_broken: bool,
-    /// It wasn't read in this turn, since too much waited for it.
+    /// Its stream took nothing when it was written last.
+    pub is_full: bool,
+    /// It wasn't read when it was looked at, since too much waited for it.
     pub is_held: bool,
-    /// How it ends, where it is over: it is let go of at the end of this turn.
-    pub ending: Option<Ending>,
+    /// How many bytes of it are read at once: 4,096, four times as many behind a read that filled them where at most so many wait for it, 65,536
+    /// at most, and 4,096 again behind any other visit. So a client whose requests call up much is read little at a time, and so is one behind a
+    /// burst.
+    pub room: usize,
+    /// So many were there when it was read last.
+    pub has_filled: bool,
 }
 
 impl<S> Client<S> {
@@ -33,15 +44,17 @@ impl<S> Client<S> {
         ensures stream { result.stream ≡ stream }
         ensures going { result.is_ending ≡ false }
         ensures sound { result.is_broken ≡ false }
-        ensures stays { result.ending ≡ None }
+        ensures empty { result.is_full ≡ false }
     {
         Client {
             conn,
             stream,
             is_ending: false,
             is_broken: false,
+            is_full: false,
             is_held: false,
-            ending: None,
+            room: FIRST_ROOM,
+            has_filled: false,
         }
     }
 }

@@ -6,6 +6,17 @@ ghost use Rattle.nr_service.specs.Streams.{fresh_course};
 use crate::stream::Stream;
 use nr_blob::Memory;
 
+/// Of which streams a device tells that they may be ready.
+#[derive(Clone, Copy, Debug, PartialEq, Eq)]
+pub enum Ready {
+    /// Every one may be.
+    Every,
+    /// The one at this place.
+    One(usize),
+    /// No more than those that were told.
+    NoMore,
+}
+
 /// Where connections come from. Contracts say nothing of when one comes.
 pub trait Device<S: Stream> {
     ghost use Rattle.std.specs.Prelude.{Bool, Option, None, List};
@@ -14,8 +25,8 @@ pub trait Device<S: Stream> {
     // The streams that it was given back, in order, where they are known.
     ghost parted: { Self → Option (List (Parting S)) } = { λ _. None };
 
-    // One wait: the device before it, the device behind it, and what it answered.
-    ghost waits: { Self → Self → Bool → Type 0 } = { λ _ _ _. Unit {0} };
+    // One wait: the device before it, the device behind it, whether there was work at hand, and what it answered.
+    ghost waits: { Self → Self → Bool → Bool → Type 0 } = { λ _ _ _ _. Unit {0} };
 
     /// The next connection, `None` where none waits to be taken. Nothing was received or sent on it.
     fn accept(&mut self) -> Result<Option<S>, Memory>
@@ -28,7 +39,13 @@ pub trait Device<S: Stream> {
     /// is work at hand. False where it can't wait any more: it has failed.
     fn wait(&mut self, is_busy: bool) -> bool
         ensures parted { parted self.new ≡ parted self.old }
-        ensures waited { waits self.old self.new result };
+        ensures waited { waits self.old self.new is_busy result };
+
+    /// Which stream may give or take bytes since the last wait, the first at place 0 and so on. A hint: one of which nothing is told is looked
+    /// at later.
+    fn ready(&self, _: usize) -> Ready {
+        Ready::Every
+    }
 
     /// Lets go of a stream of which all was sent: the peer gets these bytes, and then the end.
     fn finish(&mut self, stream: S)

@@ -1,12 +1,8 @@
 // Letting go of the clients that are over.
-ghost use Rattle.std.specs.Prelude.{◌≡◌, ◌+◌, ◌<◌, [], ◌∷◌, All, None, OnOk, OnErr, length, map};
-ghost use Rattle.std.specs.List.{IsDistinct};
-ghost use Rattle.nr_model.specs.Items.{same_connection};
-ghost use Rattle.nr_service.specs.Leaving.{AreMarked, IsEnding, KeepsEach, LetsGo, LetsGoOne, Removes, parting, unmarked};
-ghost use Rattle.nr_service.specs.Readings.{IsNeverFed};
-ghost use Rattle.nr_service.specs.Serving.{connection};
-ghost use Rattle.nr_service.specs.Steps.{Leaves, LeavesSome};
+ghost use Rattle.std.specs.Prelude.{◌≡◌, ◌<◌, false, [], ◌∷◌, OnOk, OnErr, length};
+ghost use Rattle.nr_service.specs.Leaving.{IsEnding, LetsGo, LetsGoOne, Loses, parting};
 ghost use Rattle.nr_service.specs.Devices.{PartsWith};
+ghost use Rattle.nr_service.specs.Sweeps.{GoesOnAt, GoOn};
 
 use crate::answers::Answers;
 use crate::client::{Client, Ending};
@@ -18,13 +14,13 @@ use nr_blob::Memory;
 
 // How a client ends that is over, `None` where it is served further.
 fn ending_of<A: Answers, S>(answers: &A, client: &Client<S>, limit: usize) -> Option<Ending>
-    ensures { IsEnding (A.kept answers.now) (A.stands answers.now) limit client.now result }
+    ensures { IsEnding (A.kept answers.now) (A.stands answers.now) (A.busy answers.now) limit client.now result }
 {
     let waiting = answers.pending(client.conn).len();
     if client.is_broken || waiting > limit {
         return Some(Ending::Lost);
     }
-    if waiting > 0 {
+    if waiting > 0 || answers.is_busy() {
         return None;
     }
     if client.is_ending || !is_open(answers, client.conn) {
@@ -33,31 +29,8 @@ fn ending_of<A: Answers, S>(answers: &A, client: &Client<S>, limit: usize) -> Op
     None
 }
 
-// Notes how a client ends, where it is over.
-fn mark_one<A: Answers, S>(answers: &A, client: &mut Client<S>, limit: usize)
-    ensures same { unmarked client.new ≡ unmarked client.old }
-    ensures ending { IsEnding (A.kept answers.now) (A.stands answers.now) limit client.new client.new.ending }
-{
-    client.ending = ending_of(answers, client, limit);
-}
-
-fn mark_slice<A: Answers, S>(answers: &A, clients: &mut [Client<S>], limit: usize)
-    ensures { AreMarked (A.kept answers.now) (A.stands answers.now) limit clients.old clients.new }
-{
-    for client in clients.iter_mut() {
-        mark_one(answers, client, limit);
-    }
-}
-
-/// Notes of each client how it ends, where it is over. Constant for each client.
-pub(crate) fn mark_each<A: Answers, S>(answers: &A, clients: &mut Vec<Client<S>>, limit: usize)
-    ensures { AreMarked (A.kept answers.now) (A.stands answers.now) limit clients.old.items clients.new.items }
-{
-    mark_slice(answers, clients, limit);
-}
-
-// Gives a stream back to its device.
-fn part<S: Stream, D: Device<S>>(device: &mut D, stream: S, ending: Ending)
+/// Gives a stream back to its device.
+pub(crate) fn part<S: Stream, D: Device<S>>(device: &mut D, stream: S, ending: Ending)
     ensures { PartsWith (parting ending stream ∷ []) (D.parted device.old) (D.parted device.new) }
 {
     match ending {
@@ -76,11 +49,10 @@ fn let_go<A: Answers, S: Stream, D: Device<S>>(
     ending: Ending,
 ) -> Result<(), Memory>
     requires { index < length clients.old.items }
-    ensures len { length clients.new.items + 1 ≡ length clients.old.items }
     ensures gone { OnOk result (LetsGoOne S.received S.sent S.course A.is_past A.kept A.is_gone D.parted ending index answers.old answers.new
         device.old device.new clients.old.items clients.new.items) }
-    ensures left { OnErr result (Leaves S.received S.sent S.course A.is_past A.kept IsNeverFed answers.old clients.old.items clients.new.items) }
-    ensures removed { OnOk result (Removes A.kept A.is_gone index answers.old answers.new clients.old.items clients.new.items) }
+    ensures left { OnErr result (Loses S.received S.sent S.course A.is_past A.is_left A.kept D.parted answers.old answers.new device.old device.new
+        clients.old.items clients.new.items) }
 {
     let Client { conn, stream, .. } = clients.swap_remove(index);
     part(device, stream, ending);
@@ -88,29 +60,60 @@ fn let_go<A: Answers, S: Stream, D: Device<S>>(
     Ok(())
 }
 
-/// Closes each client that is over, and lets go of its stream. Constant for each client.
-pub(crate) fn let_go_each<A: Answers, S: Stream, D: Device<S>>(
+// Closes the client at this place, where there is one and it is over, and lets go of its stream. The last one stands there then.
+fn let_go_at<A: Answers, S: Stream, D: Device<S>>(
+    answers: &mut A,
+    device: &mut D,
+    clients: &mut Vec<Client<S>>,
+    place: usize,
+    moment: u64,
+    limit: usize,
+    signs: &mut Signs,
+) -> Result<(), Memory>
+    ensures gone { OnOk result (LetsGo S.received S.sent S.course A.is_past A.kept A.stands A.busy A.is_gone D.parted limit answers.old answers.new
+        device.old device.new clients.old.items clients.new.items) }
+    ensures left { OnErr result (Loses S.received S.sent S.course A.is_past A.is_left A.kept D.parted answers.old answers.new device.old device.new
+        clients.old.items clients.new.items) }
+    ensures all { signs.new.is_all ≡ signs.old.is_all }
+    ensures calm { OnOk result (signs.new.is_busy ≡ false → signs.old.is_busy ≡ false) }
+    ensures goes_on { OnOk result (signs.new.is_busy ≡ false → GoesOnAt A.kept A.stands A.busy limit place answers.old answers.new clients.old.items
+        clients.new.items) }
+{
+    if place >= clients.len() {
+        return Ok(());
+    }
+    let Some(ending) = ending_of(answers, &clients[place], limit) else {
+        return Ok(());
+    };
+    signs.let_go(&clients[place]);
+    let_go(answers, device, clients, place, moment, ending)?;
+    signs.visits.moved(clients, place);
+    Ok(())
+}
+
+/// Closes each client that is looked at and is over, from the last on, and lets go of its stream. Logarithmic for each.
+pub(crate) fn let_go_listed<A: Answers, S: Stream, D: Device<S>>(
     answers: &mut A,
     device: &mut D,
     clients: &mut Vec<Client<S>>,
     moment: u64,
+    limit: usize,
     signs: &mut Signs,
 ) -> Result<(), Memory>
-    ensures gone { OnOk result (LetsGo S.received S.sent S.course A.is_past A.kept D.parted answers.old answers.new device.old device.new
+    ensures gone { OnOk result (LetsGo S.received S.sent S.course A.is_past A.kept A.stands A.busy A.is_gone D.parted limit answers.old answers.new
+        device.old device.new clients.old.items clients.new.items) }
+    ensures left { OnErr result (Loses S.received S.sent S.course A.is_past A.is_left A.kept D.parted answers.old answers.new device.old device.new
         clients.old.items clients.new.items) }
-    ensures left { OnErr result (LeavesSome S.received S.sent S.course A.is_past A.kept IsNeverFed answers.old clients.old.items clients.new.items) }
-    ensures stay { OnOk result (All (λ client. client.ending ≡ None) clients.new.items) }
-    ensures kept { OnOk result (IsDistinct same_connection (map connection clients.old.items)
-        → KeepsEach (A.kept answers.old) (A.kept answers.new) clients.new.items) }
+    ensures all { signs.new.is_all ≡ signs.old.is_all }
+    ensures calm { OnOk result (signs.new.is_busy ≡ false → signs.old.is_busy ≡ false) }
+    ensures go_on { OnOk result (signs.new.is_busy ≡ false → GoOn A.kept A.stands A.busy limit signs.old.is_all answers.old answers.new clients.old.items
+        clients.new.items) }
 {
-    let mut left = clients.len();
+    let mut left = signs.count(clients.len());
     while left > 0 {
         left -= 1;
-        if let Some(ending) = clients[left].ending {
-            let_go(answers, device, clients, left, moment, ending)?;
-            signs.has_news = true;
-            signs.is_busy = true;
-        }
+        let place = signs.place(left);
+        let_go_at(answers, device, clients, place, moment, limit, signs)?;
     }
     Ok(())
 }

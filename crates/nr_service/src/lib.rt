@@ -4,7 +4,7 @@
 
 pub use answers::{Answers, Standing};
 pub use client::{Client, Ending};
-pub use device::{Device, Nowhere};
+pub use device::{Device, Nowhere, Ready};
 pub use ended::Ended;
 pub use gate::{Gate, Go, Open};
 pub use moments::{MachineClock, Moments};
@@ -23,4 +23,5 @@ mod reading;
 mod service;
 mod signs;
 mod stream;
+mod visits;
 mod writing;

@@ -3,7 +3,7 @@ ghost use Rattle.std.specs.Prelude.{◌≡◌, false, [], OnOk, OnErr, map};
 ghost use Rattle.std.specs.Bool.{OnTrue, OnFalse};
 ghost use Rattle.nr_entry.specs.Jobs.{connection_of};
 ghost use Rattle.nr_service.specs.Leaving.{TakesNone};
-ghost use Rattle.nr_service.specs.Readings.{IsFedAmong, IsFedTo, IsNeverFed};
+ghost use Rattle.nr_service.specs.Readings.{IsFedAmong, IsFedAtRest, IsFedTo, IsNeverFed};
 ghost use Rattle.nr_service.specs.Serving.{connection};
 ghost use Rattle.nr_service.specs.Steps.{Leaves, LeavesOne, Serves, ServesOne};
 ghost use Rattle.nr_service.specs.declared.answers.Standing.TheVariants as standings;
@@ -41,13 +41,15 @@ fn take_in<A: Answers, S: Stream>(
     requires going { client.old.is_ending ≡ false }
     ensures ok { OnOk result (ServesOne S.received S.sent S.course A.is_past A.kept (IsFedTo moment
         (connection client.old)) answers.old answers.new client.old client.new) }
-    ensures err { OnErr result (LeavesOne S.received S.sent S.course A.is_past A.kept IsNeverFed answers.old client.old client.new) }
+    ensures err { OnErr result (LeavesOne S.received S.sent S.course A.is_past A.is_left A.kept IsNeverFed answers.old answers.new client.old client.new) }
     ensures conn { client.new.conn ≡ client.old.conn }
+    ensures all { signs.new.is_all ≡ signs.old.is_all }
 {
     match client.stream.receive(buffer) {
         Received::Bytes(count) => {
             answers.feed(client.conn, moment, &buffer[..count])?;
-            signs.is_busy |= count == buffer.len();
+            client.has_filled = count == buffer.len();
+            signs.note_rest(client.conn, client.has_filled);
         }
         Received::Nothing => {}
         Received::End => client.is_ending = true,
@@ -56,7 +58,7 @@ fn take_in<A: Answers, S: Stream>(
     Ok(())
 }
 
-// Reads one that takes bytes, unless it is held back.
+// Reads one that takes bytes, unless it is held back, as much as its room takes.
 fn read_one<A: Answers, S: Stream>(
     answers: &mut A,
     client: &mut Client<S>,
@@ -67,10 +69,12 @@ fn read_one<A: Answers, S: Stream>(
 ) -> Result<(), Memory>
     ensures ok { OnOk result (ServesOne S.received S.sent S.course A.is_past A.kept (IsFedTo moment
         (connection client.old)) answers.old answers.new client.old client.new) }
-    ensures err { OnErr result (LeavesOne S.received S.sent S.course A.is_past A.kept IsNeverFed answers.old client.old client.new) }
+    ensures err { OnErr result (LeavesOne S.received S.sent S.course A.is_past A.is_left A.kept IsNeverFed answers.old answers.new client.old client.new) }
     ensures conn { client.new.conn ≡ client.old.conn }
+    ensures all { signs.new.is_all ≡ signs.old.is_all }
 {
     client.is_held = false;
+    client.has_filled = false;
     if client.is_ending || client.is_broken {
         return Ok(());
     }
@@ -81,14 +85,16 @@ fn read_one<A: Answers, S: Stream>(
         client.is_held = true;
         return Ok(());
     }
-    take_in(answers, client, moment, buffer, signs)?;
+    let room = client.room.min(buffer.len());
+    take_in(answers, client, moment, &mut buffer[..room], signs)?;
     Ok(())
 }
 
-/// Reads each client that takes bytes and isn't held back once, and feeds what came at this moment. Linear in the clients and the bytes.
-pub(crate) fn read_each<A: Answers, S: Stream>(
+// Reads the client at this place, where there is one.
+fn read_at<A: Answers, S: Stream>(
     answers: &mut A,
     clients: &mut [Client<S>],
+    place: usize,
     moment: u64,
     limit: usize,
     buffer: &mut [u8],
@@ -96,12 +102,49 @@ pub(crate) fn read_each<A: Answers, S: Stream>(
 ) -> Result<(), Memory>
     ensures ok { OnOk result (Serves S.received S.sent S.course A.is_past A.kept (IsFedAmong moment
         (map connection clients.old)) [] answers.old answers.new clients.old clients.new) }
-    ensures err { OnErr result (Leaves S.received S.sent S.course A.is_past A.kept (IsFedAmong moment
-        (map connection clients.old)) answers.old clients.old clients.new) }
+    ensures err { OnErr result (Leaves S.received S.sent S.course A.is_past A.is_left A.kept IsNeverFed answers.old answers.new clients.old
+        clients.new) }
     ensures same { map connection clients.new ≡ map connection clients.old }
+    ensures all { signs.new.is_all ≡ signs.old.is_all }
 {
-    for client in clients.iter_mut() {
-        read_one(answers, client, moment, limit, buffer, signs)?;
+    if place >= clients.len() {
+        return Ok(());
+    }
+    read_one(answers, &mut clients[place], moment, limit, buffer, signs)?;
+    Ok(())
+}
+
+// Whether bytes may be fed: not while what answers is busy.
+fn may_read<A: Answers>(answers: &A) -> bool
+    ensures { OnTrue result (A.busy answers.now ≡ false) }
+{
+    !answers.is_busy()
+}
+
+/// Reads each client that is looked at once, where it takes bytes and isn't held back, and feeds what came at this moment. Linear in their number
+/// and the bytes. While what answers is busy nothing is read.
+pub(crate) fn read_listed<A: Answers, S: Stream>(
+    answers: &mut A,
+    clients: &mut [Client<S>],
+    moment: u64,
+    limit: usize,
+    buffer: &mut [u8],
+    signs: &mut Signs,
+) -> Result<(), Memory>
+    ensures ok { OnOk result (Serves S.received S.sent S.course A.is_past A.kept (IsFedAtRest (A.busy answers.old) moment
+        (map connection clients.old)) [] answers.old answers.new clients.old clients.new) }
+    ensures err { OnErr result (Leaves S.received S.sent S.course A.is_past A.is_left A.kept (IsFedAmong moment
+        (map connection clients.old)) answers.old answers.new clients.old clients.new) }
+    ensures same { map connection clients.new ≡ map connection clients.old }
+    ensures all { signs.new.is_all ≡ signs.old.is_all }
+{
+    if !may_read(answers) {
+        signs.put_off(clients);
+        return Ok(());
+    }
+    for visit in 0..signs.count(clients.len()) {
+        let place = signs.place(visit);
+        read_at(answers, clients, place, moment, limit, buffer, signs)?;
     }
     Ok(())
 }

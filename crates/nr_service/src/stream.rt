@@ -42,6 +42,11 @@ pub trait Stream {
     // Whether its end was read, and whether it failed, where that is known.
     ghost course: { Self → Option Course } = { λ _. None };
 
+    /// Where it stands in the list by which its device tells of it. A hint.
+    fn place(&self) -> usize {
+        0
+    }
+
     /// Reads what is there, at most as much as the buffer takes.
     fn receive(&mut self, buffer: &mut [u8]) -> Received
         ensures some { IsSomeReceived result }

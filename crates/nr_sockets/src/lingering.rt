@@ -1,5 +1,7 @@
 // Sockets of which all was sent: what their peers still send is read and dropped for a while, since a socket that is closed over bytes
 // that nobody read takes back those that were sent.
+ghost use Rattle.std.specs.Prelude.{◌≡◌, ◌≤◌, ◌<◌, true};
+
 use crate::socket::Socket;
 use nr_service::{Received, Stream};
 use std::time::Instant;
@@ -8,7 +10,7 @@ use std::time::Instant;
 const MOST_BYTES: usize = 1_048_576;
 
 /// How many are read at once.
-const PIECE: usize = 16_384;
+pub(crate) const PIECE: usize = 16_384;
 
 /// How long a socket lingers at most, in milliseconds.
 pub(crate) const MOST_MILLISECONDS: u128 = 1_000;
@@ -22,7 +24,9 @@ pub(crate) struct Lingering {
 }
 
 impl Lingering {
-    pub(crate) fn new(socket: Socket, since: Instant) -> Lingering {
+    pub(crate) fn new(socket: Socket, since: Instant) -> Lingering
+        ensures { result.left ≡ 1048576 }
+    {
         Lingering {
             socket,
             since,
@@ -30,10 +34,12 @@ impl Lingering {
         }
     }
 
-    /// Drops what is there to be read, a piece of it. Whether it lingers on.
-    pub(crate) fn goes_on(&mut self, now: Instant) -> bool {
-        let mut buffer = [0; PIECE];
-        match self.socket.receive(&mut buffer) {
+    /// Drops what is there to be read, where any may be: as much as the buffer takes. Whether it lingers on.
+    pub(crate) fn goes_on(&mut self, now: Instant, buffer: &mut [u8]) -> bool
+        ensures some { result ≡ true → 0 < self.new.left }
+        ensures fewer { self.new.left ≤ self.old.left }
+    {
+        match self.socket.receive(buffer) {
             Received::Bytes(count) => self.left = self.left.saturating_sub(count),
             Received::Nothing => {}
             Received::End | Received::Failed => return false,

@@ -4,12 +4,13 @@ use std::sync::Arc;
 use std::sync::atomic::{AtomicBool, Ordering};
 
 /// Whether bytes may be there to be read, and room for bytes to be written, and whether the peer sends no more: the end of what it sent is
-/// told of once, maybe long before it is read. The socket and the list of all sockets share it.
+/// told of once, maybe long before it is read. And whether the socket lingers. The socket and the list of all sockets share it.
 #[derive(Drop)]
 pub(crate) struct Readiness {
     is_readable: AtomicBool,
     is_writable: AtomicBool,
     is_ending: AtomicBool,
+    is_lingering: AtomicBool,
 }
 
 pub(crate) type Shared = Arc<Readiness, Global>;
@@ -21,6 +22,7 @@ impl Readiness {
             is_readable: AtomicBool::new(true),
             is_writable: AtomicBool::new(true),
             is_ending: AtomicBool::new(false),
+            is_lingering: AtomicBool::new(false),
         }
     }
 
@@ -38,6 +40,14 @@ impl Readiness {
 
     pub(crate) fn set_ending(&self) {
         self.is_ending.store(true, Ordering::Relaxed);
+    }
+
+    pub(crate) fn is_lingering(&self) -> bool {
+        self.is_lingering.load(Ordering::Relaxed)
+    }
+
+    pub(crate) fn set_lingering(&self) {
+        self.is_lingering.store(true, Ordering::Relaxed);
     }
 
     pub(crate) fn set_readable(&self, may_be: bool) {

@@ -1,19 +1,29 @@
 // A connection's socket.
-ghost use Rattle.std.specs.Prelude.{◌≤◌, length};
+ghost use Rattle.std.specs.Io.KnownBytes.{Appends, Consumes, IsAtEnd};
+ghost use Rattle.std.specs.Prelude.{◌≡◌, ◌≤◌, ◌<◌, ◌++◌, length, take};
 ghost use Rattle.nr_service.specs.Streams.{received_count, sent_count, IsSomeReceived, IsSomeSent};
+ghost use Rattle.nr_service.specs.declared.stream.Received.TheVariants as received_as;
 
 use crate::readiness::Shared;
 use mio::net::TcpStream;
 use nr_service::{Received, Sent, Stream};
+use nr_transcript::Transcript;
 use std::io::{Error, ErrorKind, Read, Write};
 
-/// A connection's socket. No call waits, and a call of which the system told nothing new asks it nothing.
+/// What carries a connection's bytes, and which of its calls may do something. No call waits, and a call of which the system told nothing new asks
+/// it nothing.
 #[derive(Drop)]
-pub struct Socket {
-    pub(crate) stream: TcpStream,
+pub struct Channel<T> {
+    pub(crate) stream: T,
     pub(crate) place: usize,
     pub(crate) readiness: Shared,
+    /// What its reads gave, in order, and what its writes took.
+    pub received: Transcript,
+    pub sent: Transcript,
 }
+
+/// A connection's socket.
+pub type Socket = Channel<TcpStream>;
 
 // Whether a call is to be tried again once the system tells of a change.
 fn would_wait(error: &Error) -> bool {
@@ -24,11 +34,15 @@ fn was_interrupted(error: &Error) -> bool {
     error.kind() == ErrorKind::Interrupted
 }
 
-impl Socket {
-    /// Reads what is there, at most as much as the buffer takes.
+impl<T: Read + Write> Channel<T> {
+    /// Reads what is there, at most as much as the buffer takes, and notes it.
     fn read(&mut self, buffer: &mut [u8]) -> Received
         ensures some { IsSomeReceived result }
         ensures bound { received_count result ≤ length buffer.new }
+        ensures bytes { Consumes (T.remaining self.old.stream) (T.remaining self.new.stream) (take (received_count result) buffer.new) }
+        ensures end { result ≡ received_as.End → 0 < length buffer.new → IsAtEnd (T.remaining self.new.stream) }
+        ensures received { self.new.received.bytes ≡ self.old.received.bytes ++ take (received_count result) buffer.new }
+        ensures sent { self.new.sent.bytes ≡ self.old.sent.bytes }
     {
         match self.stream.read(buffer) {
             Ok(0) => Received::End,
@@ -37,6 +51,7 @@ impl Socket {
                 if count < buffer.len() && !self.readiness.is_ending() {
                     self.readiness.set_readable(false);
                 }
+                self.received.note(&buffer[..count]);
                 Received::Bytes(count)
             }
             Err(error) if would_wait(&error) => {
@@ -48,13 +63,20 @@ impl Socket {
         }
     }
 
+    /// Writes a beginning of the bytes, and notes it.
     fn write(&mut self, bytes: &[u8]) -> Sent
         ensures some { IsSomeSent result }
         ensures bound { sent_count result ≤ length bytes.now }
+        ensures bytes { Appends (T.contents self.old.stream) (T.contents self.new.stream) (take (sent_count result) bytes.now) }
+        ensures received { self.new.received.bytes ≡ self.old.received.bytes }
+        ensures sent { self.new.sent.bytes ≡ self.old.sent.bytes ++ take (sent_count result) bytes.now }
     {
         match self.stream.write(bytes) {
             Ok(0) => Sent::Nothing,
-            Ok(count) => Sent::Bytes(count),
+            Ok(count) => {
+                self.sent.note(&bytes[..count]);
+                Sent::Bytes(count)
+            }
             Err(error) if would_wait(&error) => {
                 self.readiness.set_writable(false);
                 Sent::Nothing
@@ -65,12 +87,18 @@ impl Socket {
     }
 }
 
-impl Stream for Socket {
-    ghost use Rattle.std.specs.Prelude.{None};
+impl<T: Read + Write> Stream for Channel<T> {
+    ghost use Rattle.std.specs.Prelude.{Some};
 
-    ghost received = { λ _. None };
+    ghost received = { λ channel. Some channel.received.bytes };
 
-    ghost sent = { λ _. None };
+    ghost sent = { λ channel. Some channel.sent.bytes };
+
+    fn place(&self) -> usize
+        ensures { result ≡ self.now.place }
+    {
+        self.place
+    }
 
     fn receive(&mut self, buffer: &mut [u8]) -> Received {
         if !self.readiness.is_readable() {

@@ -1,12 +1,15 @@
 // The sockets of a server: where they come from, and which are ready.
-use crate::lingering::Lingering;
+ghost use Rattle.std.specs.Prelude.{◌≡◌, ◌≤◌, [], if◌then◌else◌, length, IfOk, IfSome, string_bytes};
+
+use crate::lingering::{Lingering, PIECE};
 use crate::readiness::{Readiness, Shared};
 use crate::socket::Socket;
 use mio::event::Event;
 use mio::net::{TcpListener, TcpStream};
 use mio::{Events, Interest, Poll, Token};
 use nr_blob::Memory;
-use nr_service::Device;
+use nr_service::{Device, Ready};
+use nr_transcript::Transcript;
 use slab::Slab;
 use std::alloc::Global;
 use std::io::{self, Error, ErrorKind};
@@ -30,9 +33,14 @@ const MOST_TRIES: usize = 64;
 /// How many sockets linger at most. One more is closed at once.
 const MOST_LINGERING: usize = 1_024;
 
+/// In how many waits at most those that linger are looked at, whether their time is over.
+const MOST_WAITS: u32 = 16;
+
 /// The sockets of a server: the one that listens, and those of connections, each with a place in the list of what is ready.
 #[derive(Drop)]
 pub struct Sockets<'a, C> {
+    /// The address as it was given, at which it listens.
+    pub named: String,
     alloc: Global,
     runtime: &'a C,
     poll: Poll,
@@ -43,7 +51,15 @@ pub struct Sockets<'a, C> {
     has_failed: bool,
     // Of each socket, at its place: what may be done.
     ready: Slab<Shared>,
+    // The places of those that the last wait told of, and of those whose end it told of before and that still have it to give.
+    listed: Vec<usize>,
     lingering: Vec<Lingering>,
+    // Into this the bytes go that those that linger still get.
+    dropped: Vec<u8>,
+    // Whether one of those may be read, and how many waits there may be before they are looked at anyway.
+    is_lingering_ready: bool,
+    waits: u32,
+    pub ghost few_linger: { length lingering.items ≤ 1024 },
 }
 
 // What came of a try to take a connection.
@@ -81,12 +97,16 @@ impl<'a, C: Clock> Sockets<'a, C> {
         net: &N,
         runtime: &'a C,
         address: &str,
-    ) -> io::Result<Sockets<'a, C>> {
+    ) -> io::Result<Sockets<'a, C>>
+        ensures { IfOk result (λ sockets. string_bytes sockets.named ≡ address.now) }
+    {
+        let named = String::from_str(alloc, address)?;
         let poll = Poll::new(net)?;
-        let mut listener = bind(net, address)?;
+        let mut listener = bind(net, named.as_str())?;
         poll.registry()
             .register(&mut listener, LISTENER, Interest::READABLE)?;
         Ok(Sockets {
+            named,
             alloc,
             runtime,
             poll,
@@ -95,7 +115,11 @@ impl<'a, C: Clock> Sockets<'a, C> {
             is_acceptable: true,
             has_failed: false,
             ready: Slab::new(alloc),
+            listed: Vec::new(alloc),
             lingering: Vec::new(alloc),
+            dropped: vec![in alloc; 0; PIECE]?,
+            is_lingering_ready: false,
+            waits: MOST_WAITS,
         })
     }
 
@@ -119,7 +143,9 @@ impl<'a, C: Clock> Sockets<'a, C> {
     }
 
     // The socket of a connection that was taken, or `None` where the system refuses it.
-    fn socket(&mut self, mut stream: TcpStream) -> Result<Option<Socket>, Memory> {
+    fn socket(&mut self, mut stream: TcpStream) -> Result<Option<Socket>, Memory>
+        ensures { IfOk result (λ made. IfSome made (λ socket. (socket.received.bytes ≡ []) × (socket.sent.bytes ≡ []))) }
+    {
         let readiness = Arc::new(self.alloc, Readiness::new())?;
         let shared = Arc::try_clone(&readiness)?;
         let place = self.ready.insert(shared)?;
@@ -137,33 +163,49 @@ impl<'a, C: Clock> Sockets<'a, C> {
             stream,
             place,
             readiness,
+            received: Transcript::new(),
+            sent: Transcript::new(),
         }))
     }
 
     // Notes what the system told of.
     fn note(&mut self) {
+        let ready = &self.ready;
+        self.listed.retain(|place| has_end(ready, *place));
         for event in &self.events {
+            let Token(place) = event.token();
             if event.token() == LISTENER {
                 self.is_acceptable = true;
+            } else if mark(&self.ready, event) {
+                self.is_lingering_ready = true;
             } else {
-                mark(&self.ready, event);
+                list(&mut self.listed, place);
             }
         }
     }
 
+    // Whether those that linger are to be looked at: one of them may be read, or it is time to.
+    fn has_to_linger(&mut self) -> bool {
+        self.waits = self.waits.saturating_sub(1);
+        !self.lingering.is_empty() && (self.is_lingering_ready || self.waits == 0)
+    }
+
     // Drops what peers of lingering sockets still send, and lets go of those whose time is over.
     fn linger(&mut self) {
-        if self.lingering.is_empty() {
-            return;
-        }
+        self.waits = MOST_WAITS;
+        self.is_lingering_ready = false;
         let Ok(now) = Instant::now(self.runtime) else {
             self.lingering.clear();
             return;
         };
         let ready = &mut self.ready;
+        let dropped = &mut self.dropped;
+        let is_ready = &mut self.is_lingering_ready;
         self.lingering.retain_mut(|lingering| {
-            let goes_on = lingering.goes_on(now);
-            if !goes_on {
+            let goes_on = lingering.goes_on(now, dropped);
+            if goes_on {
+                *is_ready |= lingering.socket.readiness.is_readable();
+            } else {
                 ready.try_remove(lingering.socket.place);
             }
             goes_on
@@ -173,6 +215,8 @@ impl<'a, C: Clock> Sockets<'a, C> {
     // Lets a socket linger, where that can be.
     fn keep(&mut self, socket: Socket) {
         let place = socket.place;
+        socket.readiness.set_lingering();
+        self.is_lingering_ready = true;
         let is_kept = match Instant::now(self.runtime) {
             Ok(now) if self.lingering.len() < MOST_LINGERING => {
                 self.lingering.push(Lingering::new(socket, now)).is_ok()
@@ -185,11 +229,26 @@ impl<'a, C: Clock> Sockets<'a, C> {
     }
 }
 
-// A socket may be read, or written, again.
-fn mark(ready: &Slab<Shared>, event: &Event) {
+// Whether the end of the socket at this place was told of, and may still be read.
+fn has_end(ready: &Slab<Shared>, place: usize) -> bool {
+    match ready.get(place) {
+        Some(readiness) => {
+            readiness.is_ending() && readiness.is_readable() && !readiness.is_lingering()
+        }
+        None => false,
+    }
+}
+
+// Lists a place. Where there is no room for it, it is found later.
+fn list(listed: &mut Vec<usize>, place: usize) {
+    let _ = listed.push(place);
+}
+
+// A socket may be read, or written, again. Whether it is one that lingers.
+fn mark(ready: &Slab<Shared>, event: &Event) -> bool {
     let Token(place) = event.token();
     let Some(readiness) = ready.get(place) else {
-        return;
+        return false;
     };
     if event.is_read_closed() || event.is_error() {
         readiness.set_ending();
@@ -200,6 +259,7 @@ fn mark(ready: &Slab<Shared>, event: &Event) {
     if event.is_writable() || event.is_write_closed() || event.is_error() {
         readiness.set_writable(true);
     }
+    readiness.is_lingering()
 }
 
 fn bind<N: Net>(net: &N, address: &str) -> io::Result<TcpListener> {
@@ -211,6 +271,13 @@ fn bind<N: Net>(net: &N, address: &str) -> io::Result<TcpListener> {
         }
     }
     Err(failed)
+}
+
+// How long a wait takes at most, in milliseconds: not at all where there is work at hand.
+fn longest_wait(is_busy: bool) -> u64
+    ensures { result ≡ (if is_busy then 0 else 10) }
+{
+    if is_busy { 0 } else { MOST_MILLISECONDS }
 }
 
 impl<C: Clock> Device<Socket> for Sockets<'_, C> {
@@ -236,13 +303,20 @@ impl<C: Clock> Device<Socket> for Sockets<'_, C> {
     }
 
     fn wait(&mut self, is_busy: bool) -> bool {
-        let longest = if is_busy { 0 } else { MOST_MILLISECONDS };
-        let waited = self
-            .poll
-            .poll(&mut self.events, Some(Duration::from_millis(longest)));
+        let longest = Duration::from_millis(longest_wait(is_busy));
+        let waited = self.poll.poll(&mut self.events, Some(longest));
         self.note();
-        self.linger();
+        if self.has_to_linger() {
+            self.linger();
+        }
         waited.is_ok() && !self.has_failed
+    }
+
+    fn ready(&self, place: usize) -> Ready {
+        match self.listed.get(place) {
+            Some(socket) => Ready::One(*socket),
+            None => Ready::NoMore,
+        }
     }
 
     fn finish(&mut self, socket: Socket) {

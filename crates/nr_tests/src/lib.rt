@@ -4,6 +4,8 @@
 #[cfg(test)]
 mod copies;
 #[cfg(test)]
+mod crowd;
+#[cfg(test)]
 mod keyspaces;
 #[cfg(test)]
 mod machines;

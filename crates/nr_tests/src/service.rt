@@ -33,6 +33,7 @@ struct Line {
     output: Vec<u8>,
     has_ended: bool,
     has_failed: bool,
+    is_full: bool,
     calls: usize,
 }
 
@@ -42,6 +43,7 @@ impl Line {
         ensures output { result.output.items ≡ [] }
         ensures ended { result.has_ended ≡ false }
         ensures failed { result.has_failed ≡ false }
+        ensures full { result.is_full ≡ false }
     {
         Line {
             peer,
@@ -49,6 +51,7 @@ impl Line {
             output: Vec::new(alloc),
             has_ended: false,
             has_failed: false,
+            is_full: false,
             calls: peer.calls,
         }
     }
@@ -59,6 +62,7 @@ impl Line {
         ensures output { self.new.output ≡ self.old.output }
         ensures ended { self.new.has_ended ≡ self.old.has_ended }
         ensures failed { self.new.has_failed ≡ self.old.has_failed }
+        ensures full { self.new.is_full ≡ self.old.is_full }
     {
         match self.calls.checked_sub(1) {
             Some(left) => {
@@ -102,7 +106,7 @@ impl Stream for Line {
 
     ghost sent = { λ line. Some line.output.items };
 
-    ghost course = { λ line. Some (record { ended = line.has_ended; failed = line.has_failed }) };
+    ghost course = { λ line. Some (record { ended = line.has_ended; failed = line.has_failed; full = line.is_full }) };
 
     fn receive(&mut self, buffer: &mut [u8]) -> Received {
         if self.fails() {
@@ -126,13 +130,20 @@ impl Stream for Line {
         }
         let count = bytes.len().min(self.peer.piece);
         match self.output.extend_from_slice(&bytes[..count]) {
-            Ok(()) if count > 0 => Sent::Bytes(count),
-            _ => Sent::Nothing,
+            Ok(()) if count > 0 => {
+                self.is_full = false;
+                Sent::Bytes(count)
+            }
+            _ => {
+                self.is_full = true;
+                Sent::Nothing
+            }
         }
     }
 }
 
-// Gives one connection, and keeps what it is given back. It can't wait any more after so many turns.
+// Gives one connection, and keeps what it is given back. It can't wait any more after so many turns, and counts its waits: those with work at hand, and
+// those with none.
 #[derive(Drop)]
 struct Desk<'a, R> {
     runtime: &'a R,
@@ -140,6 +151,8 @@ struct Desk<'a, R> {
     waiting: Option<Peer>,
     gone: Vec<Gone>,
     turns: usize,
+    busy: usize,
+    calm: usize,
 }
 
 // A connection that was given back, and whether all was sent that waited for it.
@@ -162,7 +175,12 @@ impl<'a, R: Abort> Device<Line> for Desk<'a, R> {
         Ok(Some(Line::new(self.alloc, peer)))
     }
 
-    fn wait(&mut self, _: bool) -> bool {
+    fn wait(&mut self, is_busy: bool) -> bool {
+        if is_busy {
+            self.busy = self.busy.saturating_add(1);
+        } else {
+            self.calm = self.calm.saturating_add(1);
+        }
         self.turns = self.turns.saturating_sub(1);
         self.turns != 0 && self.gone.is_empty()
     }
@@ -205,14 +223,23 @@ impl Moments for Readings {
     }
 }
 
-// How a connection was served by a server of two nodes, up to its end.
-fn served<R: Abort, M: Moments + Drop>(
+// What came of a connection: how it was given back, where it was, and how often its device waited with work at hand, and with none.
+#[derive(Drop)]
+struct Came {
+    gone: Option<Gone>,
+    busy: usize,
+    calm: usize,
+}
+
+// What came of a connection at a server of two nodes, up to its end or for so many turns.
+fn came_of<R: Abort, M: Moments + Drop>(
     runtime: &R,
     alloc: Global,
     keys: RandomState,
     clock: M,
     peer: Peer,
-) -> Result<Option<Gone>, Fail> {
+    turns: usize,
+) -> Result<Option<Came>, Fail> {
     let Some(setup) = Setup::new(2, 1_024, 2, 256, 67_108_864) else {
         return Ok(None);
     };
@@ -222,14 +249,34 @@ fn served<R: Abort, M: Moments + Drop>(
         alloc,
         waiting: Some(peer),
         gone: Vec::new(alloc),
-        turns: 10_000,
+        turns,
+        busy: 0,
+        calm: 0,
     };
-    let mut service = Service::new(alloc, answering, desk, clock, 67_108_864)?;
+    let mut service = Service::new(alloc, 0, 0, answering, desk, clock, 67_108_864)?;
     story_law();
     if serve_answered(&mut service, &Open) != Ended::Device {
         return Ok(None);
     }
-    Ok(service.device.gone.pop())
+    Ok(Some(Came {
+        gone: service.device.gone.pop(),
+        busy: service.device.busy,
+        calm: service.device.calm,
+    }))
+}
+
+// How a connection was served, up to its end.
+fn served<R: Abort, M: Moments + Drop>(
+    runtime: &R,
+    alloc: Global,
+    keys: RandomState,
+    clock: M,
+    peer: Peer,
+) -> Result<Option<Gone>, Fail> {
+    let Some(came) = came_of(runtime, alloc, keys, clock, peer, 10_000)? else {
+        return Ok(None);
+    };
+    Ok(came.gone)
 }
 
 fn asking(input: &'static [u8], piece: usize, calls: usize) -> Peer {
@@ -305,6 +352,24 @@ fn serves_by_the_clock(rt: HostRuntime) -> Result<(), Fail> {
         peer.needed = 5;
         let gone = served(&rt, rt.alloc(), keys, clock, peer)?;
         assert!(&rt; gone.is_some_and(|gone| gone.line.output.as_slice() == expected));
+    }
+    Ok(())
+}
+
+// A turn with nothing at hand rests at its device. One whose client says nothing rests in each of 100 turns. One whose client gives and takes a byte a
+// turn rests while the first five bytes of its request come, and then not in the turns in which bytes are left to be written or the client goes.
+#[test]
+fn rests_where_nothing_moves(rt: HostRuntime) -> Result<(), Fail> {
+    let keys = RandomState::new(&rt)?;
+    let talking = asking(b"PING\r\n", 1, usize::MAX);
+    let mut silent = talking;
+    silent.first = 0;
+    silent.needed = 1;
+    for (peer, calm, busy) in [(silent, 100, 0), (talking, 5, 7)] {
+        let clock = MachineClock { runtime: &rt };
+        let came = came_of(&rt, rt.alloc(), keys, clock, peer, 100)?;
+        let came = came.expect(&rt, "turns");
+        assert!(&rt; came.calm == calm && came.busy == busy);
     }
     Ok(())
 }

@@ -36,19 +36,19 @@ fn says_what_failed(rt: HostRuntime) -> Result<(), Fail> {
     let keys = RandomState::new(&rt)?;
     for calls in 0..9 {
         let clock = MachineClock { runtime: &rt };
-        let read = run_on(rt.alloc(), keys, Device(calls), Device(9), clock);
-        assert!(&rt; read == Err(Fault::Read));
+        let ran = run_on(rt.alloc(), keys, Device(calls), Device(9), clock)?;
+        assert!(&rt; ran.done == Err(Fault::Read));
     }
     for calls in 0..15 {
         let clock = MachineClock { runtime: &rt };
         let ping = b"PING\n".as_slice();
-        let written = run_on(rt.alloc(), keys, ping, Device(calls), clock);
+        let ran = run_on(rt.alloc(), keys, ping, Device(calls), clock)?;
         let expected = if calls < 14 {
             Err(Fault::Write)
         } else {
             Ok(())
         };
-        assert!(&rt; written == expected);
+        assert!(&rt; ran.done == expected);
     }
     Ok(())
 }
@@ -72,7 +72,21 @@ impl Write for Full {
 fn says_that_none_was_taken(rt: HostRuntime) -> Result<(), Fail> {
     let keys = RandomState::new(&rt)?;
     let clock = MachineClock { runtime: &rt };
-    let written = run_on(rt.alloc(), keys, b"PING\n".as_slice(), Full, clock);
-    assert!(&rt; written == Err(Fault::Write));
+    let ran = run_on(rt.alloc(), keys, b"PING\n".as_slice(), Full, clock)?;
+    assert!(&rt; ran.done == Err(Fault::Write));
+    Ok(())
+}
+
+// The reader and the writer come back: what was read is gone from the one, and the other has the replies behind what it held.
+#[test]
+fn hands_both_back(rt: HostRuntime) -> Result<(), Fail> {
+    let keys = RandomState::new(&rt)?;
+    let clock = MachineClock { runtime: &rt };
+    let reader = b"PING\r\nQUIT\r\n".as_slice();
+    let writer = b">".to_vec(rt.alloc())?;
+    let ran = run_on(rt.alloc(), keys, reader, writer, clock)?;
+    assert!(&rt; ran.done == Ok(()));
+    assert!(&rt; ran.reader.is_empty());
+    assert!(&rt; ran.writer.as_slice() == b">+PONG\r\n+OK\r\n".as_slice());
     Ok(())
 }

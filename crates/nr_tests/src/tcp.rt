@@ -5,7 +5,7 @@ use nr_service::{Gate, Go, MachineClock};
 use std::alloc::Global;
 use std::hash::RandomState;
 use std::io::{BufRead, BufReader, Read, Write};
-use std::net::{Net, SocketAddr, TcpStream};
+use std::net::{Net, OpenListener, SocketAddr, TcpListener, TcpStream};
 use std::sync::atomic::{AtomicBool, Ordering};
 use std::test::Fail;
 use std::{io, thread};
@@ -54,9 +54,9 @@ fn last_answer(net: &impl Net, alloc: Global, address: SocketAddr) -> io::Result
     Ok(answer)
 }
 
-fn settings(alloc: Global) -> Result<Settings, Fail> {
+fn settings(alloc: Global, listen: &str) -> Result<Settings, Fail> {
     Ok(Settings {
-        listen: String::from_str(alloc, "127.0.0.1:0")?,
+        listen: String::from_str(alloc, listen)?,
         nodes: 2,
         places: 1_024,
         workers: 2,
@@ -68,7 +68,7 @@ fn settings(alloc: Global) -> Result<Settings, Fail> {
 // Four clients, each with 1,000 INCR n in pipelines of 10: each client's numbers rise, and all 4,000 differ.
 #[test]
 fn tcp(rt: HostRuntime) -> Result<(), Fail> {
-    let settings = settings(rt.alloc())?;
+    let settings = settings(rt.alloc(), "127.0.0.1:0")?;
     let sockets = listen_on(rt.alloc(), &rt, &settings)?;
     let address = sockets.address()?;
     let keys = RandomState::new(&rt)?;
@@ -99,5 +99,70 @@ fn tcp(rt: HostRuntime) -> Result<(), Fail> {
     }
     let last = last.expect(&rt, "an answer");
     assert!(&rt; last.as_slice() == b"$4\r\n4000\r\n+OK\r\n".as_slice());
+    Ok(())
+}
+
+// Where nobody listens now.
+fn free_address(net: &impl Net) -> io::Result<SocketAddr> {
+    TcpListener::bind(net, "127.0.0.1:0")?.local_addr()
+}
+
+// Whether a key goes at its deadline.
+fn expires<S: Read + Write>(stream: &mut S) -> io::Result<bool> {
+    for _ in 0..1_000_000 {
+        stream.write_all(b"EXISTS k\r\n")?;
+        let mut reply = [0; 4];
+        stream.read_exact(&mut reply)?;
+        if reply.as_slice() == b":0\r\n".as_slice() {
+            return Ok(true);
+        }
+    }
+    Ok(false)
+}
+
+// A key whose deadline was in 2001, and one whose deadline is in the year 5138, and whether each is there.
+const AT_MOMENTS: &[u8] =
+    b"SET old v PXAT 1000000000000\r\nEXISTS old\r\nSET new v PXAT 100000000000000\r\nEXISTS new\r\n";
+
+// Whether a client that sends a value of a mebibyte in one write is answered with it, the clock counts milliseconds, and a key with a deadline goes.
+fn is_answered(net: &impl Net, alloc: Global, address: SocketAddr) -> io::Result<bool> {
+    let mut stream = TcpStream::connect(net, address)?;
+    let value = b"v".repeat(alloc, 1_048_576)?;
+    let mut request = b"*3\r\n$3\r\nSET\r\n$3\r\nbig\r\n$1048576\r\n".repeat(alloc, 1)?;
+    request.extend_from_slice(&value)?;
+    request.extend_from_slice(b"\r\nGET big\r\n")?;
+    request.extend_from_slice(AT_MOMENTS)?;
+    request.extend_from_slice(b"SET k v PX 20\r\n")?;
+    stream.write_all(&request)?;
+    let mut expected = b"+OK\r\n$1048576\r\n".repeat(alloc, 1)?;
+    expected.extend_from_slice(&value)?;
+    expected.extend_from_slice(b"\r\n+OK\r\n:0\r\n+OK\r\n:1\r\n+OK\r\n")?;
+    let mut answer = vec![in alloc; 0; expected.len()]?;
+    stream.read_exact(&mut answer)?;
+    Ok(answer.as_slice() == expected.as_slice() && expires(&mut stream)?)
+}
+
+// It listens at the port that it is given.
+#[test]
+fn listens_where_it_is_told(rt: HostRuntime) -> Result<(), Fail> {
+    let address = free_address(&rt)?;
+    let listen = format!(in rt.alloc(); "{address}")?;
+    let settings = settings(rt.alloc(), listen.as_str())?;
+    let sockets = listen_on(rt.alloc(), &rt, &settings)?;
+    assert!(&rt; sockets.address()? == address);
+    let keys = RandomState::new(&rt)?;
+    let gate = Until(AtomicBool::new(false));
+    let clock = MachineClock { runtime: &rt };
+    let (served, answered) = thread::join(
+        &rt,
+        || serve_on(rt.alloc(), keys, &settings, sockets, clock, &gate),
+        || {
+            let answered = is_answered(&rt, rt.alloc(), address).ok();
+            gate.0.store(true, Ordering::SeqCst);
+            answered
+        },
+    );
+    assert!(&rt; served == Ok(()));
+    assert!(&rt; answered == Some(true));
     Ok(())
 }

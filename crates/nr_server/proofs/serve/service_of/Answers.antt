@@ -2,6 +2,14 @@
 use Rattle.nr_server.specs.Sizes.{size_of}
 use Rattle.nr_server.proofs.serve.service_of.Goals as goal
 
-pub returns-clause-serving : goal.returns-clause-serving
-returns-clause-serving g c =
-    c.in_ok-service.ensures.serving (size_of c.args.settings.now) (rw (← c.setup_of.ensures) c.in_ok-answering.ensures.past)
+pub returns : goal.returns
+returns g c =
+    let service = c.in_ok-service.ensures in
+    record {
+      serving = service.serving (size_of c.args.settings.now) (rw (← c.setup_of.ensures) c.in_ok-answering.ensures.past);
+      nobody = service.none;
+      limit_is = service.limit;
+      device_is = service.device;
+      node_is = service.node;
+      worker_is = service.worker;
+    }

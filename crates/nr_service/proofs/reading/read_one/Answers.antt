@@ -19,4 +19,4 @@ returns-clause-ok g c = one_then _ _ _ _ _ _ _ _ _ _ _ _ (still_one _ _ _ _ _ _ 
 pub returns-in_err-take_in-clause-err : goal.returns-in_err-take_in-clause-err
 returns-in_err-take_in-clause-err g c =
     on_err c.from_residual.result _
-    (leaves_one_then _ _ _ _ _ _ _ _ _ _ _ (still_one _ _ _ _ _ _ _ _ _ refl refl refl (λ ended. ended)) c.in_err-take_in.ensures.err)
+    (leaves_one_then _ _ _ _ _ _ _ _ _ _ _ _ _ (still_one _ _ _ _ _ _ _ _ _ refl refl refl (λ ended. ended)) c.in_err-take_in.ensures.err)

@@ -10,24 +10,24 @@ use Rattle.nr_service.proofs.reading.take_in.Goals as goal
 pub returns-in_ok-feed-in-Bytes-clause-ok : goal.returns-in_ok-feed-in-Bytes-clause-ok
 returns-in_ok-feed-in-Bytes-clause-ok g c =
     fed_one _ _ _ _ _ _ _ _ _ _ (take c.in-Bytes.count c.receive.new.buffer) refl c.in-Bytes.ensures.received c.in-Bytes.ensures.sent
-    (course_still _ _ _ _ _ _ (c.in-Bytes.ensures.course ∙ same_course _) refl refl) c.in_ok-feed-in-Bytes.ensures
+    (course_still _ _ _ _ _ (c.in-Bytes.ensures.course ∙ same_course _)) c.in_ok-feed-in-Bytes.ensures.fed
 
 pub returns-in-Nothing-clause-ok : goal.returns-in-Nothing-clause-ok
 returns-in-Nothing-clause-ok g c =
     nothing_read _ _ _ _ _ _ _ _ _ c.receive.new.buffer refl c.in-Nothing.ensures.received c.in-Nothing.ensures.sent
-    (course_still _ _ _ _ _ _ (c.in-Nothing.ensures.course ∙ same_course _) refl refl)
+    (course_still _ _ _ _ _ (c.in-Nothing.ensures.course ∙ same_course _))
 
 pub returns-in-End-clause-ok : goal.returns-in-End-clause-ok
 returns-in-End-clause-ok g c =
     nothing_read _ _ _ _ _ _ _ _ _ c.receive.new.buffer refl c.in-End.ensures.received c.in-End.ensures.sent
-    (course_then _ _ (course_received received.End) _ _ _ _ c.in-End.ensures.course (λ course was. (refl, was.1)))
+    (course_then _ _ (course_received received.End) _ _ _ _ _ _ c.in-End.ensures.course (λ course was. (refl, was.1, was.2)))
 
 pub returns-in-Failed-clause-ok : goal.returns-in-Failed-clause-ok
 returns-in-Failed-clause-ok g c =
     nothing_read _ _ _ _ _ _ _ _ _ c.receive.new.buffer refl c.in-Failed.ensures.received c.in-Failed.ensures.sent
-    (course_then _ _ (course_received received.Failed) _ _ _ _ c.in-Failed.ensures.course (λ course was. (was.0, refl)))
+    (course_then _ _ (course_received received.Failed) _ _ _ _ _ _ c.in-Failed.ensures.course (λ course was. (was.0, refl, was.2)))
 
 pub returns-in_err-feed-in-Bytes-clause-err : goal.returns-in_err-feed-in-Bytes-clause-err
 returns-in_err-feed-in-Bytes-clause-err g c =
     on_err c.from_residual.result _
-    (leaves_fed _ _ _ _ _ _ _ _ _ (take c.in-Bytes.count c.receive.new.buffer) refl c.in-Bytes.ensures.received c.in-Bytes.ensures.sent)
+    (leaves_fed _ _ _ _ _ _ _ _ _ _ _ (take c.in-Bytes.count c.receive.new.buffer) refl c.in-Bytes.ensures.received c.in-Bytes.ensures.sent c.in_err-feed-in-Bytes.ensures.left)

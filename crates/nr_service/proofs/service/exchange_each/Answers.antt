@@ -5,23 +5,22 @@ use Rattle.nr_service.proofs.Working.{exchanged}
 use Rattle.nr_service.proofs.service.exchange_each.Goals as goal
 
 pub returns-in_err-work_left-clause-err : goal.returns-in_err-work_left-clause-err
-returns-in_err-work_left-clause-err g c = on_err c.from_residual.result _ (leaves_all _ _ _ _ _ _ _ _)
+returns-in_err-work_left-clause-err g c = on_err c.from_residual.result _ (leaves_all _ _ _ _ _ _ _ _ _ _ c.in_err-work_left.ensures.left)
 
-pub returns-in_err-read_each-clause-err : goal.returns-in_err-read_each-clause-err
-returns-in_err-read_each-clause-err g c =
-    on_err c.from_residual-in_err-read_each.result _
-    (leaves_then _ _ _ _ _ _ _ _ _ _ _ (serves_weaker _ _ _ _ _ _ _ _ _ _ _
-    (λ feeding never. absurd never) c.in_ok-work_left.ensures) c.in_err-read_each.ensures.err)
+pub returns-in_err-read_listed-clause-err : goal.returns-in_err-read_listed-clause-err
+returns-in_err-read_listed-clause-err g c =
+    on_err c.from_residual-in_err-read_listed.result _
+    (leaves_then _ _ _ _ _ _ _ _ _ _ _ _ _ (serves_weaker _ _ _ _ _ _ _ _ _ _ _ (λ feeding never. absurd never) c.in_ok-work_left.ensures.serves)
+    c.in_err-read_listed.ensures.err)
 
 pub returns-in_err-work-clause-err : goal.returns-in_err-work-clause-err
 returns-in_err-work-clause-err g c =
     on_err c.from_residual-in_err-work.result _
-    (leaves_then _ _ _ _ _ _ _ _ _ _ _
-    (serves_then _ _ _ _ _ _ _ _ _ _ _ _ (serves_weaker _ _ _ _ _ _ _ _ _ _ _
-    (λ feeding never. absurd never) c.in_ok-work_left.ensures) c.in_ok-read_each.ensures.ok) (leaves_all _ _ _ _ _ _ _ _))
+    (leaves_then _ _ _ _ _ _ _ _ _ _ _ _ _
+    (serves_then _ _ _ _ _ _ _ _ _ _ _ _ (serves_weaker _ _ _ _ _ _ _ _ _ _ _ (λ feeding never. absurd never) c.in_ok-work_left.ensures.serves)
+    (serves_weaker _ _ _ _ _ _ _ _ _ _ _ (λ feeding fed. fed.1) c.in_ok-read_listed.ensures.ok))
+    (leaves_all _ _ _ _ _ _ _ _ _ _ c.in_err-work.ensures.left))
 
 pub returns-clause-ok : goal.returns-clause-ok
 returns-clause-ok g c =
-    exchanged _ _ _ _ _ _ _ _ _ _ _ _ _ _ (serves_then _ _ _ _ _ _ _ _ _ _ _ _ (serves_weaker _ _ _ _ _ _ _ _ _ _ _
-    (λ feeding never. absurd never) c.in_ok-work_left.ensures) c.in_ok-read_each.ensures.ok)
-    c.in_ok-work.ensures c.write_each.ensures.served
+    exchanged _ _ _ _ _ _ _ _ _ _ _ _ _ _ _ _ c.in_ok-work_left.ensures.serves c.in_ok-read_listed.ensures.ok c.in_ok-work.ensures.worked c.write_listed.ensures.served

@@ -4,7 +4,8 @@ use Rattle.nr_service.specs.Stories.{IsClosed}
 use Rattle.nr_answering.specs.State.{AnsweringState}
 use Rattle.nr_answering.specs.Led.{HasLedTo}
 use Rattle.nr_answering.specs.Stands.{IsGone}
-use Rattle.nr_answering.proofs.Told.{Kept, sound_kept, put_none, is_closed, gone_told}
+use Rattle.nr_answering.proofs.Told.{Kept, sound_kept, put_none, is_closed, gone_told, once_led}
+use Rattle.nr_service.proofs.Left.{on_err}
 use Rattle.nr_answering.proofs.answering.AnsweringAnswers.close.Goals as goal
 
 pub invariant_of-self-2 : goal.invariant_of-self-2
@@ -26,3 +27,9 @@ pub returns-clause-gone : goal.returns-clause-gone
 returns-clause-gone c =
     gone_told c.self.inside.world c.close.new.world c.self.inside.taps.by_conn.entries (connection_of c.args.conn) (c.self.invariant c.if-self.false)
     c.in_ok-close.ensures
+
+pub returns-then-self-clause-left : goal.returns-then-self-clause-left
+returns-then-self-clause-left c = once_led _
+
+pub returns-in_err-close-clause-left : goal.returns-in_err-close-clause-left
+returns-in_err-close-clause-left c = on_err c.from_residual.result _ (once_led _)

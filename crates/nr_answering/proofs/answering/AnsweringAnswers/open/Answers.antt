@@ -4,11 +4,12 @@ use Rattle.nr_service.specs.Stories.{IsOpened, Keeps}
 use Rattle.nr_answering.specs.State.{AnsweringState}
 use Rattle.nr_answering.specs.Led.{HasLedTo}
 use Rattle.nr_answering.specs.Stands.{IsFull}
-use Rattle.nr_answering.proofs.Told.{Kept, sound_tapped, opened_told, none_told, full_told}
+use Rattle.nr_answering.proofs.Told.{Kept, sound_tapped, opened_told, none_told, full_told, once_led}
 use Rattle.std.specs.Prelude.{IfSome, IfNone}
 use Rattle.nr_entry.specs.declared.conn.ConnId.{ConnId}
 use Rattle.nr_answering.specs.Placing.{IsPlaced}
 use Rattle.nr_answering.proofs.Placed.{placed_told}
+use Rattle.nr_service.proofs.Left.{on_err}
 use Rattle.nr_answering.proofs.answering.AnsweringAnswers.open.Goals as goal
 
 pub invariant_of-self-2 : goal.invariant_of-self-2
@@ -45,3 +46,9 @@ returns-clause-full c =
     subst (λ (a : AnsweringState). IfNone c.in_ok-opened.opened (IsFull a.world)) c.self.view_is
     (full_told c.self.inside.world c.self.inside.taps.by_conn.entries c.in_ok-opened.opened (c.self.invariant c.if-self.false)
     c.in_ok-opened.ensures.full)
+
+pub returns-then-self-clause-left : goal.returns-then-self-clause-left
+returns-then-self-clause-left c = once_led _
+
+pub returns-in_err-opened-clause-left : goal.returns-in_err-opened-clause-left
+returns-in_err-opened-clause-left c = on_err c.from_residual.result _ (once_led _)

@@ -4,4 +4,4 @@ use Rattle.nr_service.proofs.Turns.{begun}
 use Rattle.nr_service.proofs.service.Service.new.Goals as goal
 
 pub returns-clause-serving : goal.returns-clause-serving
-returns-clause-serving g c = begun _ _ _ _ _ _ _ c.args.answers c.args.clock (search rules) refl refl refl
+returns-clause-serving g c = begun _ _ _ _ _ _ _ _ c.args.answers c.args.clock (search rules) refl refl refl

@@ -10,10 +10,10 @@ use Rattle.nr_service.proofs.service.Service.serve.Given as goal
 abbrev pub invariant-loop-asked : goal.invariant-loop-asked
 invariant-loop-asked g l = record {
   turns : l.turn ≤ l.asked;
-  taken : HasTaken (g.G.Gate.says l.fn.gate 0 0) (IsGoing g.A.Answers.falls)
-      (Turns g.S.Stream.received g.S.Stream.sent g.S.Stream.course g.A.Answers.is_past g.A.Answers.is_settled g.A.Answers.kept g.A.Answers.stands
-      g.D.Device.parted g.D.Device.waits g.M.Moments.gives true) l.left l.turn l.asked l.fn.self l.self;
+  taken : HasTaken (g.G.Gate.says l.fn.gate l.fn.self.node l.fn.self.worker) (IsGoing g.A.Answers.falls)
+      (Turns g.S.Stream.received g.S.Stream.sent g.S.Stream.course g.A.Answers.is_past g.A.Answers.is_settled g.A.Answers.kept g.A.Answers.stands g.A.Answers.busy
+      g.A.Answers.is_full g.A.Answers.is_placed g.A.Answers.is_gone g.D.Device.parted g.D.Device.waits g.M.Moments.gives true) l.left l.turn l.asked l.fn.self l.self;
   serving : (first : _) (setup : Setup)
-      → IsServing g.S.Stream.received g.S.Stream.sent g.S.Stream.course g.M.Moments.gives g.A.Answers.is_past g.A.Answers.kept first setup l.fn.self
-      → IsServing g.S.Stream.received g.S.Stream.sent g.S.Stream.course g.M.Moments.gives g.A.Answers.is_past g.A.Answers.kept first setup l.self;
+      → IsServing g.S.Stream.received g.S.Stream.sent g.S.Stream.course g.M.Moments.gives g.A.Answers.is_past g.A.Answers.kept g.D.Device.parted first setup l.fn.self
+      → IsServing g.S.Stream.received g.S.Stream.sent g.S.Stream.course g.M.Moments.gives g.A.Answers.is_past g.A.Answers.kept g.D.Device.parted first setup l.self;
 }

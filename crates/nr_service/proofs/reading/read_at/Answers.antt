@@ -1,0 +1,33 @@
+-- The one at this place was served.
+use Rattle.std.proofs.Common.{arith, refl, ap}
+use Rattle.nr_entry.specs.Jobs.{connection_of}
+use Rattle.nr_service.specs.Serving.{connection}
+use Rattle.nr_service.proofs.Left.{leaves_at, on_err}
+use Rattle.nr_service.proofs.Served.{one_weaker, serves_none}
+use Rattle.nr_service.proofs.Working.{map_set_same, served_at, to_one}
+use Rattle.nr_service.proofs.reading.read_at.Goals as goal
+
+pub returns-then-place-clients-clause-ok : goal.returns-then-place-clients-clause-ok
+returns-then-place-clients-clause-ok g c = serves_none _ _ _ _ _ _ _ _
+
+pub returns-clause-ok : goal.returns-clause-ok
+returns-clause-ok g c =
+    served_at _ _ _ _ _ _ _ _ c.args.clients.now c.args.place c.index-clients-place.result c.read_one.new.client (omega arith)
+    (one_weaker _ _ _ _ _ _ _ _ _ _ _
+    (to_one c.args.moment c.args.clients.now c.args.clients.now c.args.place c.index-clients-place.result (omega arith) refl)
+    c.in_ok-read_one.ensures.ok)
+
+pub returns-in_err-read_one-clause-err : goal.returns-in_err-read_one-clause-err
+returns-in_err-read_one-clause-err g c =
+    on_err c.from_residual.result _
+    (leaves_at _ _ _ _ _ _ _ _ _ c.args.clients.now c.args.place c.index-clients-place.result c.read_one.new.client (omega arith) c.in_err-read_one.ensures.err)
+
+pub returns-in_err-read_one-clause-same : goal.returns-in_err-read_one-clause-same
+returns-in_err-read_one-clause-same g c =
+    map_set_same connection c.args.clients.now c.args.place c.index-clients-place.result c.read_one.new.client (omega arith)
+    (ap connection_of c.read_one.ensures.conn)
+
+pub returns-clause-same : goal.returns-clause-same
+returns-clause-same g c =
+    map_set_same connection c.args.clients.now c.args.place c.index-clients-place.result c.read_one.new.client (omega arith)
+    (ap connection_of c.read_one.ensures.conn)
