@@ -8,7 +8,6 @@
 mod bench;
 mod expiry;
 mod held;
-mod jobs;
 mod keys;
 mod messages;
 mod nodes;

@@ -243,10 +243,10 @@ read_or_left job ran n m tail r a = elim ((reads_parts (items_of n.replica.waiti
 ]
 
 -- what waits once it looked
-later_looked : (job : Item) (looked : Result Round Memory) (es : List Entry) (ran : List Job) (tail : ℕ) (n m : NodeState) → HasLooked looked es ran tail n m
+later_looked : (job : Item) (looked : Result Round Memory) (behind : Bool) (es : List Entry) (ran : List Job) (tail : ℕ) (n m : NodeState) → HasLooked looked behind es ran tail n m
     → m.replica.down ≡ false → IsAmong job (items_of n.next) ⊎ IsAmong job (items_of n.replica.waiting)
     → IsAmong job (items_of ran) ⊎ (IsAmong job (items_of m.next) ⊎ IsAmong job (items_of m.replica.waiting))
-later_looked job looked es ran tail n m h up later = elim (is_done looked) [
+later_looked job looked behind es ran tail n m h up later = elim (is_done looked) [
   | inl done ↦
       let r = h.read done in
       elim later [
@@ -261,8 +261,8 @@ later_looked job looked es ran tail n m h up later = elim (is_done looked) [
       ]
 ]
 
-pub looked_keeps : (looked : Result Round Memory) (es : List Entry) (ran : List Job) (tail : ℕ) (n m : NodeState) → HasLooked looked es ran tail n m → Keeps n m
-looked_keeps looked es ran tail n m h up =
+pub looked_keeps : (looked : Result Round Memory) (behind : Bool) (es : List Entry) (ran : List Job) (tail : ℕ) (n m : NodeState) → HasLooked looked behind es ran tail n m → Keeps n m
+looked_keeps looked behind es ran tail n m h up =
     let done = record_of n.seat.standing.history in
     let applied = record_of (map Applied es) in
     let reads = record_of (map Ran ran) in
@@ -278,7 +278,7 @@ looked_keeps looked es ran tail n m h up =
             | inl own ↦ more (among_left job applied reads (among_applied job n.book.node es own))
             | inr later ↦ inl (inr later)
           ])
-          (λ later. elim (later_looked job looked es ran tail n m h up later) [
+          (λ later. elim (later_looked job looked behind es ran tail n m h up later) [
             | inl read ↦ more (among_right job applied reads (subst (IsAmong job) (sym (ran_recorded ran)) read))
             | inr left ↦ inr left
           ])),

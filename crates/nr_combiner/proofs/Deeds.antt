@@ -1,18 +1,18 @@
 -- The jobs of a node's connections stay what their batches held, wherever they are.
-use Rattle.std.proofs.Common.{◌≡◌, ℕ, zero, suc, ◌+◌, ◌<◌, inl, inr, ◌⊎◌, Bool, true, IsTrue, cond, List, [], ◌∷◌, ◌++◌, map, length, drop, Contains, refl, ap, sym, ◌∙◌, subst, arith, append_assoc, get_or, set, get_or-set_same, get_or-set_other}
+use Rattle.std.proofs.Common.{◌≡◌, ℕ, zero, suc, ◌+◌, ◌<◌, ◌≤◌, max, fold, inl, inr, ◌⊎◌, Bool, true, IsTrue, cond, List, [], ◌∷◌, ◌++◌, map, length, drop, Contains, refl, ap, sym, ◌∙◌, subst, arith, append_assoc, get_or, set, get_or-set_same, get_or-set_other}
 use Rattle.std.specs.Prelude.{◌≢◌, ◌==◌, Result, Ok, Err}
 use Rattle.std.specs.List.{AllByRecursion, slice_get}
 use Rattle.std.proofs.lemmas.Bool.{cases_Bool, and_parts, eqb-true}
 use Rattle.std.proofs.lemmas.Bool.Decides.{eqb_tells}
 use Rattle.std.proofs.lemmas.List.{map-append, length-append, append-nil}
 use Rattle.nr_blob.specs.declared.memory.Memory.{Memory}
-use Rattle.nr_model.specs.Items.{Item, Sequence}
-use Rattle.nr_model.specs.Entries.{Jobs}
+use Rattle.nr_model.specs.Items.{Item, Sequence, is_update}
+use Rattle.nr_model.specs.Entries.{Jobs, entry_moment}
 use Rattle.nr_model.proofs.JobLists.{All-append}
 use Rattle.nr_model.proofs.NodesExecutedLists.{in_middle}
 use Rattle.nr_model.proofs.NodesOwnLists.{All-weaker, All-entry, All-left_by_entry, All-reads, All-left_by_reads}
 use Rattle.nr_entry.specs.Jobs.{item_of, items_of}
-use Rattle.nr_entry.specs.Entry.{are_of}
+use Rattle.nr_entry.specs.Entry.{are_of, are_updates}
 use Rattle.nr_entry.specs.Shares.{shares_of}
 use Rattle.nr_entry.specs.declared.batch.Answer.{Answer}
 use Rattle.nr_entry.specs.declared.batch.Batch.{Batch}
@@ -51,6 +51,20 @@ is_done (Ok rounds.Again) = inr (λ e. absurd (cc e))
 is_done (Ok rounds.NotYet) = inr (λ e. absurd (cc e))
 is_done (Ok rounds.Down) = inr (λ e. absurd (cc e))
 is_done (Err memory) = inr (λ e. absurd (cc e))
+
+-- an entry's moment is none before those of its jobs
+fold_grows : (jobs : Jobs) (from : ℕ) → from ≤ fold (λ m (job : Item). max m job.moment) from jobs
+fold_grows [] from = omega arith
+fold_grows (job ∷ jobs) from = let more = fold_grows jobs (max from job.moment) in omega (arith, more)
+
+fold_above : (jobs : Jobs) (from upto : ℕ) → fold (λ m (job : Item). max m job.moment) from jobs ≤ upto → AllByRecursion (λ (job : Item). job.moment ≤ upto) jobs
+fold_above [] from upto within = tt
+fold_above (job ∷ jobs) from upto within =
+    let more = fold_grows jobs (max from job.moment) in
+    (omega (arith, more, within), fold_above jobs (max from job.moment) upto within)
+
+entry_above : (jobs : Jobs) → AllByRecursion (λ (job : Item). job.moment ≤ entry_moment jobs) jobs
+entry_above jobs = fold_above jobs 0 (entry_moment jobs) (omega arith)
 
 module _ (Q : Item → Type 0) where
   -- ---- what holds of all jobs of a node goes on to do so
@@ -153,14 +167,17 @@ module _ (Q : Item → Type 0) where
   tried_all places (Err memory) n m (inr h) a = waiting_all n m h a
 
   -- ---- entries are passed, and reads run
-  -- it doesn't speak of moments, and speaks of the node's connections alone
+  -- it goes on to hold of an update at a later moment, and speaks of the node's connections alone
   abbrev pub SpeaksOf : ℕ → Type 0
-  SpeaksOf node = ((job : Item) (moment : ℕ) → Q job → Q (record job { moment = moment })) × ((job : Item) → (job.connection.node ≡ node → ⊥) → Q job)
+  SpeaksOf node = ((job : Item) (moment : ℕ) → is_update job.deed ≡ true → job.moment ≤ moment → Q job → Q (record job { moment = moment }))
+      × ((job : Item) → (job.connection.node ≡ node → ⊥) → Q job)
 
-  moved_all : (node : ℕ) → SpeaksOf node → (moment : ℕ) (jobs : Jobs) → AllByRecursion Q jobs
-      → AllByRecursion Q (map {A = Item} (λ (job : Item). record job { moment = moment }) jobs)
-  moved_all node speaks moment [] a = tt
-  moved_all node speaks moment (job ∷ jobs) a = (speaks.0 job moment a.0, moved_all node speaks moment jobs a.1)
+  moved_all : (node : ℕ) → SpeaksOf node → (moment : ℕ) (jobs : Jobs) → IsTrue (are_updates jobs) → AllByRecursion (λ (job : Item). job.moment ≤ moment) jobs
+      → AllByRecursion Q jobs → AllByRecursion Q (map {A = Item} (λ (job : Item). record job { moment = moment }) jobs)
+  moved_all node speaks moment [] updates within a = tt
+  moved_all node speaks moment (job ∷ jobs) updates within a =
+      let parts = and_parts (is_update job.deed) (are_updates jobs) updates in
+      (speaks.0 job moment parts.0 within.0 a.0, moved_all node speaks moment jobs parts.1 within.1 a.1)
 
   foreign_all : (node other : ℕ) → SpeaksOf node → (other ≡ node → ⊥) → (jobs : Jobs) → IsTrue (are_of other jobs) → AllByRecursion Q jobs
   foreign_all node other speaks apart [] own = tt
@@ -177,10 +194,10 @@ module _ (Q : Item → Type 0) where
       elim (eqb_tells e.node node) [
         | inl same ↦
             let all = subst (λ (b : Bool). AllByRecursion Q (cond b (items ++ later) later)) same.0 a in
-            All-append Q _ (record_of (map Applied es)) (moved_all node speaks _ items (all_front Q items later all)) (applied_all node speaks es (all_back Q items later all))
+            All-append Q _ (record_of (map Applied es)) (moved_all node speaks _ items e.updates (entry_above items) (all_front Q items later all)) (applied_all node speaks es (all_back Q items later all))
         | inr other ↦
             let all = subst (λ (b : Bool). AllByRecursion Q (cond b (items ++ later) later)) other.0 a in
-            All-append Q _ (record_of (map Applied es)) (moved_all node speaks _ items (foreign_all node e.node speaks other.1 items e.own)) (applied_all node speaks es all)
+            All-append Q _ (record_of (map Applied es)) (moved_all node speaks _ items e.updates (entry_above items) (foreign_all node e.node speaks other.1 items e.own)) (applied_all node speaks es all)
       ]
 
   ran_all : (ran : List Job) → AllByRecursion Q (items_of ran) → AllByRecursion Q (record_of (map Ran ran))
@@ -200,9 +217,9 @@ module _ (Q : Item → Type 0) where
     | inr up ↦ let fell = by.fell up down in (inl fell.1, inl fell.2)
   ]
 
-  pub looked_all : (looked : Result Round Memory) (es : List Entry) (ran : List Job) (tail : ℕ) (n m : NodeState) → SpeaksOf n.book.node
-      → HasLooked looked es ran tail n m → AllJobs Q n → AllJobs Q m
-  looked_all looked es ran tail n m speaks h a =
+  pub looked_all : (looked : Result Round Memory) (behind : Bool) (es : List Entry) (ran : List Job) (tail : ℕ) (n m : NodeState) → SpeaksOf n.book.node
+      → HasLooked looked behind es ran tail n m → AllJobs Q n → AllJobs Q m
+  looked_all looked behind es ran tail n m speaks h a =
       let before = n.seat.standing.history in
       let more = map Applied es ++ map Ran ran in
       let is : record_of m.seat.standing.history ≡ record_of before ++ (record_of (map Applied es) ++ record_of (map Ran ran)) =
@@ -253,17 +270,26 @@ jobs_weaker Q R f n a = record {
   waits = All-weaker Q R f (items_of n.replica.waiting) a.waits;
 }
 
--- of which batch a job is doesn't depend on its moment, and is said of the node's connections alone
+-- of which batch an update is stays so at a later moment, and it is said of the node's connections alone
 pub speaks_of : (n : NodeState) (desks : List Desk) → SpeaksOf (IsOwnOfBatch n desks) n.book.node
 speaks_of n desks = (
-  λ job moment of own.
+  λ job moment update later of own.
       let b = of own in
+      let from : b.has.item.moment ≤ job.moment = b.has.moment in
       record {
         worker = b.worker;
         own = record { node = b.own.node; served = b.own.served };
         batch = b.batch;
         lifted = b.lifted;
-        has = record { item = b.has.item; there = b.has.there; connection = b.has.connection; number = b.has.number; deed = b.has.deed };
+        has = record {
+          item = b.has.item;
+          there = b.has.there;
+          connection = b.has.connection;
+          number = b.has.number;
+          deed = b.has.deed;
+          moment = omega (arith, from, later);
+          read = λ is. absurd (cc (update, is));
+        };
       },
   λ job apart own. absurd (apart own),
 )
@@ -379,6 +405,8 @@ batch_from n desks worker batch front (job ∷ jobs) lifted is all = (
       connection = refl;
       number = refl;
       deed = refl;
+      moment = omega arith;
+      read = λ is. refl;
     };
   },
   batch_from n desks worker batch (front ++ job ∷ []) jobs lifted (is ∙ sym (append_assoc front (job ∷ []) jobs)) all.1,

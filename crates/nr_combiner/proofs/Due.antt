@@ -27,7 +27,7 @@ use Rattle.nr_node.specs.declared.answers.TakeError.TheVariants as errors
 use Rattle.nr_combiner.specs.Served.{CombinerState, owed_at, IsDesk, IsNoRefusal, IsServed}
 use Rattle.nr_combiner.specs.Steps.{refusal_at, IsRefusedFor, IsOutcomeOf, HandsBack}
 use Rattle.nr_node.specs.Owing.{answer_by, answer_of, answered_node, IsServedBy, HasAllExecuted}
-use Rattle.nr_combiner.proofs.Lifts.{taken_served, back_served, is_last, holds_some, answered_served}
+use Rattle.nr_combiner.proofs.Lifted.{taken_served, back_served, is_last, holds_some, answered_served}
 
 -- a worker of the seat is one of the node
 pub near_of : (n : NodeState) (seat : CombinerView) (numbers : List ℕ) (worker : ℕ) → worker < length seat.desks → IsServed n seat numbers → worker < length n.replica.owed

@@ -13,8 +13,6 @@ use Rattle.nr_entry.specs.declared.conn.ConnId.{ConnId}
 use Rattle.nr_log_end.specs.declared.standing.Standing.{Standing}
 use Rattle.nr_log_end.specs.Standings.{record_of}
 use Rattle.nr_accounts.specs.Book.{Book}
-use Rattle.nr_oplog.specs.declared.view.LogView.{LogView}
-use Rattle.nr_replica.specs.declared.outbox.Piece.{Piece}
 use Rattle.nr_replica.specs.Members.{Member, fresh_member, closed_member, handed_member}
 use Rattle.nr_replica.specs.Replicas.{ReplicaState}
 use Rattle.nr_slots.specs.declared.view.Desk.{Desk}
@@ -23,7 +21,8 @@ use Rattle.nr_slots.specs.Seats.{CombinerView, desk_of}
 use Rattle.nr_node.specs.Batches.{IsOpened}
 use Rattle.nr_node.specs.Collected.{AreHanded}
 use Rattle.nr_node.specs.Level.{NodeState, connection_at}
-use Rattle.nr_node.specs.Steps.{nobody, opened_node, closed_node, HasHandedOut}
+use Rattle.nr_node.specs.Steps.{nobody, opened_node, closed_node, refusing_node, HasHandedOut, IsStill}
+use Rattle.nr_node.specs.declared.collecting.Handed.{Handed}
 use Rattle.nr_node.specs.declared.answers.OpenError.{OpenError}
 use Rattle.nr_combiner.specs.Served.{owed_at, IsDesk, AreExecuted, IsOwnOfBatch, AllJobs, IsServed}
 use Rattle.nr_combiner.proofs.Among.{same_keeps}
@@ -52,7 +51,7 @@ changed_at (m ∷ members) zero f d same (suc serial) near = refl
 changed_at (m ∷ members) (suc i) f d same zero near = refl
 changed_at (m ∷ members) (suc i) f d same (suc serial) near = changed_at members i f d same serial (omega (arith, near))
 
-served_changed : (members : List Member) (i : ℕ) (f : Member → Member) → ((m : Member) → (f m).worker ≡ m.worker)
+pub served_changed : (members : List Member) (i : ℕ) (f : Member → Member) → ((m : Member) → (f m).worker ≡ m.worker)
     → AreServedOn members (set members i (f (get_or members i nobody)))
 served_changed members i f same c near =
     (omega (arith, near, length-set members i (f (get_or members i nobody))), changed_at members i f (fresh_member c 0 0) same c.serial near)
@@ -120,7 +119,7 @@ handed_served (Ok (Some t)) n m seat numbers serial most P none some failed s = 
 handed_served (Err memory) n m seat numbers serial most P none some failed s = same_on n m seat numbers failed s
 
 -- so they are for one connection after the other
-pub all_handed_on : (most : ℕ) (serials : List ℕ) (pieces : List (Piece × LogView)) (n m : NodeState) (seat : CombinerView) (numbers : List ℕ)
+pub all_handed_on : (most : ℕ) (serials : List ℕ) (pieces : List Handed) (n m : NodeState) (seat : CombinerView) (numbers : List ℕ)
     → AreHanded most serials pieces n m → IsServed n seat numbers → GoesOn n m seat numbers
 all_handed_on most [] [] n m seat numbers same s = same_on n m seat numbers same s
 all_handed_on most [] (one ∷ pieces) n m seat numbers h s = absurd h
@@ -129,6 +128,23 @@ all_handed_on most (serial ∷ serials) (one ∷ pieces) n m seat numbers (mid, 
     let there = handed_on n mid seat numbers serial most first.handed s in
     let on = all_handed_on most serials pieces mid m seat numbers rest there.0 in
     (on.0, there.1 ∙ on.1)
+
+-- a token was made
+pub kept_still : (n m : NodeState) (seat : CombinerView) (numbers : List ℕ) → IsStill n m → IsServed n seat numbers → IsServed m seat numbers
+kept_still n m seat numbers still s =
+    served_same n m seat numbers (ap (λ (b : Book). b.node) still.book) (ap (λ (r : ReplicaState). r.owed) still.replica)
+    (subst (AreServedOn n.replica.members) (sym (ap (λ (r : ReplicaState). r.members) still.replica)) (λ c near. (near, refl)))
+    (ap (λ (x : Standing). x.history) still.standing)
+    (same_keeps n m still.standing still.next (ap (λ (r : ReplicaState). r.waiting) still.replica) (ap (λ (r : ReplicaState). r.down) still.replica))
+    (same_jobs (IsOwnOfBatch n seat.desks) n m still.standing still.next (ap (λ (r : ReplicaState). r.waiting) still.replica) s.handed_in) s
+
+-- the next entry is refused
+pub refusing_served : (n m : NodeState) (seat : CombinerView) (numbers : List ℕ) → m ≡ refusing_node n → IsServed n seat numbers → GoesOn n m seat numbers
+refusing_served n m seat numbers is s = subst (λ (x : NodeState). GoesOn n x seat numbers) (sym is) (
+  served_same n (refusing_node n) seat numbers refl refl (λ c near. (near, refl)) refl (same_keeps n (refusing_node n) refl refl refl refl)
+      (same_jobs (IsOwnOfBatch n seat.desks) n (refusing_node n) refl refl refl s.handed_in) s,
+  refl,
+)
 
 -- nothing was lifted yet, and nothing is owed
 pub fresh_served : (n : NodeState) (seat : CombinerView) (numbers : List ℕ) (workers : ℕ) → n.replica.owed ≡ replicate workers None → seat.desks ≡ replicate workers no_desk

@@ -1,5 +1,5 @@
 -- What a turn of the combiner does to its node: what was kept holds on.
-use Rattle.std.proofs.Common.{◌≡◌, ℕ, zero, suc, inl, inr, ◌⊎◌, true, false, List, [], ◌∷◌, ◌++◌, map, length, Option, Some, None, refl, ap, sym, ◌∙◌, subst, arith, get_or}
+use Rattle.std.proofs.Common.{◌≡◌, ℕ, zero, suc, Bool, inl, inr, ◌⊎◌, true, false, List, [], ◌∷◌, ◌++◌, map, length, Option, Some, None, refl, ap, sym, ◌∙◌, subst, arith, get_or}
 use Rattle.std.specs.Prelude.{◌≢◌, ◌↔◌, ◌<◌, ◌≤◌, OnErr, Result, Ok, Err}
 use Rattle.nr_model.specs.Bytes.{IsBeginningOf}
 use Rattle.nr_model.proofs.NodesExecutedGrows.{begins_itself}
@@ -117,9 +117,9 @@ got_at (old ∷ olds) (new ∷ news) d got (suc serial) near =
 got_served : (olds news : List Member) → HaveGot olds news → AreServedOn olds news
 got_served olds news got c near = got_at olds news (fresh_member c 0 0) got c.serial near
 
-pub looked_served : (looked : Result Round Memory) (entries : List Entry) (ran : List Job) (tail : ℕ) (n m : NodeState) (seat : CombinerView) (numbers : List ℕ)
-    → HasLooked looked entries ran tail n m → IsServed n seat numbers → IsServed m seat numbers
-looked_served looked entries ran tail n m seat numbers h s =
+pub looked_served : (looked : Result Round Memory) (behind : Bool) (entries : List Entry) (ran : List Job) (tail : ℕ) (n m : NodeState) (seat : CombinerView) (numbers : List ℕ)
+    → HasLooked looked behind entries ran tail n m → IsServed n seat numbers → IsServed m seat numbers
+looked_served looked behind entries ran tail n m seat numbers h s =
     let more = map Applied entries ++ map Ran ran in
     let r = record_of n.seat.standing.history in
     let longer : record_of m.seat.standing.history ≡ r ++ record_of more =
@@ -128,25 +128,27 @@ looked_served looked entries ran tail n m seat numbers h s =
       node = h.by.closed.node;
       workers = as_many m.replica.owed n.replica.owed h.by.owed;
       members = got_served n.replica.members m.replica.members h.by.got;
-      keeps = looked_keeps looked entries ran tail n m h;
+      keeps = looked_keeps looked behind entries ran tail n m h;
       log = (record_of more, sym longer);
     } in
-    served_still n m seat numbers grows (still_at n.replica.owed m.replica.owed h.by.owed) (looked_all (IsOwnOfBatch n seat.desks) looked entries ran tail n m (speaks_of n seat.desks) h s.handed_in) s
+    served_still n m seat numbers grows (still_at n.replica.owed m.replica.owed h.by.owed) (looked_all (IsOwnOfBatch n seat.desks) looked behind entries ran tail n m (speaks_of n seat.desks) h s.handed_in) s
 
 -- what a look came to
-pub looked_by : (r : Result Round Memory) (n m : NodeState)
+pub looked_by : (r : Result Round Memory) (behind : Bool) (n m : NodeState)
     (goes : (entries : List Entry) × ((ran : List Job) × ((tail : ℕ) × GoesOnBy entries ran tail n m × (r ≡ Ok rounds.Done → HasRead ran tail n m) × (r ≢ Ok rounds.Done → ran ≡ [])
-    × (r ≢ Ok rounds.NotYet → m.replica.down ≡ false → tail ≤ passed_of m.seat.standing) × (r ≡ Ok rounds.NotYet → passed_of m.seat.standing < tail))))
+    × (behind ≡ false → tail ≤ passed_of m.seat.standing) × (behind ≡ true → passed_of m.seat.standing < tail))))
+    → (r ≡ Ok rounds.NotYet) ↔ ((behind ≡ true) × (m.replica.down ≡ false))
     → (r ≢ Ok rounds.Done → m.replica.down ≡ false → (m.replica.waiting ≡ n.replica.waiting) × (m.next ≡ n.next))
     → (r ≡ Ok rounds.Again → n.next ≢ []) → r ≢ Ok rounds.Full
-    → (r ≡ Ok rounds.Down) ↔ (m.replica.down ≡ true) → HasLooked r goes.0 goes.1.0 goes.1.1.0 n m
-looked_by r n m goes waiting again never down = record {
+    → (r ≡ Ok rounds.Down) ↔ (m.replica.down ≡ true) → HasLooked r behind goes.0 goes.1.0 goes.1.1.0 n m
+looked_by r behind n m goes not_yet waiting again never down = record {
   by = goes.1.1.1;
   read = goes.1.1.2;
   none = goes.1.1.3;
   reached = goes.1.1.4;
+  stopped = goes.1.1.5;
   waiting = waiting;
-  not_yet = goes.1.1.5;
+  not_yet = not_yet;
   again = again;
   never = never;
   down = down;

@@ -1,15 +1,20 @@
 -- What a node hands out, as it stands once the lock is free again.
-use Rattle.std.specs.Prelude.{◌≡◌, ℕ, ◌<◌, ◌≤◌, List, [], ◌∷◌, ◌++◌, length, drop}
-use Rattle.std.specs.List.{AllByRecursion}
+use Rattle.std.specs.Prelude.{◌≡◌, ℕ, ◌<◌, ◌≤◌, Bool, false, List, [], ◌∷◌, ◌++◌, length, drop, Contains}
+use Rattle.std.specs.List.{AllByRecursion, slice_get}
 use Rattle.nr_model.specs.Bytes.{IsBeginningOf}
-use Rattle.nr_model.specs.Items.{Connection}
+use Rattle.nr_model.specs.Items.{Connection, Item, Sequence}
 use Rattle.nr_model.specs.Sequential.{emitted_for}
-use Rattle.nr_entry.specs.Jobs.{connection_of}
+use Rattle.nr_entry.specs.Jobs.{connection_of, items_of}
+use Rattle.nr_entry.specs.declared.conn.ConnId.{ConnId}
+use Rattle.nr_entry.specs.declared.batch.Answer.{Answer}
+use Rattle.nr_entry.specs.declared.batch.Batch.{Batch}
 use Rattle.nr_log_end.specs.declared.standing.Standing.{Standing}
 use Rattle.nr_log_end.specs.Standings.{record_of}
-use Rattle.nr_oplog.specs.declared.view.LogView.{LogView}
+use Rattle.nr_slots.specs.declared.view.Desk.{Desk}
 use Rattle.nr_replica.specs.declared.outbox.Piece.{Piece}
 use Rattle.nr_node.specs.Sound.{IsSound}
+use Rattle.nr_node.specs.declared.collecting.Handed.{Handed}
+use Rattle.nr_combiner.specs.Served.{AreExecuted, ComesFrom, HandsNoneBack}
 
 -- at most so many bytes for a connection of the node that stands so, which are emitted for it along the record, behind as many as the piece says
 pub record IsPieceOf (c : Connection) (most : ℕ) (piece : Piece) (s : Standing) : Type 0 where
@@ -20,16 +25,51 @@ pub record IsPieceOf (c : Connection) (most : ℕ) (piece : Piece) (s : Standing
   pub emitted : IsBeginningOf piece.bytes.items (drop piece.from (emitted_for (connection_of piece.conn) (record_of s.history)))
   pub sound : IsSound s
 
--- each is for a connection with a lower serial than those behind it
-abbrev pub AreRising : List (Piece × LogView) → Type 0
-AreRising [] = Unit {0}
-AreRising (one ∷ more) = AllByRecursion (λ (other : Piece × LogView). one.0.conn.serial < other.0.conn.serial) more × AreRising more
+-- a piece, told with whether its queue is cut: where it isn't, and the node is up, fewer bytes than were asked for are all that the record emits
+pub record IsHandedOf (most : ℕ) (down : Bool) (one : Handed) (s : Standing) : Type 0 where
+  pub piece : IsPieceOf (connection_of one.piece.conn) most one.piece s
+  pub whole : down ≡ false → one.is_cut ≡ false → length one.piece.bytes.items < most
+      → one.piece.bytes.items ≡ drop one.piece.from (emitted_for (connection_of one.piece.conn) (record_of s.history))
 
--- what was taken before stays in front, and each piece behind it is so, with its token: by serial, one for a connection at most, and all of one record
-pub record HasAdded (most : ℕ) (old new : List (Piece × LogView)) : Type 0 where
-  pub pieces : List (Piece × LogView)
+-- each is for a connection with a lower serial than those behind it
+abbrev pub AreRising : List Handed → Type 0
+AreRising [] = Unit {0}
+AreRising (one ∷ more) = AllByRecursion (λ (other : Handed). one.piece.conn.serial < other.piece.conn.serial) more × AreRising more
+
+-- What was taken before stays in front, and each piece behind it is so: by serial, one for a connection at most, and all of the record of one standing; and this
+-- holds of the connection of each.
+pub record HasAdded (most : ℕ) (down : Bool) (s : Standing) (P : Connection → Type 0) (old new : List Handed) : Type 0 where
+  pub pieces : List Handed
   pub behind : new ≡ old ++ pieces
-  pub all : AllByRecursion (λ (one : Piece × LogView). IsPieceOf (connection_of one.0.conn) most one.0 one.1.standing) pieces
+  pub all : AllByRecursion (λ (one : Handed). IsHandedOf most down one s) pieces
+  pub own : AllByRecursion (λ (one : Handed). P (connection_of one.piece.conn)) pieces
   pub rising : AreRising pieces
-  pub standing : Standing
-  pub same : AllByRecursion (λ (one : Piece × LogView). one.1.standing ≡ standing) pieces
+
+-- One of these batches has the job, and wasn't handed back by these answers.
+pub record IsHandedIn (posted : List Batch) (answered : List Answer) (job : Item) : Type 0 where
+  pub before : List Batch
+  pub batch : Batch
+  pub after : List Batch
+  pub posted_is : posted ≡ before ++ batch ∷ after
+  pub kept : HandsNoneBack (slice_get answered (length before))
+  pub has : ComesFrom job (items_of batch.jobs.items)
+
+-- so is each job of a connection in a record, by what a combiner has done at a desk
+abbrev pub AreHandedIn : Desk → Sequence → Connection → Type 0
+AreHandedIn desk done c = AllByRecursion (λ (job : Item). job.connection ≡ c → IsHandedIn desk.lifted desk.answered job) done
+
+-- the jobs of each batch that was answered as executed are in the record
+abbrev pub HasExecuted : Desk → Standing → Type 0
+HasExecuted desk s = AreExecuted (record_of s.history) desk.lifted desk.answered
+
+-- what was there stays in front, and each connection behind it is one of these
+pub record AddsSomeOf (conns old new : List ConnId) : Type 0 where
+  pub more : List ConnId
+  pub behind : new ≡ old ++ more
+  pub some : AllByRecursion (Contains conns) more
+
+-- what was there stays in front, and the first of all of these stand behind it, so that these are left
+pub record AddsFront (all old new left : List ConnId) : Type 0 where
+  pub more : List ConnId
+  pub behind : new ≡ old ++ more
+  pub front : more ++ left ≡ all

@@ -1,8 +1,8 @@
 -- What a combiner keeps of its node and of the batches that it lifted.
-use Rattle.std.specs.Prelude.{◌≡◌, ℕ, ◌<◌, false, List, [], ◌∷◌, ◌++◌, length, Contains, Option, Some, None, slice_index_or, refl}
+use Rattle.std.specs.Prelude.{◌≡◌, ℕ, ◌<◌, ◌≤◌, false, List, [], ◌∷◌, ◌++◌, length, Contains, Option, Some, None, slice_index_or, refl}
 use Rattle.std.specs.List.{AllByRecursion, slice_get}
 use Rattle.std.specs.Coded.{Coded, code_by, coded×, coded_ℕ}
-use Rattle.nr_model.specs.Items.{Item, Sequence}
+use Rattle.nr_model.specs.Items.{Item, Sequence, is_update}
 use Rattle.nr_model.specs.Entries.{Jobs}
 use Rattle.nr_entry.specs.Jobs.{items_of}
 use Rattle.nr_entry.specs.declared.batch.Batch.{Batch}
@@ -39,6 +39,17 @@ pub record IsAmong (job : Item) (jobs : Jobs) : Type 0 where
   pub connection : item.connection ≡ job.connection
   pub number : item.number ≡ job.number
   pub deed : item.deed ≡ job.deed
+
+-- One of these is the job, as it was handed in: it is of the same connection, and has its number and its deed. A read is run at its own moment, and an update at its
+-- own or a later one.
+pub record ComesFrom (job : Item) (jobs : Jobs) : Type 0 where
+  pub item : Item
+  pub there : Contains jobs item
+  pub connection : item.connection ≡ job.connection
+  pub number : item.number ≡ job.number
+  pub deed : item.deed ≡ job.deed
+  pub moment : item.moment ≤ job.moment
+  pub read : is_update job.deed ≡ false → job.moment ≡ item.moment
 
 -- the jobs that a node has: those in its record, and those that it has still to pass, to reserve or to run
 abbrev pub jobs_of : NodeState → Jobs
@@ -103,7 +114,7 @@ pub record IsOfBatch (n : NodeState) (desks : List Desk) (job : Item) : Type 0 w
   pub own : IsOfWorker n worker job
   pub batch : Batch
   pub lifted : IsLifted desks worker batch
-  pub has : IsAmong job (items_of batch.jobs.items)
+  pub has : ComesFrom job (items_of batch.jobs.items)
 
 abbrev pub IsOwnOfBatch : NodeState → List Desk → Item → Type 0
 IsOwnOfBatch n desks job = job.connection.node ≡ n.book.node → IsOfBatch n desks job

@@ -1,5 +1,5 @@
 -- What a combiner's calls come to.
-use Rattle.std.specs.Prelude.{◌≡◌, ◌≢◌, ◌↔◌, ◌⊎◌, ◌==◌, ◌-◌, ◌<◌, ◌≤◌, ℕ, zero, suc, true, false, if◌then◌else◌, List, [], ◌++◌, length, Option, Some, None, Result, Ok, Err}
+use Rattle.std.specs.Prelude.{◌≡◌, ◌≢◌, ◌↔◌, ◌⊎◌, ◌==◌, ◌-◌, ◌<◌, ◌≤◌, ℕ, zero, suc, Bool, true, false, if◌then◌else◌, List, [], ◌++◌, length, Option, Some, None, Result, Ok, Err}
 use Rattle.nr_blob.specs.declared.memory.Memory.{Memory}
 use Rattle.nr_entry.specs.declared.batch.Batch.{Batch}
 use Rattle.nr_entry.specs.declared.batch.Answer.{Answer}
@@ -22,6 +22,8 @@ use Rattle.nr_node.specs.declared.answers.TakeError.{TakeError}
 use Rattle.nr_node.specs.declared.answers.TakeError.TheVariants as errors
 use Rattle.nr_node.specs.declared.answers.OpenError as node_errors
 use Rattle.nr_node.specs.declared.answers.OpenError.TheVariants as node_error
+use Rattle.nr_combiner.specs.declared.answering.Lifts.{Lifts}
+use Rattle.nr_combiner.specs.declared.answering.Lifts.TheVariants as lifts
 use Rattle.nr_combiner.specs.declared.answering.OpenError.{OpenError}
 use Rattle.nr_combiner.specs.declared.answering.OpenError.TheVariants as open_errors
 use Rattle.nr_combiner.specs.Served.{CombinerState}
@@ -84,6 +86,15 @@ abbrev pub HasLiftedAll : ℕ → CombinerState → CombinerState → Type 0
 HasLiftedAll zero c d = d ≡ c
 HasLiftedAll (suc workers) c d = (mid : CombinerState) × HasLiftedAll workers c mid × HasLifted workers mid d
 
+-- so it was done at the slot of this worker alone, where the node has the worker
+abbrev pub HasLiftedOwn : ℕ → CombinerState → CombinerState → Type 0
+HasLiftedOwn worker c d = ((worker < length c.seat.desks) × HasLifted worker c d) ⊎ ((length c.seat.desks ≤ worker) × (d ≡ c))
+
+-- at the slots of all workers, or at that of this one
+abbrev pub HasLiftedBy : Lifts → ℕ → CombinerState → CombinerState → Type 0
+HasLiftedBy lifts.All worker c d = HasLiftedAll (length c.seat.desks) c d
+HasLiftedBy lifts.Own worker c d = HasLiftedOwn worker c d
+
 -- what became of the batch that was taken last from a worker is known, and was answered
 pub record Answers (worker : ℕ) (answer : Answer) (c d : CombinerState) : Type 0 where
   pub last : IsForLast answer (desk_of c.seat worker).lifted (desk_of c.seat worker).answered
@@ -119,15 +130,16 @@ pub record HasTried (places : ℕ) (r : Result Round Memory) (n m : NodeState) :
   pub down : (r ≡ Ok rounds.Down) ↔ (m.replica.down ≡ true)
   pub looks : (more : List Look) × (m.seat.looks ≡ n.seat.looks ++ more)
 
--- What a look comes to: entries were passed up to the tail that it loaded, or, where one of them isn't filled yet, up to there; and reads were run only where it is
--- done, and then all that led, while else all that waits goes on waiting.
-pub record HasLooked (looked : Result Round Memory) (entries : List Entry) (ran : List Job) (tail : ℕ) (n m : NodeState) : Type 0 where
+-- What a look comes to: entries were passed up to the tail that it loaded, or, where one of them isn't filled yet, up to there, which it tells, also where the replica
+-- is down; and reads were run only where it is done, and then all that led, while else all that waits goes on waiting.
+pub record HasLooked (looked : Result Round Memory) (behind : Bool) (entries : List Entry) (ran : List Job) (tail : ℕ) (n m : NodeState) : Type 0 where
   pub by : GoesOnBy entries ran tail n m
   pub read : looked ≡ Ok rounds.Done → HasRead ran tail n m
   pub none : looked ≢ Ok rounds.Done → ran ≡ []
-  pub reached : looked ≢ Ok rounds.NotYet → m.replica.down ≡ false → tail ≤ passed_of m.seat.standing
+  pub reached : behind ≡ false → tail ≤ passed_of m.seat.standing
+  pub stopped : behind ≡ true → passed_of m.seat.standing < tail
   pub waiting : looked ≢ Ok rounds.Done → m.replica.down ≡ false → (m.replica.waiting ≡ n.replica.waiting) × (m.next ≡ n.next)
-  pub not_yet : looked ≡ Ok rounds.NotYet → passed_of m.seat.standing < tail
+  pub not_yet : (looked ≡ Ok rounds.NotYet) ↔ ((behind ≡ true) × (m.replica.down ≡ false))
   pub again : looked ≡ Ok rounds.Again → n.next ≢ []
   pub never : looked ≢ Ok rounds.Full
   pub down : (looked ≡ Ok rounds.Down) ↔ (m.replica.down ≡ true)
@@ -149,11 +161,12 @@ outcome_of tried (Ok rounds.Full) = by_try tried rounds.Full
 outcome_of tried (Ok rounds.Again) = by_try tried rounds.Again
 outcome_of tried (Ok rounds.NotYet) = by_try tried rounds.NotYet
 
--- A turn of the combiner at a log of so many places: the batches that are offered, a try to reserve, a look, and the answers. So where it is done all updates
--- that were due stand in the log, and the reads that led were run behind all entries that there were as the look loaded the tail.
-pub record HasCombined (places : ℕ) (round : Result Round Memory) (workers : ℕ) (c d : CombinerState) : Type 0 where
+-- A turn of the combiner at a log of so many places: the batches that are offered at all slots, or at one worker's, a try to reserve, a look, and the answers. So where
+-- it is done all updates that were due stand in the log, and the reads that led were run behind all entries that there were as the look loaded the tail. Where it isn't
+-- behind, all those entries are passed, also by a node that is down.
+pub record HasCombined (places : ℕ) (which : Lifts) (worker : ℕ) (round : Result Round Memory) (behind : Bool) (c d : CombinerState) : Type 0 where
   pub lifted : CombinerState
-  pub has_lifted : HasLiftedAll workers c lifted
+  pub has_lifted : HasLiftedBy which worker c lifted
   pub try_is : Result Round Memory
   pub tried : NodeState
   pub has_tried : HasTried places try_is lifted.node tried
@@ -162,6 +175,6 @@ pub record HasCombined (places : ℕ) (round : Result Round Memory) (workers : �
   pub entries : List Entry
   pub ran : List Job
   pub tail : ℕ
-  pub has_looked : HasLooked look_is entries ran tail tried looked
+  pub has_looked : HasLooked look_is behind entries ran tail tried looked
   pub round_is : round ≡ outcome_of try_is look_is
-  pub has_answered : HasAnsweredAll workers (record { node = looked; seat = lifted.seat; taken = lifted.taken }) d
+  pub has_answered : HasAnsweredAll (length c.seat.desks) (record { node = looked; seat = lifted.seat; taken = lifted.taken }) d

@@ -1,22 +1,70 @@
 -- What a combiner hands out of what waits for a worker's connections, and what its turn for a worker comes to.
-use Rattle.std.specs.Prelude.{◌≡◌, ℕ, ◌<◌, ◌≤◌, List, length, Result, Ok}
+use Rattle.std.specs.Prelude.{◌≡◌, ◌↔◌, ℕ, ◌<◌, ◌≤◌, Bool, true, false, List, length, Result, Ok, Err}
 use Rattle.nr_blob.specs.declared.memory.Memory.{Memory}
-use Rattle.nr_oplog.specs.declared.view.LogView.{LogView}
-use Rattle.nr_replica.specs.declared.outbox.Piece.{Piece}
+use Rattle.nr_log_end.specs.declared.standing.Standing.{Standing}
+use Rattle.nr_slots.specs.Seats.{NoteView, note_of}
 use Rattle.nr_node.specs.Collected.{Collects}
+use Rattle.nr_node.specs.Steps.{IsStill}
+use Rattle.nr_node.specs.declared.answers.Round.{Round}
+use Rattle.nr_node.specs.declared.answers.Round.TheVariants as rounds
+use Rattle.nr_node.specs.declared.collecting.Handed.{Handed}
+use Rattle.nr_combiner.specs.declared.answering.Collected.{Collected}
+use Rattle.nr_combiner.specs.declared.answering.Lifts.{Lifts}
 use Rattle.nr_combiner.specs.declared.answering.Turned.{Turned}
-use Rattle.nr_combiner.specs.Served.{CombinerState}
+use Rattle.nr_combiner.specs.Served.{CombinerState, IsServed}
 use Rattle.nr_combiner.specs.Steps.{HasCombined}
 
 -- a piece of what waited for each of a worker's connections was handed out, and nothing else changed but at the node; one that the node doesn't have got nothing
-pub record HasCollectedFor (worker most : ℕ) (old new : List (Piece × LogView)) (result : Result (Unit {0}) Memory) (c d : CombinerState) : Type 0 where
+pub record HasCollectedFor (worker most : ℕ) (old new : List Handed) (result : Result (Unit {0}) Memory) (c d : CombinerState) : Type 0 where
   pub own : worker < length c.seat.desks → Collects worker most old new result c.node d.node
   pub stranger : length c.seat.desks ≤ worker → (result ≡ Ok tt) × (new ≡ old) × (d ≡ c)
   pub seat : d.seat ≡ c.seat
   pub taken : d.taken ≡ c.taken
 
--- a turn of the combiner, and then, whatever came of it, pieces of what waits for a worker's connections are handed out; what came of each is told
-pub record HasTurned (places worker most : ℕ) (old new : List (Piece × LogView)) (turned : Turned) (c d : CombinerState) : Type 0 where
+-- So it was, and then it is kept how the node stands, and what its combiner has done.
+pub record HandsOutTo (worker most : ℕ) (old new : List Handed) (result : Result (Unit {0}) Memory) (s : Standing) (note : NoteView) (c d : CombinerState) : Type 0 where
+  pub collected : CombinerState
+  pub has_collected : HasCollectedFor worker most old new result c collected
+  pub still : IsStill collected.node d.node
+  pub seat : d.seat ≡ collected.seat
+  pub taken : d.taken ≡ collected.taken
+  pub token : s ≡ d.node.seat.standing
+  pub note_is : note ≡ note_of d.seat
+
+-- A turn of the combiner, which lifts from all slots or from the worker's own, and then, whatever came of it, pieces of what waits for the worker's connections are
+-- handed out; what came of each is told.
+pub record HasTurned (places worker : ℕ) (which : Lifts) (most : ℕ) (old new : List Handed) (turned : Turned) (s : Standing) (note : NoteView) (c d : CombinerState) : Type 0 where
   pub combined : CombinerState
-  pub has_combined : HasCombined places turned.combined (length c.seat.desks) c combined
-  pub has_collected : HasCollectedFor worker most old new turned.collected combined d
+  pub has_combined : HasCombined places which worker turned.combined turned.is_behind c combined
+  pub handed : HandsOutTo worker most old new turned.collected s note combined d
+
+-- So a node behind its lock did it, from some state to another: it is down exactly where it says so, and keeps what a combiner keeps.
+pub record TurnsBehind (places node worker : ℕ) (which : Lifts) (most : ℕ) (old new : List Handed) (turned : Turned) (s : Standing) (note : NoteView) : Type 0 where
+  pub before : CombinerState
+  pub after : CombinerState
+  pub has_turned : HasTurned places worker which most old new turned s note before after
+  pub node_is : before.node.book.node ≡ node
+  pub standing : s.node ≡ node
+  pub down : (turned.combined ≡ Ok rounds.Down) ↔ (after.node.replica.down ≡ true)
+  pub numbers : List ℕ
+  pub served : IsServed after.node after.seat numbers
+
+-- So it handed out alone, without a turn: no batch is lifted or answered, nothing is put into the log, and no entry is passed.
+pub record CollectsBehind (node worker most : ℕ) (old new : List Handed) (told : Collected) (s : Standing) (note : NoteView) : Type 0 where
+  pub before : CombinerState
+  pub after : CombinerState
+  pub handed : HandsOutTo worker most old new told.result s note before after
+  pub node_is : before.node.book.node ≡ node
+  pub standing : s.node ≡ node
+  pub down : told.is_down ≡ after.node.replica.down
+  pub numbers : List ℕ
+  pub served : IsServed after.node after.seat numbers
+
+-- whether a turn tells that the replica is down
+abbrev pub tells_down : Result Round Memory → Bool
+tells_down (Ok rounds.Down) = true
+tells_down (Ok rounds.Done) = false
+tells_down (Ok rounds.Full) = false
+tells_down (Ok rounds.Again) = false
+tells_down (Ok rounds.NotYet) = false
+tells_down (Err memory) = false

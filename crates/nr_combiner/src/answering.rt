@@ -21,13 +21,38 @@ pub enum OpenError {
     Memory,
 }
 
-/// What came of a turn for a worker.
+/// The slots from which a turn lifts batches.
+#[derive(Clone, Copy, Debug, PartialEq, Eq)]
+pub enum Lifts {
+    /// Those of all workers of the node.
+    All,
+    /// That of the worker whose turn it is, alone.
+    Own,
+}
+
+/// What came of a turn for a worker. Nothing rests on what is told from `has_put` on: it says whom to wake.
 #[derive(Clone, Copy, Debug, PartialEq, Eq)]
 pub struct Turned {
     /// Of the combiner's turn.
     pub combined: Result<Round, Memory>,
     /// Of handing out: a piece for each of the worker's connections for which bytes waited, or fewer, since memory ran out.
     pub collected: Result<(), Memory>,
+    /// Whether an entry that was reserved before isn't filled yet: else the node has passed all that there were, also where it is down.
+    pub is_behind: bool,
+    /// Whether an entry was put into the log.
+    pub has_put: bool,
+    /// The other workers of the node that were answered, or for which bytes wait: a bit for each, worker 0's the lowest.
+    pub others: u16,
+    /// Whether an entry is due still: updates lead.
+    pub leads_update: bool,
+}
+
+/// What came of handing out what waits for a worker's connections, without a turn.
+#[derive(Clone, Copy, Debug, PartialEq, Eq)]
+pub struct Collected {
+    /// A piece for each of the worker's connections for which bytes waited, or fewer, since memory ran out.
+    pub result: Result<(), Memory>,
+    pub is_down: bool,
 }
 
 /// Why one wasn't opened where there is room.

@@ -1,25 +1,28 @@
 // What stands behind a node's lock: the node, and its combiner's seat at the slots.
-ghost use Rattle.std.specs.Prelude.{if◌then◌else◌, ◌-◌, ◌≡◌, ◌≢◌, ◌↔◌, ◌⊎◌, ◌<◌, ◌≤◌, ◌++◌, [], ℕ, length, replicate, true, false, Ok, Err, None, IfOk, IfErr, IfSome, IfNone, OnOk, OnErr};
+ghost use Rattle.std.specs.Prelude.{Bool, cond, ◌∷◌, filter, if◌then◌else◌, ◌-◌, ◌≡◌, ◌≢◌, ◌↔◌, ◌⊎◌, ◌<◌, ◌≤◌, ◌++◌, [], ℕ, length, replicate, true, false, Ok, Err, None, IfOk, IfErr, IfSome, IfNone, OnOk, OnErr, List};
 ghost use Rattle.std.specs.Arc.{arc_value};
 ghost use Rattle.std.specs.List.{AllByRecursion};
 ghost use Rattle.nr_entry.specs.Jobs.{connection_of, items_of};
-ghost use Rattle.nr_slots.specs.Seats.{new_combiner};
+ghost use Rattle.nr_slots.specs.Seats.{new_combiner, note_of};
 ghost use Rattle.nr_node.specs.Level.{connection_at, queue_at};
-ghost use Rattle.nr_node.specs.Batches.{AreSame, IsOpened, IsPiece};
+ghost use Rattle.nr_node.specs.Batches.{AreSame, is_cut_at, IsOpened, IsPiece};
 ghost use Rattle.nr_node.specs.Owing.{IsServedBy};
 ghost use Rattle.nr_node.specs.Sound.{IsSound};
-ghost use Rattle.nr_node.specs.Steps.{taken_node, HasHandedOut};
-ghost use Rattle.nr_combiner.specs.Served.{owed_at, HasNoJobs};
-ghost use Rattle.nr_combiner.specs.Steps.{HasRoom, opened_combiner, closed_combiner, refusal_at, IsRefusedFor, HasLifted, HasLiftedAll, HasAnswered, HasAnsweredAll, HasTried, HasCombined, outcome_of};
-ghost use Rattle.nr_combiner.specs.Turned.{HasCollectedFor, HasTurned};
+ghost use Rattle.nr_node.specs.Steps.{taken_node, refusing_node, is_due, HasHandedOut, IsStill};
+ghost use Rattle.nr_combiner.specs.Pieces.{AddsFront};
+ghost use Rattle.nr_combiner.specs.Served.{owed_at, HasNoJobs, IsServed};
+ghost use Rattle.nr_combiner.specs.Steps.{HasRoom, opened_combiner, closed_combiner, refusal_at, IsRefusedFor, HasLifted, HasLiftedAll, HasLiftedBy, HasLiftedOwn, HasAnswered, HasAnsweredAll, HasTried, HasCombined, outcome_of};
+ghost use Rattle.nr_combiner.specs.Turned.{HandsOutTo, HasCollectedFor, HasTurned};
 
-use crate::answering::{OpenError, Turned, hand_back, open_error};
+use crate::answering::{Collected, Lifts, OpenError, Turned, hand_back, open_error};
+use crate::name::ServerName;
+use crate::told::{Told, ToldPieces};
 use nr_blob::Memory;
 use nr_entry::{Answer, Batch, ConnId};
-use nr_node::{Core, Round, Shape, TakeError};
+use nr_node::{Core, Handed, Round, Shape, TakeError};
 use nr_oplog::{LogName, Token};
 use nr_replica::Piece;
-use nr_slots::{CombinerSeat, Slots};
+use nr_slots::{CombinerSeat, Note, Slots};
 use std::alloc::Global;
 use std::marker::Model;
 use std::sync::Arc;
@@ -27,7 +30,7 @@ use std::sync::Arc;
 /// A node with the seat of its combiner. Whatever other threads do, between two calls each job of a batch that was answered as executed is in the node's
 /// record, and of each worker at most one batch that was lifted isn't answered.
 #[derive(Drop)]
-pub struct Combiner<B: LogName> {
+pub struct Combiner<B: ServerName> {
     core: Core<B>,
     seat: CombinerSeat,
     slots: Arc<Slots, Global>,
@@ -38,7 +41,7 @@ pub struct Combiner<B: LogName> {
     taken: usize,
 }
 
-impl<B: LogName> Model for Combiner<B> {
+impl<B: ServerName> Model for Combiner<B> {
     ghost use Rattle.std.specs.Prelude.{◌≡◌};
     ghost use Rattle.std.specs.Arc.{arc_value};
     ghost use Rattle.nr_combiner.specs.Served.{CombinerState, coded_combiner, IsServed};
@@ -49,10 +52,19 @@ impl<B: LogName> Model for Combiner<B> {
 
     ghost view = { λ c. record { node = c.core; seat = c.seat; taken = c.taken } };
 
-    ghost invariant = { λ c. IsServed c.core c.seat c.numbers.items × (c.seat.slots ≡ (arc_value c.slots).id) × (c.node ≡ c.core.book.node) };
+    ghost invariant = { λ c. IsServed c.core c.seat c.numbers.items × (c.seat.slots ≡ (arc_value c.slots).id) × (c.node ≡ c.core.book.node) × (c.seat.slots ≡ B.slots c.core.book.node) };
 }
 
-impl<B: LogName> Combiner<B> {
+// What came of a turn of the combiner, and whom it answered.
+#[derive(Clone, Copy, Debug)]
+struct Combined {
+    round: Result<Round, Memory>,
+    is_behind: bool,
+    has_put: bool,
+    answered: u16,
+}
+
+impl<B: ServerName> Combiner<B> {
     /// A node that has no job and no connection yet, with the seat of its combiner at these slots.
     pub fn new(
         alloc: Global,
@@ -66,6 +78,7 @@ impl<B: LogName> Combiner<B> {
         requires idle { HasNoJobs core }
         requires connections { core.replica.members ≡ [] }
         requires seat { seat ≡ new_combiner (arc_value slots).id shape.workers }
+        requires named { (arc_value slots).id ≡ B.slots shape.node }
         ensures { IfOk result (λ combiner. combiner ≡ record { node = core; seat = seat; taken = 0 }) }
     {
         let mut numbers = Vec::with_capacity(alloc, shape.workers)?;
@@ -78,6 +91,13 @@ impl<B: LogName> Combiner<B> {
             node: shape.node,
             taken: 0,
         })
+    }
+
+    /// Which node it is, from 0 on.
+    pub fn node(&self) -> usize
+        ensures { result ≡ self.now.node.book.node }
+    {
+        self.node
     }
 
     /// Whether the replica is down.
@@ -139,7 +159,7 @@ impl<B: LogName> Combiner<B> {
         &mut self,
         worker: usize,
         most: usize,
-        taken: &mut Vec<(Piece, Token<B>)>,
+        taken: &mut Vec<Handed>,
     ) -> Result<(), Memory>
         requires { 0 < most }
         ensures { HasCollectedFor worker most taken.old.items taken.new.items result self.old self.new }
@@ -150,18 +170,109 @@ impl<B: LogName> Combiner<B> {
         self.core.collect(worker, most, taken)
     }
 
-    /// A turn for a worker: [`Combiner::combine`], and then, whatever came of it, [`Combiner::collect`].
-    pub fn turn(&mut self, worker: usize, most: usize, taken: &mut Vec<(Piece, Token<B>)>) -> Turned
+    /// [`Combiner::collect`], with a token and a note that keep how the node stands behind it, also where nothing was handed out: two loads. No slot is looked at,
+    /// and nothing is put into the log or passed there.
+    pub fn collect_pieces(
+        &mut self,
+        worker: usize,
+        most: usize,
+        taken: &mut Vec<Handed>,
+    ) -> ToldPieces<B>
         requires { 0 < most }
-        ensures turned { HasTurned B.places worker most taken.old.items taken.new.items result self.old self.new }
-        ensures down { (result.combined ≡ Ok Round.Down) ↔ (self.new.node.replica.down ≡ true) }
+        ensures handed { HandsOutTo worker most taken.old.items taken.new.items result.collected.result result.token.standing result.note self.old self.new }
+        ensures down { result.collected.is_down ≡ self.new.node.replica.down }
+        ensures served { (numbers : List ℕ) × IsServed self.new.node self.new.seat numbers }
+        ensures sound { IsSound result.token.standing }
+        ensures node { result.token.standing.node ≡ self.old.node.book.node }
+        ensures named { result.note.slots ≡ B.slots self.old.node.book.node }
     {
-        let combined = self.combine();
-        let collected = self.collect(worker, most, taken);
-        Turned {
-            combined,
-            collected,
+        let result = self.collect(worker, most, taken);
+        let (token, note) = self.keep();
+        let is_down = self.is_down();
+        ToldPieces {
+            collected: Collected { result, is_down },
+            token,
+            note,
         }
+    }
+
+    /// A turn for a worker: [`Combiner::combine`], or the same with the worker's own slot alone, and then, whatever came of it, [`Combiner::collect_pieces`].
+    pub fn turn(
+        &mut self,
+        worker: usize,
+        lifts: Lifts,
+        most: usize,
+        taken: &mut Vec<Handed>,
+    ) -> Told<B>
+        requires { 0 < most }
+        ensures turned { HasTurned B.places worker lifts most taken.old.items taken.new.items result.turned result.token.standing result.note self.old self.new }
+        ensures down { (result.turned.combined ≡ Ok Round.Down) ↔ (self.new.node.replica.down ≡ true) }
+        ensures served { (numbers : List ℕ) × IsServed self.new.node self.new.seat numbers }
+        ensures sound { IsSound result.token.standing }
+        ensures node { result.token.standing.node ≡ self.old.node.book.node }
+        ensures named { result.note.slots ≡ B.slots self.old.node.book.node }
+    {
+        let combined = self.combine_by(lifts, worker);
+        let told = self.collect_pieces(worker, most, taken);
+        let others = self.others(worker, combined.answered);
+        let leads_update = self.leads_update();
+        let turned = Turned {
+            combined: combined.round,
+            collected: told.collected.result,
+            is_behind: combined.is_behind,
+            has_put: combined.has_put,
+            others,
+            leads_update,
+        };
+        Told {
+            turned,
+            token: told.token,
+            note: told.note,
+        }
+    }
+
+    /// Adds those of these connections for which nothing more comes to wait: they were closed, or their queues were cut. Logarithmic for each. Where memory runs
+    /// out the last of them are left out.
+    pub fn cut_among(&self, conns: &[ConnId], cut: &mut Vec<ConnId>) -> Result<(), Memory>
+        ensures all { OnOk result (cut.new.items ≡ cut.old.items ++ filter (is_cut_at self.now.node) conns.now) }
+        ensures front { OnErr result ((left : List ConnId) × AddsFront (filter (is_cut_at self.now.node) conns.now) cut.old.items cut.new.items left) }
+    {
+        add_cut(&self.core, conns, cut)
+    }
+
+    /// The next entry that the node applies is refused, as where memory runs out: then its replica falls. It is for tests.
+    pub fn refuse(&mut self)
+        ensures { self.new ≡ record self.old { node = refusing_node self.old.node } }
+    {
+        self.core.refuse();
+    }
+
+    // Whether an entry is due.
+    fn leads_update(&self) -> bool
+        ensures { result ≡ is_due self.now.node }
+    {
+        self.core.is_due()
+    }
+
+    // The other workers that were answered, which are these, or for which bytes wait.
+    fn others(&self, worker: usize, answered: u16) -> u16 {
+        let mut others = answered;
+        for other in 0..self.numbers.len() {
+            others = marked(others, other, self.core.has_ready(other));
+        }
+        others & !marked(0, worker, true)
+    }
+
+    // A token and a note that keep how it stands.
+    fn keep(&mut self) -> (Token<B>, Note)
+        ensures token { (result.0.standing ≡ self.old.node.seat.standing) × IsSound result.0.standing × (result.0.standing.node ≡ self.old.node.book.node) }
+        ensures note { (result.1 ≡ note_of self.old.seat) × (result.1.slots ≡ B.slots self.old.node.book.node) }
+        ensures still { IsStill self.old.node self.new.node × (self.new.seat ≡ self.old.seat) × (self.new.taken ≡ self.old.taken) }
+        ensures served { (numbers : List ℕ) × IsServed self.new.node self.new.seat numbers }
+    {
+        let token = self.core.token();
+        let note = self.seat.note(&self.slots);
+        (token, note)
     }
 
     /// A turn of the combiner: it lifts the batches that its workers offer, one each, and takes in their jobs; puts one entry of updates into the log, those of an
@@ -173,15 +284,29 @@ impl<B: LogName> Combiner<B> {
     /// [`Round::NotYet`] where an entry isn't filled yet; [`Round::Down`] where the replica is down, or fell, with which all that waited is lost. An error for want
     /// of memory loses no job. Its cost is that of its steps: two loads for each worker, and then for each job and each entry what it costs there.
     pub fn combine(&mut self) -> Result<Round, Memory>
-        ensures combined { HasCombined B.places result (length self.old.seat.desks) self.old self.new }
+        ensures combined { (behind : Bool) × HasCombined B.places Lifts.All 0 result behind self.old self.new }
         ensures down { (result ≡ Ok Round.Down) ↔ (self.new.node.replica.down ≡ true) }
     {
+        self.combine_by(Lifts::All, 0).round
+    }
+
+    // So it is done with the slots of all workers, or with that of this one alone.
+    fn combine_by(&mut self, lifts: Lifts, worker: usize) -> Combined
+        ensures combined { HasCombined B.places lifts worker result.round result.is_behind self.old self.new }
+        ensures down { (result.round ≡ Ok Round.Down) ↔ (self.new.node.replica.down ≡ true) }
+    {
         let workers = self.numbers.len();
-        lift_all(self, workers);
+        lift_by(self, lifts, worker, workers);
+        let was_due = self.core.is_due();
         let tried = try_to_reserve(&mut self.core);
         let looked = self.core.look();
-        answer_all(self, workers);
-        outcome(tried, looked)
+        let answered = answer_all(self, workers);
+        Combined {
+            round: outcome(tried, looked.round),
+            is_behind: looked.is_behind,
+            has_put: has_put(was_due, tried),
+            answered,
+        }
     }
 
     // Whether there is room for a connection that this worker serves, where so many may be open.
@@ -208,13 +333,13 @@ impl<B: LogName> Combiner<B> {
         hand_back(&mut self.seat, &self.slots, worker, batch, why);
     }
 
-    // Answers a worker's batch, once it is known what became of it.
-    fn answer(&mut self, worker: usize)
+    // Answers a worker's batch, once it is known what became of it. Whether it is.
+    fn answer(&mut self, worker: usize) -> bool
         requires { worker < length self.old.seat.desks }
         ensures answered { HasAnswered worker self.old self.new }
     {
         let Some(outcome) = self.core.answer(worker) else {
-            return;
+            return false;
         };
         let answer = Answer {
             node: self.node,
@@ -223,6 +348,7 @@ impl<B: LogName> Combiner<B> {
             outcome,
         };
         self.seat.answer(&self.slots, worker, answer);
+        true
     }
 }
 
@@ -237,8 +363,30 @@ fn left_open(taken: usize, was_open: bool) -> usize
     }
 }
 
+// Lifts a batch of each worker, of which there are so many, or of this one alone.
+fn lift_by<B: ServerName>(combiner: &mut Combiner<B>, lifts: Lifts, worker: usize, workers: usize)
+    requires { workers ≡ length combiner.old.seat.desks }
+    ensures { HasLiftedBy lifts worker combiner.old combiner.new }
+{
+    match lifts {
+        Lifts::All => lift_all(combiner, workers),
+        Lifts::Own => lift_own(combiner, worker, workers),
+    }
+}
+
+// Lifts a batch of this worker, where there is such a one among so many.
+fn lift_own<B: ServerName>(combiner: &mut Combiner<B>, worker: usize, workers: usize)
+    requires { workers ≡ length combiner.old.seat.desks }
+    ensures { HasLiftedOwn worker combiner.old combiner.new }
+{
+    if worker >= workers {
+        return;
+    }
+    combiner.lift(worker);
+}
+
 // Lifts a batch of each worker.
-fn lift_all<B: LogName>(combiner: &mut Combiner<B>, workers: usize)
+fn lift_all<B: ServerName>(combiner: &mut Combiner<B>, workers: usize)
     requires { workers ≡ length combiner.old.seat.desks }
     ensures { HasLiftedAll workers combiner.old combiner.new }
 {
@@ -247,14 +395,62 @@ fn lift_all<B: LogName>(combiner: &mut Combiner<B>, workers: usize)
     }
 }
 
-// Answers all batches of which it is known what became of them.
-fn answer_all<B: LogName>(combiner: &mut Combiner<B>, workers: usize)
+// Answers all batches of which it is known what became of them, and tells whose these are.
+fn answer_all<B: ServerName>(combiner: &mut Combiner<B>, workers: usize) -> u16
     requires { workers ≡ length combiner.old.seat.desks }
     ensures { HasAnsweredAll workers combiner.old combiner.new }
 {
+    let mut answered = 0;
     for worker in 0..workers {
-        combiner.answer(worker);
+        let is_answered = combiner.answer(worker);
+        answered = marked(answered, worker, is_answered);
     }
+    answered
+}
+
+// The bits, with that of a worker where it is to be set.
+fn marked(bits: u16, worker: usize, is_set: bool) -> u16 {
+    if is_set && worker < 16 {
+        bits | (1 << worker)
+    } else {
+        bits
+    }
+}
+
+// Whether an entry was put into the log, by whether one was due.
+fn has_put(was_due: bool, tried: Result<Round, Memory>) -> bool {
+    was_due && matches!(tried, Ok(Round::Done))
+}
+
+// Adds those of these connections for which nothing more comes to wait.
+fn add_cut<B: LogName>(
+    core: &Core<B>,
+    conns: &[ConnId],
+    cut: &mut Vec<ConnId>,
+) -> Result<(), Memory>
+    ensures all { OnOk result (cut.new.items ≡ cut.old.items ++ filter (is_cut_at core.now) conns.now) }
+    ensures front { OnErr result ((left : List ConnId) × AddsFront (filter (is_cut_at core.now) conns.now) cut.old.items cut.new.items left) }
+{
+    for conn in conns {
+        add_if_cut(core, conn, cut)?;
+    }
+    Ok(())
+}
+
+// Adds a connection, where nothing more comes to wait for it.
+fn add_if_cut<B: LogName>(
+    core: &Core<B>,
+    conn: &ConnId,
+    cut: &mut Vec<ConnId>,
+) -> Result<(), Memory>
+    ensures added { OnOk result (cut.new.items ≡ cond (is_cut_at core.now conn.now) (cut.old.items ++ conn.now ∷ []) cut.old.items) }
+    ensures same { OnErr result (cut.new.items ≡ cut.old.items) }
+{
+    if !core.is_cut(*conn) {
+        return Ok(());
+    }
+    cut.push(*conn)?;
+    Ok(())
 }
 
 // Takes in a batch that lay in a worker's slot.

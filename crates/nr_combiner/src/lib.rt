@@ -1,14 +1,20 @@
 //! A node with its combiner behind a lock, as its workers share it.
 #![tactic(auto)]
 
-pub use answering::{OpenError, Turned};
-pub use building::{BuildError, Plan, build};
+pub use answering::{Collected, Lifts, OpenError, Turned};
+pub use building::{Plan, build};
 pub use combiner::Combiner;
+pub use name::ServerName;
 pub use node::Node;
-pub use worker::Worker;
+pub use opened::{BuildError, OpenedSlots, open_slots};
+pub use told::{Told, ToldPieces};
+pub use worker::{MOST_JOBS, Worker};
 
 mod answering;
 mod building;
 mod combiner;
+mod name;
 mod node;
+mod opened;
+mod told;
 mod worker;

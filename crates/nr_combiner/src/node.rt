@@ -1,15 +1,21 @@
 // A node as all its workers share it: behind a lock, with the log and the slots beside it.
-ghost use Rattle.std.specs.Prelude.{◌≡◌, ◌<◌, IfOk, IfSome};
+ghost use Rattle.std.specs.Prelude.{◌≡◌, ◌<◌, IfOk, IfSome, IfNone, slice_index_or};
 ghost use Rattle.std.specs.Arc.{arc_value};
 ghost use Rattle.nr_entry.specs.Jobs.{connection_of};
-ghost use Rattle.nr_combiner.specs.Pieces.{IsPieceOf, HasAdded};
+ghost use Rattle.nr_log_end.specs.Standings.{record_of};
+ghost use Rattle.nr_slots.specs.Rule.{no_desk};
+ghost use Rattle.nr_node.specs.Sound.{IsSound};
+ghost use Rattle.nr_combiner.specs.Pieces.{AddsSomeOf, AreHandedIn, HasAdded, HasExecuted, IsPieceOf};
+ghost use Rattle.nr_combiner.specs.Turned.{CollectsBehind, TurnsBehind, tells_down};
 
-use crate::answering::{OpenError, Turned};
+use crate::answering::{Lifts, OpenError};
 use crate::combiner::Combiner;
+use crate::name::ServerName;
+use crate::told::{Told, ToldPieces};
 use nr_blob::Memory;
 use nr_entry::ConnId;
-use nr_node::Round;
-use nr_oplog::{LogName, Oplog, Token};
+use nr_node::{Handed, Round};
+use nr_oplog::{Oplog, Token};
 use nr_replica::Piece;
 use nr_slots::Slots;
 use std::alloc::Global;
@@ -19,7 +25,7 @@ use std::sync::{Arc, Mutex, Wait};
 /// A node, as its workers share it. Each call takes its lock once, for as long as its work takes. Contracts see which it is, its slots and its limits: what stands
 /// behind the lock changes between any two calls, so what they say of it is what was handed out.
 #[derive(Drop)]
-pub struct Node<B: LogName> {
+pub struct Node<B: ServerName> {
     node: usize,
     combiner: Mutex<Combiner<B>>,
     log: Arc<Oplog<B>, Global>,
@@ -29,16 +35,19 @@ pub struct Node<B: LogName> {
     limit: usize,
 }
 
-impl<B: LogName> Model for Node<B> {
+impl<B: ServerName> Model for Node<B> {
+    ghost use Rattle.std.specs.Prelude.{◌≡◌};
     ghost use Rattle.std.specs.Arc.{arc_value};
     ghost use Rattle.nr_combiner.specs.Shared.{NodeView};
 
     ghost Value = { NodeView };
 
     ghost view = { λ n. record { node = n.node; slots = arc_value n.slots; connections = n.connections; limit = n.limit } };
+
+    ghost invariant = { λ n. (arc_value n.slots).id ≡ B.slots n.node };
 }
 
-impl<B: LogName> Node<B> {
+impl<B: ServerName> Node<B> {
     /// The node of this number behind its lock, with its slots and the log beside it, of which at most so many connections are open, and for each of which at most
     /// `limit` bytes wait.
     pub fn new(
@@ -50,7 +59,7 @@ impl<B: LogName> Node<B> {
         limit: usize,
     ) -> Node<B>
         requires node { combiner.node.book.node ≡ node }
-        requires slots { combiner.seat.slots ≡ (arc_value slots).id }
+        requires slots { (arc_value slots).id ≡ B.slots node }
         ensures { result ≡ record { node = node; slots = arc_value slots; connections = connections; limit = limit } }
     {
         Node {
@@ -77,7 +86,8 @@ impl<B: LogName> Node<B> {
 
     /// The slots in which its workers hand in their batches.
     pub fn slots(&self) -> &Slots
-        ensures { result.now ≡ self.now.slots }
+        ensures slots { result.now ≡ self.now.slots }
+        ensures named { result.now.id ≡ B.slots self.now.node }
     {
         &self.slots
     }
@@ -114,17 +124,68 @@ impl<B: LogName> Node<B> {
         self.combiner.lock(rt).take_piece(conn, most)
     }
 
-    /// [`Combiner::turn`] behind the lock, which it takes once.
+    /// [`Combiner::turn`] behind the lock, which it takes once. `None` where another node stands behind it, which there never is: then nothing is done.
     pub fn turn<R: Wait>(
         &self,
         rt: &R,
         worker: usize,
+        lifts: Lifts,
         most: usize,
-        taken: &mut Vec<(Piece, Token<B>)>,
-    ) -> Turned
+        taken: &mut Vec<Handed>,
+    ) -> Option<Told<B>>
         requires { 0 < most }
-        ensures { HasAdded most taken.old.items taken.new.items }
+        ensures turned { IfSome result (λ told. TurnsBehind B.places self.now.node worker lifts most taken.old.items taken.new.items told.turned told.token.standing told.note) }
+        ensures added { IfSome result (λ told. HasAdded most (tells_down told.turned.combined) told.token.standing (AreHandedIn (slice_index_or told.note.desks worker no_desk) (record_of told.token.standing.history)) taken.old.items taken.new.items) }
+        ensures executed { IfSome result (λ told. HasExecuted (slice_index_or told.note.desks worker no_desk) told.token.standing) }
+        ensures sound { IfSome result (λ told. IsSound told.token.standing × (told.token.standing.node ≡ self.now.node)) }
+        ensures named { IfSome result (λ told. told.note.slots ≡ B.slots self.now.node) }
+        ensures none { IfNone result (taken.new.items ≡ taken.old.items) }
     {
-        self.combiner.lock(rt).turn(worker, most, taken)
+        let mut combiner = self.combiner.lock(rt);
+        if combiner.node() != self.node {
+            return None;
+        }
+        Some(combiner.turn(worker, lifts, most, taken))
+    }
+
+    /// [`Combiner::collect_pieces`] behind the lock, which it takes once: what waits for a worker's connections is handed out without a turn. `None` where another
+    /// node stands behind it, which there never is: then nothing is done.
+    pub fn collect_pieces<R: Wait>(
+        &self,
+        rt: &R,
+        worker: usize,
+        most: usize,
+        taken: &mut Vec<Handed>,
+    ) -> Option<ToldPieces<B>>
+        requires { 0 < most }
+        ensures handed { IfSome result (λ told. CollectsBehind self.now.node worker most taken.old.items taken.new.items told.collected told.token.standing told.note) }
+        ensures added { IfSome result (λ told. HasAdded most told.collected.is_down told.token.standing (AreHandedIn (slice_index_or told.note.desks worker no_desk) (record_of told.token.standing.history)) taken.old.items taken.new.items) }
+        ensures executed { IfSome result (λ told. HasExecuted (slice_index_or told.note.desks worker no_desk) told.token.standing) }
+        ensures sound { IfSome result (λ told. IsSound told.token.standing × (told.token.standing.node ≡ self.now.node)) }
+        ensures named { IfSome result (λ told. told.note.slots ≡ B.slots self.now.node) }
+        ensures none { IfNone result (taken.new.items ≡ taken.old.items) }
+    {
+        let mut combiner = self.combiner.lock(rt);
+        if self.node != combiner.node() {
+            return None;
+        }
+        Some(combiner.collect_pieces(worker, most, taken))
+    }
+
+    /// [`Combiner::cut_among`] behind the lock, which it takes once for all of these connections.
+    pub fn cut_among<R: Wait>(
+        &self,
+        rt: &R,
+        conns: &[ConnId],
+        cut: &mut Vec<ConnId>,
+    ) -> Result<(), Memory>
+        ensures { AddsSomeOf conns.now cut.old.items cut.new.items }
+    {
+        self.combiner.lock(rt).cut_among(conns, cut)
+    }
+
+    /// [`Combiner::refuse`] behind the lock. It is for tests.
+    pub fn refuse<R: Wait>(&self, rt: &R) {
+        self.combiner.lock(rt).refuse();
     }
 }

@@ -1,23 +1,30 @@
 // A worker at its node.
-ghost use Rattle.std.specs.Prelude.{◌≡◌, ◌↔◌, ◌+◌, ◌^◌, ◌<◌, length, IsOk, IfErr, IfSome, IfNone, OnOk, OnErr};
+ghost use Rattle.std.specs.Prelude.{◌≡◌, ◌↔◌, ◌+◌, ◌^◌, ◌<◌, ◌≤◌, length, IsOk, IfErr, IfSome, IfNone, OnOk, OnErr};
 ghost use Rattle.std.specs.Arc.{arc_value};
 ghost use Rattle.nr_slots.specs.Seats.{new_worker};
-ghost use Rattle.nr_combiner.specs.Pieces.{HasAdded};
+ghost use Rattle.nr_node.specs.Sound.{IsSound};
+ghost use Rattle.nr_combiner.specs.Heard.{HasHeard};
+ghost use Rattle.nr_combiner.specs.Turned.{tells_down};
 ghost use Rattle.nr_combiner.specs.Workers.{fresh_worker, shared_of, HasPosted, HasCollected};
 
-use crate::answering::{OpenError, Turned};
+use crate::answering::{Collected, Lifts, OpenError, Turned};
+use crate::name::ServerName;
 use crate::node::Node;
+use crate::told::{Told, ToldPieces};
 use nr_entry::{Batch, ConnId, Job, Outcome};
-use nr_oplog::{LogName, Token};
-use nr_replica::Piece;
+use nr_node::Handed;
+use nr_oplog::Token;
 use nr_slots::WorkerSeat;
 use std::alloc::Global;
 use std::marker::Model;
 use std::sync::{Arc, Wait};
 
+/// How many jobs a batch has at most: as many as an entry.
+pub const MOST_JOBS: usize = 1024;
+
 /// A worker at its node: its seat at the slots, with the node that its workers share. It may go to a thread of its own.
 #[derive(Drop)]
-pub struct Worker<B: LogName> {
+pub struct Worker<B: ServerName> {
     shared: Arc<Node<B>, Global>,
     worker: usize,
     seat: WorkerSeat,
@@ -25,7 +32,7 @@ pub struct Worker<B: LogName> {
     next: u64,
 }
 
-impl<B: LogName> Model for Worker<B> {
+impl<B: ServerName> Model for Worker<B> {
     ghost use Rattle.std.specs.Prelude.{◌≡◌, ◌<◌};
     ghost use Rattle.std.specs.Arc.{arc_value};
     ghost use Rattle.nr_combiner.specs.Workers.{WorkerState, coded_worker};
@@ -39,7 +46,7 @@ impl<B: LogName> Model for Worker<B> {
     ghost invariant = { λ w. (w.seat.slots ≡ (arc_value w.shared).slots.id) × (w.worker ≡ w.seat.worker) × (w.worker < 16) × (w.worker < (arc_value w.shared).slots.workers) };
 }
 
-impl<B: LogName> Worker<B> {
+impl<B: ServerName> Worker<B> {
     // A worker of a node that has handed in nothing yet, by its seat.
     pub(crate) fn new(shared: Arc<Node<B>, Global>, worker: usize, seat: WorkerSeat) -> Worker<B>
         requires seat { seat ≡ new_worker (arc_value shared).slots.id worker }
@@ -66,17 +73,65 @@ impl<B: LogName> Worker<B> {
         self.shared.open(rt, self.worker as u8)
     }
 
-    /// A turn at its node, which takes the lock once: [`Combiner::turn`](crate::Combiner::turn) for this worker.
-    pub fn turn<R: Wait>(&self, rt: &R, most: usize, taken: &mut Vec<(Piece, Token<B>)>) -> Turned
+    /// A turn at its node, which takes the lock once and lifts from all slots or from its own: [`Combiner::turn`](crate::Combiner::turn) for this worker, whose note
+    /// it hears then by two loads. What it
+    /// hands out, and its token, are of one record, in which each job of a connection that a piece is for was handed in by this worker; and each batch that the
+    /// combiner had answered as executed is in it. `None` where another node stands behind the lock, which there never is: then nothing is done.
+    pub fn turn<R: Wait>(
+        &mut self,
+        rt: &R,
+        lifts: Lifts,
+        most: usize,
+        taken: &mut Vec<Handed>,
+    ) -> Option<(Turned, Token<B>)>
         requires { 0 < most }
-        ensures { HasAdded most taken.old.items taken.new.items }
+        ensures heard { IfSome result (λ told. HasHeard most (tells_down told.0.combined) told.1.standing self.old.seat.lane taken.old.items taken.new.items) }
+        ensures sound { IfSome result (λ told. IsSound told.1.standing × (told.1.standing.node ≡ self.old.node)) }
+        ensures none { IfNone result (taken.new.items ≡ taken.old.items) }
+        ensures same { self.new ≡ self.old }
     {
-        self.shared.turn(rt, self.worker, most, taken)
+        let Told {
+            turned,
+            token,
+            note,
+        } = self.shared.turn(rt, self.worker, lifts, most, taken)?;
+        self.seat.hear(self.shared.slots(), note);
+        Some((turned, token))
+    }
+
+    /// What waits for its connections, without a turn: [`Combiner::collect_pieces`](crate::Combiner::collect_pieces) behind the lock, which it takes once, and whose
+    /// note it hears then by two loads. So it gets what another worker's turn made for it, and says of that what a turn says. `None` where another node stands
+    /// behind the lock, which there never is: then nothing is done.
+    pub fn collect_pieces<R: Wait>(
+        &mut self,
+        rt: &R,
+        most: usize,
+        taken: &mut Vec<Handed>,
+    ) -> Option<(Collected, Token<B>)>
+        requires { 0 < most }
+        ensures heard { IfSome result (λ told. HasHeard most told.0.is_down told.1.standing self.old.seat.lane taken.old.items taken.new.items) }
+        ensures sound { IfSome result (λ told. IsSound told.1.standing × (told.1.standing.node ≡ self.old.node)) }
+        ensures none { IfNone result (taken.new.items ≡ taken.old.items) }
+        ensures same { self.new ≡ self.old }
+    {
+        let ToldPieces {
+            collected,
+            token,
+            note,
+        } = self.shared.collect_pieces(rt, self.worker, most, taken)?;
+        self.seat.hear(self.shared.slots(), note);
+        Some((collected, token))
+    }
+
+    /// The next entry that its node applies is refused, as where memory runs out: then the node's replica falls. It is for tests.
+    pub fn refuse<R: Wait>(&self, rt: &R) {
+        self.shared.refuse(rt);
     }
 
     /// Hands these jobs in as its next batch: one load and one store. They come back while the answer to the last batch wasn't collected, and once a u64
     /// doesn't count the batches.
     pub fn post(&mut self, jobs: Vec<Job>) -> Result<(), Vec<Job>>
+        requires few { length jobs.items ≤ MOST_JOBS }
         ensures exactly { IsOk result ↔ ((length self.old.seat.lane.posted ≡ length self.old.seat.lane.collected) × (self.old.next + 1 < 2 ^ 64)) }
         ensures posted { OnOk result (HasPosted jobs.items self.old self.new) }
         ensures back { IfErr result (λ back. back.items ≡ jobs.items) }

@@ -88,6 +88,6 @@ fetched_with entry s = record s { held = Some entry }
 abbrev pub passed_on : Standing → Standing
 passed_on s = record s { history = s.history ++ map Applied (option_to_list s.held); held = None }
 
--- the read was run behind all that was done before, and the tail met is `seen`
-abbrev pub noted_with : Job → ℕ → Standing → Standing
-noted_with job seen s = record s { history = s.history ++ Ran job ∷ []; seen = seen }
+-- these reads were run behind all that was done before, and the tail met is `seen`
+abbrev pub noted_with : List Job → ℕ → Standing → Standing
+noted_with jobs seen s = record s { history = s.history ++ map Ran jobs; seen = seen }

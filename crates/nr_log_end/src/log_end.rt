@@ -66,9 +66,9 @@ pub trait LogEnd {
         ensures standing { LooksOn (standing self.old) (standing self.new) }
         ensures looks { looks self.new ≡ looks self.old ++ Look.Tail result ∷ [] };
 
-    /// Notes that this node's replica has run a read, behind the entries that were passed so far.
-    fn note(&mut self, job: &Job)
-        ensures noted { standing self.new ≡ noted_with job.now (standing self.new).seen (standing self.old) }
+    /// Notes that this node's replica has run these reads, in this order, behind the entries that were passed so far.
+    fn note(&mut self, jobs: &[Job])
+        ensures noted { standing self.new ≡ noted_with jobs.now (standing self.new).seen (standing self.old) }
         ensures seen { (standing self.old).seen ≤ (standing self.new).seen }
         ensures looks { looks self.new ≡ looks self.old ++ Look.Tail (standing self.new).seen ∷ [] };
 

@@ -428,7 +428,7 @@ looks_on u v w x tail loaded at same more met =
           ∙ ap (λ (n : ℕ). u.looks ++ (Tail n ∷ more.0)) seen,
     )
 
-same_passed : (s m : Standing) → LooksOn s m → passed_of m ≡ passed_of s
+pub same_passed : (s m : Standing) → LooksOn s m → passed_of m ≡ passed_of s
 same_passed s m looks = ap passed_of looks.1
 
 -- fewer were taken in than there were, or all

@@ -46,7 +46,7 @@ read_got old mid new got read =
 pub caught_by : (es : List Entry) (end last : LogView) (old new : ReplicaState) (book later : Book) (next after : Option Next) (n : NodeState)
     → record { seat = end; replica = old; book = book; next = jobs_next next } ≡ n → GoesOn es end.standing last.standing old new next after book later
     → ((later : List Look) × (last.looks ≡ end.looks ++ (Tail last.standing.seen ∷ later)))
-    → (old.down ≡ false → passed_of last.standing ≤ (passed_of end.standing + (last.standing.seen - passed_of end.standing)) + 1) → IsInOrder end.standing old book (jobs_next next)
+    → passed_of last.standing ≤ (passed_of end.standing + (last.standing.seen - passed_of end.standing)) + 1 → IsInOrder end.standing old book (jobs_next next)
     → GoesOnBy es [] last.standing.seen n (record { seat = last; replica = new; book = later; next = jobs_next after })
 caught_by es end last old new book later next after n is g looks few order =
     let m : NodeState = record { seat = last; replica = new; book = later; next = jobs_next after } in
@@ -61,7 +61,7 @@ caught_by es end last old new book later next after n is g looks few order =
       got = g.got;
       refused = g.refused;
       up = λ up. (g.up up).0;
-      few = λ up. few_entries es end.standing last.standing g.passed (few up);
+      few = few_entries es end.standing last.standing g.passed few;
       fell = λ up down. let by = g.fell up down in (by.0, by.1, ap jobs_next by.2, by.3);
       still = g.still;
       dropped = λ _. next_after next after g.after_is;
@@ -99,7 +99,7 @@ read_on n m t es ran looks more passed own same noted first last closed ended ow
   refused = refused;
   from = passed.seen;
   up = λ _. was;
-  few = λ _. few_entries es n.seat.standing t passed few;
+  few = few_entries es n.seat.standing t passed few;
   fell = λ _ fell. absurd (cc (up, fell));
   still = λ down. absurd (cc (was, down));
   dropped = λ down. absurd (cc (was, down));

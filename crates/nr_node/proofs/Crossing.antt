@@ -10,7 +10,7 @@ use Rattle.nr_oplog.proofs.Crossing.{end_send}
 use Rattle.nr_replica.proofs.Crossing.{replica_send}
 use Rattle.nr_accounts.proofs.accounts.Accounts.TheSendSync as accounts
 use Rattle.nr_node.specs.contracts.keeping.Kept as Kept
-use Rattle.nr_node.specs.contracts.keeping.NodeEnd as NodeEnd
+use Rattle.nr_node.specs.contracts.keeping.OwnEntries as OwnEntries
 use Rattle.nr_node.specs.contracts.next.Next as Next
 use Rattle.nr_node.specs.contracts.within.Core as Core
 
@@ -20,10 +20,9 @@ next_send = search sent depth 60 fits 100000
 kept_send : IsSend Kept.the_row
 kept_send = search sent depth 60 fits 100000
 
-node_end_send : (B : RattleType) (g : Ghosts B.Denot) → IsSend (NodeEnd.the_row B g)
-node_end_send B g = view_send (NodeEnd.TheInside.the_row B g) _ _ _ _ (declared_send (NodeEnd.TheInside.the_type B g)
-    (end_send B g, (search (sent, kept_send) depth 60 fits 100000, tt)))
+own_send : IsSend OwnEntries.the_row
+own_send = view_send OwnEntries.TheInside.the_row _ _ _ _ (declared_send OwnEntries.TheInside.the_type ((search (sent, kept_send) depth 60 fits 100000, tt)))
 
 pub core_send : (B : RattleType) (g : Ghosts B.Denot) → IsSend (Core.the_row B g)
 core_send B g = view_send (Core.TheInside.the_row B g) _ _ _ _ (declared_send (Core.TheInside.the_type B g)
-    (send, (search sent, (node_end_send B g, (replica_send, (accounts.the_send, (next_send, tt)))))))
+    (send, (search sent, (end_send B g, (own_send, (replica_send, (accounts.the_send, (next_send, tt))))))))

@@ -11,6 +11,7 @@ mod Fresh
 mod Filled
 mod Taking
 mod Caught
+mod Due
 pub mod Ready
 mod Collected
 mod Shares

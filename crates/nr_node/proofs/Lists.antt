@@ -281,9 +281,9 @@ logged_reserved s at entry some passed =
 
 -- a read is noted
 pub logged_noted : (s : Standing) (job : Job) (seen : ℕ) → unpassed s ≡ []
-    → (logged (noted_with job seen s) ≡ logged s ++ item_of job ∷ []) × (unpassed (noted_with job seen s) ≡ [])
+    → (logged (noted_with (job ∷ []) seen s) ≡ logged s ++ item_of job ∷ []) × (unpassed (noted_with (job ∷ []) seen s) ≡ [])
 logged_noted s job seen none =
-    let now = noted_with job seen s in
+    let now = noted_with (job ∷ []) seen s in
     let same : applied_of now.history ≡ applied_of s.history = applied-append s.history (Ran job ∷ []) ∙ append-nil (applied_of s.history) in
     let still : unpassed now ≡ [] = ap (λ (es : List Entry). drop (length (own_entries s.node es)) s.reservations) same ∙ none in (
       ap (λ (rs : List (ℕ × Entry)). record_of now.history ++ jobs_reserved rs) still

@@ -55,12 +55,13 @@ first_counted c front back all is h =
     counts_front (numbers_in c front) (numbers_in c back) (is ∙ h ∙ ap (λ (ns : List ℕ). range_with_len 0 (length ns)) (sym is))
 
 -- what a node in order hands out is sound
-pub is_sound : (s t : Standing) (old : ReplicaState) (book : Book) (next : List Job) → t ≡ s → IsInOrder s old book next → IsSound t
-is_sound s t old book next same o = subst IsSound (sym same) record {
+pub is_sound : (s t : Standing) (old : ReplicaState) (book : Book) (next : List Job) → t ≡ s → s.held ≡ None → IsInOrder s old book next → IsSound t
+is_sound s t old book next same idle o = subst IsSound (sym same) record {
   reads = o.reads;
   numbered = λ serial.
       let c = connection_at s.node serial in
       first_counted c (record_of s.history) (jobs_reserved (unpassed s)) (logged s) (sym (numbers-append c (record_of s.history) (jobs_reserved (unpassed s)))) (o.numbered serial);
+  idle = idle;
 }
 
 -- nothing changed in the order of any connection's jobs

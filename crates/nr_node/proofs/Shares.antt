@@ -1,48 +1,152 @@
 -- What a node's end keeps of its own entries.
-use Rattle.std.proofs.Common.{◌≡◌, ℕ, ◌<◌, inl, inr, drop, List, [], ◌∷◌, ◌++◌, length, Option, Some, None, refl, ap, sym, ◌∙◌, subst, arith, append_assoc}
+use Rattle.std.proofs.Common.{◌≡◌, ℕ, ◌<◌, ◌≤◌, inl, inr, drop, List, [], ◌∷◌, ◌++◌, length, Option, Some, None, refl, ap, sym, ◌∙◌, subst, arith, append_assoc}
 use Rattle.std.proofs.lemmas.List.{append-nil}
 use Rattle.std.specs.Prelude.{slice_index_or, option_to_list, map, IfSome}
-use Rattle.std.specs.List.{slice_get}
+use Rattle.std.specs.List.{AllByRecursion, slice_get}
 use Rattle.nr_entry.specs.declared.entry.Entry.{Entry}
 use Rattle.nr_log_end.specs.declared.standing.Standing.{Standing}
-use Rattle.nr_log_end.specs.Standings.{reservation, reserved_as}
+use Rattle.nr_log_end.specs.Standings.{reservation}
 use Rattle.nr_log_end.specs.declared.standing.Look.{Look}
+use Rattle.nr_log_end.specs.declared.standing.Look.TheVariants.{Tail}
 use Rattle.nr_oplog.specs.Calls.{LoadsCounts, IsLeastOf, loads_from}
 use Rattle.nr_oplog.specs.declared.view.LogView.{LogView}
-use Rattle.nr_node.specs.Keeping.{AreLast, AreBelow, IsFromOn, LetsGo}
+use Rattle.nr_entry.specs.declared.job.Job.{Job}
+use Rattle.nr_node.specs.Advanced.{HasNoted, HasPassed}
+use Rattle.nr_node.specs.Reserved.{HasMet, IsReserved}
+use Rattle.nr_node.specs.Keeping.{AreLast, AreBelow, Frees, IsFromOn, IsSeenPassed, LetsGo}
 
--- they are so of whoever has the same reservations
-pub still_last : (kept : List (ℕ × Entry)) (s t : Standing) → t.reservations ≡ s.reservations → AreLast kept s.reservations → AreLast kept t.reservations
-still_last kept s t same last = subst (AreLast kept) (sym same) last
+-- what was seen is seen on
+seen_on : (nodes number : ℕ) (looks more after : List Look) → after ≡ looks ++ more → IsSeenPassed nodes looks number → IsSeenPassed nodes after number
+seen_on nodes number looks more after is p = record {
+  before = p.before;
+  counts = p.counts;
+  behind = p.behind ++ more;
+  loaded = is ∙ ap (λ (ls : List Look). ls ++ more) p.loaded ∙ append_assoc p.before (loads_from 0 p.counts ++ p.behind) more
+      ∙ ap (λ (ls : List Look). p.before ++ ls) (append_assoc (loads_from 0 p.counts) p.behind more);
+  all = p.all;
+  above = p.above;
+}
 
-pub none_last : (kept reservations : List (ℕ × Entry)) → kept ≡ [] → AreLast kept reservations
-none_last kept reservations none = (reservations, ap (λ (xs : List (ℕ × Entry)). reservations ++ xs) none ∙ append-nil reservations)
+all_seen_on : (nodes : ℕ) (looks more after : List Look) (gone : List (ℕ × Entry)) → after ≡ looks ++ more
+    → AllByRecursion (λ (one : ℕ × Entry). IsSeenPassed nodes looks one.0) gone → AllByRecursion (λ (one : ℕ × Entry). IsSeenPassed nodes after one.0) gone
+all_seen_on nodes looks more after [] is all = tt
+all_seen_on nodes looks more after (one ∷ gone) is all = (seen_on nodes one.0 looks more after is all.0, all_seen_on nodes looks more after gone is all.1)
 
--- one was reserved, and a share of it is kept
-first_of : (at : ℕ) (shares : List (Option Entry)) (e : Entry) → 0 < length shares → slice_index_or shares 0 None ≡ Some e → reservation at shares ≡ (at, e) ∷ []
-first_of at [] e some is = absurd (omega (arith, some))
-first_of at (share ∷ shares) e some is = ap (λ (o : Option Entry). map (λ (entry : Entry). (at, entry)) (option_to_list o)) is
+all_both : {A : Type 0} (P : A → Type 0) (xs ys : List A) → AllByRecursion P xs → AllByRecursion P ys → AllByRecursion P (xs ++ ys)
+all_both P [] ys all more = more
+all_both P (x ∷ xs) ys all more = (all.0, all_both P xs ys all.1 more)
 
-pub kept_more : (kept : List (ℕ × Entry)) (at : ℕ) (shares : List (Option Entry)) (e : Entry) (s t : Standing) → t ≡ reserved_as at shares s → 0 < length shares
-    → slice_index_or shares 0 None ≡ Some e → AreLast kept s.reservations → AreLast (kept ++ (at, e) ∷ []) t.reservations
-kept_more kept at shares e s t is some first (gone, all) = (
-  gone,
-  sym (append_assoc gone kept ((at, e) ∷ [])) ∙ ap (λ (rs : List (ℕ × Entry)). rs ++ (at, e) ∷ []) all
-      ∙ ap (λ (rs : List (ℕ × Entry)). s.reservations ++ rs) (sym (first_of at shares e some first)) ∙ ap (λ (x : Standing). x.reservations) (sym is),
+-- they are so of whoever has the same reservations, and made more loads
+pub still_last : (kept : List (ℕ × Entry)) (v w : LogView) → w.standing.reservations ≡ v.standing.reservations → w.standing.nodes ≡ v.standing.nodes
+    → (more : List Look) × (w.looks ≡ v.looks ++ more) → AreLast kept v → AreLast kept w
+still_last kept v w same nodes more last = (
+  last.0,
+  last.1 ∙ sym same,
+  subst (λ (n : ℕ). AllByRecursion (λ (one : ℕ × Entry). IsSeenPassed n w.looks one.0) last.0) (sym nodes)
+      (all_seen_on v.standing.nodes v.looks more.0 w.looks last.0 more.1 last.2),
 )
 
--- some of the first are let go of
-pub fewer_last : (old new gone : List (ℕ × Entry)) (reservations : List (ℕ × Entry)) → gone ++ new ≡ old → AreLast old reservations → AreLast new reservations
-fewer_last old new gone reservations is (before, all) = (before ++ gone, append_assoc before gone new ∙ ap (λ (rs : List (ℕ × Entry)). before ++ rs) is ∙ all)
+pub none_last : (kept : List (ℕ × Entry)) (v : LogView) → kept ≡ [] → v.standing.reservations ≡ [] → AreLast kept v
+none_last kept v none nothing = ([], none ∙ sym nothing, tt)
 
--- those that all nodes have passed are let go of
-pub lets_last : (old new : List (ℕ × Entry)) (v w : LogView) → LetsGo old new v w → AreLast old v.standing.reservations → AreLast new w.standing.reservations
-lets_last old new v w (inl none) last =
-    subst (λ (xs : List (ℕ × Entry)). AreLast xs w.standing.reservations) (none.0 ∙ sym none.1)
-    (still_last old v.standing w.standing (ap (λ (x : LogView). x.standing.reservations) none.2) last)
-lets_last old new v w (inr by) last =
-    fewer_last old new by.gone w.standing.reservations by.all
-    (still_last old v.standing w.standing (ap (λ (x : LogView). x.standing.reservations) by.loads.loads) last)
+-- one was reserved, and a share of it is kept
+pub first_of : (at : ℕ) (shares : List (Option Entry)) (e : Entry) → slice_index_or shares 0 None ≡ Some e → reservation at shares ≡ (at, e) ∷ []
+first_of at [] e is = absurd (cc is)
+first_of at (share ∷ shares) e is = ap (λ (o : Option Entry). map (λ (entry : Entry). (at, entry)) (option_to_list o)) is
+
+pub kept_more : (kept new : List (ℕ × Entry)) (at : ℕ) (shares : List (Option Entry)) (v w : LogView) → new ≡ kept ++ reservation at shares
+    → w.standing.reservations ≡ v.standing.reservations ++ reservation at shares → w.standing.nodes ≡ v.standing.nodes → (more : List Look) × (w.looks ≡ v.looks ++ more)
+    → AreLast kept v → AreLast new w
+kept_more kept new at shares v w is longer nodes more last = (
+  last.0,
+  ap (λ (rs : List (ℕ × Entry)). last.0 ++ rs) is ∙ sym (append_assoc last.0 kept (reservation at shares))
+      ∙ ap (λ (rs : List (ℕ × Entry)). rs ++ reservation at shares) last.1 ∙ sym longer,
+  subst (λ (n : ℕ). AllByRecursion (λ (one : ℕ × Entry). IsSeenPassed n w.looks one.0) last.0) (sym nodes)
+      (all_seen_on v.standing.nodes v.looks more.0 w.looks last.0 more.1 last.2),
+)
+
+-- some of the first are let go of, which were seen to be passed
+seen_below : (nodes least number : ℕ) (looks before behind after : List Look) (counts : List ℕ) → after ≡ looks ++ (before ++ (loads_from 0 counts ++ behind))
+    → length counts ≡ nodes → IsLeastOf least counts → number < least → IsSeenPassed nodes after number
+seen_below nodes least number looks before behind after counts loaded every is under = record {
+  before = looks ++ before;
+  counts = counts;
+  behind = behind;
+  loaded = loaded ∙ sym (append_assoc looks before (loads_from 0 counts ++ behind));
+  all = every;
+  above = λ node near. let most = is.0 node near in omega (arith, under, most);
+}
+
+all_seen_below : (nodes least : ℕ) (looks before behind after : List Look) (counts : List ℕ) (gone : List (ℕ × Entry)) → after ≡ looks ++ (before ++ (loads_from 0 counts ++ behind))
+    → length counts ≡ nodes → IsLeastOf least counts → AreBelow least gone → AllByRecursion (λ (one : ℕ × Entry). IsSeenPassed nodes after one.0) gone
+all_seen_below nodes least looks before behind after counts [] loaded every is below = tt
+all_seen_below nodes least looks before behind after counts (one ∷ gone) loaded every is below = (
+  seen_below nodes least one.0 looks before behind after counts loaded every is below.0,
+  all_seen_below nodes least looks before behind after counts gone loaded every is below.1,
+)
+
+pub freed_last : (old new : List (ℕ × Entry)) (v w : LogView) → Frees old new v.standing.nodes v.looks w.looks → w.standing.reservations ≡ v.standing.reservations
+    → w.standing.nodes ≡ v.standing.nodes → (more : List Look) × (w.looks ≡ v.looks ++ more) → AreLast old v → AreLast new w
+freed_last old new v w (inl none) same nodes more last = subst (λ (xs : List (ℕ × Entry)). AreLast xs w) (none.0 ∙ sym none.1) (still_last old v w same nodes more last)
+freed_last old new v w (inr by) same nodes more last = (
+  last.0 ++ by.gone,
+  append_assoc last.0 by.gone new ∙ ap (λ (rs : List (ℕ × Entry)). last.0 ++ rs) by.all ∙ last.1 ∙ sym same,
+  subst (λ (n : ℕ). AllByRecursion (λ (one : ℕ × Entry). IsSeenPassed n w.looks one.0) (last.0 ++ by.gone)) (sym nodes)
+      (all_both (λ (one : ℕ × Entry). IsSeenPassed v.standing.nodes w.looks one.0) last.0 by.gone
+      (all_seen_on v.standing.nodes v.looks more.0 w.looks last.0 more.1 last.2)
+      (all_seen_below v.standing.nodes by.least v.looks by.before by.behind w.looks by.counts by.gone by.loaded by.every by.is_least by.below)),
+)
+
+-- the steps of a node
+pub went_last : (es : List Entry) (old new : List (ℕ × Entry)) (v w : LogView) → HasPassed es v.standing w.standing → Frees old new v.standing.nodes v.looks w.looks
+    → (more : List Look) × (w.looks ≡ v.looks ++ (Tail w.standing.seen ∷ more)) → AreLast old v → AreLast new w
+went_last es old new v w passed freed more last =
+    freed_last old new v w freed (ap (λ (s : Standing). s.reservations) passed.standing) (ap (λ (s : Standing). s.nodes) passed.standing)
+    (Tail w.standing.seen ∷ more.0, more.1) last
+
+pub ended_last : (kept : List (ℕ × Entry)) (v w : LogView) → w ≡ v → AreLast kept v → AreLast kept w
+ended_last kept v w same last = subst (AreLast kept) (sym same) last
+
+pub noted_last : (kept : List (ℕ × Entry)) (ran : List Job) (v w : LogView) → HasNoted ran v.standing w.standing
+    → (more : List Look) × (length more ≤ 1) × (w.looks ≡ v.looks ++ more) → AreLast kept v → AreLast kept w
+noted_last kept ran v w noted more last =
+    still_last kept v w (ap (λ (s : Standing). s.reservations) noted.standing) (ap (λ (s : Standing). s.nodes) noted.standing) (more.0, more.2) last
+
+pub stood_last : (kept : List (ℕ × Entry)) (v w : LogView) → w.standing ≡ v.standing → w.looks ≡ v.looks → AreLast kept v → AreLast kept w
+stood_last kept v w same looks last =
+    still_last kept v w (ap (λ (s : Standing). s.reservations) same) (ap (λ (s : Standing). s.nodes) same) ([], looks ∙ sym (append-nil v.looks)) last
+
+pub met_last : (kept new : List (ℕ × Entry)) (v w : LogView) → new ≡ kept → HasMet v.standing w.standing → (more : List Look) × (w.looks ≡ v.looks ++ more)
+    → AreLast kept v → AreLast new w
+met_last kept new v w same met more last =
+    subst (λ (xs : List (ℕ × Entry)). AreLast xs w) (sym same)
+    (still_last kept v w (ap (λ (s : Standing). s.reservations) met.standing) (ap (λ (s : Standing). s.nodes) met.standing) more last)
+
+pub reserved_more : (v w : LogView) (at : ℕ) (shares : List (Option Entry)) → IsReserved at shares v.standing w.standing
+    → w.standing.reservations ≡ v.standing.reservations ++ reservation at shares
+reserved_more v w at shares r = ap (λ (s : Standing). s.reservations) r.standing
+
+pub reserved_nodes : (v w : LogView) (at : ℕ) (shares : List (Option Entry)) → IsReserved at shares v.standing w.standing → w.standing.nodes ≡ v.standing.nodes
+reserved_nodes v w at shares r = ap (λ (s : Standing). s.nodes) r.standing
+
+-- a call that lets go, between a load of the tail and others
+pub lets_free : (old new : List (ℕ × Entry)) (u v w x : LogView) (tail : ℕ) → v.looks ≡ u.looks ++ Tail tail ∷ [] → v.standing.nodes ≡ u.standing.nodes
+    → LetsGo old new v w → x.looks ≡ w.looks → Frees old new u.standing.nodes u.looks x.looks
+lets_free old new u v w x tail loaded nodes (inl none) met = inl (none.0, none.1)
+lets_free old new u v w x tail loaded nodes (inr by) met = inr record {
+  before = Tail tail ∷ [];
+  counts = w.met;
+  behind = [];
+  loaded = met ∙ ap (λ (y : LogView). y.looks) by.loads.loads ∙ ap (λ (ls : List Look). ls ++ loads_from 0 w.met) loaded
+      ∙ append_assoc u.looks (Tail tail ∷ []) (loads_from 0 w.met) ∙ ap (λ (ls : List Look). u.looks ++ (Tail tail ∷ ls)) (sym (append-nil (loads_from 0 w.met)));
+  every = by.loads.counts ∙ nodes;
+  least = by.least;
+  is_least = by.is_least;
+  gone = by.gone;
+  all = by.all;
+  below = by.below;
+  left = by.left;
+}
 
 pub lets_stand : (old new : List (ℕ × Entry)) (v w : LogView) → LetsGo old new v w → w.standing ≡ v.standing
 lets_stand old new v w (inl none) = ap (λ (x : LogView). x.standing) none.2

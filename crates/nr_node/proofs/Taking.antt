@@ -292,6 +292,28 @@ handed_kept s t old new book next nodes i most same there is k = subst (λ (x : 
   accounts = set_accounts book.node old new book.held i _ there is refl k.accounts;
 }
 
+-- its next entry is refused
+pub refusing_kept : (s : Standing) (old new : ReplicaState) (book : Book) (next : Option Next) (nodes : ℕ) → new ≡ record old { refused = true }
+    → IsKept s old book next nodes → IsKept s new book next nodes
+refusing_kept s old new book next nodes is k = subst (λ (r : ReplicaState). IsKept s r book next nodes) (sym is) record {
+  level = record { node = k.level.node; named = k.level.named; server = k.level.server; applied = k.level.applied; behind = k.level.behind; whole = k.level.whole };
+  order = record {
+    book_is = k.order.book_is;
+    own = k.order.own;
+    numbered = k.order.numbered;
+    taken = k.order.taken;
+    unopened = k.order.unopened;
+    closed = k.order.closed;
+    reads = k.order.reads;
+    passed = k.order.passed;
+    met = k.order.met;
+  };
+  next_is = k.next_is;
+  owed = k.owed;
+  owing = k.owing;
+  accounts = k.accounts;
+}
+
 -- its jobs are owed
 lifted_owing : (s : Standing) (old : ReplicaState) (next jobs : List Job) (worker : ℕ) → worker < length old.owed → slice_index_or old.owed worker None ≡ None
     → AllByRecursion (IsServedBy worker old.members) (items_of jobs) → IsOwing old.members old.owed (unexecuted s next old.waiting)

@@ -1,9 +1,10 @@
 -- What a batch is refused for, and what a node hands out.
-use Rattle.std.specs.Prelude.{◌≡◌, ℕ, ◌<◌, cond, length, take, drop, Option, Some, None}
+use Rattle.std.specs.Prelude.{◌≡◌, ℕ, ◌<◌, Bool, ◌&&◌, ◌==◌, nat_lt, cond, length, take, drop, Option, Some, None}
 use Rattle.nr_model.specs.Bytes.{IsBeginningOf}
 use Rattle.nr_model.specs.Items.{Connection}
 use Rattle.nr_model.specs.Sequential.{emitted_for}
 use Rattle.nr_entry.specs.Jobs.{connection_of}
+use Rattle.nr_entry.specs.declared.conn.ConnId.{ConnId}
 use Rattle.nr_entry.specs.declared.batch.Batch.{Batch}
 use Rattle.nr_entry.specs.declared.batch.Refusal.{Refusal}
 use Rattle.nr_entry.specs.declared.batch.Refusal.TheVariants as refusals
@@ -36,6 +37,10 @@ refusal n batch = cond n.replica.down (Some errors.Down) (refused_by (refusal_of
 -- a connection of the node that was opened
 abbrev pub IsOpened : NodeState → Connection → Type 0
 IsOpened n c = (c.node ≡ n.replica.node) × (c.serial < length n.replica.members)
+
+-- whether it is such a connection, for which nothing more comes to wait
+abbrev pub is_cut_at : NodeState → ConnId → Bool
+is_cut_at n conn = (conn.node == n.replica.node && nat_lt conn.serial (length n.replica.members)) && (queue_at conn.serial n.replica.members).cut
 
 -- what is handed out: the first bytes that wait for the connection, and these are emitted for it along the record behind so many
 pub record IsPiece (n : NodeState) (c : Connection) (most : ℕ) (piece : Piece) (s : Standing) : Type 0 where

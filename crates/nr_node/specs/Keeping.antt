@@ -1,8 +1,9 @@
 -- What came of a try to put an entry into the log, and the shares of its own entries that a node keeps.
-use Rattle.std.specs.Prelude.{◌≡◌, ◌⊎◌, ⊤, ℕ, ◌<◌, ◌≤◌, List, [], ◌++◌, Option, IfSome}
+use Rattle.std.specs.Prelude.{◌≡◌, ◌⊎◌, ⊤, ℕ, ◌<◌, ◌≤◌, List, [], ◌++◌, length, slice_index, Option, IfSome}
 use Rattle.std.specs.List.{AllByRecursion, slice_get}
 use Rattle.nr_entry.specs.declared.entry.Entry.{Entry}
-use Rattle.nr_oplog.specs.Calls.{LoadsCounts, IsLeastOf}
+use Rattle.nr_log_end.specs.declared.standing.Look.{Look}
+use Rattle.nr_oplog.specs.Calls.{LoadsCounts, IsLeastOf, loads_from}
 use Rattle.nr_oplog.specs.declared.view.LogView.{LogView}
 use Rattle.nr_node.specs.declared.keeping.Put.{Put}
 use Rattle.nr_node.specs.declared.keeping.Put.TheVariants.{Taken, Full, Lost, Refused}
@@ -35,9 +36,29 @@ IfRefused (Full back) P = ⊤
 IfRefused (Lost back) P = ⊤
 IfRefused (Refused back) P = P back
 
--- these are the last of a node's reservations
-abbrev pub AreLast : List (ℕ × Entry) → List (ℕ × Entry) → Type 0
-AreLast kept reservations = (gone : List (ℕ × Entry)) × (gone ++ kept ≡ reservations)
+-- P holds where the shares came back
+abbrev pub IfBack : Put → Type 0 → Type 0
+IfBack (Taken at) P = ⊤
+IfBack (Full back) P = P
+IfBack (Lost back) P = P
+IfBack (Refused back) P = P
+
+-- the passed counts of all nodes, so many, were loaded one after the other, and each was above this number
+pub record IsSeenPassed (nodes : ℕ) (looks : List Look) (number : ℕ) : Type 0 where
+  pub before : List Look
+  pub counts : List ℕ
+  pub behind : List Look
+  pub loaded : looks ≡ before ++ (loads_from 0 counts ++ behind)
+  pub all : length counts ≡ nodes
+  pub above : (node : ℕ) → node < length counts → number < slice_index counts node
+
+-- so it was seen that all nodes have passed these
+abbrev pub AreSeenPassed : LogView → List (ℕ × Entry) → Type 0
+AreSeenPassed v entries = AllByRecursion (λ (one : ℕ × Entry). IsSeenPassed v.standing.nodes v.looks one.0) entries
+
+-- these are the last of a node's reservations, and of each before them it was seen that all nodes have passed it
+abbrev pub AreLast : List (ℕ × Entry) → LogView → Type 0
+AreLast kept v = (gone : List (ℕ × Entry)) × (gone ++ kept ≡ v.standing.reservations) × AreSeenPassed v gone
 
 -- their numbers are below one
 abbrev pub AreBelow : ℕ → List (ℕ × Entry) → Type 0
@@ -56,6 +77,24 @@ pub record LetsGoBy (old new : List (ℕ × Entry)) (v w : LogView) : Type 0 whe
   pub all : gone ++ new ≡ old
   pub below : AreBelow least gone
   pub left : IfSome (slice_get new 0) (IsFromOn least)
+
+-- Behind loads of the passed counts of all nodes, which a call made, exactly the first that are below the least of these were let go of.
+pub record FreesBy (old new : List (ℕ × Entry)) (nodes : ℕ) (looks after : List Look) : Type 0 where
+  pub before : List Look
+  pub counts : List ℕ
+  pub behind : List Look
+  pub loaded : after ≡ looks ++ (before ++ (loads_from 0 counts ++ behind))
+  pub every : length counts ≡ nodes
+  pub least : ℕ
+  pub is_least : IsLeastOf least counts
+  pub gone : List (ℕ × Entry)
+  pub all : gone ++ new ≡ old
+  pub below : AreBelow least gone
+  pub left : IfSome (slice_get new 0) (IsFromOn least)
+
+-- so it was, or none was kept
+abbrev pub Frees : List (ℕ × Entry) → List (ℕ × Entry) → ℕ → List Look → List Look → Type 0
+Frees old new nodes looks after = ((old ≡ []) × (new ≡ [])) ⊎ FreesBy old new nodes looks after
 
 -- so it was, or none was kept
 abbrev pub LetsGo : List (ℕ × Entry) → List (ℕ × Entry) → LogView → LogView → Type 0

@@ -1,10 +1,11 @@
 -- What the calls of a node come to.
-use Rattle.std.specs.Prelude.{◌≡◌, ◌≢◌, ◌⊎◌, ℕ, ◌≤◌, ◌+◌, ◌-◌, true, false, List, [], ◌∷◌, ◌++◌, map, length, slice_set, slice_index_or, replicate, Some, None}
+use Rattle.std.specs.Prelude.{◌≡◌, ◌≢◌, ◌⊎◌, ℕ, Bool, ◌≤◌, ◌+◌, ◌-◌, true, false, List, [], ◌∷◌, ◌++◌, map, length, slice_set, slice_index_or, replicate, Some, None}
 use Rattle.std.specs.FinMap as finmap
 use Rattle.nr_model.specs.Servers.{fresh}
 use Rattle.nr_model.specs.Entries.{read_jobs, left_by_reads}
 use Rattle.nr_entry.specs.Jobs.{items_of}
 use Rattle.nr_entry.specs.Shares.{shares_of}
+use Rattle.nr_entry.specs.Waiting.{has_some}
 use Rattle.nr_entry.specs.declared.batch.Batch.{Batch}
 use Rattle.nr_entry.specs.declared.entry.Entry.{Entry}
 use Rattle.nr_entry.specs.declared.job.Job.{Job}
@@ -47,6 +48,14 @@ opened_node limit worker n =
 abbrev pub closed_node : ℕ → NodeState → NodeState
 closed_node serial n =
     record n { replica = record n.replica { members = slice_set n.replica.members serial (closed_member (slice_index_or n.replica.members serial nobody)) } }
+
+-- the next entry that it applies is refused
+abbrev pub refusing_node : NodeState → NodeState
+refusing_node n = record n { replica = record n.replica { refused = true } }
+
+-- whether an entry is due
+abbrev pub is_due : NodeState → Bool
+is_due n = has_some (due_jobs n.next n.replica.waiting)
 
 -- a batch was taken: its jobs wait behind the others
 abbrev pub taken_node : Batch → NodeState → NodeState
@@ -94,9 +103,8 @@ abbrev pub HasLoaded : ℕ → List Look → List Look → Type 0
 HasLoaded tail looks after = (more : List Look) × (after ≡ looks ++ (Tail tail ∷ more))
 
 -- Entries were passed, and then reads were run, behind all that was in the record. The entries of the node's own among them are the first that it had reserved and
--- hadn't passed. The same workers wait for an answer. A node that is up passes one entry at most behind the tail that the call loaded, and the account of each of
--- its connections whose end is among them goes. Its replica goes down only where an entry was passed: then what waited is dropped, and all keys. One that is down stays as it
--- was.
+-- hadn't passed. The same workers wait for an answer. One entry at most is passed behind the tail that the call loaded. Where the node is up, the account of each of its
+-- connections whose end is among them goes. Its replica goes down only where an entry was passed: then what waited is dropped, and all keys. One that is down stays as it was.
 pub record GoesOnBy (entries : List Entry) (ran : List Job) (tail : ℕ) (n m : NodeState) : Type 0 where
   pub standing : m.seat.standing ≡ record n.seat.standing { history = n.seat.standing.history ++ (map Applied entries ++ map Ran ran); seen = m.seat.standing.seen }
   pub own : jobs_reserved (unpassed n.seat.standing) ≡ jobs_of_own n.book.node entries ++ jobs_reserved (unpassed m.seat.standing)
@@ -108,7 +116,7 @@ pub record GoesOnBy (entries : List Entry) (ran : List Job) (tail : ℕ) (n m : 
   pub got : HaveGot n.replica.members m.replica.members
   pub refused : m.replica.down ≡ false → m.replica.refused ≡ n.replica.refused
   pub up : m.replica.down ≡ false → n.replica.down ≡ false
-  pub few : n.replica.down ≡ false → length entries ≤ (tail - passed_of n.seat.standing) + 1
+  pub few : length entries ≤ (tail - passed_of n.seat.standing) + 1
   pub fell : n.replica.down ≡ false → m.replica.down ≡ true → (entries ≢ []) × (m.replica.waiting ≡ []) × (m.next ≡ []) × (m.replica.server ≡ fresh)
   pub still : n.replica.down ≡ true → (m.replica ≡ n.replica) × (m.book ≡ n.book)
   pub dropped : n.replica.down ≡ true → (m.next ≡ []) ⊎ (m.next ≡ n.next)

@@ -4,22 +4,24 @@ ghost use Rattle.nr_entry.specs.declared.entry.Entry.{Entry};
 ghost use Rattle.nr_entry.specs.Jobs.{items_of};
 ghost use Rattle.nr_log_end.specs.Standings.{StandsInLog, passed_of};
 ghost use Rattle.nr_accounts.specs.Book.{without_ended};
+ghost use Rattle.nr_node.specs.Keeping.{Frees};
 ghost use Rattle.nr_node.specs.Level.{IsLevel};
 ghost use Rattle.nr_node.specs.Advanced.{IsTakenIn, GoesOn};
 
-use crate::keeping::NodeEnd;
+use crate::keeping::OwnEntries;
 use crate::next::Next;
 use nr_accounts::Accounts;
 use nr_entry::Entry;
-use nr_log_end::Look;
-use nr_oplog::LogName;
+use nr_log_end::{LogEnd, Look};
+use nr_oplog::{End, LogName};
 use nr_replica::Replica;
 
 /// Lets go of the shares that are kept of entries which all nodes have passed. Takes all entries in that there are when it begins, and passes them, and the next
-/// one where that is there. False where one isn't there yet. The account of each connection whose end is among them goes. Where the replica falls over one of
-/// them, or is down, the next entry of its own is dropped.
+/// one where that is there. False where one isn't there yet. The account of each connection whose end is among them goes. A replica that is down passes them
+/// too, and executes none. Where the replica falls over one of them, or is down, the next entry of its own is dropped.
 pub(crate) fn catch_up<B: LogName>(
-    end: &mut NodeEnd<B>,
+    end: &mut End<B>,
+    kept: &mut OwnEntries,
     replica: &mut Replica,
     accounts: &mut Accounts,
     next: &mut Option<Next>,
@@ -29,13 +31,14 @@ pub(crate) fn catch_up<B: LogName>(
     ensures idle { end.new.standing.held ≡ None }
     ensures goes { (entries : List Entry) × GoesOn entries end.old.standing end.new.standing replica.old replica.new next.old next.new accounts.old accounts.new }
     ensures looks { (more : List Look) × (end.new.looks ≡ end.old.looks ++ Look.Tail end.new.standing.seen ∷ more) }
-    ensures reached { result ≡ true → replica.new.down ≡ false → (end.new.standing.seen ≤ passed_of end.new.standing) × StandsInLog end.new.standing }
-    ensures behind { result ≡ false → replica.new.down ≡ false → passed_of end.new.standing < end.new.standing.seen }
-    ensures few { replica.old.down ≡ false → passed_of end.new.standing ≤ (passed_of end.old.standing + (end.new.standing.seen - passed_of end.old.standing)) + 1 }
+    ensures freed { Frees kept.old kept.new end.old.standing.nodes end.old.looks end.new.looks }
+    ensures reached { result ≡ true → (end.new.standing.seen ≤ passed_of end.new.standing) × StandsInLog end.new.standing }
+    ensures behind { result ≡ false → passed_of end.new.standing < end.new.standing.seen }
+    ensures few { passed_of end.new.standing ≤ (passed_of end.old.standing + (end.new.standing.seen - passed_of end.old.standing)) + 1 }
 {
     let tail = end.tail();
-    end.let_go();
-    let count = tail.saturating_sub(replica.applied());
+    kept.let_go(end);
+    let count = tail.saturating_sub(end.passed());
     if !advance_by(end, replica, accounts, next, count) {
         return false;
     }
@@ -45,7 +48,7 @@ pub(crate) fn catch_up<B: LogName>(
 
 // Takes so many entries in, one after the other. False where one isn't there yet.
 fn advance_by<B: LogName>(
-    end: &mut NodeEnd<B>,
+    end: &mut End<B>,
     replica: &mut Replica,
     accounts: &mut Accounts,
     next: &mut Option<Next>,
@@ -67,7 +70,7 @@ fn advance_by<B: LogName>(
 
 // Takes the next entry in, and passes it. False where it isn't there yet.
 fn advance<B: LogName>(
-    end: &mut NodeEnd<B>,
+    end: &mut End<B>,
     replica: &mut Replica,
     accounts: &mut Accounts,
     next: &mut Option<Next>,

@@ -2,6 +2,7 @@
 ghost use Rattle.std.specs.Prelude.{◌≡◌};
 ghost use Rattle.nr_node.specs.Batches.{take_error};
 
+use nr_blob::Memory;
 use nr_entry::Refusal;
 
 /// What came of a step of a node.
@@ -17,6 +18,14 @@ pub enum Round {
     NotYet,
     /// The replica is down: it goes on passing entries, and executes nothing.
     Down,
+}
+
+/// What came of a look.
+#[derive(Clone, Copy, Debug, PartialEq, Eq)]
+pub struct Looked {
+    pub round: Result<Round, Memory>,
+    /// Whether an entry that was reserved before the look wasn't filled yet. Else all those entries were passed, also by a replica that is down.
+    pub is_behind: bool,
 }
 
 /// Why a connection wasn't opened.

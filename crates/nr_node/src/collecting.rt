@@ -1,26 +1,33 @@
 // What waits for a worker's connections is handed out in one go.
-ghost use Rattle.std.specs.Prelude.{◌≡◌, ◌≢◌, ◌<◌, ◌++◌, ◌∷◌, [], length, OnOk, OnErr};
+ghost use Rattle.std.specs.Prelude.{◌≡◌, ◌≢◌, ◌<◌, ◌++◌, ◌∷◌, [], length, IfOk, IfSome, IfNone, OnOk, OnErr};
 ghost use Rattle.nr_entry.specs.Jobs.{connection_of};
 ghost use Rattle.nr_node.specs.Batches.{IsOpened};
-ghost use Rattle.nr_node.specs.Collected.{Collects, HandsOver};
+ghost use Rattle.nr_node.specs.Collected.{Collects, HandsOver, IsHanded};
 ghost use Rattle.nr_node.specs.Level.{queue_at};
 
 use crate::within::Core;
 use nr_blob::Memory;
 use nr_entry::ConnId;
-use nr_oplog::{LogName, Token};
+use nr_oplog::LogName;
 use nr_replica::Piece;
+
+/// What was handed out for a connection.
+#[derive(Drop)]
+pub struct Handed {
+    pub piece: Piece,
+    /// Whether nothing more comes to wait for it: its queue was cut, or it was closed. Bytes that were left behind the piece are still handed out.
+    pub is_cut: bool,
+}
 
 impl<B: LogName> Core<B> {
     /// Hands out what waits for the connections that a worker serves, that of the lowest serial first: of each at most `most` of its first bytes, and at least
-    /// one, with a token that keeps of which record they are. They stand behind what `taken` has. It costs a
-    /// [`Replica::next_ready`](nr_replica::Replica::next_ready) for each of these connections and one more, and is linear in the bytes. Where memory runs out it
-    /// stops there, and what was handed out stands in `taken`: nothing is lost.
+    /// one. They stand behind what `taken` has. It costs a [`Replica::next_ready`](nr_replica::Replica::next_ready) for each of these connections and one more,
+    /// and is linear in the bytes. Where memory runs out it stops there, and what was handed out stands in `taken`: nothing is lost.
     pub fn collect(
         &mut self,
         worker: usize,
         most: usize,
-        taken: &mut Vec<(Piece, Token<B>)>,
+        taken: &mut Vec<Handed>,
     ) -> Result<(), Memory>
         requires some { 0 < most }
         requires worker { worker < length self.old.replica.owed }
@@ -43,7 +50,7 @@ impl<B: LogName> Core<B> {
         &mut self,
         conn: ConnId,
         most: usize,
-        taken: &mut Vec<(Piece, Token<B>)>,
+        taken: &mut Vec<Handed>,
     ) -> Result<(), Memory>
         requires some { 0 < most }
         requires opened { IsOpened self.old (connection_of conn) }
@@ -52,7 +59,7 @@ impl<B: LogName> Core<B> {
         ensures same { OnErr result ((taken.new.items ≡ taken.old.items) × (self.new ≡ self.old)) }
     {
         taken.reserve(1)?;
-        let Some(one) = self.take_piece(conn, most)? else {
+        let Some(one) = self.hand_out(conn, most)? else {
             return Ok(());
         };
         taken.push_reserved(one);

@@ -1,16 +1,16 @@
-// A node's end of the operation log, with a share of each of its own entries that some node may have to pass yet.
-ghost use Rattle.std.specs.Prelude.{◌≡◌, ◌<◌, ◌≤◌, ◌++◌, ◌∷◌, [], ℕ, List, length, slice_index_or, true, false, Some, None, IfSome, IfNone, IsSome, OnSome};
+// Shares of a node's own entries that some node may have to pass yet.
+ghost use Rattle.std.specs.Prelude.{◌≡◌, ◌<◌, ◌≤◌, ◌++◌, ◌∷◌, [], ℕ, List, length, slice_index_or, true, false, Some, None, IfSome};
 ghost use Rattle.std.specs.Arc.{arc_value};
 ghost use Rattle.std.specs.List.{slice_get};
 ghost use Rattle.std.specs.VecDeque.{deque_len, deque_capacity};
 ghost use Rattle.nr_entry.specs.declared.entry.Entry.{Entry};
-ghost use Rattle.nr_log_end.specs.Standings.{LooksOn, IsSharesFor, IsAllFilled, StandsInLog, filled_for, fetched_with, passed_on, noted_with};
+ghost use Rattle.nr_log_end.specs.Standings.{IsSharesFor, IsAllFilled, reservation};
 ghost use Rattle.nr_log_end.specs.Tries.{IsTaken, IsFull, IsLost};
-ghost use Rattle.nr_node.specs.Keeping.{IfTaken, IfFull, IfLost, IfRefused, AreBelow, IsFromOn, LetsGo};
+ghost use Rattle.nr_node.specs.Keeping.{IfBack, IfTaken, IfFull, IfLost, IfRefused, AreBelow, IsFromOn, LetsGo};
 
-use nr_entry::{Entry, Job, Shares};
-use nr_log_end::{LogEnd, Look, Reserve};
-use nr_oplog::{End, LogName, Token};
+use nr_entry::{Entry, Shares};
+use nr_log_end::{LogEnd, Reserve};
+use nr_oplog::{End, LogName};
 use std::alloc::Global;
 use std::collections::VecDeque;
 use std::marker::Model;
@@ -50,48 +50,47 @@ impl Model for Kept {
     ghost view = { λ k. (k.number, arc_value k.share) };
 }
 
-/// A node's end of the operation log that keeps a share of each entry of its own until all nodes have passed it: so the memory that the node took for the entry
-/// is given back by this node, and not by the one that passes it last. Contracts see what the end knows.
+/// Shares of a node's own entries, which it keeps until all nodes have passed them: so the memory that the node took for an entry is given back by this node, and not by
+/// the one that passes it last. Contracts see the entries with their numbers.
 #[derive(Drop)]
-pub(crate) struct NodeEnd<B: LogName> {
-    end: End<B>,
+pub(crate) struct OwnEntries {
     kept: VecDeque<Kept>,
 }
 
-impl<B: LogName> Model for NodeEnd<B> {
-    ghost use Rattle.nr_oplog.specs.declared.view.LogView.{LogView};
-    ghost use Rattle.nr_oplog.specs.contracts.view.LogView as of_view;
-    ghost use Rattle.nr_node.specs.Keeping.{AreLast};
+impl Model for OwnEntries {
+    ghost use Rattle.std.specs.Prelude.{ℕ, List};
+    ghost use Rattle.std.specs.Coded.{coded_list, coded×, coded_ℕ};
+    ghost use Rattle.nr_entry.specs.declared.entry.Entry.{Entry};
+    ghost use Rattle.nr_entry.specs.contracts.entry.Entry as of_entry;
 
-    ghost Value = { LogView };
+    ghost Value = { List (ℕ × Entry) };
 
-    ghost coded = { of_view.the_row.coded };
+    ghost coded = { coded_list (coded× coded_ℕ of_entry.the_row.coded) };
 
-    ghost view = { λ e. e.end };
-
-    ghost invariant = { λ e. AreLast e.kept.items e.end.standing.reservations };
+    ghost view = { λ o. o.kept.items };
 }
 
-impl<B: LogName> NodeEnd<B> {
-    /// An end that keeps nothing yet.
-    pub(crate) fn new(alloc: Global, end: End<B>) -> NodeEnd<B>
-        ensures { result ≡ end }
+impl OwnEntries {
+    /// None is kept yet.
+    pub(crate) fn new(alloc: Global) -> OwnEntries
+        ensures { result ≡ [] }
     {
-        NodeEnd {
-            end,
+        OwnEntries {
             kept: VecDeque::new(alloc),
         }
     }
 
     /// Tries once to reserve the next number for an entry of this node, of which it keeps a share then. Where there is no memory for that nothing is tried.
-    pub(crate) fn reserve(&mut self, shares: Shares) -> Put
-        requires shares { IsSharesFor self.old.standing shares }
-        requires filled { IsAllFilled self.old.standing }
-        requires nodes { 0 < self.old.standing.nodes }
-        ensures taken { IfTaken result (λ at. IsTaken self.old.standing self.old.looks at shares self.new.standing self.new.looks) }
-        ensures full { IfFull result (λ back. (back ≡ shares) × IsFull self.old.standing self.old.looks B.places self.new.standing self.new.looks) }
-        ensures lost { IfLost result (λ back. (back ≡ shares) × IsLost self.old.standing self.old.looks self.new.standing self.new.looks) }
-        ensures refused { IfRefused result (λ back. (back ≡ shares) × (self.new ≡ self.old)) }
+    pub(crate) fn reserve<B: LogName>(&mut self, end: &mut End<B>, shares: Shares) -> Put
+        requires shares { IsSharesFor end.old.standing shares }
+        requires filled { IsAllFilled end.old.standing }
+        requires nodes { 0 < end.old.standing.nodes }
+        ensures taken { IfTaken result (λ at. IsTaken end.old.standing end.old.looks at shares end.new.standing end.new.looks) }
+        ensures full { IfFull result (λ back. (back ≡ shares) × IsFull end.old.standing end.old.looks B.places end.new.standing end.new.looks) }
+        ensures lost { IfLost result (λ back. (back ≡ shares) × IsLost end.old.standing end.old.looks end.new.standing end.new.looks) }
+        ensures refused { IfRefused result (λ back. (back ≡ shares) × (end.new ≡ end.old)) }
+        ensures kept { IfTaken result (λ at. self.new ≡ self.old ++ reservation at shares) }
+        ensures others { IfBack result (self.new ≡ self.old) }
     {
         let Ok(()) = self.kept.reserve(1) else {
             return Put::Refused(shares);
@@ -99,7 +98,7 @@ impl<B: LogName> NodeEnd<B> {
         let Some(share) = first_share(&shares) else {
             return Put::Refused(shares);
         };
-        match self.end.reserve(shares) {
+        match end.reserve(shares) {
             Reserve::Taken(number) => {
                 self.kept.push_back_reserved(Kept { number, share });
                 Put::Taken(number)
@@ -110,68 +109,10 @@ impl<B: LogName> NodeEnd<B> {
     }
 
     /// Lets go of the shares of the entries that all nodes have passed: one load for each node, where any are kept.
-    pub(crate) fn let_go(&mut self)
-        ensures standing { self.new.standing ≡ self.old.standing }
-        ensures looks { (more : List Look) × (self.new.looks ≡ self.old.looks ++ more) }
+    pub(crate) fn let_go<B: LogName>(&mut self, end: &mut End<B>)
+        ensures { LetsGo self.old self.new end.old end.new }
     {
-        let_go_passed(&mut self.end, &mut self.kept);
-    }
-
-    /// [`LogEnd::fill`].
-    pub(crate) fn fill(&mut self, at: u64, node: usize)
-        requires number { at ≡ self.old.standing.at }
-        requires share { IsSome (slice_index_or self.old.standing.unfilled node None) }
-        ensures filled { self.new.standing ≡ filled_for node self.old.standing }
-        ensures looks { self.new.looks ≡ self.old.looks }
-    {
-        self.end.fill(at, node);
-    }
-
-    /// [`LogEnd::fetch`].
-    pub(crate) fn fetch(&mut self) -> Option<Arc<Entry, Global>>
-        requires { self.old.standing.held ≡ None }
-        ensures some { IfSome result (λ entry. self.new.standing ≡ fetched_with (arc_value entry) self.old.standing) }
-        ensures none { IfNone result (self.new.standing ≡ self.old.standing) }
-        ensures in_log { StandsInLog self.new.standing }
-        ensures looks { self.new.looks ≡ self.old.looks }
-    {
-        self.end.fetch()
-    }
-
-    /// [`LogEnd::pass`].
-    pub(crate) fn pass(&mut self)
-        requires { IsSome self.old.standing.held }
-        ensures passed { self.new.standing ≡ passed_on self.old.standing }
-        ensures looks { self.new.looks ≡ self.old.looks }
-    {
-        self.end.pass();
-    }
-
-    /// [`LogEnd::tail`].
-    pub(crate) fn tail(&mut self) -> u64
-        ensures tail { result ≡ self.new.standing.seen }
-        ensures standing { LooksOn self.old.standing self.new.standing }
-        ensures looks { self.new.looks ≡ self.old.looks ++ Look.Tail result ∷ [] }
-    {
-        self.end.tail()
-    }
-
-    /// [`LogEnd::note`].
-    pub(crate) fn note(&mut self, job: &Job)
-        ensures noted { self.new.standing ≡ noted_with job.now self.new.standing.seen self.old.standing }
-        ensures seen { self.old.standing.seen ≤ self.new.standing.seen }
-        ensures looks { self.new.looks ≡ self.old.looks ++ Look.Tail self.new.standing.seen ∷ [] }
-    {
-        self.end.note(job);
-    }
-
-    /// [`LogEnd::token`].
-    pub(crate) fn token(&mut self) -> Token<B>
-        ensures kept { result.standing ≡ self.old.standing }
-        ensures same { self.new.standing ≡ self.old.standing }
-        ensures looks { self.new.looks ≡ self.old.looks }
-    {
-        self.end.token()
+        let_go_passed(end, &mut self.kept);
     }
 }
 

@@ -1,7 +1,8 @@
 //! A node over the running operation log: its replica, its end of the log, and the accounts of its batches, as one value for a lock.
 #![tactic(auto)]
 
-pub use answers::{OpenError, Round, TakeError};
+pub use answers::{Looked, OpenError, Round, TakeError};
+pub use collecting::Handed;
 pub use within::{Core, Shape};
 
 mod advancing;

@@ -2,20 +2,20 @@
 ghost use Rattle.std.specs.Prelude.{◌≡◌, ◌<◌, ◌≤◌, [], ◌++◌, true, false, None, Some, IfOk, OnErr, IfSome, IfNone, MatchOption, List};
 ghost use Rattle.nr_entry.specs.declared.entry.Entry.{Entry};
 ghost use Rattle.nr_entry.specs.Shares.{shares_of};
-ghost use Rattle.nr_log_end.specs.Standings.{IsSharesFor, IsAllFilled};
+ghost use Rattle.nr_log_end.specs.Standings.{IsSharesFor, IsAllFilled, reservation};
 ghost use Rattle.nr_log_end.specs.Tries.{IsFull, IsLost};
-ghost use Rattle.nr_node.specs.Keeping.{IfTaken, IfFull, IfLost, IfRefused};
+ghost use Rattle.nr_node.specs.Keeping.{IfBack, IfTaken, IfFull, IfLost, IfRefused};
 ghost use Rattle.nr_node.specs.Next.{IsNextOf};
 ghost use Rattle.nr_node.specs.declared.next.Next.TheVariants as forms;
 ghost use Rattle.nr_replica.specs.Replicas.{fallen};
 ghost use Rattle.nr_node.specs.Reserved.{AreTaken, AreNone, AreDue, IsReserved, HasMet, IsFresh, IsFilled};
 
-use crate::keeping::{NodeEnd, Put};
+use crate::keeping::{OwnEntries, Put};
 use crate::next::Next;
 use nr_blob::Memory;
 use nr_entry::{Entry, Shares};
-use nr_log_end::Look;
-use nr_oplog::LogName;
+use nr_log_end::{LogEnd, Look};
+use nr_oplog::{End, LogName};
 use nr_replica::Replica;
 use std::alloc::Global;
 
@@ -73,7 +73,12 @@ fn share(
 }
 
 /// Tries once to reserve a place for the entry of these shares, and fills all its cells where it got one.
-pub(crate) fn put_in<B: LogName>(end: &mut NodeEnd<B>, nodes: usize, shares: Shares) -> Put
+pub(crate) fn put_in<B: LogName>(
+    end: &mut End<B>,
+    kept: &mut OwnEntries,
+    nodes: usize,
+    shares: Shares,
+) -> Put
     requires nodes { (nodes ≡ end.old.standing.nodes) × (0 < nodes) }
     requires shares { IsSharesFor end.old.standing shares }
     requires filled { IsAllFilled end.old.standing }
@@ -84,9 +89,11 @@ pub(crate) fn put_in<B: LogName>(end: &mut NodeEnd<B>, nodes: usize, shares: Sha
     ensures met_full { IfFull result (λ _. IsFull end.old.standing end.old.looks B.places end.new.standing end.new.looks) }
     ensures met_lost { IfLost result (λ _. IsLost end.old.standing end.old.looks end.new.standing end.new.looks) }
     ensures filled { IsAllFilled end.new.standing }
+    ensures kept { IfTaken result (λ at. kept.new ≡ kept.old ++ reservation at shares) }
+    ensures others { IfBack result (kept.new ≡ kept.old) }
     ensures looks { (more : List Look) × (end.new.looks ≡ end.old.looks ++ more) }
 {
-    match end.reserve(shares) {
+    match kept.reserve(end, shares) {
         Put::Taken(at) => {
             fill_all(end, nodes, at);
             Put::Taken(at)
@@ -98,7 +105,7 @@ pub(crate) fn put_in<B: LogName>(end: &mut NodeEnd<B>, nodes: usize, shares: Sha
 }
 
 // Puts each node's share into its cell.
-fn fill_all<B: LogName>(end: &mut NodeEnd<B>, nodes: usize, at: u64)
+fn fill_all<B: LogName>(end: &mut End<B>, nodes: usize, at: u64)
     requires { IsFresh at nodes end.old.standing }
     ensures filled { IsFilled end.old.standing end.new.standing }
     ensures looks { end.new.looks ≡ end.old.looks }

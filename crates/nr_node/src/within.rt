@@ -1,5 +1,5 @@
 // What all workers of a node share.
-ghost use Rattle.std.specs.Prelude.{◌≡◌, ◌≢◌, ◌↔◌, ◌⊎◌, ◌+◌, ◌++◌, ◌<◌, ◌≤◌, [], ℕ, List, length, true, false, Ok, Err, Some, None, IfOk, IfErr, IfSome, IfNone, OnOk, OnErr, slice_index_or};
+ghost use Rattle.std.specs.Prelude.{◌≡◌, ◌≢◌, ◌↔◌, ◌⊎◌, ◌+◌, ◌++◌, ◌<◌, ◌≤◌, [], ℕ, List, length, true, false, is_some, Ok, Err, Some, None, IfOk, IfErr, IfSome, IfNone, OnOk, OnErr, slice_index_or};
 ghost use Rattle.std.specs.FinMap as finmap;
 ghost use Rattle.std.specs.List.{AllByRecursion};
 ghost use Rattle.nr_entry.specs.Jobs.{connection_of, items_of};
@@ -10,21 +10,23 @@ ghost use Rattle.nr_log_end.specs.Tries.{IsFull, IsLost};
 ghost use Rattle.nr_oplog.specs.Rule.{opening_view};
 ghost use Rattle.nr_replica.specs.Members.{next_ready};
 ghost use Rattle.nr_node.specs.Level.{connection_at, queue_at, is_closed_at};
-ghost use Rattle.nr_node.specs.Batches.{AreSame, refusal, IsOpened, IsPiece};
+ghost use Rattle.nr_node.specs.Batches.{AreSame, refusal, is_cut_at, IsOpened, IsPiece};
+ghost use Rattle.nr_node.specs.Collected.{IsHanded};
 ghost use Rattle.nr_node.specs.Owing.{answer_of, answered_node, IsServedBy, HasAllExecuted};
 ghost use Rattle.nr_node.specs.Sound.{IsSound};
-ghost use Rattle.nr_node.specs.Steps.{fresh_node, opened_node, closed_node, taken_node, HasReserved, GoesOnWaiting, HasNoneDue, HasFallen, GoesOnBy, HasRead, IsStill, HasHandedOut};
+ghost use Rattle.nr_node.specs.Steps.{fresh_node, opened_node, closed_node, taken_node, refusing_node, is_due, HasReserved, GoesOnWaiting, HasNoneDue, HasFallen, GoesOnBy, HasRead, IsStill, HasHandedOut};
 
 use crate::advancing::catch_up;
-use crate::answers::{OpenError, Round, TakeError, take_error};
-use crate::keeping::{NodeEnd, Put};
+use crate::answers::{Looked, OpenError, Round, TakeError, take_error};
+use crate::collecting::Handed;
+use crate::keeping::{OwnEntries, Put};
 use crate::next::Next;
 use crate::reading::read;
 use crate::reserving::{put_in, take_shares};
 use nr_accounts::Accounts;
 use nr_blob::Memory;
 use nr_entry::{Batch, ConnId, Outcome};
-use nr_log_end::Look;
+use nr_log_end::{LogEnd, Look};
 use nr_oplog::{End, LogName, Token};
 use nr_replica::{Piece, Replica};
 use std::alloc::Global;
@@ -46,7 +48,8 @@ pub struct Core<B: LogName> {
     alloc: Global,
     // How many nodes the log has.
     nodes: usize,
-    end: NodeEnd<B>,
+    end: End<B>,
+    kept: OwnEntries,
     replica: Replica,
     accounts: Accounts,
     next: Option<Next>,
@@ -55,6 +58,7 @@ pub struct Core<B: LogName> {
 impl<B: LogName> Model for Core<B> {
     ghost use Rattle.std.specs.Prelude.{◌≡◌, ◌<◌, None};
     ghost use Rattle.nr_log_end.specs.Standings.{IsAllFilled};
+    ghost use Rattle.nr_node.specs.Keeping.{AreLast};
     ghost use Rattle.nr_node.specs.Level.{NodeState, coded_node};
     ghost use Rattle.nr_node.specs.Next.{jobs_next};
     ghost use Rattle.nr_node.specs.Kept.{IsKept};
@@ -66,7 +70,7 @@ impl<B: LogName> Model for Core<B> {
     ghost view = { λ c. record { seat = c.end; replica = c.replica; book = c.accounts; next = jobs_next c.next } };
 
     ghost invariant = { λ c. IsKept c.end.standing c.replica c.accounts c.next c.nodes × (c.end.standing.held ≡ None) × IsAllFilled c.end.standing
-        × (c.nodes ≡ c.end.standing.nodes) × (0 < c.nodes) };
+        × (c.nodes ≡ c.end.standing.nodes) × (0 < c.nodes) × AreLast c.kept c.end };
 }
 
 impl<B: LogName> Core<B> {
@@ -87,7 +91,8 @@ impl<B: LogName> Core<B> {
             replica: Replica::new(alloc, keys, shape.node, shape.workers)?,
             accounts: Accounts::new(alloc, shape.node, shape.workers)?,
             next: None,
-            end: NodeEnd::new(alloc, end),
+            end,
+            kept: OwnEntries::new(alloc),
         })
     }
 
@@ -218,7 +223,7 @@ impl<B: LogName> Core<B> {
         let Some(shares) = shares else {
             return Ok(self.up_or_down());
         };
-        match put_in(&mut self.end, self.nodes, shares) {
+        match put_in(&mut self.end, &mut self.kept, self.nodes, shares) {
             Put::Taken(_) => Ok(Round::Done),
             Put::Full(shares) => {
                 self.next = Some(Next::Shared(shares));
@@ -235,7 +240,7 @@ impl<B: LogName> Core<B> {
         }
     }
 
-    /// Applies and passes all entries that there are when it begins, and the next one where that is there.
+    /// Applies and passes all entries that there are when it begins, and the next one where that is there. A node that is down passes them too.
     pub fn catch_up(&mut self) -> Round
         ensures goes { (entries : List Entry) × ((tail : ℕ) × GoesOnBy entries [] tail self.old self.new × (result ≡ Round.Done → tail ≤ passed_of self.new.seat.standing) × (result ≡ Round.NotYet → passed_of self.new.seat.standing < tail)) }
         ensures never { (result ≢ Round.Full) × (result ≢ Round.Again) }
@@ -244,6 +249,7 @@ impl<B: LogName> Core<B> {
     {
         let reached = catch_up(
             &mut self.end,
+            &mut self.kept,
             &mut self.replica,
             &mut self.accounts,
             &mut self.next,
@@ -254,33 +260,52 @@ impl<B: LogName> Core<B> {
         if reached { Round::Done } else { Round::NotYet }
     }
 
-    /// Applies and passes all entries that there are when it begins, and then runs the reads that lead, each of which it notes behind them. They are run only
+    /// Applies and passes all entries that there are when it begins, and then runs the reads that lead, all of which it notes behind them. They are run only
     /// where all those entries are there, and where no entry of the node's own found no place: so none runs before an update of its connection. Where memory
-    /// runs out none is run.
-    pub fn look(&mut self) -> Result<Round, Memory>
-        ensures goes { (entries : List Entry) × ((ran : List Job) × ((tail : ℕ) × GoesOnBy entries ran tail self.old self.new × (result ≡ Ok Round.Done → HasRead ran tail self.old self.new) × (result ≢ Ok Round.Done → ran ≡ []) × (result ≢ Ok Round.NotYet → self.new.replica.down ≡ false → tail ≤ passed_of self.new.seat.standing) × (result ≡ Ok Round.NotYet → passed_of self.new.seat.standing < tail))) }
-        ensures down { (result ≡ Ok Round.Down) ↔ (self.new.replica.down ≡ true) }
-        ensures waiting { result ≢ Ok Round.Done → self.new.replica.down ≡ false → (self.new.replica.waiting ≡ self.old.replica.waiting) × (self.new.next ≡ self.old.next) }
-        ensures again { result ≡ Ok Round.Again → self.old.next ≢ [] }
-        ensures never_full { result ≢ Ok Round.Full }
+    /// runs out none is run. A node that is down passes the entries that are there, executes none, and runs no read.
+    pub fn look(&mut self) -> Looked
+        ensures goes { (entries : List Entry) × ((ran : List Job) × ((tail : ℕ) × GoesOnBy entries ran tail self.old self.new × (result.round ≡ Ok Round.Done → HasRead ran tail self.old self.new) × (result.round ≢ Ok Round.Done → ran ≡ []) × (result.is_behind ≡ false → tail ≤ passed_of self.new.seat.standing) × (result.is_behind ≡ true → passed_of self.new.seat.standing < tail))) }
+        ensures not_yet { (result.round ≡ Ok Round.NotYet) ↔ ((result.is_behind ≡ true) × (self.new.replica.down ≡ false)) }
+        ensures down { (result.round ≡ Ok Round.Down) ↔ (self.new.replica.down ≡ true) }
+        ensures waiting { result.round ≢ Ok Round.Done → self.new.replica.down ≡ false → (self.new.replica.waiting ≡ self.old.replica.waiting) × (self.new.next ≡ self.old.next) }
+        ensures again { result.round ≡ Ok Round.Again → self.old.next ≢ [] }
+        ensures never_full { result.round ≢ Ok Round.Full }
     {
         let reached = catch_up(
             &mut self.end,
+            &mut self.kept,
             &mut self.replica,
             &mut self.accounts,
             &mut self.next,
         );
         if self.replica.is_down() {
-            return Ok(Round::Down);
+            return Looked {
+                round: Ok(Round::Down),
+                is_behind: !reached,
+            };
         }
         if !reached {
-            return Ok(Round::NotYet);
+            return Looked {
+                round: Ok(Round::NotYet),
+                is_behind: true,
+            };
         }
         if self.next.is_some() {
-            return Ok(Round::Again);
+            return Looked {
+                round: Ok(Round::Again),
+                is_behind: false,
+            };
         }
-        read(&mut self.end, &mut self.replica)?;
-        Ok(Round::Done)
+        let Ok(_ran) = read(&mut self.end, &mut self.replica) else {
+            return Looked {
+                round: Err(Memory),
+                is_behind: false,
+            };
+        };
+        Looked {
+            round: Ok(Round::Done),
+            is_behind: false,
+        }
     }
 
     /// Hands out at most so many of the first bytes that wait for a connection, and at least one, with a token that keeps of which record they are; or `None`
@@ -300,11 +325,27 @@ impl<B: LogName> Core<B> {
         if !self.has(conn) {
             return Ok(None);
         }
+        let Some(handed) = self.hand_out(conn, most)? else {
+            return Ok(None);
+        };
+        let token = self.token();
+        Ok(Some((handed.piece, token)))
+    }
+
+    /// Hands out at most so many of the first bytes that wait for a connection of the node, and at least one, or `None` where nothing waits. Linear in them.
+    /// Where memory runs out nothing changes.
+    pub(crate) fn hand_out(&mut self, conn: ConnId, most: usize) -> Result<Option<Handed>, Memory>
+        requires some { 0 < most }
+        requires opened { IsOpened self.old (connection_of conn) }
+        ensures handed { IfOk result (λ taken. IfSome taken (λ one. IsHanded most conn.serial one self.old self.new)) }
+        ensures none { IfOk result (λ taken. IfNone taken (((queue_at conn.serial self.old.replica.members).waiting ≡ []) × (self.new ≡ self.old))) }
+        ensures unchanged { OnErr result (self.new ≡ self.old) }
+    {
+        let is_cut = self.replica.is_cut(conn.serial as usize);
         let Some(piece) = self.replica.take_piece(conn.serial as usize, most)? else {
             return Ok(None);
         };
-        let token = self.end.token();
-        Ok(Some((piece, token)))
+        Ok(Some(Handed { piece, is_cut }))
     }
 
     /// How many connections were ever opened.
@@ -332,9 +373,44 @@ impl<B: LogName> Core<B> {
     pub fn token(&mut self) -> Token<B>
         ensures kept { result.standing ≡ self.old.seat.standing }
         ensures sound { IsSound result.standing }
+        ensures node { result.standing.node ≡ self.old.book.node }
         ensures same { IsStill self.old self.new }
     {
         self.end.token()
+    }
+
+    /// Whether nothing more comes to wait for a connection: it was closed, or its queue was cut. One that isn't the node's isn't cut. Logarithmic.
+    pub fn is_cut(&self, conn: ConnId) -> bool
+        ensures { result ≡ is_cut_at self.now conn }
+    {
+        conn.node == self.replica.node()
+            && conn.serial < self.connections()
+            && self.replica.is_cut(conn.serial as usize)
+    }
+
+    /// Whether bytes wait for a connection that this worker serves, where the node has the worker.
+    pub fn has_ready(&self, worker: usize) -> bool
+        requires { worker < length self.now.replica.owed }
+        ensures { result ≡ is_some (next_ready worker 0 self.now.replica.members) }
+    {
+        self.replica.next_ready(worker, 0).is_some()
+    }
+
+    /// Whether an entry is due: one found no place before, or an update leads.
+    pub fn is_due(&self) -> bool
+        ensures { result ≡ is_due self.now }
+    {
+        if self.next.is_some() {
+            return true;
+        }
+        self.replica.leads_update()
+    }
+
+    /// The next entry that it applies is refused, as where memory runs out: then the replica falls.
+    pub fn refuse(&mut self)
+        ensures { self.new ≡ refusing_node self.old }
+    {
+        self.replica.refuse();
     }
 
     // Whether a connection is the node's, and was opened.

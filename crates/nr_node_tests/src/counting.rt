@@ -1,18 +1,20 @@
 // Workers of two nodes, each on a thread of its own, count at one key.
-ghost use Rattle.std.specs.Prelude.{◌≡◌};
+ghost use Rattle.std.specs.Prelude.{◌≡◌, ◌≤◌, length};
 ghost use Rattle.nr_oplog.specs.Opening.{name_of, nodes_of, places_of};
+ghost use Rattle.nr_combiner.specs.Opened.{AreNamed, AreOfWorkers};
 
-use crate::client::{Client, MANY, is_executed};
-use nr_blob::Memory;
-use nr_combiner::{Plan, Worker, build};
-use nr_oplog::{LogName, Opened};
+use crate::asserted::holds;
+use crate::desk::{Desk, MANY};
+use nr_combiner::{OpenedSlots, Plan, ServerName, open_slots};
+use nr_held::{Station, stations};
+use nr_oplog::Opened;
 use std::alloc::Global;
 use std::hash::RandomState;
 use std::marker::Brand;
 use std::process::Abort;
+use std::random::RandomSource;
 use std::sync::Wait;
 use std::sync::atomic::{AtomicUsize, Ordering};
-use std::test::Fail;
 use std::thread;
 use std::thread::Threads;
 
@@ -31,22 +33,20 @@ struct Counting {
 fn requests(rt: &impl Abort, alloc: Global, batch: usize) -> Vec<u8> {
     let mut sent = Vec::new(alloc);
     for _ in 0..batch {
-        assert!(rt; sent.extend_from_slice(b"INCR n\r\n").is_ok());
+        sent.extend_from_slice(b"INCR n\r\n").expect(rt, "memory");
     }
     sent
 }
 
 // Takes turns of the combiner until the worker's batch is executed.
-fn waits_for_answer<B: LogName, R: Wait + Abort>(rt: &R, worker: &mut Worker<B>) {
+fn waits_for_answer<B: ServerName, R: Wait + Abort>(rt: &R, station: &mut Station<B>) {
     for _ in 0..MOST_VAIN {
-        assert!(rt; worker.shared().combine(rt).is_ok());
-        match worker.collect() {
-            None => thread::yield_now(),
-            outcome => {
-                assert!(rt; is_executed(outcome));
-                return;
-            }
+        holds(rt, "a turn is taken", station.combine(rt).is_ok());
+        if let Some(executed) = station.collect() {
+            holds(rt, "the batch is executed", executed);
+            return;
         }
+        thread::yield_now();
     }
     panic!(rt; "no answer came");
 }
@@ -55,54 +55,73 @@ fn waits_for_answer<B: LogName, R: Wait + Abort>(rt: &R, worker: &mut Worker<B>)
 fn read_numbers(rt: &impl Abort, replies: &[u8], numbers: &mut Vec<u64>) {
     let mut number = 0u64;
     for byte in replies {
-        match *byte {
-            digit @ b'0'..=b'9' => {
-                number = number
-                    .saturating_mul(10)
-                    .saturating_add(u64::from(digit - b'0'));
-            }
-            b'\r' => {
-                assert!(rt; numbers.push(number).is_ok());
-                number = 0;
-            }
-            other => assert!(rt; b":$\n".contains(&other)),
+        if *byte == b'\r' {
+            numbers.push(number).expect(rt, "memory");
+            number = 0;
+        } else {
+            number = read_on(rt, number, *byte);
         }
     }
 }
 
+// The number with one byte more of its reply.
+fn read_on(rt: &impl Abort, number: u64, byte: u8) -> u64 {
+    if byte.is_ascii_digit() {
+        return number
+            .saturating_mul(10)
+            .saturating_add(u64::from(byte - b'0'));
+    }
+    holds(rt, "it is a number's reply", b":$\n".contains(&byte));
+    number
+}
+
+// Reads what waits for the client.
+fn reads<B: ServerName, R: Wait + Abort>(rt: &R, desk: &mut Desk<B>, numbers: &mut Vec<u64>) {
+    let some = desk.takes(rt, MANY);
+    holds(rt, "replies wait", some);
+    read_numbers(rt, desk.client.pending(), numbers);
+    desk.client.write();
+}
+
+// Hands in a batch, and reads once it was answered.
+fn counts_batch<B: ServerName, R: Wait + Abort>(
+    rt: &R,
+    desk: &mut Desk<B>,
+    sent: &[u8],
+    numbers: &mut Vec<u64>,
+) {
+    desk.hands_in(rt, sent);
+    waits_for_answer(rt, &mut desk.station);
+    reads(rt, desk, numbers);
+}
+
 // Hands in batches of INCRs, each once the last one was answered, goes on passing the others' entries until all workers have ended, and then asks how far all
 // counted. What it was told.
-fn counts<B: LogName, R: Wait + Abort>(
+fn counts<B: ServerName, R: Wait + Abort>(
     rt: &R,
     alloc: Global,
-    mut worker: Worker<B>,
+    station: Station<B>,
     counting: Counting,
     ended: &AtomicUsize,
     workers: usize,
 ) -> Vec<u64> {
     let sent = requests(rt, alloc, counting.batch);
     let mut numbers = Vec::new(alloc);
-    let mut client = Client::open(rt, alloc, &worker);
+    let mut desk = Desk::new(rt, station);
     for _ in 0..counting.batches {
-        let jobs = client.jobs(rt, alloc, &sent);
-        assert!(rt; worker.post(jobs).is_ok());
-        waits_for_answer(rt, &mut worker);
-        assert!(rt; client.takes(rt, &worker, MANY));
-        read_numbers(rt, client.tap.pending(), &mut numbers);
-        client.writes_all();
+        counts_batch(rt, &mut desk, &sent, &mut numbers);
     }
     ended.fetch_add(1, Ordering::SeqCst);
-    goes_on_passing(rt, &worker, ended, workers);
-    client.sends(rt, alloc, &mut worker, b"GET n\r\n");
-    assert!(rt; client.takes(rt, &worker, MANY));
-    read_numbers(rt, client.tap.pending(), &mut numbers);
+    goes_on_passing(rt, &desk.station, ended, workers);
+    desk.sends(rt, b"GET n\r\n");
+    reads(rt, &mut desk, &mut numbers);
     numbers
 }
 
 // Takes turns until so many workers have ended.
-fn goes_on_passing<B: LogName, R: Wait + Abort>(
+fn goes_on_passing<B: ServerName, R: Wait + Abort>(
     rt: &R,
-    worker: &Worker<B>,
+    station: &Station<B>,
     ended: &AtomicUsize,
     workers: usize,
 ) {
@@ -110,54 +129,58 @@ fn goes_on_passing<B: LogName, R: Wait + Abort>(
         if ended.load(Ordering::SeqCst) >= workers {
             return;
         }
-        assert!(rt; worker.shared().combine(rt).is_ok());
+        holds(rt, "a turn is taken", station.combine(rt).is_ok());
         thread::yield_now();
     }
     panic!(rt; "others didn't end");
 }
 
-// The workers of all nodes.
-fn all_workers<B: LogName>(
-    rt: &impl Abort,
-    alloc: Global,
-    nodes: Vec<Vec<Worker<B>>>,
-) -> Vec<Worker<B>> {
-    let mut all = Vec::new(alloc);
-    for workers in nodes {
-        for worker in workers {
-            assert!(rt; all.push(worker).is_ok());
-        }
-    }
-    all
-}
-
 // What each worker was told, the workers being on threads of their own.
-fn count_up<B: LogName + Send + Sync, R: Threads + Wait + Abort + Sync>(
+fn count_up<B: ServerName + Send + Sync, R: Threads + Wait + Abort + Sync>(
     rt: &R,
     alloc: Global,
     keys: RandomState,
     opened: Opened,
+    slots: Vec<OpenedSlots>,
     counting: Counting,
-) -> Result<Vec<Vec<u64>>, Memory>
+) -> Vec<Vec<u64>>
     requires name { name_of opened ≡ B.log }
     requires shape { (nodes_of opened ≡ B.nodes) × (places_of opened ≡ B.places) }
+    requires slots { (length slots.items ≡ B.nodes) × AreNamed B.slots slots.items }
+    requires workers { AreOfWorkers counting.workers slots.items × (1 ≤ counting.workers) × (counting.workers ≤ 16) }
 {
     let plan = Plan {
         workers: counting.workers,
         connections: counting.workers,
         limit: MANY,
     };
-    let Ok(nodes) = build::<B>(alloc, keys, opened, plan) else {
-        return Err(Memory);
-    };
-    let workers = all_workers(rt, alloc, nodes);
+    let workers = stations::<B>(alloc, keys, opened, slots, plan).expect(rt, "nodes are built");
     let many = workers.len();
     let ended = AtomicUsize::new(0);
-    Ok(thread::map_vec(
+    thread::map_vec(
         rt,
         workers,
         &|worker| counts(rt, alloc, worker, counting, &ended, many),
-    )?)
+    )
+    .expect(rt, "memory")
+}
+
+// The numbers that one worker was told are greater and greater, and the last tells how far all counted. Adds them to the others'.
+fn rise<R: Abort>(rt: &R, mut numbers: Vec<u64>, each: usize, total: u64, all: &mut Vec<u64>) {
+    holds(rt, "it counted as far as all", numbers.pop() == Some(total));
+    holds(rt, "in so many digits", numbers.pop().is_some());
+    holds(rt, "each batch was counted", numbers.len() == each);
+    holds(rt, "the numbers rise", numbers.is_sorted());
+    all.extend_from_slice(&numbers).expect(rt, "memory");
+}
+
+// These are all numbers from 1 on, once each.
+fn is_each_once<R: Abort>(rt: &R, mut all: Vec<u64>, total: u64) {
+    holds(rt, "all are there", all.len() as u64 == total && total > 0);
+    all.sort_unstable();
+    for (place, number) in all.iter().enumerate() {
+        holds(rt, "each is there once", *number == place as u64 + 1);
+    }
 }
 
 // Each worker of a new log's nodes, on a thread of its own, is told greater and greater numbers, and all of them together each number from 1 on once. Then each
@@ -169,61 +192,64 @@ fn count_together<R: Threads + Wait + Abort + Sync>(
     (nodes, places): (usize, usize),
     counting: Counting,
 ) {
-    let Ok(opened) = Opened::open(alloc, nodes, places) else {
-        panic!(rt; "no log was opened");
-    };
-    let told = count_up::<Brand, R>(rt, alloc, keys, opened, counting).expect(rt, "memory");
+    let opened = Opened::open(alloc, nodes, places)
+        .ok()
+        .expect(rt, "a log is opened");
+    let slots = open_slots(alloc, nodes, counting.workers)
+        .ok()
+        .expect(rt, "slots are opened");
+    let told = count_up::<Brand, R>(rt, alloc, keys, opened, slots, counting);
     let each = counting.batch.saturating_mul(counting.batches);
     let total = each.saturating_mul(told.len()) as u64;
     let mut all = Vec::new(alloc);
-    for mut numbers in told {
-        assert!(rt; numbers.pop() == Some(total));
-        assert!(rt; numbers.pop().is_some());
-        assert!(rt; numbers.len() == each && numbers.is_sorted());
-        assert!(rt; all.extend_from_slice(&numbers).is_ok());
+    for numbers in told {
+        rise(rt, numbers, each, total, &mut all);
     }
-    all.sort_unstable();
-    for (place, number) in all.iter().enumerate() {
-        assert!(rt; *number == place as u64 + 1);
-    }
-    assert!(rt; all.len() as u64 == total && total > 0);
+    is_each_once(rt, all, total);
+}
+
+// Counts so at the nodes of a new log.
+fn count_at<R: RandomSource + Threads + Wait + Abort + Sync>(
+    rt: &R,
+    alloc: Global,
+    shape: (usize, usize),
+    counting: Counting,
+) {
+    let keys = RandomState::new(rt)
+        .ok()
+        .expect(rt, "there are random bytes");
+    count_together(rt, alloc, keys, shape, counting);
 }
 
 // The log is so small that it is often full.
 #[test]
-fn two_nodes_of_two_workers_count_to_100000(rt: HostRuntime) -> Result<(), Fail> {
+fn two_nodes_of_two_workers_count_to_100000(rt: HostRuntime) {
     let counting = Counting {
         workers: 2,
         batch: 250,
         batches: 100,
     };
-    let keys = RandomState::new(&rt)?;
-    count_together(&rt, rt.alloc(), keys, (2, 4), counting);
-    Ok(())
+    count_at(&rt, rt.alloc(), (2, 4), counting);
 }
 
 // Each INCR takes an entry of its own, of which two find a place.
 #[test]
-fn through_2_places(rt: HostRuntime) -> Result<(), Fail> {
+fn through_2_places(rt: HostRuntime) {
     let counting = Counting {
         workers: 2,
         batch: 1,
         batches: 25_000,
     };
-    let keys = RandomState::new(&rt)?;
-    count_together(&rt, rt.alloc(), keys, (2, 2), counting);
-    Ok(())
+    count_at(&rt, rt.alloc(), (2, 2), counting);
 }
 
 // Entries of one INCR, of four nodes.
 #[test]
-fn four_nodes_through_64_places(rt: HostRuntime) -> Result<(), Fail> {
+fn four_nodes_through_64_places(rt: HostRuntime) {
     let counting = Counting {
         workers: 1,
         batch: 1,
         batches: 25_000,
     };
-    let keys = RandomState::new(&rt)?;
-    count_together(&rt, rt.alloc(), keys, (4, 64), counting);
-    Ok(())
+    count_at(&rt, rt.alloc(), (4, 64), counting);
 }

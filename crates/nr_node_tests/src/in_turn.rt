@@ -1,225 +1,544 @@
-// Two nodes of a worker each, in turn, in one thread.
-ghost use Rattle.std.specs.Prelude.{◌≡◌, ◌<◌};
+// Nodes and their workers in turn, in one thread: what their clients get, how many there may be, and what waits for them.
+ghost use Rattle.std.specs.Prelude.{◌≡◌, ◌≤◌, length};
 ghost use Rattle.nr_oplog.specs.Opening.{name_of, nodes_of, places_of};
+ghost use Rattle.nr_combiner.specs.Opened.{AreNamed, AreOfWorkers};
 
-use crate::client::{Client, is_executed};
-use nr_combiner::{Plan, Worker, build};
+use crate::asserted::{holds, same};
+use crate::desk::Act::{
+    Asks, Closes, Combines, Counts, Gets, GetsEach, GetsLength, HandsIn, IsTold, Opens, OpensNone,
+    Reopens, Sends, SendsEach, SendsMany,
+};
+use crate::desk::{Act, Desk};
+use nr_blob::int_text;
+use nr_combiner::{OpenedSlots, Plan, ServerName, open_slots};
+use nr_held::{Client, Offered, Turn, stations};
 use nr_node::Round;
-use nr_oplog::{LogName, Opened};
-use nr_taps::{Refused, meet};
+use nr_oplog::Opened;
+use nr_taps::Refused;
 use std::alloc::Global;
 use std::cmp::Ordering;
 use std::hash::RandomState;
 use std::marker::Brand;
 use std::process::Abort;
+use std::random::RandomSource;
 use std::sync::Wait;
-use std::test::Fail;
 
-/// One worker a node, and a megabyte for each connection.
-const PLAN: Plan = Plan {
-    workers: 1,
-    connections: 4,
-    limit: 1 << 20,
-};
-
-// The log of two nodes.
-fn opened<R: Abort>(rt: &R, alloc: Global, places: usize) -> Opened {
-    let Ok(opened) = Opened::open(alloc, 2, places) else {
-        panic!(rt; "no log was opened");
-    };
-    opened
+/// The nodes of a log, and how many places it has.
+#[derive(Clone, Copy)]
+struct Layout {
+    nodes: usize,
+    places: usize,
+    plan: Plan,
 }
 
-// The workers of both nodes.
-fn workers_of_both<B: LogName, R: Abort>(
+/// Two nodes of a worker each, and a megabyte for each connection.
+const TWO_NODES: Layout = Layout {
+    nodes: 2,
+    places: 4,
+    plan: Plan {
+        workers: 1,
+        connections: 4,
+        limit: 1 << 20,
+    },
+};
+
+/// The same, where the log has two places.
+const TWO_PLACES: Layout = Layout {
+    places: 2,
+    ..TWO_NODES
+};
+
+/// Two nodes of a worker each, which has many connections, and sixteen megabytes for each. No entry of some 200 waits for its place.
+const WIDE: Layout = Layout {
+    nodes: 2,
+    places: 256,
+    plan: Plan {
+        workers: 1,
+        connections: 32,
+        limit: 1 << 24,
+    },
+};
+
+/// A node of one worker, of which one connection is open at most, for which at most a kilobyte waits.
+const NARROW: Layout = Layout {
+    nodes: 1,
+    places: 64,
+    plan: Plan {
+        workers: 1,
+        connections: 1,
+        limit: 1024,
+    },
+};
+
+/// Sixteen workers of three nodes.
+const MANY_WORKERS: Layout = Layout {
+    nodes: 3,
+    places: 64,
+    plan: Plan {
+        workers: 16,
+        connections: 16,
+        limit: 1 << 30,
+    },
+};
+
+/// Two workers of one node.
+const TWO_WORKERS: Layout = Layout {
+    nodes: 1,
+    places: 4,
+    plan: Plan {
+        workers: 2,
+        connections: 3,
+        limit: 1 << 20,
+    },
+};
+
+/// What is done at the nodes of a log, each worker of which has a client.
+#[derive(Clone, Copy)]
+enum Play<'a> {
+    /// Each act by the worker of this number and its client: those of node 0 first.
+    InTurn(&'a [(usize, Act)]),
+    /// Each client counts one further.
+    AllCount,
+    /// The taps of the clients of two nodes meet.
+    TapsMeet,
+    /// Taps refuse pieces.
+    PiecesAreRefused,
+    /// Turns of two workers of one node hand out.
+    TurnsHandOut,
+    /// A turn hands out for twenty connections at once.
+    ManyAtOnce,
+}
+
+// The workers of a log's nodes, each with a client.
+fn desks<B: ServerName, R: Wait + Abort>(
     rt: &R,
     alloc: Global,
     keys: RandomState,
     opened: Opened,
-) -> (Worker<B>, Worker<B>)
+    slots: Vec<OpenedSlots>,
+    plan: Plan,
+) -> Vec<Desk<B>>
     requires name { name_of opened ≡ B.log }
     requires shape { (nodes_of opened ≡ B.nodes) × (places_of opened ≡ B.places) }
+    requires slots { (length slots.items ≡ B.nodes) × AreNamed B.slots slots.items }
+    requires workers { AreOfWorkers plan.workers slots.items × (1 ≤ plan.workers) × (plan.workers ≤ 16) }
 {
-    let Ok(mut nodes) = build::<B>(alloc, keys, opened, PLAN) else {
-        panic!(rt; "no nodes were built");
-    };
-    let (Some(mut of_second), Some(mut of_first)) = (nodes.pop(), nodes.pop()) else {
-        panic!(rt; "there are two nodes");
-    };
-    assert!(rt; nodes.is_empty());
-    let (Some(first), Some(second)) = (of_first.pop(), of_second.pop()) else {
-        panic!(rt; "each has a worker");
-    };
-    assert!(rt; of_first.is_empty() && of_second.is_empty());
+    let all = stations::<B>(alloc, keys, opened, slots, plan).expect(rt, "nodes are built");
+    let mut desks = Vec::new(alloc);
+    for station in all {
+        desks.push(Desk::new(rt, station)).expect(rt, "memory");
+    }
+    desks
+}
+
+fn perform<B: ServerName, R: Wait + Abort>(
+    rt: &R,
+    alloc: Global,
+    keys: RandomState,
+    opened: Opened,
+    slots: Vec<OpenedSlots>,
+    plan: Plan,
+    play: Play<'_>,
+)
+    requires name { name_of opened ≡ B.log }
+    requires shape { (nodes_of opened ≡ B.nodes) × (places_of opened ≡ B.places) }
+    requires slots { (length slots.items ≡ B.nodes) × AreNamed B.slots slots.items }
+    requires workers { AreOfWorkers plan.workers slots.items × (1 ≤ plan.workers) × (plan.workers ≤ 16) }
+{
+    let mut desks = desks::<B, R>(rt, alloc, keys, opened, slots, plan);
+    match play {
+        Play::InTurn(acts) => in_turn(rt, &mut desks, acts),
+        Play::AllCount => all_count(rt, alloc, desks),
+        Play::TapsMeet => taps_meet(rt, desks),
+        Play::PiecesAreRefused => refuse_pieces(rt, desks),
+        Play::TurnsHandOut => hand_out(rt, desks),
+        Play::ManyAtOnce => hand_out_to_many(rt, alloc, desks),
+    }
+}
+
+// Plays at the nodes of a new log.
+fn play_at<R: RandomSource + Wait + Abort>(rt: &R, alloc: Global, layout: Layout, what: Play<'_>) {
+    let keys = RandomState::new(rt)
+        .ok()
+        .expect(rt, "there are random bytes");
+    let opened = Opened::open(alloc, layout.nodes, layout.places)
+        .ok()
+        .expect(rt, "a log is opened");
+    let slots = open_slots(alloc, layout.nodes, layout.plan.workers)
+        .ok()
+        .expect(rt, "slots are opened");
+    perform::<Brand, R>(rt, alloc, keys, opened, slots, layout.plan, what);
+}
+
+fn in_turn<B: ServerName, R: Wait + Abort>(rt: &R, desks: &mut [Desk<B>], acts: &[(usize, Act)]) {
+    for (place, act) in acts {
+        let desk = desks.get_mut(*place).expect(rt, "there is such a worker");
+        desk.does(rt, *act);
+    }
+}
+
+// Each client counts, one after the other, and is told how many did.
+fn all_count<B: ServerName, R: Wait + Abort>(rt: &R, alloc: Global, desks: Vec<Desk<B>>) {
+    let mut count = 0u32;
+    for mut desk in desks {
+        count = count.saturating_add(1);
+        let mut wanted = Vec::new(alloc);
+        wanted.push(b':').expect(rt, "memory");
+        int_text(i64::from(count), &mut wanted).expect(rt, "memory");
+        wanted.extend_from_slice(b"\r\n").expect(rt, "memory");
+        desk.asks(rt, b"INCR n\r\n", &wanted);
+    }
+    holds(rt, "each of 48 counts", count == 48);
+}
+
+// Both workers, with their clients.
+fn both<B: ServerName>(rt: &impl Abort, mut desks: Vec<Desk<B>>) -> (Desk<B>, Desk<B>) {
+    let second = desks.pop().expect(rt, "there are two workers");
+    let first = desks.pop().expect(rt, "there are two workers");
+    holds(rt, "there are two workers", desks.is_empty());
     (first, second)
 }
 
-// A reply is there, whole or byte by byte; and what one node has answered, the other reads.
-fn reads_back<B: LogName, R: Wait + Abort>(rt: &R, alloc: Global, keys: RandomState, opened: Opened)
-    requires name { name_of opened ≡ B.log }
-    requires shape { (nodes_of opened ≡ B.nodes) × (places_of opened ≡ B.places) }
-{
-    let sent = b"*3\r\n$3\r\nSET\r\n$1\r\nk\r\n$1\r\nv\r\n*2\r\n$3\r\nGET\r\n$1\r\nk\r\n";
-    let (mut first, mut second) = workers_of_both::<B, R>(rt, alloc, keys, opened);
-    let mut at_first = Client::open(rt, alloc, &first);
-    let mut at_second = Client::open(rt, alloc, &second);
-    at_first.sends(rt, alloc, &mut first, sent);
-    at_first.gets(rt, &first, b"+OK\r\n$1\r\nv\r\n");
-    for byte in sent {
-        at_first.sends(rt, alloc, &mut first, &[*byte]);
-    }
-    for _ in 0..12 {
-        assert!(rt; at_first.takes(rt, &first, 1));
-    }
-    assert!(rt; at_first.tap.pending() == b"+OK\r\n$1\r\nv\r\n".as_slice());
-    at_first.writes_all();
-    for value in b'0'..=b'9' {
-        let set = [b'S', b'E', b'T', b' ', b'k', b' ', value, b'\r', b'\n'];
-        at_first.sends(rt, alloc, &mut first, &set);
-        at_first.gets(rt, &first, b"+OK\r\n");
-        let wanted = [b'$', b'1', b'\r', b'\n', value, b'\r', b'\n'];
-        at_first.sends(rt, alloc, &mut first, b"GET k\r\n");
-        at_first.gets(rt, &first, &wanted);
-        at_second.sends(rt, alloc, &mut second, b"GET k\r\n");
-        at_second.gets(rt, &second, &wanted);
-    }
+// How many entries the tap of one client knows, beside another.
+fn meets<B: ServerName>(
+    rt: &impl Abort,
+    one: &mut Desk<B>,
+    other: &mut Desk<B>,
+    wanted: Option<Ordering>,
+) {
+    let met = one.client.meet(&one.station, &mut other.client);
+    holds(rt, "the taps compare", met == wanted);
 }
 
-#[test]
-fn read_back(rt: HostRuntime) -> Result<(), Fail> {
-    let keys = RandomState::new(&rt)?;
-    let opened = opened(&rt, rt.alloc(), 4);
-    reads_back::<Brand, HostRuntime>(&rt, rt.alloc(), keys, opened);
-    Ok(())
-}
-
-// A PING is answered by the node alone, and a message reaches the other node's subscriber once that node has applied it.
-fn publishes<B: LogName, R: Wait + Abort>(rt: &R, alloc: Global, keys: RandomState, opened: Opened)
-    requires name { name_of opened ≡ B.log }
-    requires shape { (nodes_of opened ≡ B.nodes) × (places_of opened ≡ B.places) }
-{
-    let (mut first, mut second) = workers_of_both::<B, R>(rt, alloc, keys, opened);
-    let mut at_first = Client::open(rt, alloc, &first);
-    let mut at_second = Client::open(rt, alloc, &second);
-    at_second.sends(rt, alloc, &mut second, b"*1\r\n$4\r\nPING\r\n");
-    at_second.gets(rt, &second, b"+PONG\r\n");
-    at_first.sends(rt, alloc, &mut first, b"SUBSCRIBE news\r\n");
-    at_first.gets(rt, &first, b"*3\r\n$9\r\nsubscribe\r\n$4\r\nnews\r\n:1\r\n");
-    at_first.sends(rt, alloc, &mut first, b"PSUBSCRIBE n*\r\n");
-    at_first.gets(rt, &first, b"*3\r\n$10\r\npsubscribe\r\n$2\r\nn*\r\n:2\r\n");
-    at_second.sends(rt, alloc, &mut second, b"PUBLISH news hi\r\n");
-    at_second.gets(rt, &second, b":2\r\n");
-    at_first.gets(rt, &first, b"");
-    assert!(rt; first.shared().combine(rt) == Ok(Round::Done));
-    at_first.gets(
-        rt,
-        &first,
-        b"*3\r\n$7\r\nmessage\r\n$4\r\nnews\r\n$2\r\nhi\r\n*4\r\n$8\r\npmessage\r\n$2\r\nn*\r\n$4\r\nnews\r\n$2\r\nhi\r\n",
-    );
-}
-
-#[test]
-fn messages_go_to_other_nodes(rt: HostRuntime) -> Result<(), Fail> {
-    let keys = RandomState::new(&rt)?;
-    let opened = opened(&rt, rt.alloc(), 4);
-    publishes::<Brand, HostRuntime>(&rt, rt.alloc(), keys, opened);
-    Ok(())
-}
-
-// Two places are taken by entries that the other node hasn't passed: a third entry waits for that, and is lost by nobody.
-fn fills_the_log<B: LogName, R: Wait + Abort>(
-    rt: &R,
-    alloc: Global,
-    keys: RandomState,
-    opened: Opened,
-)
-    requires name { name_of opened ≡ B.log }
-    requires shape { (nodes_of opened ≡ B.nodes) × (places_of opened ≡ B.places) }
-{
-    let (mut first, second) = workers_of_both::<B, R>(rt, alloc, keys, opened);
-    let mut at_first = Client::open(rt, alloc, &first);
-    at_first.sends(rt, alloc, &mut first, b"SET k 1\r\n");
-    at_first.sends(rt, alloc, &mut first, b"SET k 2\r\n");
-    at_first.gets(rt, &first, b"+OK\r\n+OK\r\n");
-    let jobs = at_first.jobs(rt, alloc, b"SET k 3\r\nGET k\r\n");
-    assert!(rt; first.post(jobs).is_ok());
-    for _ in 0..3 {
-        assert!(rt; first.shared().combine(rt) == Ok(Round::Full));
-        assert!(rt; first.collect().is_none());
-    }
-    at_first.gets(rt, &first, b"");
-    assert!(rt; second.shared().combine(rt) == Ok(Round::Done));
-    assert!(rt; first.shared().combine(rt) == Ok(Round::Done));
-    assert!(rt; is_executed(first.collect()));
-    at_first.gets(rt, &first, b"+OK\r\n$1\r\n3\r\n");
-}
-
-#[test]
-fn full_log_loses_nothing(rt: HostRuntime) -> Result<(), Fail> {
-    let keys = RandomState::new(&rt)?;
-    let opened = opened(&rt, rt.alloc(), 2);
-    fills_the_log::<Brand, HostRuntime>(&rt, rt.alloc(), keys, opened);
-    Ok(())
-}
-
-// Taps tell which of them knows more entries, whichever node they are at, and take no piece that isn't the next one of their connection.
-fn taps_meet<B: LogName, R: Wait + Abort>(rt: &R, alloc: Global, keys: RandomState, opened: Opened)
-    requires name { name_of opened ≡ B.log }
-    requires shape { (nodes_of opened ≡ B.nodes) × (places_of opened ≡ B.places) }
-{
-    let (mut first, mut second) = workers_of_both::<B, R>(rt, alloc, keys, opened);
-    let mut at_first = Client::open(rt, alloc, &first);
-    let mut at_second = Client::open(rt, alloc, &second);
-    assert!(rt; meet(first.shared().log(), &mut at_first.tap, &mut at_second.tap).is_none());
-    at_first.sends(rt, alloc, &mut first, b"SET k 1\r\n");
-    at_first.gets(rt, &first, b"+OK\r\n");
-    at_second.sends(rt, alloc, &mut second, b"GET k\r\n");
-    at_second.gets(rt, &second, b"$1\r\n1\r\n");
-    assert!(rt;
-        meet(first.shared().log(), &mut at_first.tap, &mut at_second.tap) == Some(Ordering::Equal)
-    );
-    at_second.sends(rt, alloc, &mut second, b"SET k 2\r\n");
-    at_second.gets(rt, &second, b"+OK\r\n");
-    assert!(rt;
-        meet(first.shared().log(), &mut at_first.tap, &mut at_second.tap) == Some(Ordering::Less)
-    );
-    assert!(rt;
-        meet(first.shared().log(), &mut at_second.tap, &mut at_first.tap) == Some(Ordering::Greater)
-    );
-}
-
-#[test]
-fn taps_compare(rt: HostRuntime) -> Result<(), Fail> {
-    let keys = RandomState::new(&rt)?;
-    let opened = opened(&rt, rt.alloc(), 4);
-    taps_meet::<Brand, HostRuntime>(&rt, rt.alloc(), keys, opened);
-    Ok(())
+// Taps tell which of them knows more entries, whichever node they are at.
+fn taps_meet<B: ServerName, R: Wait + Abort>(rt: &R, desks: Vec<Desk<B>>) {
+    let (mut first, mut second) = both(rt, desks);
+    meets(rt, &mut first, &mut second, None);
+    first.does(rt, Asks(b"SET k 1\r\n", b"+OK\r\n"));
+    second.does(rt, Asks(b"GET k\r\n", b"$1\r\n1\r\n"));
+    meets(rt, &mut first, &mut second, Some(Ordering::Equal));
+    second.does(rt, Asks(b"SET k 2\r\n", b"+OK\r\n"));
+    meets(rt, &mut first, &mut second, Some(Ordering::Less));
+    meets(rt, &mut second, &mut first, Some(Ordering::Greater));
 }
 
 // A piece in front of which another was dropped is a gap, and one of another connection is a stranger's: both come back.
-fn refuses_pieces<B: LogName, R: Wait + Abort>(
-    rt: &R,
-    alloc: Global,
-    keys: RandomState,
-    opened: Opened,
-)
-    requires name { name_of opened ≡ B.log }
-    requires shape { (nodes_of opened ≡ B.nodes) × (places_of opened ≡ B.places) }
-{
-    let (mut first, second) = workers_of_both::<B, R>(rt, alloc, keys, opened);
-    let mut at_first = Client::open(rt, alloc, &first);
-    let mut at_second = Client::open(rt, alloc, &second);
-    at_first.sends(rt, alloc, &mut first, b"PING\r\nPING\r\nPING\r\n");
-    let conn = at_first.tap.conn();
-    assert!(rt; at_second.offered(rt, &first, conn, 7) == Some((0, Refused::OtherConnection)));
-    assert!(rt; at_first.offered(rt, &first, conn, 7) == Some((7, Refused::Gap)));
-    assert!(rt; at_first.tap.pending().is_empty());
+fn refuse_pieces<B: ServerName, R: Wait + Abort>(rt: &R, desks: Vec<Desk<B>>) {
+    let (mut first, mut second) = both(rt, desks);
+    first.does(rt, Sends(b"PING\r\nPING\r\nPING\r\n"));
+    let conn = first.client.conn();
+    let stranger = second.client.offer(rt, &first.station, conn, 7);
+    let wanted = Offered::Refused(0, Refused::OtherConnection);
+    holds(
+        rt,
+        "another connection's is refused",
+        stranger == Ok(wanted),
+    );
+    let behind = first.offer(rt, 7);
+    let wanted = Offered::Refused(7, Refused::Gap);
+    holds(rt, "a gap is refused", behind == Ok(wanted));
+    holds(
+        rt,
+        "nothing was accepted",
+        first.client.pending().is_empty(),
+    );
+}
+
+// A turn in which all was done that was due, and so many pieces were handed out.
+fn turns<B: ServerName, R: Wait + Abort>(rt: &R, desk: &mut Desk<B>, pieces: usize) -> Turn<B> {
+    let turn = desk.station.turn(rt, 8).expect(rt, "a turn is taken");
+    let turned = turn.turned;
+    holds(rt, "all was done", turned.combined == Ok(Round::Done));
+    holds(rt, "all was handed out", turned.collected.is_ok());
+    holds(rt, "there are so many pieces", turn.pieces.len() == pieces);
+    turn
+}
+
+// In this place stands a piece of just these bytes for a client.
+fn is_handed<B: ServerName>(
+    rt: &impl Abort,
+    turn: &Turn<B>,
+    place: usize,
+    client: &Client<B>,
+    bytes: &[u8],
+) {
+    let handed = turn.pieces.get(place).expect(rt, "there is a piece");
+    holds(
+        rt,
+        "it is for this client",
+        handed.piece.conn == client.conn(),
+    );
+    same(rt, "it has these bytes", &handed.piece.bytes, bytes);
+}
+
+// What waits for the worker's own connections is handed out, that of the one that was opened first first, and at most so many bytes of each.
+fn hand_out<B: ServerName, R: Wait + Abort>(rt: &R, desks: Vec<Desk<B>>) {
+    let (mut first, mut second) = both(rt, desks);
+    let mut other = first
+        .station
+        .open(rt)
+        .ok()
+        .expect(rt, "a connection is opened");
+    other
+        .send(&mut first.station, b"ECHO hello\r\n")
+        .expect(rt, "memory");
+    first.hands_in(rt, b"PING\r\n");
+    second.hands_in(rt, b"PING\r\n");
+    let turn = turns(rt, &mut first, 2);
+    first.does(rt, IsTold(true));
+    second.does(rt, IsTold(true));
+    is_handed(rt, &turn, 0, &first.client, b"+PONG\r\n");
+    is_handed(rt, &turn, 1, &other, b"$5\r\nhell");
+    is_handed(rt, &turns(rt, &mut first, 1), 0, &other, b"o\r\n");
+    turns(rt, &mut first, 0);
+    is_handed(
+        rt,
+        &turns(rt, &mut second, 1),
+        0,
+        &second.client,
+        b"+PONG\r\n",
+    );
+}
+
+// A client of a further connection of the worker, which has sent a PING.
+fn with_ping<B: ServerName, R: Wait + Abort>(rt: &R, desk: &mut Desk<B>) -> Client<B> {
+    let mut client = desk
+        .station
+        .open(rt)
+        .ok()
+        .expect(rt, "a connection is opened");
+    client
+        .send(&mut desk.station, b"PING\r\n")
+        .expect(rt, "memory");
+    client
+}
+
+// One turn hands out for twenty connections, in the order in which they were opened.
+fn hand_out_to_many<B: ServerName, R: Wait + Abort>(rt: &R, alloc: Global, desks: Vec<Desk<B>>) {
+    let (mut first, _) = both(rt, desks);
+    let mut others = Vec::new(alloc);
+    for _ in 0..19 {
+        let client = with_ping(rt, &mut first);
+        others.push(client).expect(rt, "memory");
+    }
+    first.hands_in(rt, b"PING\r\n");
+    let turn = turns(rt, &mut first, 20);
+    is_handed(rt, &turn, 0, &first.client, b"+PONG\r\n");
+    for (place, client) in others.iter().enumerate() {
+        is_handed(rt, &turn, place.saturating_add(1), client, b"+PONG\r\n");
+    }
+}
+
+/// SET and GET of a key.
+const SET_AND_GET: &[u8] =
+    b"*3\r\n$3\r\nSET\r\n$1\r\nk\r\n$1\r\nv\r\n*2\r\n$3\r\nGET\r\n$1\r\nk\r\n";
+
+// A reply is there, whole or byte by byte; and what one node has answered, the other reads.
+#[test]
+fn read_back(rt: HostRuntime) {
+    play_at(
+        &rt,
+        rt.alloc(),
+        TWO_NODES,
+        Play::InTurn(&[
+            (0, Asks(SET_AND_GET, b"+OK\r\n$1\r\nv\r\n")),
+            (0, SendsEach(SET_AND_GET)),
+            (0, GetsEach(b"+OK\r\n$1\r\nv\r\n")),
+            (0, Asks(b"SET k 0\r\n", b"+OK\r\n")),
+            (0, Asks(b"GET k\r\n", b"$1\r\n0\r\n")),
+            (1, Asks(b"GET k\r\n", b"$1\r\n0\r\n")),
+            (0, Asks(b"SET k 1\r\n", b"+OK\r\n")),
+            (0, Asks(b"GET k\r\n", b"$1\r\n1\r\n")),
+            (1, Asks(b"GET k\r\n", b"$1\r\n1\r\n")),
+            (0, Asks(b"SET k 2\r\n", b"+OK\r\n")),
+            (0, Asks(b"GET k\r\n", b"$1\r\n2\r\n")),
+            (1, Asks(b"GET k\r\n", b"$1\r\n2\r\n")),
+            (0, Asks(b"SET k 3\r\n", b"+OK\r\n")),
+            (0, Asks(b"GET k\r\n", b"$1\r\n3\r\n")),
+            (1, Asks(b"GET k\r\n", b"$1\r\n3\r\n")),
+            (0, Asks(b"SET k 4\r\n", b"+OK\r\n")),
+            (0, Asks(b"GET k\r\n", b"$1\r\n4\r\n")),
+            (1, Asks(b"GET k\r\n", b"$1\r\n4\r\n")),
+            (0, Asks(b"SET k 5\r\n", b"+OK\r\n")),
+            (0, Asks(b"GET k\r\n", b"$1\r\n5\r\n")),
+            (1, Asks(b"GET k\r\n", b"$1\r\n5\r\n")),
+            (0, Asks(b"SET k 6\r\n", b"+OK\r\n")),
+            (0, Asks(b"GET k\r\n", b"$1\r\n6\r\n")),
+            (1, Asks(b"GET k\r\n", b"$1\r\n6\r\n")),
+            (0, Asks(b"SET k 7\r\n", b"+OK\r\n")),
+            (0, Asks(b"GET k\r\n", b"$1\r\n7\r\n")),
+            (1, Asks(b"GET k\r\n", b"$1\r\n7\r\n")),
+            (0, Asks(b"SET k 8\r\n", b"+OK\r\n")),
+            (0, Asks(b"GET k\r\n", b"$1\r\n8\r\n")),
+            (1, Asks(b"GET k\r\n", b"$1\r\n8\r\n")),
+            (0, Asks(b"SET k 9\r\n", b"+OK\r\n")),
+            (0, Asks(b"GET k\r\n", b"$1\r\n9\r\n")),
+            (1, Asks(b"GET k\r\n", b"$1\r\n9\r\n")),
+        ]),
+    );
+}
+
+// A PING is answered by the node alone, and a message reaches the other node's subscriber once that node has applied it.
+#[test]
+fn messages_go_to_other_nodes(rt: HostRuntime) {
+    play_at(
+        &rt,
+        rt.alloc(),
+        TWO_NODES,
+        Play::InTurn(&[
+            (1, Asks(b"*1\r\n$4\r\nPING\r\n", b"+PONG\r\n")),
+            (
+                0,
+                Asks(
+                    b"SUBSCRIBE news\r\n",
+                    b"*3\r\n$9\r\nsubscribe\r\n$4\r\nnews\r\n:1\r\n",
+                ),
+            ),
+            (
+                0,
+                Asks(
+                    b"PSUBSCRIBE n*\r\n",
+                    b"*3\r\n$10\r\npsubscribe\r\n$2\r\nn*\r\n:2\r\n",
+                ),
+            ),
+            (1, Asks(b"PUBLISH news hi\r\n", b":2\r\n")),
+            (0, Gets(b"")),
+            (0, Combines(Round::Done)),
+            (
+                0,
+                Gets(
+                    b"*3\r\n$7\r\nmessage\r\n$4\r\nnews\r\n$2\r\nhi\r\n*4\r\n$8\r\npmessage\r\n$2\r\nn*\r\n$4\r\nnews\r\n$2\r\nhi\r\n",
+                ),
+            ),
+        ]),
+    );
+}
+
+// Two places are taken by entries that the other node hasn't passed: a third entry waits for that, and is lost by nobody.
+#[test]
+fn full_log_loses_nothing(rt: HostRuntime) {
+    play_at(
+        &rt,
+        rt.alloc(),
+        TWO_PLACES,
+        Play::InTurn(&[
+            (0, Sends(b"SET k 1\r\n")),
+            (0, Sends(b"SET k 2\r\n")),
+            (0, Gets(b"+OK\r\n+OK\r\n")),
+            (0, HandsIn(b"SET k 3\r\nGET k\r\n")),
+            (0, Combines(Round::Full)),
+            (0, IsTold(false)),
+            (0, Combines(Round::Full)),
+            (0, IsTold(false)),
+            (0, Combines(Round::Full)),
+            (0, IsTold(false)),
+            (0, Gets(b"")),
+            (1, Combines(Round::Done)),
+            (0, Combines(Round::Done)),
+            (0, IsTold(true)),
+            (0, Gets(b"+OK\r\n$1\r\n3\r\n")),
+        ]),
+    );
 }
 
 #[test]
-fn pieces_are_refused(rt: HostRuntime) -> Result<(), Fail> {
-    let keys = RandomState::new(&rt)?;
-    let opened = opened(&rt, rt.alloc(), 4);
-    refuses_pieces::<Brand, HostRuntime>(&rt, rt.alloc(), keys, opened);
-    Ok(())
+fn taps_compare(rt: HostRuntime) {
+    play_at(&rt, rt.alloc(), TWO_NODES, Play::TapsMeet);
+}
+
+#[test]
+fn pieces_are_refused(rt: HostRuntime) {
+    play_at(&rt, rt.alloc(), TWO_NODES, Play::PiecesAreRefused);
+}
+
+// Each with a connection: all are served by their own node.
+#[test]
+fn workers_of_three_nodes(rt: HostRuntime) {
+    play_at(&rt, rt.alloc(), MANY_WORKERS, Play::AllCount);
+}
+
+// A connection that is closed gives its room to another, once, and what waited for it is dropped; also where 100,000 were opened before.
+#[test]
+fn closed_gives_room(rt: HostRuntime) {
+    play_at(
+        &rt,
+        rt.alloc(),
+        NARROW,
+        Play::InTurn(&[
+            (0, Reopens(100_000)),
+            (0, OpensNone),
+            (0, Asks(b"PING\r\nPING\r\n", b"+PONG\r\n+PONG\r\n")),
+            (0, Sends(b"PING\r\n")),
+            (0, Closes),
+            (0, Gets(b"")),
+            (0, Opens),
+            (0, OpensNone),
+            (0, Asks(b"PING\r\n", b"+PONG\r\n")),
+        ]),
+    );
+}
+
+// What would wait beyond the limit is cut off.
+#[test]
+fn long_queue_is_cut(rt: HostRuntime) {
+    play_at(
+        &rt,
+        rt.alloc(),
+        NARROW,
+        Play::InTurn(&[
+            (0, Asks(b"SETRANGE k 1000 x\r\n", b":1001\r\n")),
+            (0, Sends(b"GET k\r\n")),
+            (0, GetsLength(1010, 1010)),
+            (0, Sends(b"GET k\r\nGET k\r\n")),
+            (0, GetsLength(1, 1023)),
+            (0, Gets(b"")),
+        ]),
+    );
+}
+
+#[test]
+fn turns_hand_out(rt: HostRuntime) {
+    play_at(&rt, rt.alloc(), TWO_WORKERS, Play::TurnsHandOut);
+}
+
+#[test]
+fn twenty_are_handed_out_at_once(rt: HostRuntime) {
+    play_at(&rt, rt.alloc(), WIDE, Play::ManyAtOnce);
+}
+
+// A reply of a megabyte and 12 bytes; 400 reads in one batch; an entry of 1,024 jobs, whose replies are `:1` to `:1024`; and a node that has 200 entries and more to apply
+// before it reads.
+#[test]
+fn large_sizes_are_served(rt: HostRuntime) {
+    play_at(
+        &rt,
+        rt.alloc(),
+        WIDE,
+        Play::InTurn(&[
+            (0, Asks(b"SETRANGE k 1048575 x\r\n", b":1048576\r\n")),
+            (0, Sends(b"GET k\r\n")),
+            (0, GetsLength(1 << 20, 1 << 20)),
+            (0, GetsLength(12, 12)),
+            (0, SendsMany(b"GET n\r\n", 400)),
+            (0, GetsLength(5 * 400, 5 * 400)),
+            (0, SendsMany(b"INCR n\r\n", 1_024)),
+            (0, GetsLength(6_061, 6_061)),
+            (0, Counts(200)),
+            (1, Asks(b"GET n\r\n", b"$4\r\n1224\r\n")),
+        ]),
+    );
+}
+
+// As many batches of one worker, one after the other.
+#[test]
+fn batches_of_one_worker_are_executed(rt: HostRuntime) {
+    play_at(
+        &rt,
+        rt.alloc(),
+        NARROW,
+        Play::InTurn(&[
+            (0, Counts(100_000)),
+            (0, Asks(b"GET n\r\n", b"$6\r\n100000\r\n")),
+        ]),
+    );
 }

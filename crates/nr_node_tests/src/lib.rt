@@ -2,14 +2,12 @@
 #![tactic(auto)]
 
 #[cfg(test)]
-mod client;
+mod asserted;
 #[cfg(test)]
 mod counting;
 #[cfg(test)]
+mod desk;
+#[cfg(test)]
 mod in_turn;
 #[cfg(test)]
-mod limits;
-#[cfg(test)]
 mod stopped;
-#[cfg(test)]
-mod turning;

@@ -1,24 +1,27 @@
 // A node that reserved a place of the log and stopped, beside one that goes on.
 ghost use Rattle.std.specs.Prelude.{◌≡◌, None, IfOk, IsSome, slice_index_or};
+ghost use Rattle.std.specs.Arc.{arc_value};
 ghost use Rattle.nr_oplog.specs.Rule.{opening_view};
+ghost use Rattle.nr_slots.specs.Seats.{new_combiner};
 ghost use Rattle.nr_oplog.specs.Opening.{name_of, nodes_of, places_of};
 
-use crate::client::{MANY, is_executed};
+use crate::asserted::{holds, same};
+use crate::desk::MANY;
 use nr_blob::{Blob, Memory};
-use nr_combiner::Combiner;
+use nr_combiner::{Combiner, ServerName};
 use nr_entry::{Batch, ConnId, Entry, Job, JobKind, Outcome, Shares, Update};
+use nr_held::let_go;
 use nr_log_end::{LogEnd, Reserve};
 use nr_model::command::{Change, StringsChange};
 use nr_node::{Core, Round, Shape};
-use nr_oplog::{End, LogName, Opened};
+use nr_oplog::{End, Opened};
 use nr_session::Session;
-use nr_slots::{Slots, WorkerSeat};
+use nr_slots::{CombinerSeat, Slots, WorkerSeat};
 use std::alloc::Global;
 use std::hash::RandomState;
 use std::marker::Brand;
 use std::process::Abort;
 use std::sync::Arc;
-use std::test::Fail;
 
 // SET k v, by a connection of node 0.
 fn setting(alloc: Global) -> Result<Entry, Memory>
@@ -41,7 +44,7 @@ fn setting(alloc: Global) -> Result<Entry, Memory>
 }
 
 // Reserves a place for an entry of node 0 of two. Its number.
-fn reserves<B: LogName>(rt: &impl Abort, alloc: Global, end: &mut End<B>) -> u64
+fn reserves<B: ServerName>(rt: &impl Abort, alloc: Global, end: &mut End<B>) -> u64
     requires { end.old ≡ opening_view 2 B.places 0 1 }
     ensures number { result ≡ end.new.standing.at }
     ensures share { IsSome (slice_index_or end.new.standing.unfilled 1 None) }
@@ -62,7 +65,7 @@ fn asking(rt: &impl Abort, alloc: Global, conn: ConnId) -> Vec<Job> {
     let mut session = Session::new(alloc, conn);
     let mut jobs = Vec::new(alloc);
     assert!(rt; session.fits(sent.len()));
-    assert!(rt; session.feed(sent, 100, &mut jobs).is_ok());
+    holds(rt, "it asks", session.feed(sent, 0, &mut jobs).is_ok());
     jobs
 }
 
@@ -71,33 +74,38 @@ fn posts(rt: &impl Abort, slots: &Slots, seat: &mut WorkerSeat, batch: Batch)
     requires { seat.old.slots ≡ slots.now.id }
     ensures { seat.new.slots ≡ slots.now.id }
 {
-    assert!(rt; seat.post(slots, batch).is_ok());
+    holds(rt, "it is handed in", seat.post(slots, batch).is_ok());
 }
 
-// What a worker is told of its batch.
-fn told(slots: &Slots, seat: &mut WorkerSeat) -> Option<Outcome>
+// Whether a worker is told that its batch was executed, or nothing.
+fn is_told(rt: &impl Abort, slots: &Slots, seat: &mut WorkerSeat, wanted: bool)
     requires { seat.old.slots ≡ slots.now.id }
     ensures { seat.new.slots ≡ slots.now.id }
 {
-    match seat.collect(slots) {
-        Some(answer) => Some(answer.outcome),
-        None => None,
+    let answer = seat.collect(slots);
+    holds(rt, "it is answered, or isn't", answer.is_some() == wanted);
+    if let Some(answer) = answer {
+        holds(
+            rt,
+            "it is executed",
+            matches!(answer.outcome, Outcome::Executed),
+        );
     }
 }
 
-// Node 1 puts an update behind the entry of node 0, and executes nothing until that is filled for it.
-fn waits_for_it<B: LogName>(
+// A node that nothing was done at yet, with its slots.
+fn combiner_of<B: ServerName>(
     rt: &impl Abort,
     alloc: Global,
     keys: RandomState,
     second: End<B>,
-    first: &mut End<B>,
-    at: u64,
-)
+    slots: Slots,
+    desk: CombinerSeat,
+) -> (Combiner<B>, Arc<Slots>)
     requires nodes { B.nodes ≡ 2 }
     requires second { second ≡ opening_view B.nodes B.places 1 2 }
-    requires number { at ≡ first.old.standing.at }
-    requires share { IsSome (slice_index_or first.old.standing.unfilled 1 None) }
+    requires slots { (slots.id ≡ B.slots 1) × (desk ≡ new_combiner slots.id 1) }
+    ensures { (arc_value result.1).id ≡ B.slots 1 }
 {
     let shape = Shape {
         node: 1,
@@ -105,22 +113,34 @@ fn waits_for_it<B: LogName>(
         workers: 1,
     };
     let core = Core::new(alloc, keys, second, shape).expect(rt, "memory");
-    let Ok((slots, mut seats, desk)) = Slots::open(alloc, 1) else {
-        panic!(rt; "no slots were opened");
-    };
-    let Some(mut seat) = seats.pop() else {
-        panic!(rt; "no seat");
-    };
-    let Ok(slots) = Arc::new(alloc, slots) else {
-        panic!(rt; "memory");
-    };
-    let Ok(shared) = Arc::try_clone(&slots) else {
-        panic!(rt; "memory");
-    };
-    let mut combiner = Combiner::new(alloc, shape, core, desk, shared).expect(rt, "memory");
-    let Ok(conn) = combiner.open(0, MANY, 1) else {
-        panic!(rt; "no connection was opened");
-    };
+    let slots = Arc::new(alloc, slots).ok().expect(rt, "memory");
+    let shared = Arc::try_clone(&slots).ok().expect(rt, "memory");
+    let combiner = Combiner::new(alloc, shape, core, desk, shared).expect(rt, "memory");
+    (combiner, slots)
+}
+
+// Node 1 puts an update behind the entry of node 0, and executes nothing until that is filled for it.
+fn waits_for_it<B: ServerName>(
+    rt: &impl Abort,
+    alloc: Global,
+    keys: RandomState,
+    second: End<B>,
+    slots: Slots,
+    desk: CombinerSeat,
+    mut seat: WorkerSeat,
+    first: &mut End<B>,
+    at: u64,
+)
+    requires slots { (slots.id ≡ B.slots 1) × (desk ≡ new_combiner slots.id 1) × (seat.slots ≡ slots.id) }
+    requires nodes { B.nodes ≡ 2 }
+    requires second { second ≡ opening_view B.nodes B.places 1 2 }
+    requires number { at ≡ first.old.standing.at }
+    requires share { IsSome (slice_index_or first.old.standing.unfilled 1 None) }
+{
+    let (mut combiner, slots) = combiner_of(rt, alloc, keys, second, slots, desk);
+    let conn = combiner
+        .open(0, MANY, 1)
+        .expect(rt, "a connection is opened");
     let batch = Batch {
         node: 1,
         worker: 0,
@@ -128,19 +148,29 @@ fn waits_for_it<B: LogName>(
         jobs: asking(rt, alloc, conn),
     };
     posts(rt, &slots, &mut seat, batch);
-    assert!(rt; combiner.combine() == Ok(Round::NotYet));
-    assert!(rt; told(&slots, &mut seat).is_none());
+    holds(rt, "it waits", combiner.combine() == Ok(Round::NotYet));
+    is_told(rt, &slots, &mut seat, false);
     first.fill(at, 1);
-    assert!(rt; combiner.combine() == Ok(Round::Done));
-    assert!(rt; is_executed(told(&slots, &mut seat)));
-    let Ok(Some((piece, _))) = combiner.take_piece(conn, MANY) else {
-        panic!(rt; "nothing waits");
-    };
-    assert!(rt; piece.bytes.as_slice() == b"+OK\r\n$1\r\nv\r\n".as_slice());
+    holds(rt, "it goes on", combiner.combine() == Ok(Round::Done));
+    is_told(rt, &slots, &mut seat, true);
+    gets(rt, &mut combiner, conn);
+    let_go(combiner);
+}
+
+// What waits for the connection is what was asked for.
+fn gets<B: ServerName>(rt: &impl Abort, combiner: &mut Combiner<B>, conn: ConnId) {
+    let taken = combiner.take_piece(conn, MANY).expect(rt, "memory");
+    let (piece, _) = taken.expect(rt, "something waits");
+    same(
+        rt,
+        "it has the replies",
+        &piece.bytes,
+        b"+OK\r\n$1\r\nv\r\n",
+    );
 }
 
 // The ends of both nodes.
-fn ends<B: LogName>(rt: &impl Abort, alloc: Global, opened: Opened) -> (End<B>, End<B>)
+fn ends<B: ServerName>(rt: &impl Abort, alloc: Global, opened: Opened) -> (End<B>, End<B>)
     requires nodes { B.nodes ≡ 2 }
     requires name { name_of opened ≡ B.log }
     requires shape { (nodes_of opened ≡ B.nodes) × (places_of opened ≡ B.places) }
@@ -165,22 +195,38 @@ fn ends<B: LogName>(rt: &impl Abort, alloc: Global, opened: Opened) -> (End<B>, 
 }
 
 // Node 0 reserves a place and stops; node 1 goes on.
-fn stops<B: LogName>(rt: &impl Abort, alloc: Global, keys: RandomState, opened: Opened)
+fn stops<B: ServerName>(
+    rt: &impl Abort,
+    alloc: Global,
+    keys: RandomState,
+    opened: Opened,
+    slots: Slots,
+    desk: CombinerSeat,
+    seat: WorkerSeat,
+)
     requires nodes { B.nodes ≡ 2 }
     requires name { name_of opened ≡ B.log }
     requires shape { (nodes_of opened ≡ B.nodes) × (places_of opened ≡ B.places) }
+    requires slots { (slots.id ≡ B.slots 1) × (desk ≡ new_combiner slots.id 1) × (seat.slots ≡ slots.id) }
 {
     let (mut first, second) = ends::<B>(rt, alloc, opened);
     let at = reserves(rt, alloc, &mut first);
-    waits_for_it(rt, alloc, keys, second, &mut first, at);
+    waits_for_it(rt, alloc, keys, second, slots, desk, seat, &mut first, at);
 }
 
 #[test]
-fn unfilled_entry_holds_up_what_is_behind(rt: HostRuntime) -> Result<(), Fail> {
-    let keys = RandomState::new(&rt)?;
-    let Ok(opened) = Opened::open(rt.alloc(), 2, 4) else {
-        panic!(&rt; "no log was opened");
+fn unfilled_entry_holds_up_what_is_behind(rt: HostRuntime) {
+    let keys = RandomState::new(&rt)
+        .ok()
+        .expect(&rt, "there are random bytes");
+    let opened = Opened::open(rt.alloc(), 2, 4)
+        .ok()
+        .expect(&rt, "a log is opened");
+    let Ok((slots, seats, desk)) = Slots::open(rt.alloc(), 1) else {
+        panic!(&rt; "no slots were opened");
     };
-    stops::<Brand>(&rt, rt.alloc(), keys, opened);
-    Ok(())
+    let Some(seat) = seats.into_iter().next() else {
+        panic!(&rt; "there is no seat");
+    };
+    stops::<Brand>(&rt, rt.alloc(), keys, opened, slots, desk, seat);
 }

@@ -50,7 +50,7 @@ module _ (nodes places : ℕ) where
       ⊎_elim (λ h'. absurd (alone j w node h' oj (subst (λ z. Owns nodes places z node) (sym h.1) oi))) (λ (h' : (j ≡ length views) × Path LogView x w). h.0 ∙ sym h'.0) (at_end views x w j ej))
       (at_end views x u i ei)
 
-  nobody_owns : (v : LogView) (node : ℕ) → v.upto ≡ 0 → Owns nodes places v node → ⊥
+  pub nobody_owns : (v : LogView) (node : ℕ) → v.upto ≡ 0 → Owns nodes places v node → ⊥
   nobody_owns v node none o = let h : node < v.upto = o.1 in omega arith
 
   token_ok : (s : St) (r : LogRule nodes places s) (v : LogView) → Good s r v → Good s r (token_view v)

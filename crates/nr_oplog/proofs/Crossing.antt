@@ -1,4 +1,4 @@
--- A log may be shared by threads, and its seats and ends may go to other threads.
+-- A log may be shared by threads, and its seats, ends and tokens may go to other threads.
 use denote.RattleType.{RattleType}
 use denote.Param.Send.{IsSend, IsSync, view_send}
 use denote.Param.SendFields.{declared_send, declared_sync}
@@ -17,6 +17,7 @@ use Rattle.nr_oplog.specs.declared.log.LogName.{Ghosts}
 use Rattle.nr_oplog.specs.contracts.log.Oplog as Oplog
 use Rattle.nr_oplog.specs.contracts.seat.LogSeat as LogSeat
 use Rattle.nr_oplog.specs.contracts.end.End as End
+use Rattle.nr_oplog.specs.contracts.token.Token as Token
 use Rattle.nr_oplog.specs.contracts.view.LogView as View
 use Rattle.nr_oplog.specs.contracts.view.LogLaw as Law
 use Rattle.nr_oplog.specs.contracts.view.Shape as Shape
@@ -48,3 +49,7 @@ module _ (B : RattleType) (g : Ghosts B.Denot) where
 
   pub end_send : IsSend (End.the_row B g)
   end_send = view_send (End.TheInside.the_row B g) _ _ _ _ (declared_send (End.TheInside.the_type B g) (seat_send, (Arc-send (Oplog.the_row B g) log_send log_sync, tt)))
+
+  pub token_send : IsSend (Token.the_row B g)
+  token_send = view_send (Token.TheInside.the_row B g) _ _ _ _ (declared_send (Token.TheInside.the_type B g)
+      (seat.the_send Share View.the_row share_send, (search sent, (phantom.the_send B, tt))))

@@ -11,5 +11,6 @@ pub mod Fetches
 pub mod Passes
 pub mod Calls
 pub mod Comings
+pub mod Adopted
 pub mod Seating
 pub mod Crossing

@@ -14,7 +14,7 @@ use Rattle.nr_log_end.specs.Standings.{applied_of}
 use Rattle.nr_oplog.specs.declared.view.LogView.{LogView}
 use Rattle.nr_oplog.specs.Layout.{passed_word}
 use Rattle.nr_oplog.specs.Rule.{Share, Owns, SeatOk, LogRule}
-use Rattle.nr_oplog.specs.Plays.{with_tail, with_read, with_passed, saw_tail, saw_tail_and_ran, saw_passed, compared}
+use Rattle.nr_oplog.specs.Plays.{with_tail, with_reads, with_passed, saw_tail, saw_tail_and_ran, saw_passed, compared}
 use Rattle.nr_oplog.specs.Seats.{IsOfNode}
 use Rattle.nr_oplog.specs.Law.{HoldsOfCounts}
 use Rattle.nr_oplog.proofs.Fronts.{begins_more, begins_both, applied_append}
@@ -93,7 +93,7 @@ module _ (nodes places : ℕ) where
       )
 
   -- a read behind what the seat's node did: its history goes on, what it has applied stays
-  module _ (id : ℕ) (m : Sat) (job : Option Job) (mine : IsOfNode m.0 nodes places) (s : St) (r : LogRule nodes places s) (at : get_elem? s.views id ≡ some m.0) where
+  module _ (id : ℕ) (m : Sat) (jobs : List Job) (mine : IsOfNode m.0 nodes places) (s : St) (r : LogRule nodes places s) (at : get_elem? s.views id ≡ some m.0) where
     abbrev node : ℕ
     node = m.0.standing.node
 
@@ -101,14 +101,14 @@ module _ (nodes places : ℕ) where
     n = get_or s.words 0 0
 
     abbrev reads : List Turn
-    reads = map Ran (option_to_list job)
+    reads = map Ran jobs
 
-    no_entry : (o : Option Job) → applied_of (map Ran (option_to_list o)) ≡ []
-    no_entry None = refl
-    no_entry (Some j) = refl
+    no_entry : (js : List Job) → applied_of (map Ran js) ≡ []
+    no_entry [] = refl
+    no_entry (j ∷ js) = no_entry js
 
     abbrev w : LogView
-    w = with_read job n m.0
+    w = with_reads jobs n m.0
 
     abbrev past : ℕ → List Turn
     past = change r.past node (m.0.standing.history ++ reads)
@@ -127,7 +127,7 @@ module _ (nodes places : ℕ) where
         (λ e. begins_more h m.0.standing.history (reads) (subst (IsBeginningOf h) (ap r.past (sym e) ∙ whole) b)) (λ _ _. b) refl
 
     known_same : applied_of (m.0.standing.history ++ reads) ≡ applied_of m.0.standing.history
-    known_same = applied_append m.0.standing.history reads ∙ ap (λ l. applied_of m.0.standing.history ++ l) (no_entry job) ∙ append-nil (applied_of m.0.standing.history)
+    known_same = applied_append m.0.standing.history reads ∙ ap (λ l. applied_of m.0.standing.history ++ l) (no_entry jobs) ∙ append-nil (applied_of m.0.standing.history)
 
     same_applied : (x : ℕ) → r.applied x ≡ applied_of (past x)
     same_applied x = at_change r.past node (m.0.standing.history ++ reads) (λ y p. r.applied y ≡ applied_of p) x
@@ -176,13 +176,13 @@ module _ (nodes places : ℕ) where
       apart = apart_set nodes places s.views id m.0 w at (λ _ o. o) r.apart;
     }
 
-  pub runs : (slots id : ℕ) (m : Sat) (job : Option Job) → IsOfNode m.0 nodes places → Allows (LogRule nodes places) slots id m 0 (λ k. k) (saw_tail_and_ran job m)
-  runs slots id m job mine s r wide at small =
-      let n : ℕ = get_or s.words 0 0 in let w : LogView = with_read job n m.0 in (
+  pub runs : (slots id : ℕ) (m : Sat) (jobs : List Job) → IsOfNode m.0 nodes places → Allows (LogRule nodes places) slots id m 0 (λ k. k) (saw_tail_and_ran jobs m)
+  runs slots id m jobs mine s r wide at small =
+      let n : ℕ = get_or s.words 0 0 in let w : LogView = with_reads jobs n m.0 in (
         w,
         keeps,
         tt,
-        subst (λ (ws : List ℕ). LogRule nodes places record { words = ws; homes = s.homes; views = set s.views id w }) (sym (lib.Seq.set-get_or s.words 0 0)) (reads_kept id m job mine s r at),
+        subst (λ (ws : List ℕ). LogRule nodes places record { words = ws; homes = s.homes; views = set s.views id w }) (sym (lib.Seq.set-get_or s.words 0 0)) (reads_kept id m jobs mine s r at),
         (refl, refl, subst (λ z. m.0.standing.seen ≤ z) (sym r.tail_is) (r.each_seat id m.0 at).seen),
       )
 

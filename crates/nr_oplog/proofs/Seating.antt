@@ -16,7 +16,7 @@ use Rattle.nr_log_end.specs.declared.standing.Look.{Look}
 use Rattle.nr_log_end.specs.declared.standing.Look.TheVariants.{Tail, Passed}
 use Rattle.nr_oplog.specs.Layout.{slot_of}
 use Rattle.nr_oplog.specs.Rule.{Share}
-use Rattle.nr_oplog.specs.Plays.{with_read}
+use Rattle.nr_oplog.specs.Plays.{with_reads}
 use Rattle.nr_oplog.specs.Seats.{CountsOf, IsBehind}
 use Rattle.nr_log_end.specs.Tries.{IsTaken, IsFull, IsLost, most_entries}
 use Rattle.nr_oplog.specs.Calls.{IsSeated, LooksAtTail, OnlyCounts}
@@ -34,19 +34,19 @@ pub first_share : (entry : Entry) (nodes : ℕ) → 0 < nodes → get_or (shares
 first_share entry zero h = absurd (omega arith)
 first_share entry (suc n) h = refl
 
-no_entry : (o : Option Job) → applied_of (map Ran (option_to_list o)) ≡ []
-no_entry None = refl
-no_entry (Some j) = refl
+no_entry : (js : List Job) → applied_of (map Ran js) ≡ []
+no_entry [] = refl
+no_entry (j ∷ js) = no_entry js
 
--- a read changes the history and the tail that was seen alone
-pub seated_read : (m m' : Sat) (job : Option Job) (n node passed : ℕ) (held : Bool) (seen at : ℕ) (shares : List (Option Entry)) (least : ℕ) → IsSeated m node passed held seen at shares least → m' ≡ (with_read job n m.0, m.1)
+-- reads change the history and the tail that was seen alone
+pub seated_read : (m m' : Sat) (jobs : List Job) (n node passed : ℕ) (held : Bool) (seen at : ℕ) (shares : List (Option Entry)) (least : ℕ) → IsSeated m node passed held seen at shares least → m' ≡ (with_reads jobs n m.0, m.1)
     → IsSeated m' node passed held n at shares least
-seated_read m m' job n node passed held seen at shares least s is = subst (λ z. IsSeated z node passed held n at shares least) (sym is) record {
+seated_read m m' jobs n node passed held seen at shares least s is = subst (λ z. IsSeated z node passed held n at shares least) (sym is) record {
   node_is = s.node_is;
   upto_is = s.upto_is;
   below = s.below;
   idle = s.idle;
-  passed_is = ap length (applied_append m.0.standing.history (map Ran (option_to_list job)) ∙ ap (λ l. applied_of m.0.standing.history ++ l) (no_entry job) ∙ append-nil (applied_of m.0.standing.history)) ∙ s.passed_is;
+  passed_is = ap length (applied_append m.0.standing.history (map Ran jobs) ∙ ap (λ l. applied_of m.0.standing.history ++ l) (no_entry jobs) ∙ append-nil (applied_of m.0.standing.history)) ∙ s.passed_is;
   held_is = s.held_is;
   slots = s.slots;
   few = s.few;

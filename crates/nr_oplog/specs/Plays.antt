@@ -1,5 +1,5 @@
 -- What each step tells its seat.
-use Rattle.std.specs.Prelude.{◌≡◌, ◌≢◌, ℕ, suc, ◌^◌, ◌<◌, ◌≤◌, List, [], ◌∷◌, ◌++◌, length, map, option_to_list, slice_index, slice_set, Option, option_map, Some, None}
+use Rattle.std.specs.Prelude.{◌≡◌, ◌≢◌, ℕ, suc, ◌^◌, ◌<◌, ◌≤◌, List, [], ◌∷◌, ◌++◌, length, map, slice_index, slice_set, Option, option_map, Some, None, nat_le, if◌then◌else◌}
 use mathlib.Core.Option.{some}
 use Rattle.std.specs.Arc.{arc_value}
 use Rattle.atomic_table.specs.Table.{Me, Step, rest}
@@ -25,9 +25,9 @@ At = Step (Option Share)
 abbrev pub with_tail : ℕ → LogView → LogView
 with_tail n v = record v { standing = record v.standing { seen = n }; looks = v.looks ++ Tail n ∷ [] }
 
--- the tail was loaded, and a read is noted that the node ran, if there is one
-abbrev pub with_read : Option Job → ℕ → LogView → LogView
-with_read job n v = record v { standing = record v.standing { seen = n; history = v.standing.history ++ map Ran (option_to_list job) }; looks = v.looks ++ Tail n ∷ [] }
+-- the tail was loaded, and these reads are noted that the node ran
+abbrev pub with_reads : List Job → ℕ → LogView → LogView
+with_reads jobs n v = record v { standing = record v.standing { seen = n; history = v.standing.history ++ map Ran jobs }; looks = v.looks ++ Tail n ∷ [] }
 
 -- a node's passed count was loaded, and is n
 abbrev pub with_passed : ℕ → ℕ → LogView → LogView
@@ -36,8 +36,8 @@ with_passed node n v = record v { met = slice_set v.met node n; looks = v.looks 
 abbrev pub saw_tail : Sat → ℕ → Sat → Type 0
 saw_tail m n m' = (m'.1 ≡ m.1) × (m'.0 ≡ with_tail n m.0) × (m.0.standing.seen ≤ n)
 
-abbrev pub saw_tail_and_ran : Option Job → Sat → ℕ → Sat → Type 0
-saw_tail_and_ran job m n m' = (m'.1 ≡ m.1) × (m'.0 ≡ with_read job n m.0) × (m.0.standing.seen ≤ n)
+abbrev pub saw_tail_and_ran : List Job → Sat → ℕ → Sat → Type 0
+saw_tail_and_ran jobs m n m' = (m'.1 ≡ m.1) × (m'.0 ≡ with_reads jobs n m.0) × (m.0.standing.seen ≤ n)
 
 abbrev pub saw_passed : At → Sat → ℕ → Sat → Type 0
 saw_passed st m n m' = (m'.1 ≡ m.1) × ((node : ℕ) → st.word ≡ passed_word node → (m'.0 ≡ with_passed node n m.0) × (slice_index m.0.met node ≤ n)
@@ -88,6 +88,17 @@ with_look n v = record v { looks = v.looks ++ Tail n ∷ [] }
 
 abbrev pub compared : Sat → ℕ → Sat → Type 0
 compared m n m' = (m'.1 ≡ m.1) × (m'.0 ≡ with_look n m.0) × AreOfOneLog m.0.standing m.0.told
+
+-- the later of two standings of one node: that with the longer history
+abbrev pub later_of : Standing → Standing → Standing
+later_of s t = if nat_le (length s.history) (length t.history) then t else s
+
+-- the tail was loaded, and is n, and the standing is the later of what it was and what the seat was told
+abbrev pub with_later : ℕ → LogView → LogView
+with_later n v = record v { standing = record (later_of v.standing v.told) { seen = n }; looks = v.looks ++ Tail n ∷ [] }
+
+abbrev pub adopted : Sat → ℕ → Sat → Type 0
+adopted m n m' = (m'.1 ≡ m.1) × (m'.0 ≡ with_later n m.0) × AreOfOneLog m.0.standing m.0.told
 
 -- the seat of the first of these nodes, and that of the others
 abbrev pub node_left : LogView → LogView

@@ -1,5 +1,6 @@
 // A seat with its log.
 ghost use Rattle.std.specs.Prelude.{◌≡◌};
+ghost use Rattle.nr_log_end.specs.Standings.{passed_of};
 ghost use Rattle.nr_oplog.specs.Calls.{LoadsCounts, IsLeastOf};
 
 use crate::log::{LogName, Oplog};
@@ -45,6 +46,13 @@ impl<B: LogName> End<B> {
     {
         self.seat.least_passed(&self.log)
     }
+
+    /// How many entries this node has passed. It takes no load.
+    pub fn passed(&self) -> u64
+        ensures { result ≡ passed_of self.now.standing }
+    {
+        self.seat.passed()
+    }
 }
 
 impl<B: LogName> LogEnd for End<B> {
@@ -78,8 +86,8 @@ impl<B: LogName> LogEnd for End<B> {
         self.seat.tail(&self.log)
     }
 
-    fn note(&mut self, job: &Job) {
-        self.seat.note(&self.log, job);
+    fn note(&mut self, jobs: &[Job]) {
+        self.seat.note(&self.log, jobs);
     }
 
     fn token(&mut self) -> Token<B> {

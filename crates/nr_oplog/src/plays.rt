@@ -1,5 +1,5 @@
 // What each step tells its seat. These types are for the proofs alone.
-ghost use Rattle.nr_oplog.specs.Plays.{saw_tail, saw_tail_and_ran, saw_passed, claimed, took_to_fill, filled, looked_for_next, passed_next, compared, node_left, node_right, token_view, with_told, nobody};
+ghost use Rattle.nr_oplog.specs.Plays.{saw_tail, saw_tail_and_ran, saw_passed, claimed, took_to_fill, filled, looked_for_next, passed_next, compared, adopted, node_left, node_right, token_view, with_told, nobody};
 
 use crate::view::LogView;
 use atomic_table::{Join, Play, Split};
@@ -14,26 +14,26 @@ impl Play<Option<Arc<Entry, Global>>, LogView> for SeeTail {
     ghost then = { λ _. saw_tail };
 }
 
-/// Names the read that was run.
-pub trait RanJob {
-    ghost use Rattle.std.specs.Prelude.{Option};
+/// Names the reads that were run.
+pub trait RanJobs {
+    ghost use Rattle.std.specs.Prelude.{List};
     ghost use Rattle.nr_entry.specs.declared.job.Job.{Job};
 
-    ghost job: { Option Job };
+    ghost jobs: { List Job };
 }
 
-impl RanJob for Brand {
-    ghost use Rattle.std.specs.Prelude.{None};
+impl RanJobs for Brand {
+    ghost use Rattle.std.specs.Prelude.{[]};
 
-    ghost job = { None };
+    ghost jobs = { [] };
 }
 
 pub(crate) struct SeeTailAndRun<J> {
     marker: PhantomData<J>,
 }
 
-impl<J: RanJob> Play<Option<Arc<Entry, Global>>, LogView> for SeeTailAndRun<J> {
-    ghost then = { λ _. saw_tail_and_ran J.job };
+impl<J: RanJobs> Play<Option<Arc<Entry, Global>>, LogView> for SeeTailAndRun<J> {
+    ghost then = { λ _. saw_tail_and_ran J.jobs };
 }
 
 pub(crate) struct SeePassed;
@@ -76,6 +76,13 @@ pub(crate) struct Compare;
 
 impl Play<Option<Arc<Entry, Global>>, LogView> for Compare {
     ghost then = { λ _. compared };
+}
+
+// A token that was told of another one takes over what that knows, where it is later.
+pub(crate) struct Adopt;
+
+impl Play<Option<Arc<Entry, Global>>, LogView> for Adopt {
+    ghost then = { λ _. adopted };
 }
 
 // The next node's seat is cut from the seat of all nodes from there on.

@@ -1,17 +1,17 @@
 // A node's seat at the log.
-ghost use Rattle.std.specs.Prelude.{ℕ, ◌≡◌, ◌∷◌, ◌≢◌, ◌+◌, ◌^◌, ◌<◌, ◌≤◌, ◌++◌, [], length, slice_index, slice_index_or, IfSome, IfNone, IsSome, Some, None};
+ghost use Rattle.std.specs.Prelude.{ℕ, ◌≡◌, ◌∷◌, ◌≢◌, ◌+◌, ◌^◌, ◌<◌, ◌≤◌, ◌++◌, [], length, slice_index, slice_index_or, IfSome, IfNone, IsSome, None};
 ghost use Rattle.std.specs.Bool.{OnTrue, OnFalse};
 ghost use Rattle.std.specs.Arc.{arc_value};
 ghost use Rattle.nr_log_end.specs.Reserves.{IfTaken, IfFull, IfLost};
 ghost use Rattle.nr_log_end.specs.Tries.{IsTaken, IsFull, IsLost};
-ghost use Rattle.nr_log_end.specs.Standings.{IsSharesFor, IsAllFilled, StandsInLog, reserved_as, filled_for, fetched_with, passed_on, noted_with};
+ghost use Rattle.nr_log_end.specs.Standings.{IsSharesFor, IsAllFilled, StandsInLog, passed_of, reserved_as, filled_for, fetched_with, passed_on, noted_with};
 ghost use Rattle.nr_oplog.specs.Rule.{opening_view};
-ghost use Rattle.nr_oplog.specs.Plays.{with_read};
+ghost use Rattle.nr_oplog.specs.Plays.{with_reads};
 ghost use Rattle.nr_oplog.specs.Seats.{IsBehind};
 ghost use Rattle.nr_oplog.specs.Calls.{LooksAtTail, OnlyCounts, LoadsCounts, IsLeastOf};
 
 use crate::log::{LogName, Oplog};
-use crate::plays::RanJob;
+use crate::plays::RanJobs;
 use crate::token::Token;
 use crate::view::LogSlotSeat;
 use nr_entry::{Entry, Job, Shares};
@@ -181,18 +181,25 @@ impl<B: LogName> LogSeat<B> {
         self.least
     }
 
-    /// Notes that this node's replica has run a read, behind the entries that were passed so far: one load of the tail.
-    pub fn note(&mut self, log: &Oplog<B>, job: &Job)
-        ensures noted { self.new.standing ≡ noted_with job.now self.new.standing.seen self.old.standing }
+    /// How many entries this node has passed. It takes no load.
+    pub fn passed(&self) -> u64
+        ensures { result ≡ passed_of self.now.standing }
+    {
+        self.passed
+    }
+
+    /// Notes that this node's replica has run these reads, in this order, behind the entries that were passed so far: one load of the tail for all of them.
+    pub fn note(&mut self, log: &Oplog<B>, jobs: &[Job])
+        ensures noted { self.new.standing ≡ noted_with jobs.now self.new.standing.seen self.old.standing }
         ensures seen { self.old.standing.seen ≤ self.new.standing.seen }
         ensures looks { self.new.looks ≡ self.old.looks ++ Look.Tail self.new.standing.seen ∷ [] }
     {
-        self.note_named::<Brand>(log, job);
+        self.note_named::<Brand>(log, jobs);
     }
 
-    fn note_named<J: RanJob>(&mut self, log: &Oplog<B>, job: &Job)
-        requires { Some job.now ≡ J.job }
-        ensures noted { self.new ≡ with_read (Some job.now) self.new.standing.seen self.old }
+    fn note_named<J: RanJobs>(&mut self, log: &Oplog<B>, jobs: &[Job])
+        requires { jobs.now ≡ J.jobs }
+        ensures noted { self.new ≡ with_reads jobs.now self.new.standing.seen self.old }
         ensures seen { self.old.standing.seen ≤ self.new.standing.seen }
     {
         self.seen = log.load_tail_and_run::<J>(&mut self.seat);

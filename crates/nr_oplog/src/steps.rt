@@ -6,15 +6,15 @@ ghost use Rattle.nr_entry.specs.Shares.{shares_of};
 ghost use Rattle.nr_log_end.specs.Standings.{passed_of, IsAllFilled, StandsInLog, reserved_as, filled_for, fetched_with, passed_on};
 ghost use Rattle.nr_log_end.specs.declared.standing.Look.{Look};
 ghost use Rattle.nr_oplog.specs.Layout.{passed_word, stamp_word, slot_of, words_of, slots_of};
-ghost use Rattle.nr_oplog.specs.Plays.{with_tail, with_read, with_passed, token_view, with_told, with_look, AreOfOneLog};
+ghost use Rattle.nr_oplog.specs.Plays.{with_tail, with_reads, with_passed, token_view, with_told, with_look, with_later, AreOfOneLog};
 ghost use Rattle.nr_oplog.specs.Calls.{LoadsCounts, IsLeastOf};
 ghost use Rattle.nr_oplog.specs.Rule.{opening_view};
 ghost use Rattle.nr_oplog.specs.Seats.{IsSameSeat, IsOfNode, HasShareFor, CountsOf, IsBehind};
 
 use crate::log::{LogName, Oplog};
 use crate::plays::{
-    Claim, Compare, Fill, Keep, LookForNext, NextNode, PassNext, RanJob, SeePassed, SeeTail,
-    SeeTailAndRun, TakeToFill, Tell,
+    Adopt, Claim, Compare, Fill, Keep, LookForNext, NextNode, PassNext, RanJobs, SeePassed,
+    SeeTail, SeeTailAndRun, TakeToFill, Tell,
 };
 use crate::view::{LogSlotSeat, Share};
 use nr_entry::Entry;
@@ -51,11 +51,11 @@ impl<B: LogName> Oplog<B> {
         self.table.shared.load::<SeeTail>(seat, 0)
     }
 
-    // Loads the tail, and notes a read that the seat's node ran.
-    pub(crate) fn load_tail_and_run<J: RanJob>(&self, seat: &mut LogSlotSeat) -> u64
+    // Loads the tail, and notes the reads that the seat's node ran.
+    pub(crate) fn load_tail_and_run<J: RanJobs>(&self, seat: &mut LogSlotSeat) -> u64
         requires { (seat.old.table_id ≡ B.log) × IsOfNode seat.old.me.0 self.now.table.shared.key.nodes self.now.table.shared.key.places }
         ensures seat { IsSameSeat seat.old seat.new }
-        ensures view { seat.new.me ≡ (with_read J.job result seat.old.me.0, seat.old.me.1) }
+        ensures view { seat.new.me ≡ (with_reads J.jobs result seat.old.me.0, seat.old.me.1) }
         ensures greater { seat.old.me.0.standing.seen ≤ result }
     {
         self.table.shared.load::<SeeTailAndRun<J>>(seat, 0)
@@ -194,6 +194,18 @@ impl<B: LogName> Oplog<B> {
     {
         self.table.shared.join_seat::<Tell>(seat, other);
         self.table.shared.load::<Compare>(seat, 0)
+    }
+
+    // Tells a token what another one knows, and loads the tail: it knows the later of the two then.
+    pub(crate) fn adopt(&self, seat: &mut LogSlotSeat, other: LogSlotSeat) -> u64
+        requires seat { (seat.old.table_id ≡ B.log) × (seat.old.me.0.upto ≡ 0) }
+        requires other { (other.table_id ≡ B.log) × (other.me.1 ≡ []) }
+        ensures seat { IsSameSeat seat.old seat.new }
+        ensures view { seat.new.me ≡ (with_later result (with_told seat.old.me.0 other.me.0), seat.old.me.1) }
+        ensures of_one_log { AreOfOneLog seat.old.me.0.standing other.me.0.standing }
+    {
+        self.table.shared.join_seat::<Tell>(seat, other);
+        self.table.shared.load::<Adopt>(seat, 0)
     }
 
     // The seat of the first of some nodes, cut from a seat of all of them.

@@ -74,7 +74,7 @@ own_reads c node jobs x y all e =
           ap at other ∙ e ∙ sym (whole ∙ ap (λ (more : Jobs). more ++ own_jobs c y) none)
     ]
 
-own_in_part : (c : Connection) (applied : ℕ) (taken : List Taken) → AreRun taken → length (log_of taken) ≤ applied
+pub own_in_part : (c : Connection) (applied : ℕ) (taken : List Taken) → AreRun taken → length (log_of taken) ≤ applied
     → own_jobs c (part_from c.node applied taken) ≡ own_jobs c (sequence_of taken)
 own_in_part c zero [] run h = refl
 own_in_part c (suc applied) [] run h = refl
@@ -90,7 +90,7 @@ own_in_part c (suc applied) (Reads node count jobs ∷ taken) run h =
     own_reads c node jobs (part_from c.node (suc applied) taken) (sequence_of taken) run.0 (own_in_part c (suc applied) taken run.1 h)
 
 -- of more jobs the first are the same
-begins_filter : {A : Type 0} (test : A → Bool) (x y : List A) → IsBeginningOf x y → IsBeginningOf (filter test x) (filter test y)
+pub begins_filter : {A : Type 0} (test : A → Bool) (x y : List A) → IsBeginningOf x y → IsBeginningOf (filter test x) (filter test y)
 begins_filter test x y b = (filter test b.0, sym (filter-append test x b.0) ∙ ap (filter test) b.1)
 
 begins_map : {A B : Type 0} (f : A → B) (x y : List A) → IsBeginningOf x y → IsBeginningOf (map f x) (map f y)

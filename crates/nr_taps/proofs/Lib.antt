@@ -4,3 +4,4 @@ mod Weave
 pub mod Explains
 mod Tapped
 pub mod Meetings
+pub mod Marks

@@ -1,2 +1,3 @@
 pub mod Sequence
 pub mod Taps
+pub mod Marks

@@ -1,14 +1,12 @@
 -- A connection's tap: what was handed out for it and isn't written yet.
-use Rattle.std.specs.Prelude.{◌≡◌, ℕ, ◌+◌, ◌^◌, ◌<◌, ◌≤◌, ◌==◌, cond, List, [], ◌∷◌, ◌++◌, length, take, drop, Option, Some, None, IfSome, option_map, option_to_list, slice_index_or, refl}
+use Rattle.std.specs.Prelude.{◌≡◌, ℕ, ◌+◌, ◌^◌, ◌<◌, ◌≤◌, ◌==◌, cond, [], ◌++◌, length, take, drop, Option, Some, None, option_map, refl}
 use Rattle.std.specs.Coded.{Coded, code_by, coded×, coded_ℕ, coded_option}
-use Rattle.std.specs.List.{AllByRecursion}
 use Rattle.std.specs.Ordering.{nat_cmp}
 use Rattle.std.specs.declared.cmp.Ordering.{Ordering}
 use Rattle.nr_model.specs.Bytes.{Bytes, IsBeginningOf}
 use Rattle.nr_model.specs.Items.{Connection, Sequence, same_connection}
 use Rattle.nr_model.specs.Keyspace.{coded_bytes}
 use Rattle.nr_model.specs.Sequential.{emitted_for}
-use Rattle.nr_model.specs.Nodes.{Taken, log_of}
 use Rattle.nr_log_end.specs.declared.standing.Standing.{Standing}
 use Rattle.nr_log_end.specs.contracts.standing.Standing as of_standing
 use Rattle.nr_log_end.specs.Standings.{known_of, record_of}
@@ -18,7 +16,6 @@ use Rattle.nr_replica.specs.declared.outbox.Piece.{Piece}
 use Rattle.nr_node.specs.Sound.{IsSound}
 use Rattle.nr_taps.specs.declared.tap.Refused.{Refused}
 use Rattle.nr_taps.specs.declared.tap.Refused.TheVariants as refusals
-use Rattle.nr_taps.specs.Sequence.{AreRun, IsExplainedBy, IsLogOf, AreReadsOf, reads_by, sequence_of}
 
 -- Its connection, the bytes that aren't written yet, how many were written before them, and what the node had done when it handed out the last that were
 -- accepted
@@ -101,30 +98,3 @@ order_of None t = None
 -- the bytes that a tap has accepted, written or pending: the first of what one sequential Redis emits along its record
 abbrev pub bytes_accepted : TapState → Bytes
 bytes_accepted t = take (accepted t) (emitted_by t)
-
--- A sequence explains the standing of a tap, and the bytes that it has accepted begin what one sequential Redis emits for its connection along the sequence.
--- Those that are pending are the ones behind those that were written.
-pub record HasAccepted (taken : List Taken) (t : TapState) : Type 0 where
-  pub within : accepted t ≤ length (emitted_by t)
-  pub explained : IfSome t.standing (IsExplainedBy taken)
-  pub begins : IsBeginningOf (bytes_accepted t) (emitted_for t.connection (sequence_of taken))
-  pub pending : t.pending ≡ drop t.written (bytes_accepted t)
-
--- the standings of those that have one
-abbrev pub standings_in : List TapState → List Standing
-standings_in [] = []
-standings_in (t ∷ taps) = option_to_list t.standing ++ standings_in taps
-
--- one sequence explains all of these taps: of the log that one of their standings knows, and of the reads of each node that one of them ran
-abbrev pub AreOfOneSequence : List TapState → Type 0
-AreOfOneSequence taps = (taken : List Taken) × AreRun taken × AllByRecursion (HasAccepted taken) taps × IsLogOf (standings_in taps) (log_of taken)
-    × ((node : ℕ) → AreReadsOf (standings_in taps) node (reads_by node taken))
-
--- the standings of a tap and of each in these places are of one log
-abbrev pub HasMetFrom : ℕ → ℕ → TapState → List TapState → Type 0
-HasMetFrom from end t taps = (place : ℕ) (d : TapState) → from ≤ place → place < end → HaveMet t.standing (slice_index_or taps place d).standing
-
--- what holds of a tap holds of the one in a place, and its standing and that of each behind it are of one log
-pub record MeetsOthers (place : ℕ) (taps : List TapState) : Type 0 where
-  pub tapped : (d : TapState) → IsTapped (slice_index_or taps place d)
-  pub met : (d : TapState) → HasMetFrom (place + 1) (length taps) (slice_index_or taps place d) taps

@@ -1,11 +1,13 @@
-//! Taps: what was handed out for connections and isn't written yet, and the one sequence behind all of it.
+//! Taps: what was handed out for connections and isn't written yet; marks: what a worker's node had done then; and the one sequence behind all of it.
 #![tactic(auto)]
 
 pub use law::sequence_law;
-pub use meeting::{meet, meet_all};
+pub use mark::{Mark, meet_marks};
+pub use meeting::meet;
 pub use tap::{Refused, Tap};
 
 mod buffer;
 mod law;
+mod mark;
 mod meeting;
 mod tap;

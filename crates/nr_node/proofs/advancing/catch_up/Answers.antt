@@ -1,12 +1,14 @@
-use Rattle.std.proofs.Common.{[], ◌≡◌, true, false, ◌-◌, ◌++◌, ◌∙◌, rules}
-use Rattle.nr_node.proofs.Advances.{looks_on, met_on, looked_on, counted, goes_tail, goes_then, went_or_not, behind_tail, reached_tail, few_stopped, few_more}
+use Rattle.std.proofs.Common.{[], ◌≡◌, true, false, ◌-◌, ◌++◌, ◌∙◌, ap, rules}
+use Rattle.nr_node.proofs.Advances.{looks_on, met_on, looked_on, counted, goes_tail, goes_then, went_or_not, behind_tail, reached_tail, few_stopped, few_more, same_passed}
+use Rattle.nr_log_end.specs.declared.standing.Standing.{Standing}
+use Rattle.nr_node.proofs.Shares.{lets_free, lets_look, lets_stand}
 use Rattle.nr_node.proofs.advancing.catch_up.Goals as goal
 
 pub returns-then-not-advance_by-clause-goes : goal.returns-then-not-advance_by-clause-goes
 returns-then-not-advance_by-clause-goes g c =
     let s = c.args.end.now.standing in
-    let m = c.let_go.new.self.standing in
-    let on = looked_on s c.tail-tail.new.self.standing m c.tail-tail.ensures.standing c.let_go.ensures.standing in
+    let m = c.let_go.new.end.standing in
+    let on = looked_on s c.tail-tail.new.self.standing m c.tail-tail.ensures.standing (lets_stand c.args.kept.now c.let_go.new.self c.tail-tail.new.self c.let_go.new.end c.let_go.ensures) in
     let stopped : c.advance_by.result ≡ false = search (c.if-not-advance_by.true) in
     let fewer = c.advance_by.ensures.fewer stopped in (
       fewer.0,
@@ -15,35 +17,34 @@ returns-then-not-advance_by-clause-goes g c =
     )
 
 pub returns-then-not-advance_by-clause-behind : goal.returns-then-not-advance_by-clause-behind
-returns-then-not-advance_by-clause-behind g c = λ _ up.
+returns-then-not-advance_by-clause-behind g c = λ _.
     let s = c.args.end.now.standing in
-    let m = c.let_go.new.self.standing in
-    let on = looked_on s c.tail-tail.new.self.standing m c.tail-tail.ensures.standing c.let_go.ensures.standing in
+    let m = c.let_go.new.end.standing in
+    let on = looked_on s c.tail-tail.new.self.standing m c.tail-tail.ensures.standing (lets_stand c.args.kept.now c.let_go.new.self c.tail-tail.new.self c.let_go.new.end c.let_go.ensures) in
     let stopped : c.advance_by.result ≡ false = search (c.if-not-advance_by.true) in
     let fewer = c.advance_by.ensures.fewer stopped in
-    let count : c.saturating_sub-count.result ≡ m.seen - c.applied.result = counted c.saturating_sub-count.result c.tail-tail.result c.applied.result c.tail-tail.new.self.standing m (search rules) c.tail-tail.ensures.tail
-    c.let_go.ensures.standing in
-    let was = (fewer.2.up up).0 in
-    behind_tail s m c.advance_by.new.end.standing fewer.0 c.saturating_sub-count.result c.applied.result on fewer.2.passed c.advance_by.ensures.met.0 fewer.1 count
-    (c.applied.ensures ∙ c.requires.level.applied was)
+    let count : c.saturating_sub-count.result ≡ m.seen - c.passed.result = counted c.saturating_sub-count.result c.tail-tail.result c.passed.result c.tail-tail.new.self.standing m (search rules) c.tail-tail.ensures.tail
+    (lets_stand c.args.kept.now c.let_go.new.self c.tail-tail.new.self c.let_go.new.end c.let_go.ensures) in
+    behind_tail s m c.advance_by.new.end.standing fewer.0 c.saturating_sub-count.result c.passed.result on fewer.2.passed c.advance_by.ensures.met.0 fewer.1 count
+    (c.passed.ensures ∙ same_passed s m on)
 
 pub returns-then-not-advance_by-clause-few : goal.returns-then-not-advance_by-clause-few
-returns-then-not-advance_by-clause-few g c = λ was.
+returns-then-not-advance_by-clause-few g c =
     let s = c.args.end.now.standing in
-    let m = c.let_go.new.self.standing in
-    let on = looked_on s c.tail-tail.new.self.standing m c.tail-tail.ensures.standing c.let_go.ensures.standing in
+    let m = c.let_go.new.end.standing in
+    let on = looked_on s c.tail-tail.new.self.standing m c.tail-tail.ensures.standing (lets_stand c.args.kept.now c.let_go.new.self c.tail-tail.new.self c.let_go.new.end c.let_go.ensures) in
     let stopped : c.advance_by.result ≡ false = search (c.if-not-advance_by.true) in
     let fewer = c.advance_by.ensures.fewer stopped in
-    let count : c.saturating_sub-count.result ≡ m.seen - c.applied.result = counted c.saturating_sub-count.result c.tail-tail.result c.applied.result c.tail-tail.new.self.standing m (search rules) c.tail-tail.ensures.tail
-    c.let_go.ensures.standing in
-    few_stopped s m c.advance_by.new.end.standing fewer.0 c.saturating_sub-count.result c.applied.result on fewer.2.passed c.advance_by.ensures.met.0 fewer.1 count
-    (c.applied.ensures ∙ c.requires.level.applied was)
+    let count : c.saturating_sub-count.result ≡ m.seen - c.passed.result = counted c.saturating_sub-count.result c.tail-tail.result c.passed.result c.tail-tail.new.self.standing m (search rules) c.tail-tail.ensures.tail
+    (lets_stand c.args.kept.now c.let_go.new.self c.tail-tail.new.self c.let_go.new.end c.let_go.ensures) in
+    few_stopped s m c.advance_by.new.end.standing fewer.0 c.saturating_sub-count.result c.passed.result on fewer.2.passed c.advance_by.ensures.met.0 fewer.1 count
+    (c.passed.ensures ∙ same_passed s m on)
 
 pub returns-clause-goes : goal.returns-clause-goes
 returns-clause-goes g c =
     let s = c.args.end.now.standing in
-    let m = c.let_go.new.self.standing in
-    let on = looked_on s c.tail-tail.new.self.standing m c.tail-tail.ensures.standing c.let_go.ensures.standing in
+    let m = c.let_go.new.end.standing in
+    let on = looked_on s c.tail-tail.new.self.standing m c.tail-tail.ensures.standing (lets_stand c.args.kept.now c.let_go.new.self c.tail-tail.new.self c.let_go.new.end c.let_go.ensures) in
     let t = c.advance_by.new.end.standing in
     let went : c.advance_by.result ≡ true = search (c.if-not-advance_by.false) in
     let all = c.advance_by.ensures.all went in
@@ -57,44 +58,53 @@ returns-clause-goes g c =
     )
 
 pub returns-clause-reached : goal.returns-clause-reached
-returns-clause-reached g c = λ _ up.
+returns-clause-reached g c = λ _.
     let s = c.args.end.now.standing in
-    let m = c.let_go.new.self.standing in
-    let on = looked_on s c.tail-tail.new.self.standing m c.tail-tail.ensures.standing c.let_go.ensures.standing in
+    let m = c.let_go.new.end.standing in
+    let on = looked_on s c.tail-tail.new.self.standing m c.tail-tail.ensures.standing (lets_stand c.args.kept.now c.let_go.new.self c.tail-tail.new.self c.let_go.new.end c.let_go.ensures) in
     let t = c.advance_by.new.end.standing in
     let went : c.advance_by.result ≡ true = search (c.if-not-advance_by.false) in
     let all = c.advance_by.ensures.all went in
     let last = went_or_not c.advance.result t c.advance.new.end.standing c.advance_by.new.replica c.advance.new.replica c.advance_by.new.next c.advance.new.next
     c.advance_by.new.accounts c.advance.new.accounts c.advance.ensures.some c.advance.ensures.none in
-    let count : c.saturating_sub-count.result ≡ m.seen - c.applied.result = counted c.saturating_sub-count.result c.tail-tail.result c.applied.result c.tail-tail.new.self.standing m (search rules) c.tail-tail.ensures.tail
-    c.let_go.ensures.standing in
-    let was = (all.2.up (last.1.up up).0).0 in (
-      reached_tail s m t c.advance.new.end.standing all.0 last.0 c.saturating_sub-count.result c.applied.result on all.2.passed last.1.passed
-          (c.advance.ensures.met.0 ∙ c.advance_by.ensures.met.0) all.1 count (c.applied.ensures ∙ c.requires.level.applied was),
+    let count : c.saturating_sub-count.result ≡ m.seen - c.passed.result = counted c.saturating_sub-count.result c.tail-tail.result c.passed.result c.tail-tail.new.self.standing m (search rules) c.tail-tail.ensures.tail
+    (lets_stand c.args.kept.now c.let_go.new.self c.tail-tail.new.self c.let_go.new.end c.let_go.ensures) in (
+      reached_tail s m t c.advance.new.end.standing all.0 last.0 c.saturating_sub-count.result c.passed.result on all.2.passed last.1.passed
+          (c.advance.ensures.met.0 ∙ c.advance_by.ensures.met.0) all.1 count (c.passed.ensures ∙ same_passed s m on),
       c.advance.ensures.log,
     )
 
 pub returns-clause-few : goal.returns-clause-few
-returns-clause-few g c = λ was.
+returns-clause-few g c =
     let s = c.args.end.now.standing in
-    let m = c.let_go.new.self.standing in
-    let on = looked_on s c.tail-tail.new.self.standing m c.tail-tail.ensures.standing c.let_go.ensures.standing in
+    let m = c.let_go.new.end.standing in
+    let on = looked_on s c.tail-tail.new.self.standing m c.tail-tail.ensures.standing (lets_stand c.args.kept.now c.let_go.new.self c.tail-tail.new.self c.let_go.new.end c.let_go.ensures) in
     let t = c.advance_by.new.end.standing in
     let went : c.advance_by.result ≡ true = search (c.if-not-advance_by.false) in
     let all = c.advance_by.ensures.all went in
     let last = went_or_not c.advance.result t c.advance.new.end.standing c.advance_by.new.replica c.advance.new.replica c.advance_by.new.next c.advance.new.next
     c.advance_by.new.accounts c.advance.new.accounts c.advance.ensures.some c.advance.ensures.none in
-    let count : c.saturating_sub-count.result ≡ m.seen - c.applied.result = counted c.saturating_sub-count.result c.tail-tail.result c.applied.result c.tail-tail.new.self.standing m (search rules) c.tail-tail.ensures.tail
-    c.let_go.ensures.standing in
-    few_more s m t c.advance.new.end.standing all.0 last.0 c.saturating_sub-count.result c.applied.result on all.2.passed last.1.passed
-    (c.advance.ensures.met.0 ∙ c.advance_by.ensures.met.0) all.1 last.2 count (c.applied.ensures ∙ c.requires.level.applied was)
+    let count : c.saturating_sub-count.result ≡ m.seen - c.passed.result = counted c.saturating_sub-count.result c.tail-tail.result c.passed.result c.tail-tail.new.self.standing m (search rules) c.tail-tail.ensures.tail
+    (lets_stand c.args.kept.now c.let_go.new.self c.tail-tail.new.self c.let_go.new.end c.let_go.ensures) in
+    few_more s m t c.advance.new.end.standing all.0 last.0 c.saturating_sub-count.result c.passed.result on all.2.passed last.1.passed
+    (c.advance.ensures.met.0 ∙ c.advance_by.ensures.met.0) all.1 last.2 count (c.passed.ensures ∙ same_passed s m on)
 
 pub returns-then-not-advance_by-clause-looks : goal.returns-then-not-advance_by-clause-looks
 returns-then-not-advance_by-clause-looks g c =
-    looks_on c.args.end.now c.tail-tail.new.self c.let_go.new.self c.advance_by.new.end c.tail-tail.result c.tail-tail.ensures.looks c.tail-tail.ensures.tail
-    c.let_go.ensures.standing c.let_go.ensures.looks c.advance_by.ensures.met
+    looks_on c.args.end.now c.tail-tail.new.self c.let_go.new.end c.advance_by.new.end c.tail-tail.result c.tail-tail.ensures.looks c.tail-tail.ensures.tail
+    (lets_stand c.args.kept.now c.let_go.new.self c.tail-tail.new.self c.let_go.new.end c.let_go.ensures) (lets_look c.args.kept.now c.let_go.new.self c.tail-tail.new.self c.let_go.new.end c.let_go.ensures) c.advance_by.ensures.met
 
 pub returns-clause-looks : goal.returns-clause-looks
 returns-clause-looks g c =
-    looks_on c.args.end.now c.tail-tail.new.self c.let_go.new.self c.advance.new.end c.tail-tail.result c.tail-tail.ensures.looks c.tail-tail.ensures.tail
-    c.let_go.ensures.standing c.let_go.ensures.looks (met_on c.let_go.new.self c.advance_by.new.end c.advance.new.end c.advance_by.ensures.met c.advance.ensures.met)
+    looks_on c.args.end.now c.tail-tail.new.self c.let_go.new.end c.advance.new.end c.tail-tail.result c.tail-tail.ensures.looks c.tail-tail.ensures.tail
+    (lets_stand c.args.kept.now c.let_go.new.self c.tail-tail.new.self c.let_go.new.end c.let_go.ensures) (lets_look c.args.kept.now c.let_go.new.self c.tail-tail.new.self c.let_go.new.end c.let_go.ensures) (met_on c.let_go.new.end c.advance_by.new.end c.advance.new.end c.advance_by.ensures.met c.advance.ensures.met)
+
+pub returns-then-not-advance_by-clause-freed : goal.returns-then-not-advance_by-clause-freed
+returns-then-not-advance_by-clause-freed g c =
+    lets_free c.args.kept.now c.let_go.new.self c.args.end.now c.tail-tail.new.self c.let_go.new.end c.advance_by.new.end c.tail-tail.result c.tail-tail.ensures.looks
+    (ap (λ (s : Standing). s.nodes) c.tail-tail.ensures.standing.1) c.let_go.ensures c.advance_by.ensures.met.1
+
+pub returns-clause-freed : goal.returns-clause-freed
+returns-clause-freed g c =
+    lets_free c.args.kept.now c.let_go.new.self c.args.end.now c.tail-tail.new.self c.let_go.new.end c.advance.new.end c.tail-tail.result c.tail-tail.ensures.looks
+    (ap (λ (s : Standing). s.nodes) c.tail-tail.ensures.standing.1) c.let_go.ensures (c.advance.ensures.met.1 ∙ c.advance_by.ensures.met.1)

@@ -21,7 +21,7 @@ fill_all-requires g c =
 pub returns-in-Refused-clause-refused : goal.returns-in-Refused-clause-refused
 returns-in-Refused-clause-refused g c =
     let refused = c.in-Refused.ensures.refused in
-    (refused.0, still_met c.args.end.now c.reserve.new.self refused.1)
+    (refused.0, still_met c.args.end.now c.reserve.new.end refused.1)
 
 pub returns-in-Refused-clause-filled : goal.returns-in-Refused-clause-filled
 returns-in-Refused-clause-filled g c = λ node. ap (λ (v : LogView). get_or v.standing.unfilled node None) c.in-Refused.ensures.refused.1 ∙ c.requires.filled node

@@ -32,6 +32,8 @@ invariant_of-self-2 g c =
           (λ e. c.answer.ensures.executed (c.in-Some.is ∙ ap Some e)) c.self.invariant.0,
       same_slots inside.seat c.answer-2.new.self c.args.worker answer c.answer-2.ensures ∙ c.self.invariant.1,
       c.self.invariant.2 ∙ same_node inside.core c.answer.new.self c.args.worker done,
+      same_slots inside.seat c.answer-2.new.self c.args.worker answer c.answer-2.ensures ∙ c.self.invariant.3
+          ∙ ap g.B.ServerName.slots (same_node inside.core c.answer.new.self c.args.worker done),
     )
 
 pub returns : goal.returns

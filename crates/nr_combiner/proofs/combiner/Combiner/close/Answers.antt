@@ -1,4 +1,4 @@
-use Rattle.std.proofs.Common.{◌∙◌, subst}
+use Rattle.std.proofs.Common.{ap, ◌∙◌, subst}
 use Rattle.nr_combiner.specs.Served.{CombinerState}
 use Rattle.nr_combiner.proofs.Moves.{closed_served}
 use Rattle.nr_combiner.proofs.Rooms.{HasClosed, closed_room}
@@ -8,7 +8,7 @@ pub invariant_of-self : goal.invariant_of-self
 invariant_of-self g c =
     let inside = c.self.inside in
     let there = closed_served inside.core c.close.new.self inside.seat inside.numbers.items c.args.conn c.close.ensures.closed c.close.ensures.other c.self.invariant.0 in
-    (there.0, c.self.invariant.1, c.self.invariant.2 ∙ there.1)
+    (there.0, c.self.invariant.1, c.self.invariant.2 ∙ there.1, c.self.invariant.3 ∙ ap g.B.ServerName.slots there.1)
 
 pub returns : goal.returns
 returns g c =

@@ -24,6 +24,7 @@ invariant_of-self g c =
       none_kept inside.core inside.seat c.lift.new.self inside.numbers.items c.args.worker c.in_default.ensures.lifted c.self.invariant.0,
       found_slots inside.seat c.lift.new.self c.args.worker c.in_default.ensures.lifted ∙ c.self.invariant.1,
       c.self.invariant.2,
+      found_slots inside.seat c.lift.new.self c.args.worker c.in_default.ensures.lifted ∙ c.self.invariant.3,
     )
 
 pub invariant_of-self-in_default-take_in : goal.invariant_of-self-in_default-take_in
@@ -37,6 +38,7 @@ invariant_of-self-in_default-take_in g c =
           c.in_default-take_in.ensures.due c.in_default-take_in.ensures.served taken c.in-Some.ensures.lifted c.self.invariant.0,
       ap (λ (v : CombinerView). v.slots) c.in-Some.ensures.lifted ∙ c.self.invariant.1,
       c.self.invariant.2 ∙ sym (ap (λ (n : NodeState). n.book.node) taken),
+      ap (λ (v : CombinerView). v.slots) c.in-Some.ensures.lifted ∙ c.self.invariant.3 ∙ ap g.B.ServerName.slots (sym (ap (λ (n : NodeState). n.book.node) taken)),
     )
 
 pub returns-in_default-take_in : goal.returns-in_default-take_in
@@ -59,6 +61,8 @@ invariant_of-self-2 g c =
           told.0 near idle c.in-Err.ensures.unchanged c.in-Some.ensures.lifted told.3 told.2 c.self.invariant.0,
       ap (λ (v : CombinerView). v.slots) told.3 ∙ ap (λ (v : CombinerView). v.slots) c.in-Some.ensures.lifted ∙ c.self.invariant.1,
       c.self.invariant.2 ∙ sym (ap (λ (n : NodeState). n.book.node) c.in-Err.ensures.unchanged),
+      ap (λ (v : CombinerView). v.slots) told.3 ∙ ap (λ (v : CombinerView). v.slots) c.in-Some.ensures.lifted ∙ c.self.invariant.3
+          ∙ ap g.B.ServerName.slots (sym (ap (λ (n : NodeState). n.book.node) c.in-Err.ensures.unchanged)),
     )
 
 pub returns : goal.returns

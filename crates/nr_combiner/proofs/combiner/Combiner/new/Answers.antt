@@ -1,4 +1,4 @@
-use Rattle.std.proofs.Common.{◌≡◌, length, ap, sym, arith}
+use Rattle.std.proofs.Common.{◌≡◌, length, ap, sym, ◌∙◌, arith}
 use Rattle.nr_slots.specs.Seats.{CombinerView}
 use Rattle.nr_combiner.specs.Served.{IsOwnOfBatch}
 use Rattle.nr_combiner.proofs.Deeds.{none_jobs}
@@ -12,4 +12,5 @@ invariant_of-result g c =
           (none_jobs (IsOwnOfBatch c.args.core c.args.seat.desks) c.args.core c.requires.idle),
       ap (λ (v : CombinerView). v.slots) c.requires.seat,
       sym c.requires.node,
+      ap (λ (v : CombinerView). v.slots) c.requires.seat ∙ c.requires.named ∙ ap g.B.ServerName.slots (sym c.requires.node),
     )

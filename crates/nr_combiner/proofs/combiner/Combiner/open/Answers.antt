@@ -1,4 +1,4 @@
-use Rattle.std.proofs.Common.{◌∙◌}
+use Rattle.std.proofs.Common.{ap, ◌∙◌}
 use Rattle.nr_combiner.proofs.Moves.{opened_served}
 use Rattle.nr_combiner.proofs.combiner.Combiner.open.Goals as goal
 
@@ -7,4 +7,4 @@ invariant_of-self g c =
     let inside = c.self.inside in
     let there = opened_served c.open.result inside.core c.open.new.self inside.seat inside.numbers.items c.args.limit c.args.worker
     c.open.ensures.opened c.open.ensures.unchanged c.self.invariant.0 in
-    (there.0, c.self.invariant.1, c.self.invariant.2 ∙ there.1)
+    (there.0, c.self.invariant.1, c.self.invariant.2 ∙ there.1, c.self.invariant.3 ∙ ap g.B.ServerName.slots there.1)

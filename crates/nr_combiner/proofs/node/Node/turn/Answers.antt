@@ -1,5 +1,20 @@
-use Rattle.nr_combiner.proofs.Handed.{turned_added}
+use Rattle.std.proofs.Common.{rules, ◌≡◌, ap, ◌∙◌}
+use Rattle.nr_combiner.proofs.Handed.{turned_added, turned_executed, turns_behind}
 use Rattle.nr_combiner.proofs.node.Node.turn.Goals as goal
 
-pub returns : goal.returns
-returns g c = search (turned_added, c.turn.ensures.turned)
+pub returns-clause-turned : goal.returns-clause-turned
+returns-clause-turned g c = turns_behind _ _ _ _ _ _ _ _ _ _ _ _ c.turn.ensures.turned (search rules) c.turn.ensures.node c.turn.ensures.down c.turn.ensures.served
+
+pub returns-clause-added : goal.returns-clause-added
+returns-clause-added g c = turned_added _ _ _ _ _ _ _ _ _ _ (returns-clause-turned g c)
+
+pub returns-clause-executed : goal.returns-clause-executed
+returns-clause-executed g c = turned_executed _ _ _ _ _ _ _ _ _ _ (returns-clause-turned g c)
+
+pub returns-clause-sound : goal.returns-clause-sound
+returns-clause-sound g c = (c.turn.ensures.sound, (returns-clause-turned g c).standing)
+
+pub returns-clause-named : goal.returns-clause-named
+returns-clause-named g c =
+    let is : c.deref_mut.result.now.node.book.node ≡ c.args.self.now.node = search rules in
+    c.turn.ensures.named ∙ ap g.B.ServerName.slots is

@@ -20,6 +20,7 @@ invariant_of-self g c =
       keeps.2,
       keeps.3,
       keeps.4,
+      keeps.5,
     )
 
 pub returns-clause-executed : goal.returns-clause-executed

@@ -15,4 +15,5 @@ invariant_of-self g c =
       keeps.2,
       keeps.3,
       keeps.4,
+      keeps.5,
     )

@@ -26,6 +26,7 @@ invariant_of-self-in-Ok g c =
       keeps.2,
       keeps.3,
       keeps.4,
+      keeps.5,
     )
 
 pub invariant_of-self-in-Err : goal.invariant_of-self-in-Err
@@ -42,6 +43,7 @@ invariant_of-self-in-Err g c =
       keeps.2,
       keeps.3,
       keeps.4,
+      keeps.5,
     )
 
 pub returns-in-Ok-clause-opened : goal.returns-in-Ok-clause-opened

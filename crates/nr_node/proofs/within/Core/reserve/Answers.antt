@@ -8,6 +8,7 @@ use Rattle.nr_node.specs.Reserved.{IsReserved}
 use Rattle.nr_node.specs.Steps.{HasReserved}
 use Rattle.nr_node.proofs.Lists.{jobs_reserved_more}
 use Rattle.nr_node.proofs.Taking.{some_is, none_is, memory_kept, none_kept, reserved_within, back_within}
+use Rattle.nr_node.proofs.Shares.{kept_more, reserved_more, reserved_nodes, met_last}
 use Rattle.nr_node.proofs.within.Core.reserve.Goals as goal
 
 pub invariant_of-self : goal.invariant_of-self
@@ -20,6 +21,7 @@ invariant_of-self g c =
       keeps.2,
       keeps.3,
       keeps.4,
+      keeps.5,
     )
 
 pub invariant_of-self-in_default : goal.invariant_of-self-in_default
@@ -32,6 +34,7 @@ invariant_of-self-in_default g c =
       keeps.2,
       keeps.3,
       keeps.4,
+      keeps.5,
     )
 
 pub put_in-requires-clause-nodes : goal.put_in-requires-clause-nodes
@@ -50,32 +53,36 @@ invariant_of-self-in-Taken g c =
     let t = c.put_in.new.end.standing in
     let named = subst (λ (shares : List (Option Entry)). IsReserved c.in-Taken.field-0 shares inside.end.standing t) (got.1 ∙ ap (shares_of got.0) c.self.invariant.3) c.in-Taken.ensures.taken in
     let up : inside.replica.down ≡ false = sym c.is_down.ensures ∙ c.if-is_down.false in
-    reserved_within inside.end.standing t c.in-Taken.field-0 got.0 inside.replica c.take_shares.new.replica inside.accounts inside.next c.take_shares.new.next inside.nodes named got.3 up
-    c.put_in.ensures.filled c.self.invariant
+    let w = reserved_within inside.end.standing t c.in-Taken.field-0 got.0 inside.replica c.take_shares.new.replica inside.accounts inside.next c.take_shares.new.next inside.nodes named got.3 up
+    c.put_in.ensures.filled (c.self.invariant.0, c.self.invariant.1, c.self.invariant.2, c.self.invariant.3, c.self.invariant.4) in
+    (w.0, w.1, w.2, w.3, w.4, kept_more inside.kept c.put_in.new.kept c.in-Taken.field-0 c.in-Some.shares inside.end c.put_in.new.end c.in-Taken.ensures.kept (reserved_more inside.end c.put_in.new.end c.in-Taken.field-0 c.in-Some.shares c.in-Taken.ensures.taken) (reserved_nodes inside.end c.put_in.new.end c.in-Taken.field-0 c.in-Some.shares c.in-Taken.ensures.taken) c.put_in.ensures.looks c.self.invariant.5)
 
 pub invariant_of-self-in-Full : goal.invariant_of-self-in-Full
 invariant_of-self-in-Full g c =
     let inside = c.self.inside in
     let got = some_is _ _ _ c.in-Some.is c.in_ok-shares.ensures.some in
     let back = c.in-Full.ensures.full in
-    back_within inside.end.standing c.put_in.new.end.standing got.0 inside.replica c.take_shares.new.replica inside.accounts inside.next c.take_shares.new.next c.in-Some.shares
-    c.in-Full.shares inside.nodes back.1 got.3 got.1 back.0 got.2 c.put_in.ensures.filled c.self.invariant
+    let w = back_within inside.end.standing c.put_in.new.end.standing got.0 inside.replica c.take_shares.new.replica inside.accounts inside.next c.take_shares.new.next c.in-Some.shares
+    c.in-Full.shares inside.nodes back.1 got.3 got.1 back.0 got.2 c.put_in.ensures.filled (c.self.invariant.0, c.self.invariant.1, c.self.invariant.2, c.self.invariant.3, c.self.invariant.4) in
+    (w.0, w.1, w.2, w.3, w.4, met_last inside.kept c.put_in.new.kept inside.end c.put_in.new.end c.in-Full.ensures.others back.1 c.put_in.ensures.looks c.self.invariant.5)
 
 pub invariant_of-self-in-Lost : goal.invariant_of-self-in-Lost
 invariant_of-self-in-Lost g c =
     let inside = c.self.inside in
     let got = some_is _ _ _ c.in-Some.is c.in_ok-shares.ensures.some in
     let back = c.in-Lost.ensures.lost in
-    back_within inside.end.standing c.put_in.new.end.standing got.0 inside.replica c.take_shares.new.replica inside.accounts inside.next c.take_shares.new.next c.in-Some.shares
-    c.in-Lost.shares inside.nodes back.1 got.3 got.1 back.0 got.2 c.put_in.ensures.filled c.self.invariant
+    let w = back_within inside.end.standing c.put_in.new.end.standing got.0 inside.replica c.take_shares.new.replica inside.accounts inside.next c.take_shares.new.next c.in-Some.shares
+    c.in-Lost.shares inside.nodes back.1 got.3 got.1 back.0 got.2 c.put_in.ensures.filled (c.self.invariant.0, c.self.invariant.1, c.self.invariant.2, c.self.invariant.3, c.self.invariant.4) in
+    (w.0, w.1, w.2, w.3, w.4, met_last inside.kept c.put_in.new.kept inside.end c.put_in.new.end c.in-Lost.ensures.others back.1 c.put_in.ensures.looks c.self.invariant.5)
 
 pub invariant_of-self-in-Refused : goal.invariant_of-self-in-Refused
 invariant_of-self-in-Refused g c =
     let inside = c.self.inside in
     let got = some_is _ _ _ c.in-Some.is c.in_ok-shares.ensures.some in
     let back = c.in-Refused.ensures.refused in
-    back_within inside.end.standing c.put_in.new.end.standing got.0 inside.replica c.take_shares.new.replica inside.accounts inside.next c.take_shares.new.next c.in-Some.shares
-    c.in-Refused.shares inside.nodes back.1 got.3 got.1 back.0 got.2 c.put_in.ensures.filled c.self.invariant
+    let w = back_within inside.end.standing c.put_in.new.end.standing got.0 inside.replica c.take_shares.new.replica inside.accounts inside.next c.take_shares.new.next c.in-Some.shares
+    c.in-Refused.shares inside.nodes back.1 got.3 got.1 back.0 got.2 c.put_in.ensures.filled (c.self.invariant.0, c.self.invariant.1, c.self.invariant.2, c.self.invariant.3, c.self.invariant.4) in
+    (w.0, w.1, w.2, w.3, w.4, met_last inside.kept c.put_in.new.kept inside.end c.put_in.new.end c.in-Refused.ensures.others back.1 c.put_in.ensures.looks c.self.invariant.5)
 
 pub returns-in-Taken-clause-done : goal.returns-in-Taken-clause-done
 returns-in-Taken-clause-done g c = λ _.

@@ -38,6 +38,7 @@ invariant_of-self-in-Ok-lift g c =
       keeps.2,
       keeps.3,
       keeps.4,
+      keeps.5,
     )
 
 pub returns-in-Ok-lift-clause-served : goal.returns-in-Ok-lift-clause-served

@@ -3,6 +3,7 @@ use Rattle.nr_log_end.specs.declared.standing.Standing.{Standing}
 use Rattle.nr_node.specs.Kept.{IsKept}
 use Rattle.nr_node.specs.Next.{jobs_next}
 use Rattle.nr_node.proofs.Orders.{is_sound}
+use Rattle.nr_node.proofs.Shares.{stood_last}
 use Rattle.nr_node.proofs.within.Core.token.Goals as goal
 
 pub invariant_of-self : goal.invariant_of-self
@@ -15,9 +16,10 @@ invariant_of-self g c =
       λ node. ap (λ (s : Standing). get_or s.unfilled node None) still ∙ keeps.2 node,
       keeps.3 ∙ sym (ap (λ (s : Standing). s.nodes) still),
       keeps.4,
+      stood_last inside.kept inside.end c.token.new.self still c.token.ensures.looks keeps.5,
     )
 
 pub returns-clause-sound : goal.returns-clause-sound
 returns-clause-sound g c =
     let inside = c.self.inside in
-    is_sound inside.end.standing c.token.result.standing inside.replica inside.accounts (jobs_next inside.next) c.token.ensures.kept c.self.invariant.0.order
+    is_sound inside.end.standing c.token.result.standing inside.replica inside.accounts (jobs_next inside.next) c.token.ensures.kept c.self.invariant.1 c.self.invariant.0.order

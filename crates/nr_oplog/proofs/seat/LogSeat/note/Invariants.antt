@@ -1,5 +1,4 @@
-use Rattle.std.proofs.Common.{Some}
 use Rattle.nr_oplog.proofs.seat.LogSeat.note.Given as goal
 
 abbrev pub ghosts-note_named : goal.ghosts-note_named
-ghosts-note_named g a = record { job = Some a.job.now }
+ghosts-note_named g a = record { jobs = a.jobs.now }

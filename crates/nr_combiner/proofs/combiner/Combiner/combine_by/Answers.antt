@@ -1,0 +1,78 @@
+use Rattle.std.proofs.Common.{◌≡◌, ℕ, length, ap, sym, ◌∙◌, subst, arith}
+use Rattle.nr_accounts.specs.Book.{Book}
+use Rattle.nr_combiner.specs.Served.{CombinerState}
+use Rattle.nr_combiner.specs.Steps.{HasLiftedBy, HasAnsweredAll, outcome_of}
+use Rattle.nr_combiner.proofs.Turns.{tried_served, tried_book, looked_served, looked_by, down_looked}
+use Rattle.nr_combiner.proofs.Rounds.{lifted_by_long, answered_all_down}
+use Rattle.nr_combiner.proofs.combiner.Combiner.combine_by.Goals as goal
+
+pub invariant_of-self : goal.invariant_of-self
+invariant_of-self g c =
+    let inside = c.self-2.inside in
+    let keeps = c.self-2.invariant in
+    let tried = c.try_to_reserve-tried.new.core in
+    let looked = c.look-looked.new.self in
+    let goes = c.look-looked.ensures.goes in
+    let node : looked.book.node ≡ inside.core.book.node = goes.1.1.1.closed.node
+    ∙ ap (λ (b : Book). b.node) (tried_book g.B.LogName.places c.try_to_reserve-tried.result inside.core tried c.try_to_reserve-tried.ensures.comes) in (
+      looked_served c.look-looked.result.round c.look-looked.result.is_behind goes.0 goes.1.0 goes.1.1.0 tried looked inside.seat inside.numbers.items
+          (looked_by c.look-looked.result.round c.look-looked.result.is_behind tried looked goes c.look-looked.ensures.not_yet c.look-looked.ensures.waiting c.look-looked.ensures.again
+          c.look-looked.ensures.never_full c.look-looked.ensures.down)
+          (tried_served g.B.LogName.places c.try_to_reserve-tried.result inside.core tried inside.seat inside.numbers.items c.try_to_reserve-tried.ensures.comes keeps.0),
+      keeps.1,
+      keeps.2 ∙ sym node,
+      keeps.3 ∙ ap g.B.ServerName.slots (sym node),
+    )
+
+pub lift_by-requires : goal.lift_by-requires
+lift_by-requires g c =
+    let inside = c.self.inside in
+    let served = c.self.invariant.0 in
+    let count : c.len-workers.result ≡ length inside.numbers.items = omega (arith, c.len-workers.ensures, inside.numbers.ok.0) in
+    count ∙ served.numbered ∙ sym served.workers ∙ ap (λ (x : CombinerState). length x.seat.desks) c.self.view_is
+
+pub answer_all-answered-requires : goal.answer_all-answered-requires
+answer_all-answered-requires g c =
+    let inside = c.self.inside in
+    let served = c.self.invariant.0 in
+    let count : c.len-workers.result ≡ length inside.numbers.items = omega (arith, c.len-workers.ensures, inside.numbers.ok.0) in
+    let before : c.len-workers.result ≡ length c.args.self.now.seat.desks =
+    count ∙ served.numbered ∙ sym served.workers ∙ ap (λ (x : CombinerState). length x.seat.desks) c.self.view_is in
+    let same = lifted_by_long c.args.lifts c.args.worker c.args.self.now c.lift_by.new.combiner c.lift_by.ensures in
+    before ∙ sym same ∙ ap (λ (x : CombinerState). length x.seat.desks) (sym c.self-2.view_is)
+
+pub returns-clause-combined : goal.returns-clause-combined
+returns-clause-combined g c =
+    let inside = c.self.inside in
+    let served = c.self.invariant.0 in
+    let count : c.len-workers.result ≡ length inside.numbers.items = omega (arith, c.len-workers.ensures, inside.numbers.ok.0) in
+    let before : c.len-workers.result ≡ length c.args.self.now.seat.desks =
+    count ∙ served.numbered ∙ sym served.workers ∙ ap (λ (x : CombinerState). length x.seat.desks) c.self.view_is in
+    let lifted : CombinerState = record { node = c.self-2.inside.core; seat = c.self-2.inside.seat; taken = c.self-2.inside.taken } in
+    let goes = c.look-looked.ensures.goes in
+    record {
+      lifted = lifted;
+      has_lifted = subst (λ (x : CombinerState). HasLiftedBy c.args.lifts c.args.worker c.args.self.now x) (sym c.self-2.view_is) c.lift_by.ensures;
+      try_is = c.try_to_reserve-tried.result;
+      tried = c.try_to_reserve-tried.new.core;
+      has_tried = c.try_to_reserve-tried.ensures;
+      look_is = c.look-looked.result.round;
+      looked = c.look-looked.new.self;
+      entries = goes.0;
+      ran = goes.1.0;
+      tail = goes.1.1.0;
+      has_looked = looked_by c.look-looked.result.round c.look-looked.result.is_behind c.try_to_reserve-tried.new.core c.look-looked.new.self goes c.look-looked.ensures.not_yet
+          c.look-looked.ensures.waiting
+          c.look-looked.ensures.again c.look-looked.ensures.never_full c.look-looked.ensures.down;
+      round_is = c.outcome.ensures;
+      has_answered = subst (λ (k : ℕ). HasAnsweredAll k (record { node = c.look-looked.new.self; seat = lifted.seat; taken = lifted.taken }) c.answer_all-answered.new.combiner) before
+          c.answer_all-answered.ensures;
+    }
+
+pub returns-clause-down : goal.returns-clause-down
+returns-clause-down g c =
+    let looked : CombinerState = record { node = c.look-looked.new.self; seat = c.self-2.inside.seat; taken = c.self-2.inside.taken } in
+    let same = answered_all_down c.len-workers.result looked c.answer_all-answered.new.combiner c.answer_all-answered.ensures in (
+      λ e. same ∙ c.look-looked.ensures.down.0 (down_looked c.try_to_reserve-tried.result c.look-looked.result.round (sym c.outcome.ensures ∙ e)),
+      λ e. c.outcome.ensures ∙ ap (outcome_of c.try_to_reserve-tried.result) (c.look-looked.ensures.down.1 (sym same ∙ e)),
+    )

@@ -1,0 +1,24 @@
+// What a node tells of a turn, and of pieces that it hands out without one.
+use crate::answering::{Collected, Turned};
+use nr_oplog::{LogName, Token};
+use nr_slots::Note;
+
+/// What a node tells of a turn, once it is over.
+#[derive(Drop)]
+pub struct Told<B: LogName> {
+    pub turned: Turned,
+    /// How the node stands: the pieces that were handed out are of its record.
+    pub token: Token<B>,
+    /// What its combiner has done at the slots of its workers.
+    pub note: Note,
+}
+
+/// What a node tells of pieces that it handed out without a turn.
+#[derive(Drop)]
+pub struct ToldPieces<B: LogName> {
+    pub collected: Collected,
+    /// How the node stands: the pieces are of its record.
+    pub token: Token<B>,
+    /// What its combiner has done at the slots of its workers.
+    pub note: Note,
+}

@@ -1,0 +1,128 @@
+// A connection, as its client and its worker drive it.
+ghost use Rattle.std.specs.Prelude.{◌<◌};
+ghost use Rattle.nr_held.specs.Pieces.{AreHandedOut};
+
+use crate::station::{Station, Turn};
+use nr_blob::Memory;
+use nr_combiner::ServerName;
+use nr_entry::ConnId;
+use nr_session::Session;
+use nr_taps::{Refused, Tap, meet};
+use std::alloc::Global;
+use std::cmp::Ordering;
+use std::sync::Wait;
+
+/// A connection of a worker: its session, and its tap.
+pub struct Client<B: ServerName> {
+    session: Session,
+    tap: Tap<B>,
+}
+
+impl<B: ServerName> Drop for Client<B> {
+    fn drop(self) {
+        let Client {
+            session: _session,
+            tap: _tap,
+        } = self;
+    }
+}
+
+/// What came of a piece that a tap was to take in.
+#[derive(Clone, Copy, Debug, PartialEq, Eq)]
+pub enum Offered {
+    /// Nothing waits.
+    Nothing,
+    /// It was accepted.
+    Accepted,
+    /// It was refused: from where on it is, and why.
+    Refused(u64, Refused),
+}
+
+impl<B: ServerName> Client<B> {
+    // The client of a connection that was opened.
+    pub(crate) fn new(alloc: Global, conn: ConnId) -> Client<B> {
+        Client {
+            session: Session::new(alloc, conn),
+            tap: Tap::new(alloc, conn),
+        }
+    }
+
+    /// Its connection.
+    pub fn conn(&self) -> ConnId {
+        self.tap.conn()
+    }
+
+    /// Sends these bytes: their jobs are added to the next batch of its worker.
+    pub fn send(&mut self, station: &mut Station<B>, sent: &[u8]) -> Result<(), Memory> {
+        if !self.session.fits(sent.len())
+            || self.session.feed(sent, 0, &mut station.jobs).is_err()
+        {
+            return Err(Memory);
+        }
+        Ok(())
+    }
+
+    /// Has its tap take in a piece of a connection of this worker's node, its own or another: at most so many of the bytes that wait.
+    pub fn offer<R: Wait>(
+        &mut self,
+        rt: &R,
+        station: &Station<B>,
+        conn: ConnId,
+        most: usize,
+    ) -> Result<Offered, Memory>
+        requires { 0 < most }
+    {
+        let node = station.worker().shared();
+        let Ok(taken) = node.take_piece(rt, conn, most) else {
+            return Err(Memory);
+        };
+        let Some((piece, token)) = taken else {
+            return Ok(Offered::Nothing);
+        };
+        match self.tap.accept(node.log(), piece, token) {
+            Ok(()) => Ok(Offered::Accepted),
+            Err((back, _, why)) => Ok(Offered::Refused(back.from, why)),
+        }
+    }
+
+    /// Has its tap take in the last piece that a turn of its worker handed out, as if it were written at once. How many bytes there were. A turn that failed is
+    /// an error.
+    pub fn take_in(&mut self, station: &Station<B>, mut turn: Turn<B>) -> Result<usize, Memory>
+        requires { AreHandedOut turn.pieces.items turn.token }
+    {
+        turn.turned.combined?;
+        turn.turned.collected?;
+        let Some(token) = turn.token.take() else {
+            return Ok(0);
+        };
+        let Some(handed) = turn.pieces.pop() else {
+            return Ok(0);
+        };
+        let log = station.worker().shared().log();
+        if self.tap.accept(log, handed.piece, token).is_err() {
+            return Err(Memory);
+        }
+        Ok(self.write())
+    }
+
+    /// What its tap has taken in and isn't written yet.
+    pub fn pending(&self) -> &[u8] {
+        self.tap.pending()
+    }
+
+    /// All of that was written. How many bytes there were.
+    pub fn write(&mut self) -> usize {
+        let count = self.tap.pending().len();
+        self.tap.written(count);
+        count
+    }
+
+    /// Which of two taps knows more entries of the log that this worker's node shares; `None` where one of them has taken in nothing.
+    pub fn meet(&mut self, station: &Station<B>, other: &mut Client<B>) -> Option<Ordering> {
+        meet(
+            station.worker().shared().log(),
+            &mut self.tap,
+            &mut other.tap,
+        )
+    }
+}

@@ -1,0 +1,62 @@
+// A server in one value, with one connection.
+use nr_blob::Memory;
+use nr_entry::ConnId;
+use nr_nodes::{Outcome, Setup, World};
+use std::alloc::Global;
+use std::hash::RandomState;
+
+/// A server of one node and one worker in one value, with the one connection that it serves.
+pub struct Single {
+    world: World,
+    conn: ConnId,
+}
+
+impl Drop for Single {
+    fn drop(self) {
+        let Single {
+            world: _world,
+            conn: _,
+        } = self;
+    }
+}
+
+impl Single {
+    /// One with no key, whose log has so many places, and in which at most so many bytes wait for the connection.
+    pub fn new(
+        alloc: Global,
+        keys: RandomState,
+        places: usize,
+        limit: usize,
+    ) -> Result<Single, Memory> {
+        let Some(setup) = Setup::new(1, places, 1, 1, limit) else {
+            return Err(Memory);
+        };
+        let mut world = World::new(alloc, keys, setup)?;
+        match world.open(0, 0)? {
+            Outcome::Opened(conn) => Ok(Single { world, conn }),
+            _ => Err(Memory),
+        }
+    }
+
+    /// Each step of a batch that the connection sends. How many bytes it got.
+    pub fn serve(&mut self, sent: &[u8]) -> Result<usize, Memory> {
+        let world = &mut self.world;
+        world.feed(self.conn, 0, sent)?;
+        world.post(0, 0)?;
+        world.lift(0, 0)?;
+        world.reserve(0)?;
+        world.fill(0, 0)?;
+        world.fetch(0)?;
+        world.apply(0)?;
+        world.look(0)?;
+        world.answer(0, 0)?;
+        let happened = world.collect(0, 0)?;
+        Ok(
+            happened
+                .handed
+                .iter()
+                .map(|handed| handed.bytes.len())
+                .fold(0usize, usize::saturating_add),
+        )
+    }
+}

@@ -1,0 +1,143 @@
+// A worker, and what a turn of it hands out.
+ghost use Rattle.std.specs.Prelude.{◌≡◌, ◌<◌, ◌≤◌, length, IfOk};
+ghost use Rattle.nr_oplog.specs.Opening.{name_of, nodes_of, places_of};
+ghost use Rattle.nr_combiner.specs.Opened.{AreNamed, AreOfWorkers};
+ghost use Rattle.nr_held.specs.Pieces.{AreHandedOut};
+
+use crate::client::Client;
+use nr_blob::Memory;
+use nr_combiner::{
+    Lifts, MOST_JOBS, OpenError, OpenedSlots, Plan, ServerName, Turned, Worker, build,
+};
+use nr_entry::{ConnId, Job, Outcome};
+use nr_node::{Handed, Round};
+use nr_oplog::{Opened, Token};
+use std::alloc::Global;
+use std::hash::RandomState;
+use std::mem;
+use std::sync::Wait;
+
+/// A worker at its node, with the jobs of the batch that it hands in next. It may go to a thread of its own.
+pub struct Station<B: ServerName> {
+    alloc: Global,
+    worker: Worker<B>,
+    pub(crate) jobs: Vec<Job>,
+}
+
+impl<B: ServerName> Drop for Station<B> {
+    fn drop(self) {
+        let Station {
+            alloc: _,
+            worker: _worker,
+            jobs: _jobs,
+        } = self;
+    }
+}
+
+/// What came of a turn, the pieces that it handed out, and the token that they share.
+pub struct Turn<B: ServerName> {
+    pub turned: Turned,
+    pub pieces: Vec<Handed>,
+    pub token: Option<Token<B>>,
+}
+
+impl<B: ServerName> Drop for Turn<B> {
+    fn drop(self) {
+        let Turn {
+            turned: _,
+            pieces: _pieces,
+            token: _token,
+        } = self;
+    }
+}
+
+/// The workers of all nodes of a log that was opened, with no key and no connection: those of node 0 first.
+pub fn stations<B: ServerName>(
+    alloc: Global,
+    keys: RandomState,
+    opened: Opened,
+    slots: Vec<OpenedSlots>,
+    plan: Plan,
+) -> Result<Vec<Station<B>>, Memory>
+    requires name { name_of opened ≡ B.log }
+    requires shape { (nodes_of opened ≡ B.nodes) × (places_of opened ≡ B.places) }
+    requires slots { (length slots.items ≡ B.nodes) × AreNamed B.slots slots.items }
+    requires workers { AreOfWorkers plan.workers slots.items × (1 ≤ plan.workers) × (plan.workers ≤ 16) }
+{
+    in_order(alloc, build::<B>(alloc, keys, opened, slots, plan)?)
+}
+
+fn in_order<B: ServerName>(
+    alloc: Global,
+    nodes: Vec<Vec<Worker<B>>>,
+) -> Result<Vec<Station<B>>, Memory> {
+    let mut all = Vec::new(alloc);
+    for workers in nodes {
+        for worker in workers {
+            all.push(Station {
+                alloc,
+                worker,
+                jobs: Vec::new(alloc),
+            })?;
+        }
+    }
+    Ok(all)
+}
+
+impl<B: ServerName> Station<B> {
+    /// A client of a new connection that this worker serves.
+    pub fn open<R: Wait>(&self, rt: &R) -> Result<Client<B>, OpenError> {
+        let conn = self.worker.open(rt)?;
+        Ok(Client::new(self.alloc, conn))
+    }
+
+    /// Closes a connection of the worker's node.
+    pub fn close<R: Wait>(&self, rt: &R, conn: ConnId) {
+        self.worker.shared().close(rt, conn);
+    }
+
+    /// Hands in what was gathered as the worker's next batch. While the last one wasn't collected, or where these are more jobs than a batch has, that is an error,
+    /// and they are lost.
+    pub fn post(&mut self) -> Result<(), Memory> {
+        let jobs = mem::replace(&mut self.jobs, Vec::new(self.alloc));
+        if jobs.len() > MOST_JOBS {
+            return Err(Memory);
+        }
+        match self.worker.post(jobs) {
+            Ok(()) => Ok(()),
+            Err(_) => Err(Memory),
+        }
+    }
+
+    /// A turn of the combiner.
+    pub fn combine<R: Wait>(&self, rt: &R) -> Result<Round, Memory> {
+        self.worker.shared().combine(rt)
+    }
+
+    /// Whether the worker's last batch was executed, once it is answered.
+    pub fn collect(&mut self) -> Option<bool> {
+        let outcome = self.worker.collect()?;
+        Some(matches!(outcome, Outcome::Executed))
+    }
+
+    /// A turn of the worker, which takes the node's lock once: at most so many bytes of each of its connections are handed out.
+    pub fn turn<R: Wait>(&mut self, rt: &R, most: usize) -> Result<Turn<B>, Memory>
+        requires { 0 < most }
+        ensures { IfOk result (λ turn. AreHandedOut turn.pieces.items turn.token) }
+    {
+        let mut pieces = Vec::new(self.alloc);
+        let Some((turned, token)) = self.worker.turn(rt, Lifts::All, most, &mut pieces) else {
+            return Err(Memory);
+        };
+        Ok(Turn {
+            turned,
+            pieces,
+            token: Some(token),
+        })
+    }
+
+    // The worker itself.
+    pub(crate) fn worker(&self) -> &Worker<B> {
+        &self.worker
+    }
+}

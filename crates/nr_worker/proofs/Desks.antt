@@ -1,0 +1,276 @@
+-- What holds of a worker goes on to hold, whatever step it takes.
+use Rattle.std.proofs.Common.{◌≡◌, ℕ, Bool, ◌+◌, ◌<◌, ◌≤◌, inl, inr, List, [], ◌∷◌, ◌++◌, length, drop, Contains, Option, Some, None, refl, ap, sym, ◌∙◌, subst, arith}
+use Rattle.std.specs.Prelude.{◌≢◌, IfSome}
+use Rattle.std.specs.List.{AllByRecursion}
+use Rattle.std.proofs.lemmas.List.Elements.{Contains-append_cases, Contains-append_left, Contains-append_right}
+use Rattle.nr_model.specs.Bytes.{Bytes, IsBeginningOf}
+use Rattle.nr_model.specs.Items.{Connection, Item, Sequence}
+use Rattle.nr_model.specs.Connections.{Feeding}
+use Rattle.nr_model.specs.Entries.{Jobs}
+use Rattle.nr_model.specs.Sequential.{emitted_for}
+use Rattle.nr_model.proofs.JobLists.{All-append}
+use Rattle.nr_model.proofs.NodesExecutedGrows.{begins_flat_map}
+use Rattle.nr_model.proofs.NodesExecutedLists.{first_in, in_cases, in_middle, later_in}
+use Rattle.nr_model.proofs.NodesPartsEmitted.{begins_on, none_begins}
+use Rattle.nr_entry.specs.Jobs.{connection_of, items_of}
+use Rattle.nr_entry.specs.declared.batch.Batch.{Batch}
+use Rattle.nr_log_end.specs.declared.standing.Standing.{Standing}
+use Rattle.nr_log_end.specs.declared.standing.Turn.{Turn}
+use Rattle.nr_log_end.specs.Standings.{items_of_turn, record_of}
+use Rattle.nr_slots.specs.declared.view.Lane.{Lane}
+use Rattle.nr_node.specs.Sound.{IsSound}
+use Rattle.nr_node.specs.declared.collecting.Handed.{Handed}
+use Rattle.nr_node.proofs.Owed.{all_back, all_front}
+use Rattle.nr_combiner.specs.Pieces.{IsHandedIn, IsHandedOf}
+use Rattle.nr_taps.proofs.Explains.{begins_emitted}
+use Rattle.nr_taps.proofs.Marks.{adopts_begins, adopts_has, history_in, still_sound}
+use Rattle.nr_worker.specs.Desk.{AllPosted, asked_of, DeskState, IsAskedBy, IsHandedOut, IsLed, IsPosted, IsServedAt, Served, history_of}
+use Rattle.nr_worker.specs.Moves.{Asks, HasGot, HaveGot, Opens, Posts, Turns, fresh_desk}
+use Rattle.nr_worker.proofs.Lists.{all_at, all_both, all_weaker, piece_on, posted_both, posted_weaker}
+
+pub fresh_led : (node : ℕ) → IsLed (fresh_desk node)
+fresh_led node = record { sound = tt; known = tt; each = tt }
+
+-- ---- a connection is opened
+abbrev no_jobs : Jobs
+no_jobs = []
+
+still_at : (d : DeskState) (served : List Served) (y : Served) → IsServedAt d y → IsServedAt (record d { served = served }) y
+still_at d served y s = record { node = s.node; counted = s.counted; posted = s.posted; handed = s.handed }
+
+abbrev new_one : Connection → Served
+new_one c = record { connection = c; fed = []; closing = None; handed = [] }
+
+none_asked : (served : List Served) (c : Connection) (job : Item) → AllByRecursion (λ (x : Served). x.connection ≢ c) served → IsAskedBy served job → job.connection ≡ c
+    → Contains no_jobs job
+none_asked served c job new by is = absurd (all_at (λ (x : Served). x.connection ≢ c) served by.one new by.there (by.connection ∙ is))
+
+opened_more : (served : List Served) (x : Served) (job : Item) → IsAskedBy served job → IsAskedBy (served ++ x ∷ []) job
+opened_more served x job by = record { one = by.one; there = Contains-append_left served (x ∷ []) by.one by.there; connection = by.connection; asked = by.asked }
+
+pub opened_led : (c : Connection) (d e : DeskState) → IsLed d → Opens c d e → IsLed e
+opened_led c d e led o =
+    let x = new_one c in
+    let f : DeskState = record d { served = d.served ++ x ∷ [] } in
+    subst IsLed (sym o.opened) record {
+      sound = led.sound;
+      known = posted_weaker (IsAskedBy d.served) (IsAskedBy f.served) (opened_more d.served x) d.posted led.known;
+      each = All-append (IsServedAt f) d.served (x ∷ [])
+          (all_weaker (IsServedAt d) (IsServedAt f) (still_at d f.served) d.served led.each) (
+            record {
+              node = o.node;
+              counted = tt;
+              posted = posted_weaker (IsAskedBy d.served) (λ (job : Item). job.connection ≡ c → Contains no_jobs job) (λ job by. none_asked d.served c job o.new by) d.posted led.known;
+              handed = record { history = []; kept = none_begins (history_of d.mark); begins = none_begins (emitted_for c (record_of [])); jobs = tt };
+            },
+            tt,
+          );
+    }
+
+-- ---- what a connection asks for changes
+asked_there : (front back : List Served) (one now : Served) (job : Item) → now.connection ≡ one.connection
+    → IsAskedBy (front ++ one ∷ back) job × (job.connection ≡ one.connection → Contains (asked_of now) job) → IsAskedBy (front ++ now ∷ back) job
+asked_there front back one now job named (by, own) =
+    elim (Contains-append_cases front (one ∷ back) by.one by.there) [
+      | inl before ↦ record { one = by.one; there = Contains-append_left front (now ∷ back) by.one before; connection = by.connection; asked = by.asked }
+      | inr after ↦ elim (in_cases by.one one back after) [
+        | inl is ↦
+            let same : one.connection ≡ job.connection = ap (λ (x : Served). x.connection) is ∙ by.connection in
+            record { one = now; there = in_middle now front back; connection = named ∙ same; asked = own (sym same) }
+        | inr behind ↦ record {
+          one = by.one;
+          there = Contains-append_right front (now ∷ back) by.one (later_in by.one now back behind);
+          connection = by.connection;
+          asked = by.asked;
+        }
+      ]
+    ]
+
+pub asked_led : (fed : List Feeding) (closing : Option Item) (d e : DeskState) → IsLed d → Asks fed closing d e → IsLed e
+asked_led fed closing d e led a =
+    let now : Served = record a.one { fed = fed; closing = closing } in
+    let served = a.front ++ now ∷ a.back in
+    let f : DeskState = record d { served = served } in
+    let each = subst (AllByRecursion (IsServedAt d)) a.there led.each in
+    let here = (all_back (IsServedAt d) a.front (a.one ∷ a.back) each).0 in
+    let known = posted_both (IsAskedBy (a.front ++ a.one ∷ a.back)) (λ (job : Item). job.connection ≡ a.one.connection → Contains (asked_of now) job) d.posted
+    (subst (λ (xs : List Served). AllPosted (IsAskedBy xs) d.posted) a.there led.known) a.posted in
+    subst IsLed (sym a.changed) record {
+      sound = led.sound;
+      known = posted_weaker (λ (job : Item). IsAskedBy (a.front ++ a.one ∷ a.back) job × (job.connection ≡ a.one.connection → Contains (asked_of now) job)) (IsAskedBy served)
+          (λ job. asked_there a.front a.back a.one now job refl) d.posted known;
+      each = All-append (IsServedAt f) a.front (now ∷ a.back)
+          (all_weaker (IsServedAt d) (IsServedAt f) (still_at d served) a.front (all_front (IsServedAt d) a.front (a.one ∷ a.back) each)) (
+            record { node = here.node; counted = a.counted; posted = a.posted; handed = here.handed },
+            all_weaker (IsServedAt d) (IsServedAt f) (still_at d served) a.back (all_back (IsServedAt d) a.front (a.one ∷ a.back) each).1,
+          );
+    }
+
+-- ---- a batch is posted
+posted_on : (posted : List Batch) (batch : Batch) (job : Item) → IsPosted posted job → IsPosted (posted ++ batch ∷ []) job
+posted_on posted batch job p = record { batch = p.batch; there = Contains-append_left posted (batch ∷ []) p.batch p.there; has = p.has }
+
+served_posted : (d : DeskState) (batch : Batch) (x : Served) → IsServedAt d x
+    × AllByRecursion (λ (job : Item). job.connection ≡ x.connection → Contains (asked_of x) job) (items_of batch.jobs.items)
+    → IsServedAt (record d { posted = d.posted ++ batch ∷ [] }) x
+served_posted d batch x (s, new) = record {
+  node = s.node;
+  counted = s.counted;
+  posted = All-append (λ (b : Batch). AllByRecursion (λ (job : Item). job.connection ≡ x.connection → Contains (asked_of x) job) (items_of b.jobs.items)) d.posted (batch ∷ [])
+      s.posted (new, tt);
+  handed = record {
+    history = s.handed.history;
+    kept = s.handed.kept;
+    begins = s.handed.begins;
+    jobs = all_weaker (λ (job : Item). job.connection ≡ x.connection → IsPosted d.posted job) (λ (job : Item). job.connection ≡ x.connection → IsPosted (d.posted ++ batch ∷ []) job)
+        (λ job p is. posted_on d.posted batch job (p is)) (record_of s.handed.history) s.handed.jobs;
+  };
+}
+
+known_jobs : (served : List Served) (all jobs : Jobs) → AllByRecursion (λ (x : Served). AllByRecursion (λ (job : Item). job.connection ≡ x.connection → Contains (asked_of x) job) all) served
+    → AllByRecursion (λ (job : Item). Contains all job) jobs
+    → AllByRecursion (λ (job : Item). (x : Served) × Contains served x × (x.connection ≡ job.connection)) jobs → AllByRecursion (IsAskedBy served) jobs
+known_jobs served all [] asked within known = tt
+known_jobs served all (job ∷ jobs) asked within known =
+    let x = known.0.0 in
+    let mine = all_at (λ (y : Served). AllByRecursion (λ (j : Item). j.connection ≡ y.connection → Contains (asked_of y) j) all) served x asked known.0.1 in (
+      record {
+        one = x;
+        there = known.0.1;
+        connection = known.0.2;
+        asked = all_at (λ (j : Item). j.connection ≡ x.connection → Contains (asked_of x) j) all job mine within.0 (sym known.0.2);
+      },
+      known_jobs served all jobs asked within.1 known.1,
+    )
+
+each_there : (front jobs : Jobs) → AllByRecursion (λ (job : Item). Contains (front ++ jobs) job) jobs
+each_there front [] = tt
+each_there front (job ∷ jobs) = (
+  in_middle job front jobs,
+  subst (λ (all : Jobs). AllByRecursion (λ (j : Item). Contains all j) jobs) (Rattle.std.proofs.Common.append_assoc front (job ∷ []) jobs) (each_there (front ++ job ∷ []) jobs),
+)
+
+pub posted_led : (batch : Batch) (d e : DeskState) → IsLed d → Posts batch d e → IsLed e
+posted_led batch d e led p =
+    let items = items_of batch.jobs.items in
+    let f : DeskState = record d { posted = d.posted ++ batch ∷ [] } in
+    let new = λ (x : Served). AllByRecursion (λ (job : Item). job.connection ≡ x.connection → Contains (asked_of x) job) items in
+    subst IsLed (sym p.posted) record {
+      sound = led.sound;
+      known = All-append (λ (b : Batch). AllByRecursion (IsAskedBy d.served) (items_of b.jobs.items)) d.posted (batch ∷ []) led.known
+          (known_jobs d.served items items p.asked (each_there [] items) p.known, tt);
+      each = all_weaker (λ (x : Served). IsServedAt d x × new x) (IsServedAt f) (served_posted d batch) d.served (all_both (IsServedAt d) new d.served led.each p.asked);
+    }
+
+-- ---- a turn
+-- a connection asked for what it asked for
+got_there : (pieces : List Handed) (xs ys : List Served) (x : Served) → HaveGot pieces xs ys → Contains xs x
+    → (y : Served) × Contains ys y × (y.connection ≡ x.connection) × (asked_of y ≡ asked_of x)
+got_there pieces [] [] x got there = absurd (Rattle.nr_model.proofs.NodesExecutedLists.some_in [] x refl there)
+got_there pieces [] (y ∷ ys) x got there = absurd got
+got_there pieces (a ∷ xs) [] x got there = absurd got
+got_there pieces (a ∷ xs) (y ∷ ys) x (here, more) there = elim (in_cases x a xs there) [
+  | inl is ↦ elim here [
+    | inl same ↦ (y, first_in y ys, ap (λ (z : Served). z.connection) (same ∙ is), ap asked_of (same ∙ is))
+    | inr (one, in_pieces, named, from, got) ↦ (
+      y,
+      first_in y ys,
+      ap (λ (z : Served). z.connection) got ∙ ap (λ (z : Served). z.connection) is,
+      ap asked_of got ∙ ap asked_of is,
+    )
+  ]
+  | inr behind ↦ let on = got_there pieces xs ys x more behind in (on.0, later_in on.0 y ys on.1, on.2, on.3)
+]
+
+asked_on : (pieces : List Handed) (xs ys : List Served) → HaveGot pieces xs ys → (job : Item) → IsAskedBy xs job → IsAskedBy ys job
+asked_on pieces xs ys got job by =
+    let on = got_there pieces xs ys by.one got by.there in
+    record { one = on.0; there = on.1; connection = on.2 ∙ by.connection; asked = subst (λ (js : Jobs). Contains js job) (sym on.3) by.asked }
+
+-- what holds of a connection, of the new mark
+marked_on : (mark now : Option Standing) (posted : List Batch) (c : Connection) (handed : Bytes) → IsBeginningOf (history_of mark) (history_of now)
+    → IsHandedOut mark posted c handed → IsHandedOut now posted c handed
+marked_on mark now posted c handed begins h =
+    record { history = h.history; kept = begins_on h.history (history_of mark) (history_of now) h.kept begins; begins = h.begins; jobs = h.jobs }
+
+handed_in : (posted lifted : List Batch) (answered : _) (c : Connection) (done : Sequence) → lifted ≡ posted
+    → AllByRecursion (λ (job : Item). job.connection ≡ c → IsHandedIn lifted answered job) done → AllByRecursion (λ (job : Item). job.connection ≡ c → IsPosted posted job) done
+handed_in posted lifted answered c done is all =
+    all_weaker (λ (job : Item). job.connection ≡ c → IsHandedIn lifted answered job) (λ (job : Item). job.connection ≡ c → IsPosted posted job)
+    (λ job from own.
+    let h = from own in
+    record { batch = h.batch; there = subst (λ (bs : List Batch). Contains bs h.batch) (sym h.posted_is ∙ is) (in_middle h.batch h.before h.after); has = h.has })
+    done all
+
+history_is : (mark : Option Standing) → history_in mark ≡ history_of mark
+history_is None = refl
+history_is (Some s) = refl
+
+begins_record : (x y : List Turn) → IsBeginningOf x y → IsBeginningOf (record_of x) (record_of y)
+begins_record x y b = begins_flat_map items_of_turn x y b
+
+-- it got a piece
+got_piece : (mark now : Option Standing) (posted : List Batch) (c : Connection) (handed bytes : Bytes) (s : Standing) → IsBeginningOf (history_of mark) (history_of now)
+    → IsBeginningOf s.history (history_of now) → IsBeginningOf bytes (drop (length handed) (emitted_for c (record_of s.history))) → 0 < length bytes
+    → AllByRecursion (λ (job : Item). job.connection ≡ c → IsPosted posted job) (record_of s.history) → IsHandedOut mark posted c handed
+    → IsHandedOut now posted c (handed ++ bytes)
+got_piece mark now posted c handed bytes s begins kept behind some jobs h =
+    let all = record_of (history_of now) in
+    let longer = begins_record h.history (history_of now) (begins_on h.history (history_of mark) (history_of now) h.kept begins) in
+    let front = begins_on handed (emitted_for c (record_of h.history)) (emitted_for c all) h.begins (begins_emitted c (record_of h.history) all longer) in
+    let part = begins_emitted c (record_of s.history) all (begins_record s.history (history_of now) kept) in
+    record { history = s.history; kept = kept; begins = piece_on handed bytes (emitted_for c (record_of s.history)) (emitted_for c all) front part behind some; jobs = jobs }
+
+module _ (most : ℕ) (down : Bool) (s : Standing) (lane : Lane) (old new : List Handed) (d e : DeskState) (led : IsLed d) (t : Turns most down s lane old new d e) where
+  abbrev pieces : List Handed
+  pieces = t.heard.added.pieces
+
+  abbrev begins : IsBeginningOf (history_of d.mark) (history_of e.mark) × IsBeginningOf s.history (history_of e.mark)
+  begins =
+      let same_node : IfSome d.mark (λ (x : Standing). x.node ≡ s.node) = on d.mark led.sound in
+      let b = adopts_begins d.mark e.mark s same_node t.met t.adopted in (
+        subst (λ (h : List Turn). IsBeginningOf h (history_of e.mark)) (history_is d.mark) (subst (IsBeginningOf (history_in d.mark)) (history_is e.mark) b.0),
+        subst (IsBeginningOf s.history) (history_is e.mark) b.1,
+      )
+    where
+      on : (mark : Option Standing) → IfSome mark (λ (x : Standing). IsSound x × (x.node ≡ d.node)) → IfSome mark (λ (x : Standing). x.node ≡ s.node)
+      on None h = tt
+      on (Some x) h = h.1 ∙ sym t.sound.1
+
+  abbrev after : DeskState
+  after = record d { mark = e.mark; served = e.served }
+
+  served_on : (x y : Served) → HasGot pieces x y → IsServedAt d x → IsServedAt after y
+  served_on x y (inl same) k = subst (IsServedAt after) (sym same) record {
+    node = k.node;
+    counted = k.counted;
+    posted = k.posted;
+    handed = marked_on d.mark e.mark d.posted x.connection x.handed begins.0 k.handed;
+  }
+  served_on x y (inr (one, there, named, from, got)) k =
+      let added = t.heard.added in
+      let piece = (all_at (λ (h : Handed). IsHandedOf most down h s) pieces one added.all there).piece in
+      let jobs = handed_in d.posted lane.posted t.heard.desk.answered (connection_of one.piece.conn) (record_of s.history) t.posted (all_at _ pieces one added.own there) in
+      let bytes = one.piece.bytes.items in
+      subst (IsServedAt after) (sym got) record {
+        node = k.node;
+        counted = k.counted;
+        posted = k.posted;
+        handed = got_piece d.mark e.mark d.posted x.connection x.handed bytes s begins.0 begins.1
+            (subst (λ (n : ℕ). IsBeginningOf bytes (drop n (emitted_for x.connection (record_of s.history)))) from
+            (subst (λ (c : Connection). IsBeginningOf bytes (drop one.piece.from (emitted_for c (record_of s.history)))) named piece.emitted))
+            piece.some (subst (λ (c : Connection). AllByRecursion (λ (job : Item). job.connection ≡ c → IsPosted d.posted job) (record_of s.history)) named jobs) k.handed;
+      }
+
+  all_served_on : (xs ys : List Served) → HaveGot pieces xs ys → AllByRecursion (IsServedAt d) xs → AllByRecursion (IsServedAt after) ys
+  all_served_on [] [] got all = tt
+  all_served_on [] (y ∷ ys) got all = absurd got
+  all_served_on (x ∷ xs) [] got all = absurd got
+  all_served_on (x ∷ xs) (y ∷ ys) got all = (served_on x y got.0 all.0, all_served_on xs ys got.1 all.1)
+
+  pub turned_led : IsLed e
+  turned_led = subst IsLed (sym t.same) record {
+    sound = adopts_has (λ (x : Standing). IsSound x × (x.node ≡ d.node)) (λ x n h. (still_sound x n h.0, h.1)) d.mark e.mark s led.sound t.sound t.adopted;
+    known = posted_weaker (IsAskedBy d.served) (IsAskedBy e.served) (asked_on pieces d.served e.served t.got) d.posted led.known;
+    each = all_served_on d.served e.served t.got led.each;
+  }

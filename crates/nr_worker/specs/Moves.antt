@@ -1,0 +1,63 @@
+-- The steps of a worker, by what its calls say.
+use Rattle.std.specs.Prelude.{◌≡◌, ◌≢◌, ◌⊎◌, ℕ, Bool, List, [], ◌∷◌, ◌++◌, length, Contains, Option, Some, None}
+use Rattle.std.specs.List.{AllByRecursion}
+use Rattle.nr_model.specs.Items.{Connection, Item}
+use Rattle.nr_model.specs.Connections.{Feeding}
+use Rattle.nr_entry.specs.Jobs.{connection_of, items_of}
+use Rattle.nr_entry.specs.declared.batch.Batch.{Batch}
+use Rattle.nr_log_end.specs.declared.standing.Standing.{Standing}
+use Rattle.nr_slots.specs.declared.view.Lane.{Lane}
+use Rattle.nr_node.specs.Sound.{IsSound}
+use Rattle.nr_node.specs.declared.collecting.Handed.{Handed}
+use Rattle.nr_combiner.specs.Heard.{HasHeard}
+use Rattle.nr_taps.specs.Marks.{Adopts}
+use Rattle.nr_taps.specs.Taps.{HaveMet}
+use Rattle.nr_worker.specs.Desk.{AllPosted, CountsFrom, DeskState, Served, asked_of}
+
+-- one that has done nothing yet
+abbrev pub fresh_desk : ℕ → DeskState
+fresh_desk node = record { node = node; posted = []; mark = None; served = [] }
+
+-- a connection of the node was opened that the worker hasn't had
+pub record Opens (c : Connection) (d e : DeskState) : Type 0 where
+  pub node : c.node ≡ d.node
+  pub new : AllByRecursion (λ (x : Served). x.connection ≢ c) d.served
+  pub opened : e ≡ record d { served = d.served ++ record { connection = c; fed = []; closing = None; handed = [] } ∷ [] }
+
+-- A connection was fed so much now, and closed so, if it was closed: the jobs that this asks for count up, those of it that were posted are among them, and nothing else
+-- changed. So it is where more bytes ask for more, and where a close puts a last job in the place of those that weren't posted.
+pub record Asks (fed : List Feeding) (closing : Option Item) (d e : DeskState) : Type 0 where
+  pub front : List Served
+  pub one : Served
+  pub back : List Served
+  pub there : d.served ≡ front ++ one ∷ back
+  pub counted : CountsFrom 0 (asked_of (record one { fed = fed; closing = closing }))
+  pub posted : AllPosted (λ (job : Item). job.connection ≡ one.connection → Contains (asked_of (record one { fed = fed; closing = closing })) job) d.posted
+  pub changed : e ≡ record d { served = front ++ record one { fed = fed; closing = closing } ∷ back }
+
+-- a batch was posted of jobs each of which its connection asked for
+pub record Posts (batch : Batch) (d e : DeskState) : Type 0 where
+  pub asked : AllByRecursion (λ (x : Served). AllByRecursion (λ (job : Item). job.connection ≡ x.connection → Contains (asked_of x) job) (items_of batch.jobs.items)) d.served
+  pub known : AllByRecursion (λ (job : Item). (x : Served) × Contains d.served x × (x.connection ≡ job.connection)) (items_of batch.jobs.items)
+  pub posted : e ≡ record d { posted = d.posted ++ batch ∷ [] }
+
+-- A connection got a piece, which begins behind all that it had got; or nothing.
+abbrev pub HasGot : List Handed → Served → Served → Type 0
+HasGot pieces x y = (y ≡ x) ⊎ ((one : Handed) × Contains pieces one × (connection_of one.piece.conn ≡ x.connection) × (one.piece.from ≡ length x.handed)
+    × (y ≡ record x { handed = x.handed ++ one.piece.bytes.items }))
+
+abbrev pub HaveGot : List Handed → List Served → List Served → Type 0
+HaveGot pieces [] [] = Unit {0}
+HaveGot pieces [] (y ∷ ys) = ⊥
+HaveGot pieces (x ∷ xs) [] = ⊥
+HaveGot pieces (x ∷ xs) (y ∷ ys) = HasGot pieces x y × HaveGot pieces xs ys
+
+-- a turn, or what was handed out without one, of which it heard: its mark adopted the token, and each connection got a piece or nothing
+pub record Turns (most : ℕ) (down : Bool) (s : Standing) (lane : Lane) (old new : List Handed) (d e : DeskState) : Type 0 where
+  pub heard : HasHeard most down s lane old new
+  pub posted : lane.posted ≡ d.posted
+  pub sound : IsSound s × (s.node ≡ d.node)
+  pub adopted : Adopts d.mark s e.mark
+  pub met : HaveMet d.mark (Some s)
+  pub got : HaveGot heard.added.pieces d.served e.served
+  pub same : e ≡ record d { mark = e.mark; served = e.served }
