@@ -22,13 +22,16 @@ use Rattle.nr_service.proofs.Left.{all_left, left_on}
 use Rattle.nr_service.proofs.Occurrences.{fed_on, opened_on, still_apart}
 use Rattle.nr_service.proofs.Parted.{left_through, more_back, opened_gone, opened_same, others_back}
 use Rattle.nr_service.proofs.Timed.{fed_then, fed_unread, none_fed}
-use Rattle.nr_service.proofs.Turns.{goes_to, served_to}
+use Rattle.nr_service.proofs.Turns.{goes_to, served_to, turned}
 use Rattle.nr_service.specs.Streams.{Course}
+use Rattle.nr_service.specs.Turns.{Turns}
+use Rattle.nr_service.specs.declared.answers.Standing.{Standing}
 
 -- memory ran out while connections were accepted
-ran_accepting : {A S D M : Type 0} (was_received was_sent : S → Option Bytes) (course : S → Option Course) (gives : M → M → Option ℕ → Type 0) (is_past is_left : A → Past)
-    (keeps : A → Kept) (is_full : A → Type 0) (is_placed : A → A → ℕ → Connection → Type 0) (parted : D → Option (List (Parting S)))
-    (old new : Service A S D M) → BreaksOffAccepting was_received was_sent course is_past is_left keeps is_full is_placed parted old new
+ran_accepting : {A S D M : Type 0} (was_received was_sent : S → Option Bytes) (course : S → Option Course) (gives : M → M → Option ℕ → Type 0)
+    (is_past is_left : A → Past) (keeps : A → Kept) (is_full : A → Type 0) (is_placed : A → A → ℕ → Connection → Type 0)
+    (parted : D → Option (List (Parting S))) (old new : Service A S D M)
+    → BreaksOffAccepting was_received was_sent course is_past is_left keeps is_full is_placed parted old new
     → (first : M) (setup : Setup) → IsServing was_received was_sent course gives is_past keeps parted first setup old
     → RanOut was_received was_sent gives is_left parted first setup new
 ran_accepting was_received was_sent course gives is_past is_left keeps is_full is_placed parted old new way first setup s =
@@ -55,9 +58,10 @@ ran_accepting was_received was_sent course gives is_past is_left keeps is_full i
     }
 
 -- while bytes were exchanged
-ran_exchanging : {A S D M : Type 0} (was_received was_sent : S → Option Bytes) (course : S → Option Course) (gives : M → M → Option ℕ → Type 0) (is_past is_left : A → Past)
-    (keeps : A → Kept) (is_full : A → Type 0) (is_placed : A → A → ℕ → Connection → Type 0) (parted : D → Option (List (Parting S)))
-    (old new : Service A S D M) → BreaksOffExchanging was_received was_sent course is_past is_left keeps is_full is_placed parted gives old new
+ran_exchanging : {A S D M : Type 0} (was_received was_sent : S → Option Bytes) (course : S → Option Course) (gives : M → M → Option ℕ → Type 0)
+    (is_past is_left : A → Past) (keeps : A → Kept) (is_full : A → Type 0) (is_placed : A → A → ℕ → Connection → Type 0)
+    (parted : D → Option (List (Parting S))) (old new : Service A S D M)
+    → BreaksOffExchanging was_received was_sent course is_past is_left keeps is_full is_placed parted gives old new
     → (first : M) (setup : Setup) → IsServing was_received was_sent course gives is_past keeps parted first setup old
     → RanOut was_received was_sent gives is_left parted first setup new
 ran_exchanging was_received was_sent course gives is_past is_left keeps is_full is_placed parted old new way first setup s =
@@ -181,10 +185,31 @@ pub ends_by_memory : {T : Type 0} (result : Result T Ended) (P Q R : Type 0) →
 ends_by_memory (Ok _) P Q R is q = tt
 ends_by_memory (Err ended) P Q R is q = subst (λ (e : Ended). ByCause e P Q R) (sym is) q
 
-pub by_memory : {T : Type 0} (result : Result T Ended) (P Q : Type 0) → IfErr result (λ ended. ended ≡ endings.Memory) → Q
-    → IfErr result (λ ended. ByEnding ended P Q)
-by_memory (Ok _) P Q is q = tt
-by_memory (Err ended) P Q is q = subst (λ (e : Ended). ByEnding e P Q) (sym is) q
+-- whatever the error is
+by_cause : {T : Type 0} (result : Result T Ended) (P Q R S : Type 0) → IfErr result (λ ended. ByCause ended ⊥ P Q) → (P → S) → (Q → R)
+    → IfErr result (λ ended. ByEnding ended R S)
+by_cause (Ok _) P Q R S is breaks turn = tt
+by_cause (Err endings.Stopped) P Q R S is breaks turn = absurd is
+by_cause (Err endings.Memory) P Q R S is breaks turn = breaks is
+by_cause (Err endings.Device) P Q R S is breaks turn = turn is
+
+-- the clients are served yet, or where memory ran out they are left
+pub ends_by : {A S D M T : Type 0} (was_received was_sent : S → Option Bytes) (course : S → Option Course) (gives : M → M → Option ℕ → Type 0)
+    (is_past is_left is_settled : A → Past) (keeps : A → Kept) (stands : A → Connection → Standing → Type 0) (busy : A → Bool)
+    (is_full : A → Type 0) (is_placed : A → A → ℕ → Connection → Type 0) (is_gone : A → Connection → Type 0)
+    (parted : D → Option (List (Parting S))) (waits : D → D → Bool → Bool → Type 0) (answer : Bool) (old new : Service A S D M) (result : Result T Ended)
+    → IfErr result (λ ended. ByCause ended ⊥
+    (BreaksOff was_received was_sent course is_past is_left is_settled keeps busy is_full is_placed parted gives old new)
+    (Turns was_received was_sent course is_past is_settled keeps stands busy is_full is_placed is_gone parted waits gives answer old new))
+    → (first : M) (setup : Setup) → IsServing was_received was_sent course gives is_past keeps parted first setup old
+    → IfErr result (λ ended. ByEnding ended (IsServing was_received was_sent course gives is_past keeps parted first setup new)
+    (RanOut was_received was_sent gives is_left parted first setup new))
+ends_by was_received was_sent course gives is_past is_left is_settled keeps stands busy is_full is_placed is_gone parted waits answer old new result ended
+    first setup s =
+    by_cause result _ _ _ _ ended
+    (λ breaks. ran_out was_received was_sent course gives is_past is_left is_settled keeps busy is_full is_placed parted old new breaks first setup s)
+    (λ turn.
+    turned was_received was_sent course gives is_past is_settled keeps stands busy is_full is_placed is_gone parted waits answer old new turn first setup s)
 
 -- where what answers is busy, work is at hand
 pub at_once : (asked told busy : Bool) → told ≡ busy → busy ≡ true → (asked || told) ≡ true

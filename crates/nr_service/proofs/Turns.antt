@@ -1,5 +1,5 @@
 -- A service at first, and behind a turn.
-use Rattle.std.proofs.Common.{◌≡◌, ℕ, Bool, List, [], ◌++◌, map, refl, sym, ap, ◌∙◌, subst, append-nil}
+use Rattle.std.proofs.Common.{◌≡◌, ℕ, Bool, true, false, List, [], ◌++◌, map, refl, sym, ap, ◌∙◌, subst, append-nil}
 use Rattle.std.specs.Prelude.{Option, Some, None, All}
 use Rattle.std.specs.List.{Contains, IsDistinct}
 use Rattle.std.specs.List.Sorted.{IsPermutation}
@@ -7,9 +7,9 @@ use Rattle.std.proofs.lemmas.List.{map-append}
 use Rattle.std.proofs.lemmas.List.Elements.{All-nil, All-append, All-weaker}
 use Rattle.std.proofs.lemmas.List.Sorted.{All-permutation, IsPermutation-refl}
 use Rattle.nr_model.specs.Bytes.{Bytes}
-use Rattle.nr_model.specs.Items.{Connection}
+use Rattle.nr_model.specs.Items.{Connection, same_connection}
 use Rattle.nr_model.specs.Connections.{Setup, Feeding}
-use Rattle.nr_service.specs.Arriving.{Arrives, refused}
+use Rattle.nr_service.specs.Arriving.{ArrivesFew, refused}
 use Rattle.nr_service.specs.Readings.{Feedings, IsFedAmong, IsFedAt, IsNeverFed, Reads}
 use Rattle.nr_service.specs.Serving.{connection, streams_of, AreOpened, IsApart, IsLeft, IsServed, AreServed, IsServing}
 use Rattle.nr_service.specs.Leaving.{client_of, parting_of, shut_by, LetsGo}
@@ -26,6 +26,8 @@ use Rattle.nr_service.proofs.Parted.{left_through, more_back, none_among, opened
 use Rattle.nr_service.proofs.Served.{has_then, has_weaker}
 use Rattle.nr_service.proofs.Timed.{fed_then, fed_unread, none_timed}
 use Rattle.nr_service.specs.Streams.{Course}
+use Rattle.nr_service.specs.Sweeps.{AreSent, LooksSoon}
+use Rattle.nr_service.specs.Turns.{IsSameWorker, Turns, most_accepted}
 
 -- none were given back of nobody
 none_back : {S : Type 0} (known : Option (List (Parting S))) → AreGivenBack [] known
@@ -33,10 +35,10 @@ none_back None = tt
 none_back (Some given) = none_among (map stream_of given)
 
 -- no client is served yet, and the clock wasn't read
-pub begun : {A S D M : Type 0} (was_received was_sent : S → Option Bytes) (course : S → Option Course) (gives : M → M → Option ℕ → Type 0) (is_past : A → Past)
-    (keeps : A → Kept) (parted : D → Option (List (Parting S))) (service : Service A S D M) (answers : A) (clock : M) → service.clients.items ≡ [] → service.moment ≡ 0 → service.answers ≡ answers
-    → service.clock ≡ clock → (setup : Setup) → is_past answers (beginning setup)
-    → IsServing was_received was_sent course gives is_past keeps parted clock setup service
+pub begun : {A S D M : Type 0} (was_received was_sent : S → Option Bytes) (course : S → Option Course) (gives : M → M → Option ℕ → Type 0)
+    (is_past : A → Past) (keeps : A → Kept) (parted : D → Option (List (Parting S))) (service : Service A S D M) (answers : A) (clock : M)
+    → service.clients.items ≡ [] → service.moment ≡ 0 → service.answers ≡ answers → service.clock ≡ clock → (setup : Setup)
+    → is_past answers (beginning setup) → IsServing was_received was_sent course gives is_past keeps parted clock setup service
 unfolding IsDistinct
 begun {A} {S} was_received was_sent course gives is_past keeps parted service answers clock none zero same unread setup past = record {
   story = beginning setup;
@@ -100,25 +102,24 @@ goes_to was_received was_sent course allowed opened is_past kept story gone old 
 pub turned : {A S D M : Type 0} (was_received was_sent : S → Option Bytes) (course : S → Option Course) (gives : M → M → Option ℕ → Type 0)
     (is_past is_settled : A → Past) (keeps : A → Kept) (stands : A → Connection → Standing → Type 0) (busy : A → Bool)
     (is_full : A → Type 0) (is_placed : A → A → ℕ → Connection → Type 0) (is_gone : A → Connection → Type 0)
-    (parted : D → Option (List (Parting S))) (limit number last : ℕ) (old new : Service A S D M) (a b : A) (d e : D) (xs ys : List (Client S))
-    → Reads gives old.clock new.clock old.moment new.moment
-    → Accepts was_received was_sent course is_past keeps old.answers a old.clients.items xs
-    → Arrives is_full is_placed parted old.answers a number last old.device d old.clients.items xs
-    → Exchanges was_received was_sent course is_past is_settled keeps busy new.moment a b xs ys
-    → map connection ys ≡ map connection xs
-    → LetsGo was_received was_sent course is_past keeps stands busy is_gone parted limit b new.answers d e ys new.clients.items
-    → parted new.device ≡ parted e
+    (parted : D → Option (List (Parting S))) (waits : D → D → Bool → Bool → Type 0) (answer : Bool) (old new : Service A S D M)
+    → Turns was_received was_sent course is_past is_settled keeps stands busy is_full is_placed is_gone parted waits gives answer old new
     → (first : M) (setup : Setup) → IsServing was_received was_sent course gives is_past keeps parted first setup old
     → IsServing was_received was_sent course gives is_past keeps parted first setup new
-turned {A} {S} {D} {M} was_received was_sent course gives is_past is_settled keeps stands busy is_full is_placed is_gone parted limit number last old new a b d e
-    xs ys reads taken arrives exchanged same gone none first setup s =
-    let done = served_to was_received was_sent course is_past is_settled keeps busy new.moment old.answers a b old.clients.items xs ys s.story taken exchanged
-    s.served in
+turned {A} {S} {D} {M} was_received was_sent course gives is_past is_settled keeps stands busy is_full is_placed is_gone parted waits answer old new turn
+    first setup s =
+    let b = turn.worked in
+    let xs = turn.taken in
+    let ys = turn.served in
+    let accepted = turn.accepts.accepted in
+    let gone = turn.lets_go in
+    let done = served_to was_received was_sent course is_past is_settled keeps busy new.moment old.answers turn.opened b old.clients.items xs ys s.story
+    turn.accepts turn.exchanges s.served in
     let shut = shut_by gone.gone in
     let went = map client_of gone.gone in
     let next = going_on done.next shut in
-    let goes = goes_to was_received was_sent course (IsFedAmong new.moment (map connection xs)) (map connection taken.accepted ++ []) (is_past b) (keeps b)
-    s.story s.gone old.clients.items taken.accepted xs ys done (append-nil (map connection taken.accepted)) taken.items same (λ feeding fed. fed.1)
+    let goes = goes_to was_received was_sent course (IsFedAmong new.moment (map connection xs)) (map connection accepted ++ []) (is_past b) (keeps b)
+    s.story s.gone old.clients.items accepted xs ys done (append-nil (map connection accepted)) turn.accepts.items turn.same (λ feeding fed. fed.1)
     (record { left = s.left; opened = s.opened; apart = s.apart }) in
     let fed : fed_in (done.next.occurrences ++ shut) ≡ fed_in s.story.occurrences ++ fed_in done.more =
     fed_both done.next.occurrences shut
@@ -140,16 +141,57 @@ turned {A} {S} {D} {M} was_received was_sent course gives is_past is_settled kee
           (All-permutation (IsLeft was_received was_sent next) ys (went ++ new.clients.items) gone.all
           (left_on was_received was_sent done.next shut ys (closes_fed gone.gone)
           (all_left was_received was_sent course (keeps b) done.next ys done.served.each))));
-      given_back = subst (λ (known : Option (List (Parting S))). AreGivenBack (streams_of (s.gone ++ went)) known) (sym none)
-          (subst (λ (streams : List S). AreGivenBack streams (parted e))
+      given_back = subst (λ (known : Option (List (Parting S))). AreGivenBack (streams_of (s.gone ++ went)) known) (sym turn.parts_none)
+          (subst (λ (streams : List S). AreGivenBack streams (parted turn.left_device))
           (ap (λ (streams : List S). streams_of s.gone ++ streams) (gone_streams gone.gone)
           ∙ sym (map-append (λ (client : Client S). client.stream) s.gone went))
-          (more_back (streams_of s.gone) (map parting_of gone.gone) (parted d) (parted e) gone.parts
-          (others_back (streams_of s.gone) (map Abandoned (refused arrives.came)) (parted old.device) (parted d) arrives.away s.given_back)));
+          (more_back (streams_of s.gone) (map parting_of gone.gone) (parted turn.device) (parted turn.left_device) gone.parts
+          (others_back (streams_of s.gone) (map Abandoned (refused turn.arrives.came)) (parted old.device) (parted turn.device) turn.arrives.away
+          s.given_back)));
       opened = subst (λ (l : List Connection). IsPermutation l (map connection ((s.gone ++ went) ++ new.clients.items))) (sym opened)
           (opened_gone (opened_in done.next.occurrences) s.gone ys went new.clients.items goes.opened gone.all);
       apart = still_apart done.next shut (closes_opened gone.gone) goes.apart;
       in_time = fed_then gives first old.clock new.clock old.moment new.moment (fed_in s.story.occurrences) (fed_in done.more)
-          (fed_in (done.next.occurrences ++ shut)) fed reads
+          (fed_in (done.next.occurrences ++ shut)) fed turn.reads
           (All-weaker (IsFedAmong new.moment (map connection xs)) (IsFedAt new.moment) (λ feeding is. is.0) (fed_in done.more) done.feeds) s.in_time;
+    }
+
+-- it is one by the answer of its wait
+pub took : {A S D M : Type 0} (was_received was_sent : S → Option Bytes) (course : S → Option Course) (gives : M → M → Option ℕ → Type 0)
+    (is_past is_settled : A → Past) (keeps : A → Kept) (stands : A → Connection → Standing → Type 0) (busy : A → Bool)
+    (is_full : A → Type 0) (is_placed : A → A → ℕ → Connection → Type 0) (is_gone : A → Connection → Type 0)
+    (parted : D → Option (List (Parting S))) (waits : D → D → Bool → Bool → Type 0) (told answer is_busy : Bool) (a b : A) (d e : D)
+    (xs ys : List (Client S)) (old new : Service A S D M)
+    → Accepts was_received was_sent course is_past keeps old.answers a old.clients.items xs
+    → ArrivesFew most_accepted is_full is_placed parted old.answers a old.accepted new.accepted old.device d old.clients.items xs
+    → Reads gives old.clock new.clock old.moment new.moment
+    → Exchanges was_received was_sent course is_past is_settled keeps busy new.moment a b xs ys
+    → map connection ys ≡ map connection xs
+    → LetsGo was_received was_sent course is_past keeps stands busy is_gone parted new.limit b new.answers d e ys new.clients.items
+    → IsSameWorker old new → parted new.device ≡ parted e → (busy new.answers ≡ true → is_busy ≡ true)
+    → LooksSoon old.until new.until (is_busy ≡ false → IsDistinct same_connection (map connection ys)
+    → AreSent (keeps new.answers) (stands new.answers) (busy new.answers) new.limit new.clients.items)
+    → waits e new.device is_busy told → told ≡ answer
+    → Turns was_received was_sent course is_past is_settled keeps stands busy is_full is_placed is_gone parted waits gives answer old new
+took was_received was_sent course gives is_past is_settled keeps stands busy is_full is_placed is_gone parted waits told answer is_busy a b d e xs ys old new
+    accepts came reads exchanges same gone worker none at_once looked waited is = record {
+      opened = a;
+      worked = b;
+      device = d;
+      left_device = e;
+      taken = xs;
+      served = ys;
+      accepts = accepts;
+      arrives = came.arrives;
+      few = came.few;
+      reads = reads;
+      exchanges = exchanges;
+      same = same;
+      lets_go = gone;
+      worker = worker;
+      parts_none = none;
+      is_busy = is_busy;
+      waited = subst (waits e new.device is_busy) is waited;
+      at_once = at_once;
+      looked = looked;
     }
