@@ -2,4 +2,5 @@ pub mod Seen
 pub mod Steps
 pub mod Strangers
 pub mod Counts
+mod Ends
 pub mod Batches

@@ -10,7 +10,6 @@ use Rattle.nr_model.specs.Items.{Connection, same_connection, Item, is_end}
 use Rattle.nr_model.specs.Entries.{Jobs}
 use Rattle.nr_model.proofs.JobLists.{same_is}
 use Rattle.nr_entry.specs.declared.job.Job.{Job}
-use Rattle.nr_entry.specs.Kinds.{deed_of}
 use Rattle.nr_entry.specs.Jobs.{connection_of, item_of, items_of}
 use Rattle.nr_accounts.specs.declared.account.Account.{Account}
 use Rattle.nr_accounts.specs.Account.{is_of, is_next, taken}
@@ -139,10 +138,3 @@ pub last_stranger : (node worker : ℕ) (held : Held) (jobs : List Job) (i : ℕ
     → has_stranger node worker held (items_of (take i jobs)) (items_of (drop i jobs)) ≡ false
 last_stranger node worker held jobs i past =
     ap (λ (js : List Job). has_stranger node worker held (items_of (take i jobs)) (items_of js)) (drop_all i jobs past)
-
-pub next_end : (c : Connection) (jobs : List Job) (i : ℕ) (job : Job) → i < length jobs → job ≡ get_or jobs i job
-    → has_end_of c (items_of (drop i jobs)) ≡ ((same_connection (connection_of job.conn) c && is_end (deed_of job.kind)) || has_end_of c (items_of (drop (i + 1) jobs)))
-next_end c jobs i job within is = ap (has_end_of c) (next_jobs jobs i job within is).0
-
-pub last_end : (c : Connection) (jobs : List Job) (i : ℕ) → length jobs ≤ i → has_end_of c (items_of (drop i jobs)) ≡ false
-last_end c jobs i past = ap (λ (js : List Job). has_end_of c (items_of js)) (drop_all i jobs past)

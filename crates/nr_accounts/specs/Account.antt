@@ -28,6 +28,13 @@ taken job account = record account { next = account.next + 1; is_ended = is_end 
 abbrev pub untaken : Account → Account
 untaken account = record account { next = account.next - 1; is_ended = false }
 
+-- with a note whether this job is its end, and with no end
+abbrev pub noted : Item → Account → Account
+noted job account = record account { is_ended = is_end job.deed }
+
+abbrev pub reopened : Account → Account
+reopened account = record account { is_ended = false }
+
 -- its end was taken, and this is it: the last that was taken
 abbrev pub ends_with : Item → Account → Bool
 ends_with job account = ((account.is_ended && is_end job.deed) && nat_lt job.number account.next) && (account.next - job.number == 1)

@@ -9,7 +9,7 @@ use Rattle.nr_model.specs.Entries.{Jobs}
 use Rattle.nr_model.specs.Asked.{own_jobs}
 use Rattle.nr_accounts.specs.declared.account.Account.{Account}
 use Rattle.nr_accounts.specs.contracts.account.Account as of_account
-use Rattle.nr_accounts.specs.Account.{is_of, takes, taken, ends_with}
+use Rattle.nr_accounts.specs.Account.{is_of, takes, taken, noted, reopened, ends_with}
 
 abbrev pub Held : Type 0
 Held = finmap.FinMap nat_cmp Account
@@ -62,6 +62,17 @@ abbrev pub has_stranger : ℕ → ℕ → Held → Jobs → Jobs → Bool
 has_stranger node worker held before [] = false
 has_stranger node worker held before (job ∷ jobs) =
     (is_stranger node worker held job.connection || has_end_of job.connection before) || has_stranger node worker held (before ++ job ∷ []) jobs
+
+-- whether a job is its connection's end is noted in the account; and the connections whose ends are among jobs go on again, the last of them first
+abbrev pub noted_one : Held → Item → Held
+noted_one held job = changed (noted job) job.connection.serial held
+
+abbrev pub reopened_one : Held → Item → Held
+reopened_one held job = cond (is_end job.deed) (changed reopened job.connection.serial held) held
+
+abbrev pub reopened_all : Held → Jobs → Held
+reopened_all held [] = held
+reopened_all held (job ∷ jobs) = reopened_one (reopened_all held jobs) job
 
 -- a job is its connection's end, which was taken last of it: then its account goes
 abbrev pub ends_by : Item → Option Account → Bool

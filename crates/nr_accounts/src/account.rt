@@ -1,7 +1,7 @@
 // The account of one connection.
 ghost use Rattle.std.specs.Prelude.{◌≡◌, cond};
 ghost use Rattle.nr_entry.specs.Jobs.{item_of};
-ghost use Rattle.nr_accounts.specs.Account.{is_of, takes, taken, untaken, ends_with};
+ghost use Rattle.nr_accounts.specs.Account.{is_of, noted, reopened, takes, taken, untaken, ends_with};
 
 use nr_entry::Job;
 
@@ -18,7 +18,7 @@ pub struct Account {
 
 impl Account {
     /// Whether this worker serves the connection, and its end wasn't taken.
-    pub(crate) fn is_of(&self, worker: usize) -> bool
+    fn is_of(&self, worker: usize) -> bool
         ensures { result ≡ is_of worker self.now }
     {
         self.worker as usize == worker && !self.is_ended
@@ -29,10 +29,21 @@ impl Account {
         ensures takes { result ≡ takes worker (item_of job.now) self.old }
         ensures taken { self.new ≡ cond result (taken (item_of job.now) self.old) self.old }
     {
-        if !self.is_of(worker) || job.number != self.next || self.next == u64::MAX {
+        if job.number != self.next || self.next == u64::MAX || !self.note(worker, job) {
             return false;
         }
         self.next += 1;
+        true
+    }
+
+    /// Notes whether a job is its end, if this worker serves the connection and its end wasn't taken.
+    pub(crate) fn note(&mut self, worker: usize, job: &Job) -> bool
+        ensures known { result ≡ is_of worker self.old }
+        ensures noted { self.new ≡ cond result (noted (item_of job.now) self.old) self.old }
+    {
+        if !self.is_of(worker) {
+            return false;
+        }
         self.is_ended = job.kind.is_end();
         true
     }
@@ -42,6 +53,13 @@ impl Account {
         ensures { self.new ≡ untaken self.old }
     {
         self.next = self.next.saturating_sub(1);
+        self.reopen();
+    }
+
+    /// Its end wasn't taken.
+    pub(crate) fn reopen(&mut self)
+        ensures { self.new ≡ reopened self.old }
+    {
         self.is_ended = false;
     }
 

@@ -71,7 +71,7 @@ impl Accounts {
     /// Takes a batch, with all of its jobs, and says the number of the worker's batch before it. It is refused, and nothing changes, where it
     /// names another node or a worker that there isn't, or has a job of a connection that its worker doesn't serve or whose end was taken
     /// before; else where a job's number isn't its connection's next one, or its own isn't above that of the worker's last batch.
-    /// Logarithmic in the connections for each job. To say why it is refused takes as many steps as there are pairs of jobs.
+    /// Logarithmic in the connections for each job, also where it is refused.
     pub fn take(&mut self, batch: &Batch) -> Result<Option<u64>, Refusal>
         ensures taken { OnOk result (self.new ≡ with_batch batch.now self.old) }
         ensures due { OnOk result (refusal_of self.old batch.now ≡ None) }
@@ -91,7 +91,7 @@ impl Accounts {
             self.last[batch.worker] = Some(batch.number);
             return Ok(before);
         }
-        if has_stranger(&self.held, self.node, batch.worker, &batch.jobs) {
+        if has_stranger(&mut self.held, self.node, batch.worker, &batch.jobs) {
             return Err(Refusal::Stranger);
         }
         Err(Refusal::WrongNumber)
@@ -109,7 +109,7 @@ impl Accounts {
     }
 
     /// These jobs were executed: the account of each of the node's connections whose end is among them goes, where that is the last job that was taken of it.
-    /// Linear in them, and logarithmic in the connections for each job of the node.
+    /// Linear in them, and logarithmic in the connections for each end of the node.
     pub fn close(&mut self, jobs: &[Job])
         ensures { self.new ≡ without_ended (items_of jobs.now) self.old }
     {

@@ -1,10 +1,10 @@
 // The accounts of a node's connections, by serial.
-ghost use Rattle.std.specs.Prelude.{◌≡◌, cond, OnOk, OnErr};
+ghost use Rattle.std.specs.Prelude.{◌≡◌, cond, not, OnOk, OnErr};
 ghost use Rattle.std.specs.Option.{option_copied};
 ghost use Rattle.std.specs.FinMap as finmap;
 ghost use Rattle.nr_entry.specs.Jobs.{item_of};
-ghost use Rattle.nr_accounts.specs.Account.{taken, untaken};
-ghost use Rattle.nr_accounts.specs.Held.{changed, takes_by, ends_by};
+ghost use Rattle.nr_accounts.specs.Account.{noted, reopened, taken, untaken};
+ghost use Rattle.nr_accounts.specs.Held.{changed, takes_by, is_strange, ends_by};
 
 use crate::account::Account;
 use nr_blob::Memory;
@@ -43,7 +43,7 @@ impl BySerial {
         }
     }
 
-    pub(crate) fn get(&self, serial: u64) -> Option<&Account>
+    fn get(&self, serial: u64) -> Option<&Account>
         ensures { option_copied result ≡ finmap.get self.now serial }
     {
         self.accounts.get(&serial)
@@ -83,6 +83,27 @@ impl BySerial {
             return;
         };
         account.give_back();
+    }
+
+    /// Notes whether a job is its connection's end, if this worker serves the connection and its end wasn't taken.
+    pub(crate) fn note(&mut self, serial: u64, worker: usize, job: &Job) -> bool
+        ensures known { is_strange worker (finmap.get self.old serial) ≡ not result }
+        ensures noted { self.new ≡ cond result (changed (noted (item_of job.now)) serial self.old) self.old }
+    {
+        let Some(account) = self.accounts.get_mut(&serial) else {
+            return false;
+        };
+        account.note(worker, job)
+    }
+
+    /// The connection's end wasn't taken.
+    pub(crate) fn reopen(&mut self, serial: u64)
+        ensures { self.new ≡ changed reopened serial self.old }
+    {
+        let Some(account) = self.accounts.get_mut(&serial) else {
+            return;
+        };
+        account.reopen();
     }
 
     /// Whether a job is the connection's end, and the last one that was taken of it.

@@ -2,10 +2,11 @@
 //! a thousand connections, keys with a deadline. With one it measures: `nodes` how many commands a second nodes behind their locks execute, each worker on a
 //! thread of its own, beside one thread over the server of several nodes in one value; `messages` how long a PUBLISH takes beside as many replies of its size;
 //! `expiry` how long a SET takes before a million keys are gone, and after. `memory BYTES KEYS` stores so many keys with values of so many bytes, a million
-//! where no number is given, and waits for a line.
+//! where no number is given, and waits for a line. `connections COUNT` lets so many connections come and go at a node, and waits for a line.
 #![tactic(auto)]
 
 mod bench;
+mod connections;
 mod expiry;
 mod held;
 mod keys;
@@ -23,6 +24,9 @@ use std::thread::Threads;
 
 /// How many keys are stored where no argument says it and their size is read.
 const MANY_KEYS: u32 = 1_000_000;
+
+/// How many connections come and go where no argument says it.
+const MANY_CONNECTIONS: u32 = 100_000;
 
 /// The millisecond from which keys with a deadline are gone.
 pub(crate) const DEADLINE: u64 = 1000;
@@ -50,17 +54,20 @@ fn perform(rt: &HostRuntime, threads: &(impl Runtime + Threads + Wait + Sync)) -
     let alloc = rt.alloc();
     let mut words = env::args(rt)?.skip(1);
     let task = words.next();
-    let bytes = words.next().and_then(|word| word.as_str().parse().ok());
+    let first = words.next().and_then(|word| word.as_str().parse().ok());
     let keys = words.next().and_then(|word| word.as_str().parse().ok());
     let hasher = RandomState::new(rt)?;
     match task {
         Some(word) if word.as_str() == "nodes" => nodes::say_times(threads, alloc, hasher),
         Some(word) if word.as_str() == "messages" => messages::say_times(rt, alloc, hasher),
         Some(word) if word.as_str() == "expiry" => expiry::say_times(rt, alloc, hasher),
+        Some(word) if word.as_str() == "connections" => {
+            connections::hold(rt, threads, hasher, first.unwrap_or(MANY_CONNECTIONS))
+        }
         Some(word) if word.as_str() == "memory" => held::hold(
             rt,
             hasher,
-            bytes.unwrap_or(TEXT_BYTES),
+            first.map_or(TEXT_BYTES, |bytes| bytes as usize),
             keys.unwrap_or(MANY_KEYS),
         ),
         _ => say_counts(rt, threads),

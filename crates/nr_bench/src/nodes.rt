@@ -1,11 +1,12 @@
-// Commands at nodes behind their locks, each worker on a thread of its own, beside one thread over the server of several nodes in one value.
+// Commands at nodes behind their locks, each worker on a thread of its own, by turns that lift from all slots or from the worker's own, beside one thread over the server
+// of several nodes in one value.
 ghost use Rattle.std.specs.Prelude.{◌≡◌, ◌≤◌, length};
 ghost use Rattle.nr_oplog.specs.Opening.{name_of, nodes_of, places_of};
 ghost use Rattle.nr_combiner.specs.Opened.{AreNamed, AreOfWorkers};
 
 use crate::no_memory;
 use nr_blob::Memory;
-use nr_combiner::{OpenedSlots, Plan, ServerName, open_slots};
+use nr_combiner::{Lifts, OpenedSlots, Plan, ServerName, open_slots};
 use nr_held::{Client, Single, Station, stations};
 use nr_oplog::Opened;
 use std::alloc::Global;
@@ -61,11 +62,12 @@ fn requests(alloc: Global, asked: Asked, batch: usize) -> Result<Vec<u8>, Memory
 fn wait_for_answer<B: ServerName, R: Wait>(
     rt: &R,
     station: &mut Station<B>,
+    lifts: Lifts,
     client: &mut Client<B>,
 ) -> Result<usize, Memory> {
     let mut got = 0usize;
     for _ in 0..u64::MAX {
-        let turn = station.turn(rt, LIMIT)?;
+        let turn = station.turn(rt, lifts, LIMIT)?;
         got = got.saturating_add(client.take_in(station, turn)?);
         if station.collect().is_some() {
             break;
@@ -79,18 +81,20 @@ fn wait_for_answer<B: ServerName, R: Wait>(
 fn serve_batch<B: ServerName, R: Wait>(
     rt: &R,
     station: &mut Station<B>,
+    lifts: Lifts,
     client: &mut Client<B>,
     sent: &[u8],
 ) -> Result<usize, Memory> {
     client.send(station, sent)?;
     station.post()?;
-    wait_for_answer(rt, station, client)
+    wait_for_answer(rt, station, lifts, client)
 }
 
 // A connection of a worker gives so many batches, each once the last one was answered. How many bytes it got.
 fn serve<B: ServerName, R: Wait>(
     rt: &R,
     station: &mut Station<B>,
+    lifts: Lifts,
     sent: &[u8],
     batches: usize,
 ) -> Result<usize, Memory> {
@@ -99,7 +103,7 @@ fn serve<B: ServerName, R: Wait>(
     };
     let mut got = 0usize;
     for _ in 0..batches {
-        got = got.saturating_add(serve_batch(rt, station, &mut client, sent)?);
+        got = got.saturating_add(serve_batch(rt, station, lifts, &mut client, sent)?);
     }
     Ok(got)
 }
@@ -108,12 +112,13 @@ fn serve<B: ServerName, R: Wait>(
 fn serve_among<B: ServerName, R: Wait>(
     rt: &R,
     mut station: Station<B>,
+    lifts: Lifts,
     sent: &[u8],
     batches: usize,
     ended: &AtomicUsize,
     workers: usize,
 ) -> Result<usize, Memory> {
-    let got = serve(rt, &mut station, sent, batches);
+    let got = serve(rt, &mut station, lifts, sent, batches);
     ended.fetch_add(1, Ordering::SeqCst);
     for _ in 0..u64::MAX {
         if ended.load(Ordering::SeqCst) >= workers {
@@ -142,6 +147,7 @@ fn run_named<B: ServerName + Send + Sync, R: Threads + Wait + Sync>(
     opened: Opened,
     slots: Vec<OpenedSlots>,
     workers: usize,
+    lifts: Lifts,
     sent: &[u8],
     batches: usize,
 ) -> Result<usize, Memory>
@@ -163,7 +169,7 @@ fn run_named<B: ServerName + Send + Sync, R: Threads + Wait + Sync>(
     let got = thread::map_vec(
         rt,
         all,
-        &|station| serve_among(rt, station, sent, batches, &ended, many),
+        &|station| serve_among(rt, station, lifts, sent, batches, &ended, many),
     )?;
     sum_of(got)
 }
@@ -174,6 +180,7 @@ fn run<R: Threads + Wait + Sync>(
     alloc: Global,
     keys: RandomState,
     layout: Layout,
+    lifts: Lifts,
     sent: &[u8],
     batches: usize,
 ) -> Result<usize, Memory> {
@@ -190,6 +197,7 @@ fn run<R: Threads + Wait + Sync>(
         opened,
         slots,
         layout.workers,
+        lifts,
         sent,
         batches,
     )
@@ -205,7 +213,7 @@ fn time_turn<B: ServerName, R: Runtime + Wait>(
     client.send(station, sent).map_err(no_memory)?;
     station.post().map_err(no_memory)?;
     let start = Instant::now(rt)?;
-    let turn = station.turn(rt, LIMIT).map_err(no_memory)?;
+    let turn = station.turn(rt, Lifts::All, LIMIT).map_err(no_memory)?;
     let nanos = start.elapsed(rt)?.as_nanos();
     client.take_in(station, turn).map_err(no_memory)?;
     station.collect();
@@ -298,11 +306,19 @@ struct Layout {
     workers: usize,
 }
 
-/// The layouts that are measured.
-const LAYOUTS: [Layout; 4] = [
+/// The layouts that are measured: one node of one worker, of two and of three, and two and three nodes of one worker each.
+const LAYOUTS: [Layout; 5] = [
     Layout {
         nodes: 1,
         workers: 1,
+    },
+    Layout {
+        nodes: 1,
+        workers: 2,
+    },
+    Layout {
+        nodes: 1,
+        workers: 3,
     },
     Layout {
         nodes: 2,
@@ -312,11 +328,15 @@ const LAYOUTS: [Layout; 4] = [
         nodes: 3,
         workers: 1,
     },
-    Layout {
-        nodes: 1,
-        workers: 3,
-    },
 ];
+
+// The slots from which a turn lifts, as it is said.
+fn name_of(lifts: Lifts) -> &'static str {
+    match lifts {
+        Lifts::All => "all slots",
+        Lifts::Own => "its own slot",
+    }
+}
 
 /// Says how many bytes the connections of the workers got, in each layout.
 pub(crate) fn say_counts<R: Runtime + Threads + Wait + Sync>(
@@ -326,9 +346,14 @@ pub(crate) fn say_counts<R: Runtime + Threads + Wait + Sync>(
 ) -> io::Result<()> {
     let sent = requests(alloc, Asked::Set, 16).map_err(no_memory)?;
     for layout in LAYOUTS {
-        let got = run(rt, alloc, keys, layout, &sent, 100).map_err(no_memory)?;
-        let Layout { nodes, workers } = layout;
-        println!(rt; "nodes: {nodes}, workers of each: {workers}, bytes of replies: {got}")?;
+        for lifts in [Lifts::All, Lifts::Own] {
+            let got = run(rt, alloc, keys, layout, lifts, &sent, 100).map_err(no_memory)?;
+            let Layout { nodes, workers } = layout;
+            let slots = name_of(lifts);
+            println!(rt;
+                "nodes: {nodes}, workers of each: {workers}, turns of {slots}, bytes of replies: {got}"
+            )?;
+        }
     }
     let got = run_single(alloc, keys, &sent, 100).map_err(no_memory)?;
     println!(rt; "in one value: bytes of replies: {got}")
@@ -337,12 +362,14 @@ pub(crate) fn say_counts<R: Runtime + Threads + Wait + Sync>(
 /// How many commands each connection gives.
 const COMMANDS: usize = 400_000;
 
-/// Says how many commands a second there are in each layout, by batches of 1, 16 and 400, and in one value, and how long a turn holds the lock.
+/// Says how many commands a second there are in each layout, by batches of 1, 16 and 400 and both turns, and in one value, and how long a turn holds the lock; and first
+/// what four threads do of a loop that touches no memory, beside one: below 3.5 times as much nothing can be said of several threads.
 pub(crate) fn say_times<R: Runtime + Threads + Wait + Sync>(
     rt: &R,
     alloc: Global,
     keys: RandomState,
 ) -> io::Result<()> {
+    say_probe(rt, alloc)?;
     for asked in [Asked::Set, Asked::Get] {
         for batch in [1, 16, 400] {
             say_time(rt, alloc, keys, asked, batch)?;
@@ -370,15 +397,88 @@ fn say_time<R: Runtime + Threads + Wait + Sync>(
     let held = time_lock(rt, alloc, keys, &sent, batches)?;
     println!(rt; "{name}, batches of {batch}, a turn holds the lock: {held} nanoseconds")?;
     for layout in LAYOUTS {
+        say_layout(rt, alloc, keys, asked, batch, layout, &sent)?;
+    }
+    Ok(())
+}
+
+// How many commands a second there are in a layout, by both turns.
+fn say_layout<R: Runtime + Threads + Wait + Sync>(
+    rt: &R,
+    alloc: Global,
+    keys: RandomState,
+    asked: Asked,
+    batch: usize,
+    layout: Layout,
+    sent: &[u8],
+) -> io::Result<()> {
+    let Layout { nodes, workers } = layout;
+    let name = asked.name();
+    let all = COMMANDS.saturating_mul(nodes).saturating_mul(workers);
+    for lifts in [Lifts::All, Lifts::Own] {
         let start = Instant::now(rt)?;
-        run(rt, alloc, keys, layout, &sent, batches).map_err(no_memory)?;
+        run(
+            rt,
+            alloc,
+            keys,
+            layout,
+            lifts,
+            sent,
+            COMMANDS / batch.max(1),
+        )
+        .map_err(no_memory)?;
         let micros = start.elapsed(rt)?.as_micros().max(1);
-        let Layout { nodes, workers } = layout;
-        let all = COMMANDS.saturating_mul(nodes).saturating_mul(workers);
         let a_second = all as u128 * 1_000_000 / micros;
+        let slots = name_of(lifts);
         println!(rt;
-            "{name}, batches of {batch}, {nodes} nodes, {workers} workers of each: {a_second} a second"
+            "{name}, batches of {batch}, {nodes} nodes, {workers} workers of each, turns of {slots}: {a_second} a second"
         )?;
     }
     Ok(())
+}
+
+/// How often the loop of the probe turns.
+const PROBE_TURNS: u64 = 200_000_000;
+
+// A loop that touches no memory. What it comes to, so that it is run.
+fn spin(from: u64) -> u64 {
+    let mut at = from;
+    for _ in 0..PROBE_TURNS {
+        at = at
+            .wrapping_mul(6_364_136_223_846_793_005)
+            .wrapping_add(1_442_695_040_888_963_407);
+    }
+    at
+}
+
+// So many threads, each of which runs the loop.
+fn run_spins<R: Threads + Sync>(rt: &R, alloc: Global, threads: u64) -> Result<Vec<u64>, Memory> {
+    let mut from = Vec::new(alloc);
+    for number in 0..threads {
+        from.push(number)?;
+    }
+    let ends = thread::map_vec(rt, from, &|number| spin(number))?;
+    Ok(ends)
+}
+
+// How many microseconds they take.
+fn time_spins<R: Runtime + Threads + Sync>(
+    rt: &R,
+    alloc: Global,
+    threads: u64,
+) -> io::Result<u128> {
+    let start = Instant::now(rt)?;
+    let ends = run_spins(rt, alloc, threads).map_err(no_memory)?;
+    let micros = start.elapsed(rt)?.as_micros().max(1);
+    let odd = ends.iter().filter(|end| **end % 2 == 1).count();
+    println!(rt; "{threads} threads of the probe: {micros} microseconds, {odd} odd ends")?;
+    Ok(micros)
+}
+
+// Says how much four threads do beside one, in hundredths.
+fn say_probe<R: Runtime + Threads + Sync>(rt: &R, alloc: Global) -> io::Result<()> {
+    let one = time_spins(rt, alloc, 1)?;
+    let four = time_spins(rt, alloc, 4)?;
+    let hundredths = one.saturating_mul(400) / four.max(1);
+    println!(rt; "four threads do {hundredths} hundredths of what one does")
 }

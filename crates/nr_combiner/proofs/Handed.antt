@@ -1,5 +1,5 @@
 -- What is handed out, as it stands once the lock is free again.
-use Rattle.std.proofs.Common.{◌≡◌, ℕ, ◌+◌, ◌<◌, ◌≤◌, Bool, inl, inr, List, [], ◌∷◌, ◌++◌, Option, Some, None, length, drop, get_or, arith, refl, ap, sym, subst, ◌∙◌, append-nil, append_assoc}
+use Rattle.std.proofs.Common.{◌≡◌, ℕ, zero, suc, ◌+◌, ◌<◌, ◌≤◌, Bool, inl, inr, List, [], ◌∷◌, ◌++◌, Option, Some, None, length, drop, get_or, arith, refl, ap, sym, subst, ◌∙◌, append-nil, append_assoc}
 use Rattle.std.specs.Prelude.{◌≢◌, ◌↔◌, ◌==◌, true, false, Result, Ok, Err, IfOk, IfSome}
 use Rattle.std.specs.List.{AllByRecursion}
 use Rattle.std.proofs.lemmas.Bool.{cases_Bool, cases_lt, and_parts, eqb-true}
@@ -13,7 +13,7 @@ use Rattle.nr_model.proofs.NodesOwnLists.{All-weaker}
 use Rattle.nr_entry.specs.Jobs.{connection_of}
 use Rattle.nr_entry.specs.declared.batch.Batch.{Batch}
 use Rattle.nr_log_end.specs.declared.standing.Standing.{Standing}
-use Rattle.nr_log_end.specs.Standings.{record_of}
+use Rattle.nr_log_end.specs.Standings.{opened_of, record_of}
 use Rattle.nr_accounts.specs.Book.{Book}
 use Rattle.nr_replica.specs.declared.outbox.Piece.{Piece}
 use Rattle.nr_replica.specs.Members.{Member, fresh_member, is_ready, worker_of}
@@ -25,16 +25,16 @@ use Rattle.nr_slots.specs.Rule.{no_desk}
 use Rattle.nr_slots.specs.Seats.{CombinerView, NoteView}
 use Rattle.nr_node.specs.Batches.{IsPiece}
 use Rattle.nr_node.specs.Collected.{IsHanded, AreHanded, Collects}
-use Rattle.nr_node.specs.Level.{NodeState, connection_at, emitted_to, queue_at}
-use Rattle.nr_node.specs.Sound.{IsSound}
+use Rattle.nr_node.specs.Level.{NodeState, connection_at, emitted_to, queue_at, workers_of}
+use Rattle.nr_node.specs.Sound.{IsSound, Serves}
 use Rattle.nr_node.specs.Steps.{nobody}
 use Rattle.nr_node.specs.declared.answers.Round.{Round}
 use Rattle.nr_node.specs.declared.answers.Round.TheVariants as rounds
 use Rattle.nr_node.specs.declared.collecting.Handed.{Handed}
 use Rattle.nr_node.proofs.Owed.{all_front}
 use Rattle.nr_node.proofs.Ready.{Ascends, all_within, ascends}
-use Rattle.nr_combiner.specs.Heard.{HasHeard}
-use Rattle.nr_combiner.specs.Pieces.{AreHandedIn, AreRising, HasAdded, HasExecuted, IsHandedIn, IsHandedOf, IsPieceOf}
+use Rattle.nr_combiner.specs.Heard.{HasHeard, Knows, with_posted}
+use Rattle.nr_combiner.specs.Pieces.{AreHandedIn, AreRising, HasAdded, HasExecuted, HasOwn, IsHandedIn, IsHandedOf, IsPieceOf}
 use Rattle.nr_combiner.specs.Served.{CombinerState, AreExecuted, IsLifted, IsOwnOfBatch, IsServed}
 use Rattle.nr_combiner.specs.Turned.{CollectsBehind, HandsOutTo, HasCollectedFor, HasTurned, TurnsBehind, tells_down}
 use Rattle.nr_combiner.specs.declared.answering.Collected.{Collected}
@@ -166,6 +166,19 @@ own_of n desks worker c (job ∷ done) node served all = (
       record { before = lifted.before; batch = b.batch; after = lifted.after; posted_is = lifted.lifted; kept = lifted.kept; has = b.has },
   own_of n desks worker c done node served all.1,
 )
+
+-- who a connection was opened for serves it
+worker_at : (members : List Member) (i : ℕ) (d : Member) → get_or (workers_of members) i d.worker ≡ (get_or members i d).worker
+worker_at [] i d = refl
+worker_at (member ∷ members) zero d = refl
+worker_at (member ∷ members) (suc i) d = worker_at members i d
+
+-- so each job of one that was opened for a worker is one that the worker handed in
+pub owns_all : (n : NodeState) (desks : List Desk) (worker : ℕ) (s : Standing) → workers_of n.replica.members ≡ opened_of s.history → s.node ≡ n.book.node
+    → AllByRecursion (IsOwnOfBatch n desks) (record_of s.history) → HasOwn worker (get_or desks worker no_desk) s
+owns_all n desks worker s opened node all = λ c serves.
+    own_of n desks worker c (record_of s.history) (serves.node ∙ node)
+    (sym (worker_at n.replica.members c.serial (fresh_member c 0 0)) ∙ ap (λ (ws : List ℕ). get_or ws c.serial 0) opened ∙ serves.worker_is) all
 
 owns : (n m : NodeState) (desks : List Desk) (worker node : ℕ) (done : Sequence) (serials : List ℕ) → node ≡ m.book.node
     → ((c : Connection) → c.serial < length n.replica.members → worker_of m.replica.members c ≡ worker_of n.replica.members c)
@@ -318,6 +331,26 @@ pub collects_executed : (node worker most : ℕ) (old new : List Handed) (told :
 collects_executed node worker most old new told s note b =
     handed_executed worker most old new told.result s note b.before b.after b.numbers b.handed b.served
 
+-- so are the jobs of its connections
+handed_own : (worker most : ℕ) (old new : List Handed) (r : Result (Unit {0}) Memory) (s : Standing) (note : NoteView) (c d : CombinerState) (numbers : List ℕ)
+    → HandsOutTo worker most old new r s note c d → s.node ≡ d.node.book.node → IsServed d.node d.seat numbers → HasOwn worker (get_or note.desks worker no_desk) s
+handed_own worker most old new r s note c d numbers h node served =
+    subst (λ (v : NoteView). HasOwn worker (get_or v.desks worker no_desk) s) (sym h.note_is)
+    (owns_all d.node d.seat.desks worker s h.opened node
+    (subst (λ (x : Standing). AllByRecursion (IsOwnOfBatch d.node d.seat.desks) (record_of x.history)) (sym h.token) served.handed_in.done))
+
+pub turned_own : (places node worker : ℕ) (which : Lifts) (most : ℕ) (old new : List Handed) (turned : Turned) (s : Standing) (note : NoteView)
+    → TurnsBehind places node worker which most old new turned s note → HasOwn worker (get_or note.desks worker no_desk) s
+turned_own places node worker which most old new turned s note b =
+    handed_own worker most old new turned.collected s note b.has_turned.combined b.after b.numbers b.has_turned.handed
+    (b.standing ∙ sym (turned_at places worker which most old new turned s note b.before b.after b.has_turned ∙ b.node_is)) b.served
+
+pub collects_own : (node worker most : ℕ) (old new : List Handed) (told : Collected) (s : Standing) (note : NoteView)
+    → CollectsBehind node worker most old new told s note → HasOwn worker (get_or note.desks worker no_desk) s
+collects_own node worker most old new told s note b =
+    handed_own worker most old new told.result s note b.before b.after b.numbers b.handed
+    (b.standing ∙ sym (handed_node worker most old new told.result s note b.before b.after b.handed ∙ b.node_is)) b.served
+
 -- a turn was one of this node
 pub turns_behind : (places node worker : ℕ) (which : Lifts) (most : ℕ) (old new : List Handed) (turned : Turned) (s : Standing) (note : NoteView) (c d : CombinerState)
     → HasTurned places worker which most old new turned s note c d → c.node.book.node ≡ node → s.node ≡ c.node.book.node
@@ -370,23 +403,39 @@ posted_by desk posted c (job ∷ done) front all = (
   posted_by desk posted c done front all.1,
 )
 
-pub heard_by : (most : ℕ) (down : Bool) (s : Standing) (lane : Lane) (desks : List Desk) (worker seat : ℕ) (old new : List Handed) → worker ≡ seat
-    → IsTold (get_or desks seat no_desk) lane → HasExecuted (get_or desks worker no_desk) s
-    → HasAdded most down s (AreHandedIn (get_or desks worker no_desk) (record_of s.history)) old new → HasHeard most down s lane old new
-heard_by most down s lane desks worker seat old new is told executed added =
+-- what a worker knows, told of a note, at whose desk for it this was done
+pub knows_by : (s : Standing) (lane : Lane) (desks : List Desk) (worker seat : ℕ) → worker ≡ seat → IsTold (get_or desks seat no_desk) lane
+    → HasExecuted (get_or desks worker no_desk) s → HasOwn worker (get_or desks worker no_desk) s → Knows seat s lane
+knows_by s lane desks worker seat is told executed own =
     let desk = get_or desks worker no_desk in
     let here : IsTold desk lane = subst (λ (k : ℕ). IsTold (get_or desks k no_desk) lane) (sym is) told in
-    let own : Desk = record { lifted = lane.posted; answered = desk.answered; grip = desk.grip } in
     record {
       desk = desk;
       told = here;
       executed = executed;
+      own = λ c serves. posted_by desk lane.posted c (record_of s.history) here.0 (own c (subst (λ (k : ℕ). Serves s k c) (sym is) serves));
+    }
+
+pub heard_by : (most : ℕ) (down : Bool) (s : Standing) (lane : Lane) (desks : List Desk) (worker seat : ℕ) (old new : List Handed) → worker ≡ seat
+    → IsTold (get_or desks seat no_desk) lane → HasExecuted (get_or desks worker no_desk) s → HasOwn worker (get_or desks worker no_desk) s
+    → HasAdded most down s (AreHandedIn (get_or desks worker no_desk) (record_of s.history)) old new → HasHeard seat most down s lane old new
+heard_by most down s lane desks worker seat old new is told executed own added =
+    let desk = get_or desks worker no_desk in
+    let here : IsTold desk lane = subst (λ (k : ℕ). IsTold (get_or desks k no_desk) lane) (sym is) told in
+    let all : Desk = with_posted lane desk in
+    record {
+      knows = record {
+        desk = desk;
+        told = here;
+        executed = executed;
+        own = λ c serves. posted_by desk lane.posted c (record_of s.history) here.0 (own c (subst (λ (k : ℕ). Serves s k c) (sym is) serves));
+      };
       added = record {
         pieces = added.pieces;
         behind = added.behind;
         all = added.all;
         own = each_weaker (λ (one : Handed). AreHandedIn desk (record_of s.history) (connection_of one.piece.conn))
-            (λ (one : Handed). AreHandedIn own (record_of s.history) (connection_of one.piece.conn))
+            (λ (one : Handed). AreHandedIn all (record_of s.history) (connection_of one.piece.conn))
             (λ one. posted_by desk lane.posted (connection_of one.piece.conn) (record_of s.history) here.0) added.pieces added.own;
         rising = added.rising;
       };

@@ -1,17 +1,21 @@
 -- Connections are opened and closed, and bytes are handed out: what was kept holds on.
 use Rattle.std.proofs.Common.{◌≡◌, ℕ, zero, suc, ◌<◌, inl, inr, ◌⊎◌, List, [], ◌∷◌, ◌++◌, length, replicate, Option, Some, None, refl, ap, sym, ◌∙◌, subst, arith, get_or, set, length-set}
 use Rattle.std.specs.Prelude.{Result, Ok, Err, OnOk, OnErr, IfOk, IfSome, IfNone}
+use Rattle.std.specs.List.{AllByRecursion}
 use Rattle.std.proofs.lemmas.Bool.{cases_lt}
 use Rattle.std.proofs.lemmas.Bool.Decides.{eqb_tells}
 use Rattle.std.proofs.lemmas.List.{get_or-replicate, get_or_append_left, length-append}
 use lib.ListN.{length-replicate}
 use Rattle.nr_blob.specs.declared.memory.Memory.{Memory}
+use Rattle.nr_model.specs.Bytes.{IsBeginningOf}
 use Rattle.nr_model.specs.Items.{Connection}
 use Rattle.nr_model.proofs.NodesExecutedGrows.{begins_itself}
-use Rattle.nr_entry.specs.Jobs.{connection_of}
+use Rattle.nr_entry.specs.Jobs.{connection_of, items_of}
 use Rattle.nr_entry.specs.declared.conn.ConnId.{ConnId}
+use Rattle.nr_entry.specs.declared.entry.Entry.{Entry}
 use Rattle.nr_log_end.specs.declared.standing.Standing.{Standing}
-use Rattle.nr_log_end.specs.Standings.{record_of}
+use Rattle.nr_log_end.specs.Standings.{opened_with, record_of}
+use Rattle.nr_oplog.specs.declared.view.LogView.{LogView}
 use Rattle.nr_accounts.specs.Book.{Book}
 use Rattle.nr_replica.specs.Members.{Member, fresh_member, closed_member, handed_member}
 use Rattle.nr_replica.specs.Replicas.{ReplicaState}
@@ -20,11 +24,12 @@ use Rattle.nr_slots.specs.Rule.{no_desk}
 use Rattle.nr_slots.specs.Seats.{CombinerView, desk_of}
 use Rattle.nr_node.specs.Batches.{IsOpened}
 use Rattle.nr_node.specs.Collected.{AreHanded}
-use Rattle.nr_node.specs.Level.{NodeState, connection_at}
-use Rattle.nr_node.specs.Steps.{nobody, opened_node, closed_node, refusing_node, HasHandedOut, IsStill}
+use Rattle.nr_node.specs.Level.{NodeState, connection_at, unpassed, jobs_reserved}
+use Rattle.nr_node.specs.Steps.{nobody, opened_node, HasOpened, closed_node, refusing_node, HasHandedOut, IsStill}
 use Rattle.nr_node.specs.declared.collecting.Handed.{Handed}
 use Rattle.nr_node.specs.declared.answers.OpenError.{OpenError}
-use Rattle.nr_combiner.specs.Served.{owed_at, IsDesk, AreExecuted, IsOwnOfBatch, AllJobs, IsServed}
+use Rattle.nr_combiner.specs.Served.{jobs_of, owed_at, IsAmong, IsDesk, AreExecuted, IsOwnOfBatch, AllJobs, IsServed}
+use Rattle.nr_node.proofs.Lists.{record_opened, unpassed_opened}
 use Rattle.nr_combiner.proofs.Among.{same_keeps}
 use Rattle.nr_combiner.proofs.Deeds.{same_jobs}
 use Rattle.nr_combiner.proofs.Grows.{AreServedOn, Grows, still_itself, served_still}
@@ -56,26 +61,34 @@ pub served_changed : (members : List Member) (i : ℕ) (f : Member → Member) �
 served_changed members i f same c near =
     (omega (arith, near, length-set members i (f (get_or members i nobody))), changed_at members i f (fresh_member c 0 0) same c.serial near)
 
-opened_on : (n : NodeState) (seat : CombinerView) (numbers : List ℕ) (limit worker : ℕ)
-    → IsServed n seat numbers → GoesOn n (opened_node limit worker n) seat numbers
-opened_on n seat numbers limit worker s =
+opened_on : (n : NodeState) (v : LogView) (seat : CombinerView) (numbers : List ℕ) (limit worker seen : ℕ) → v.standing ≡ opened_with worker seen n.seat.standing
+    → IsServed n seat numbers → GoesOn n (record (opened_node limit worker n) { seat = v }) seat numbers
+opened_on n v seat numbers limit worker seen noted s =
+    let m : NodeState = record (opened_node limit worker n) { seat = v } in
     let count = length n.replica.members in
-    let grows : Grows n (opened_node limit worker n) = record {
+    let done : record_of v.standing.history ≡ record_of n.seat.standing.history = ap (λ (x : Standing). record_of x.history) noted ∙ record_opened n.seat.standing worker in
+    let behind : unpassed v.standing ≡ unpassed n.seat.standing = ap unpassed noted ∙ unpassed_opened n.seat.standing worker seen in
+    let all : jobs_of m ≡ jobs_of n = λ i. (done i ++ jobs_reserved (behind i)) ++ (items_of n.next ++ items_of n.replica.waiting) in
+    let grows : Grows n m = record {
       node = refl;
       workers = refl;
       members = served_more n.replica.members (fresh_member (connection_at n.replica.node count) worker limit);
-      keeps = λ up. (up, λ job a. a);
-      log = begins_itself (record_of n.seat.standing.history);
-    } in (
-      served_still n (opened_node limit worker n) seat numbers grows (λ w. still_itself (owed_at w n))
-          (same_jobs (IsOwnOfBatch n seat.desks) n (opened_node limit worker n) refl refl refl s.handed_in) s,
-      refl,
-    )
+      keeps = λ up. (up, λ job a. subst (IsAmong job) (sym all) a);
+      log = subst (IsBeginningOf (record_of n.seat.standing.history)) (sym done) (begins_itself (record_of n.seat.standing.history));
+    } in
+    let jobs : AllJobs (IsOwnOfBatch n seat.desks) m = record {
+      done = subst (AllByRecursion (IsOwnOfBatch n seat.desks)) (sym done) s.handed_in.done;
+      reserved = subst (λ (rs : List (ℕ × Entry)). AllByRecursion (IsOwnOfBatch n seat.desks) (jobs_reserved rs)) (sym behind) s.handed_in.reserved;
+      due = s.handed_in.due;
+      waits = s.handed_in.waits;
+    } in
+    (served_still n m seat numbers grows (λ w. still_itself (owed_at w n)) jobs s, refl)
 
 pub opened_served : (r : Result ConnId OpenError) (n m : NodeState) (seat : CombinerView) (numbers : List ℕ) (limit worker : ℕ)
-    → OnOk r (m ≡ opened_node limit worker n) → OnErr r (m ≡ n) → IsServed n seat numbers → GoesOn n m seat numbers
+    → OnOk r (HasOpened limit worker n m) → OnErr r (m ≡ n) → IsServed n seat numbers → GoesOn n m seat numbers
 opened_served (Ok conn) n m seat numbers limit worker opened unchanged s =
-    subst (λ (x : NodeState). GoesOn n x seat numbers) (sym opened) (opened_on n seat numbers limit worker s)
+    subst (λ (x : NodeState). GoesOn n x seat numbers) (sym opened.opened)
+    (opened_on n m.seat seat numbers limit worker m.seat.standing.seen opened.noted s)
 opened_served (Err why) n m seat numbers limit worker opened unchanged s = same_on n m seat numbers unchanged s
 
 -- one is closed, or passed over

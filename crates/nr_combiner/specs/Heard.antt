@@ -1,18 +1,35 @@
--- What a worker knows of what its node hands out, by a turn or without one, in its own words.
+-- What a worker knows of what its node has done, and of what that hands out, by a turn or without one, in its own words.
 use Rattle.std.specs.Prelude.{ℕ, Bool, List}
 use Rattle.nr_model.specs.Items.{Connection}
+use Rattle.nr_entry.specs.Jobs.{connection_of}
+use Rattle.nr_entry.specs.declared.conn.ConnId.{ConnId}
 use Rattle.nr_log_end.specs.declared.standing.Standing.{Standing}
 use Rattle.nr_log_end.specs.Standings.{record_of}
 use Rattle.nr_slots.specs.declared.view.Desk.{Desk}
 use Rattle.nr_slots.specs.declared.view.Lane.{Lane}
 use Rattle.nr_slots.specs.Names.{IsTold}
+use Rattle.nr_node.specs.Sound.{Serves}
 use Rattle.nr_node.specs.declared.collecting.Handed.{Handed}
-use Rattle.nr_combiner.specs.Pieces.{AreHandedIn, HasAdded, HasExecuted}
+use Rattle.nr_combiner.specs.Pieces.{AreHandedIn, HasAdded, HasExecuted, HasOwn}
 
--- The combiner had lifted the first batches that the worker posted, and answered as many of them or more than it collected, or fewer. The pieces are of a record in
--- which each job of their connections is one that this worker handed in, in a batch that it didn't get back; and each batch that was answered as executed is in it.
-pub record HasHeard (most : ℕ) (down : Bool) (s : Standing) (lane : Lane) (old new : List Handed) : Type 0 where
+-- what a combiner has done at a worker's desk, with all batches that the worker posted
+abbrev pub with_posted : Lane → Desk → Desk
+with_posted lane desk = record { lifted = lane.posted; answered = desk.answered; grip = desk.grip }
+
+-- The combiner had lifted the first batches that the worker posted, and answered as many of them or more than it collected, or fewer. Each batch that was answered as
+-- executed is in the record; and each job there of a connection that was opened for this worker is one that it handed in, in a batch that it didn't get back.
+pub record Knows (worker : ℕ) (s : Standing) (lane : Lane) : Type 0 where
   pub desk : Desk
   pub told : IsTold desk lane
   pub executed : HasExecuted desk s
-  pub added : HasAdded most down s (AreHandedIn (record { lifted = lane.posted; answered = desk.answered; grip = desk.grip }) (record_of s.history)) old new
+  pub own : HasOwn worker (with_posted lane desk) s
+
+-- So it knows of the record of which these pieces are, each for a connection of its own.
+pub record HasHeard (worker most : ℕ) (down : Bool) (s : Standing) (lane : Lane) (old new : List Handed) : Type 0 where
+  pub knows : Knows worker s lane
+  pub added : HasAdded most down s (AreHandedIn (with_posted lane knows.desk) (record_of s.history)) old new
+
+-- So it knows of the record of a node at which this connection was opened for it.
+pub record KnowsOpened (worker : ℕ) (conn : ConnId) (s : Standing) (lane : Lane) : Type 0 where
+  pub knows : Knows worker s lane
+  pub serves : Serves s worker (connection_of conn)

@@ -12,7 +12,7 @@ use Rattle.nr_log_end.specs.declared.standing.Standing.{Standing}
 use Rattle.nr_log_end.specs.Standings.{record_of}
 use Rattle.nr_slots.specs.declared.view.Desk.{Desk}
 use Rattle.nr_replica.specs.declared.outbox.Piece.{Piece}
-use Rattle.nr_node.specs.Sound.{IsSound}
+use Rattle.nr_node.specs.Sound.{IsSound, Serves}
 use Rattle.nr_node.specs.declared.collecting.Handed.{Handed}
 use Rattle.nr_combiner.specs.Served.{AreExecuted, ComesFrom, HandsNoneBack}
 
@@ -57,6 +57,10 @@ pub record IsHandedIn (posted : List Batch) (answered : List Answer) (job : Item
 -- so is each job of a connection in a record, by what a combiner has done at a desk
 abbrev pub AreHandedIn : Desk → Sequence → Connection → Type 0
 AreHandedIn desk done c = AllByRecursion (λ (job : Item). job.connection ≡ c → IsHandedIn desk.lifted desk.answered job) done
+
+-- so is each job of a connection that the worker serves
+abbrev pub HasOwn : ℕ → Desk → Standing → Type 0
+HasOwn worker desk s = (c : Connection) → Serves s worker c → AreHandedIn desk (record_of s.history) c
 
 -- the jobs of each batch that was answered as executed are in the record
 abbrev pub HasExecuted : Desk → Standing → Type 0

@@ -15,7 +15,7 @@ use Rattle.nr_slots.specs.Seats.{FoundNone, desk_of, with_lifted, with_answered}
 use Rattle.nr_node.specs.Level.{NodeState, is_closed_at}
 use Rattle.nr_node.specs.Owing.{answer_of, answered_node}
 use Rattle.nr_node.specs.Batches.{refusal, take_error}
-use Rattle.nr_node.specs.Steps.{opened_node, closed_node, taken_node, HasReserved, HasNoneDue, GoesOnWaiting, HasFallen, GoesOnBy, HasRead}
+use Rattle.nr_node.specs.Steps.{closed_node, taken_node, HasOpened, HasReserved, HasNoneDue, GoesOnWaiting, HasFallen, GoesOnBy, HasRead}
 use Rattle.nr_node.specs.declared.answers.Round.{Round}
 use Rattle.nr_node.specs.declared.answers.Round.TheVariants as rounds
 use Rattle.nr_node.specs.declared.answers.TakeError.{TakeError}
@@ -33,8 +33,10 @@ abbrev pub HasRoom : ℕ → ℕ → CombinerState → Type 0
 HasRoom worker most c = (c.taken < most) × (worker < length c.seat.desks)
 
 -- a connection more
-abbrev pub opened_combiner : ℕ → ℕ → CombinerState → CombinerState
-opened_combiner limit worker c = record c { node = opened_node limit worker c.node; taken = suc c.taken }
+pub record OpensFor (limit worker : ℕ) (c d : CombinerState) : Type 0 where
+  pub node : HasOpened limit worker c.node d.node
+  pub seat : d.seat ≡ c.seat
+  pub taken : d.taken ≡ suc c.taken
 
 -- one was closed: one fewer, unless it was closed before
 abbrev pub closed_combiner : ℕ → CombinerState → CombinerState

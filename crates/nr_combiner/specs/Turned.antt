@@ -2,8 +2,10 @@
 use Rattle.std.specs.Prelude.{◌≡◌, ◌↔◌, ℕ, ◌<◌, ◌≤◌, Bool, true, false, List, length, Result, Ok, Err}
 use Rattle.nr_blob.specs.declared.memory.Memory.{Memory}
 use Rattle.nr_log_end.specs.declared.standing.Standing.{Standing}
+use Rattle.nr_log_end.specs.Standings.{opened_of}
 use Rattle.nr_slots.specs.Seats.{NoteView, note_of}
 use Rattle.nr_node.specs.Collected.{Collects}
+use Rattle.nr_node.specs.Level.{workers_of}
 use Rattle.nr_node.specs.Steps.{IsStill}
 use Rattle.nr_node.specs.declared.answers.Round.{Round}
 use Rattle.nr_node.specs.declared.answers.Round.TheVariants as rounds
@@ -29,6 +31,7 @@ pub record HandsOutTo (worker most : ℕ) (old new : List Handed) (result : Resu
   pub seat : d.seat ≡ collected.seat
   pub taken : d.taken ≡ collected.taken
   pub token : s ≡ d.node.seat.standing
+  pub opened : workers_of d.node.replica.members ≡ opened_of s.history
   pub note_is : note ≡ note_of d.seat
 
 -- A turn of the combiner, which lifts from all slots or from the worker's own, and then, whatever came of it, pieces of what waits for the worker's connections are

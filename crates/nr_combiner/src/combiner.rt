@@ -4,14 +4,15 @@ ghost use Rattle.std.specs.Arc.{arc_value};
 ghost use Rattle.std.specs.List.{AllByRecursion};
 ghost use Rattle.nr_entry.specs.Jobs.{connection_of, items_of};
 ghost use Rattle.nr_slots.specs.Seats.{new_combiner, note_of};
-ghost use Rattle.nr_node.specs.Level.{connection_at, queue_at};
+ghost use Rattle.nr_log_end.specs.Standings.{opened_of};
+ghost use Rattle.nr_node.specs.Level.{connection_at, queue_at, workers_of};
 ghost use Rattle.nr_node.specs.Batches.{AreSame, is_cut_at, IsOpened, IsPiece};
 ghost use Rattle.nr_node.specs.Owing.{IsServedBy};
 ghost use Rattle.nr_node.specs.Sound.{IsSound};
 ghost use Rattle.nr_node.specs.Steps.{taken_node, refusing_node, is_due, HasHandedOut, IsStill};
 ghost use Rattle.nr_combiner.specs.Pieces.{AddsFront};
 ghost use Rattle.nr_combiner.specs.Served.{owed_at, HasNoJobs, IsServed};
-ghost use Rattle.nr_combiner.specs.Steps.{HasRoom, opened_combiner, closed_combiner, refusal_at, IsRefusedFor, HasLifted, HasLiftedAll, HasLiftedBy, HasLiftedOwn, HasAnswered, HasAnsweredAll, HasTried, HasCombined, outcome_of};
+ghost use Rattle.nr_combiner.specs.Steps.{HasRoom, OpensFor, closed_combiner, refusal_at, IsRefusedFor, HasLifted, HasLiftedAll, HasLiftedBy, HasLiftedOwn, HasAnswered, HasAnsweredAll, HasTried, HasCombined, outcome_of};
 ghost use Rattle.nr_combiner.specs.Turned.{HandsOutTo, HasCollectedFor, HasTurned};
 
 use crate::answering::{Collected, Lifts, OpenError, Turned, hand_back, open_error};
@@ -111,7 +112,8 @@ impl<B: ServerName> Combiner<B> {
     /// has no such worker. Logarithmic.
     pub fn open(&mut self, worker: u8, limit: usize, most: usize) -> Result<ConnId, OpenError>
         ensures conn { IfOk result (λ conn. connection_of conn ≡ connection_at self.old.node.replica.node (length self.old.node.replica.members)) }
-        ensures opened { OnOk result (self.new ≡ opened_combiner limit worker self.old) }
+        ensures node { IfOk result (λ conn. conn.node ≡ self.old.node.book.node) }
+        ensures opened { OnOk result (OpensFor limit worker self.old self.new) }
         ensures unchanged { OnErr result (self.new ≡ self.old) }
         ensures too_many { (result ≡ Err OpenError.TooMany) ↔ (HasRoom worker most self.old → ⊥) }
         ensures down { (result ≡ Err OpenError.Down) ↔ (HasRoom worker most self.old × (self.old.node.replica.down ≡ true)) }
@@ -264,8 +266,9 @@ impl<B: ServerName> Combiner<B> {
     }
 
     // A token and a note that keep how it stands.
-    fn keep(&mut self) -> (Token<B>, Note)
+    pub(crate) fn keep(&mut self) -> (Token<B>, Note)
         ensures token { (result.0.standing ≡ self.old.node.seat.standing) × IsSound result.0.standing × (result.0.standing.node ≡ self.old.node.book.node) }
+        ensures opened { workers_of self.old.node.replica.members ≡ opened_of result.0.standing.history }
         ensures note { (result.1 ≡ note_of self.old.seat) × (result.1.slots ≡ B.slots self.old.node.book.node) }
         ensures still { IsStill self.old.node self.new.node × (self.new.seat ≡ self.old.seat) × (self.new.taken ≡ self.old.taken) }
         ensures served { (numbers : List ℕ) × IsServed self.new.node self.new.seat numbers }

@@ -7,7 +7,7 @@ pub use combiner::Combiner;
 pub use name::ServerName;
 pub use node::Node;
 pub use opened::{BuildError, OpenedSlots, open_slots};
-pub use told::{Told, ToldPieces};
+pub use told::{Told, ToldOpened, ToldPieces};
 pub use worker::{MOST_JOBS, Worker};
 
 mod answering;

@@ -4,14 +4,14 @@ ghost use Rattle.std.specs.Arc.{arc_value};
 ghost use Rattle.nr_entry.specs.Jobs.{connection_of};
 ghost use Rattle.nr_log_end.specs.Standings.{record_of};
 ghost use Rattle.nr_slots.specs.Rule.{no_desk};
-ghost use Rattle.nr_node.specs.Sound.{IsSound};
-ghost use Rattle.nr_combiner.specs.Pieces.{AddsSomeOf, AreHandedIn, HasAdded, HasExecuted, IsPieceOf};
+ghost use Rattle.nr_node.specs.Sound.{IsSound, Serves};
+ghost use Rattle.nr_combiner.specs.Pieces.{AddsSomeOf, AreHandedIn, HasAdded, HasExecuted, HasOwn, IsPieceOf};
 ghost use Rattle.nr_combiner.specs.Turned.{CollectsBehind, TurnsBehind, tells_down};
 
 use crate::answering::{Lifts, OpenError};
 use crate::combiner::Combiner;
 use crate::name::ServerName;
-use crate::told::{Told, ToldPieces};
+use crate::told::{Told, ToldOpened, ToldPieces};
 use nr_blob::Memory;
 use nr_entry::ConnId;
 use nr_node::{Handed, Round};
@@ -92,13 +92,24 @@ impl<B: ServerName> Node<B> {
         &self.slots
     }
 
-    /// [`Combiner::open`] behind the lock, of a connection that one of its workers serves.
-    pub fn open<R: Wait>(&self, rt: &R, worker: u8) -> Result<ConnId, OpenError>
+    /// [`Combiner::open`] behind the lock, of a connection that one of its workers serves, with a token and a note that keep how the node stands then: two loads
+    /// more. [`OpenError::Down`] also where another node stands behind the lock, which there never is.
+    pub fn open<R: Wait>(&self, rt: &R, worker: u8) -> Result<ToldOpened<B>, OpenError>
         requires { worker < self.now.slots.workers }
+        ensures node { IfOk result (λ told. told.conn.node ≡ self.now.node) }
+        ensures serves { IfOk result (λ told. Serves told.token.standing worker (connection_of told.conn)) }
+        ensures own { IfOk result (λ told. HasOwn worker (slice_index_or told.note.desks worker no_desk) told.token.standing) }
+        ensures executed { IfOk result (λ told. HasExecuted (slice_index_or told.note.desks worker no_desk) told.token.standing) }
+        ensures sound { IfOk result (λ told. IsSound told.token.standing × (told.token.standing.node ≡ self.now.node)) }
+        ensures named { IfOk result (λ told. told.note.slots ≡ B.slots self.now.node) }
     {
-        self.combiner
-            .lock(rt)
-            .open(worker, self.limit, self.connections)
+        let mut combiner = self.combiner.lock(rt);
+        if combiner.node() != self.node {
+            return Err(OpenError::Down);
+        }
+        let conn = combiner.open(worker, self.limit, self.connections)?;
+        let (token, note) = combiner.keep();
+        Ok(ToldOpened { conn, token, note })
     }
 
     /// [`Combiner::close`] behind the lock.
@@ -136,6 +147,7 @@ impl<B: ServerName> Node<B> {
         requires { 0 < most }
         ensures turned { IfSome result (λ told. TurnsBehind B.places self.now.node worker lifts most taken.old.items taken.new.items told.turned told.token.standing told.note) }
         ensures added { IfSome result (λ told. HasAdded most (tells_down told.turned.combined) told.token.standing (AreHandedIn (slice_index_or told.note.desks worker no_desk) (record_of told.token.standing.history)) taken.old.items taken.new.items) }
+        ensures own { IfSome result (λ told. HasOwn worker (slice_index_or told.note.desks worker no_desk) told.token.standing) }
         ensures executed { IfSome result (λ told. HasExecuted (slice_index_or told.note.desks worker no_desk) told.token.standing) }
         ensures sound { IfSome result (λ told. IsSound told.token.standing × (told.token.standing.node ≡ self.now.node)) }
         ensures named { IfSome result (λ told. told.note.slots ≡ B.slots self.now.node) }
@@ -160,6 +172,7 @@ impl<B: ServerName> Node<B> {
         requires { 0 < most }
         ensures handed { IfSome result (λ told. CollectsBehind self.now.node worker most taken.old.items taken.new.items told.collected told.token.standing told.note) }
         ensures added { IfSome result (λ told. HasAdded most told.collected.is_down told.token.standing (AreHandedIn (slice_index_or told.note.desks worker no_desk) (record_of told.token.standing.history)) taken.old.items taken.new.items) }
+        ensures own { IfSome result (λ told. HasOwn worker (slice_index_or told.note.desks worker no_desk) told.token.standing) }
         ensures executed { IfSome result (λ told. HasExecuted (slice_index_or told.note.desks worker no_desk) told.token.standing) }
         ensures sound { IfSome result (λ told. IsSound told.token.standing × (told.token.standing.node ≡ self.now.node)) }
         ensures named { IfSome result (λ told. told.note.slots ≡ B.slots self.now.node) }

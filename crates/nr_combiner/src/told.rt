@@ -1,5 +1,6 @@
-// What a node tells of a turn, and of pieces that it hands out without one.
+// What a node tells of a turn, of pieces that it hands out without one, and of a connection.
 use crate::answering::{Collected, Turned};
+use nr_entry::ConnId;
 use nr_oplog::{LogName, Token};
 use nr_slots::Note;
 
@@ -8,6 +9,16 @@ use nr_slots::Note;
 pub struct Told<B: LogName> {
     pub turned: Turned,
     /// How the node stands: the pieces that were handed out are of its record.
+    pub token: Token<B>,
+    /// What its combiner has done at the slots of its workers.
+    pub note: Note,
+}
+
+/// What a node tells of a connection that it opened.
+#[derive(Drop)]
+pub struct ToldOpened<B: LogName> {
+    pub conn: ConnId,
+    /// How the node stands, with the connection.
     pub token: Token<B>,
     /// What its combiner has done at the slots of its workers.
     pub note: Note,

@@ -1,16 +1,16 @@
 // A worker at its node.
-ghost use Rattle.std.specs.Prelude.{◌≡◌, ◌↔◌, ◌+◌, ◌^◌, ◌<◌, ◌≤◌, length, IsOk, IfErr, IfSome, IfNone, OnOk, OnErr};
+ghost use Rattle.std.specs.Prelude.{◌≡◌, ◌↔◌, ◌+◌, ◌^◌, ◌<◌, ◌≤◌, length, IsOk, IfOk, IfErr, IfSome, IfNone, OnOk, OnErr};
 ghost use Rattle.std.specs.Arc.{arc_value};
 ghost use Rattle.nr_slots.specs.Seats.{new_worker};
 ghost use Rattle.nr_node.specs.Sound.{IsSound};
-ghost use Rattle.nr_combiner.specs.Heard.{HasHeard};
+ghost use Rattle.nr_combiner.specs.Heard.{HasHeard, KnowsOpened};
 ghost use Rattle.nr_combiner.specs.Turned.{tells_down};
 ghost use Rattle.nr_combiner.specs.Workers.{fresh_worker, shared_of, HasPosted, HasCollected};
 
 use crate::answering::{Collected, Lifts, OpenError, Turned};
 use crate::name::ServerName;
 use crate::node::Node;
-use crate::told::{Told, ToldPieces};
+use crate::told::{Told, ToldOpened, ToldPieces};
 use nr_entry::{Batch, ConnId, Job, Outcome};
 use nr_node::Handed;
 use nr_oplog::Token;
@@ -68,9 +68,16 @@ impl<B: ServerName> Worker<B> {
         &self.shared
     }
 
-    /// Opens a connection that this worker serves.
-    pub fn open<R: Wait>(&self, rt: &R) -> Result<ConnId, OpenError> {
-        self.shared.open(rt, self.worker as u8)
+    /// Opens a connection that this worker serves, and hears what its node and its combiner have done: [`Node::open`], and two loads. The token is of a record in
+    /// which each job of a connection that was opened for this worker, as this one was, was handed in by it.
+    pub fn open<R: Wait>(&mut self, rt: &R) -> Result<(ConnId, Token<B>), OpenError>
+        ensures opened { IfOk result (λ opened. KnowsOpened self.old.seat.worker opened.0 opened.1.standing self.old.seat.lane) }
+        ensures sound { IfOk result (λ opened. IsSound opened.1.standing × (opened.1.standing.node ≡ self.old.node)) }
+        ensures same { self.new ≡ self.old }
+    {
+        let ToldOpened { conn, token, note } = self.shared.open(rt, self.worker as u8)?;
+        self.seat.hear(self.shared.slots(), note);
+        Ok((conn, token))
     }
 
     /// A turn at its node, which takes the lock once and lifts from all slots or from its own: [`Combiner::turn`](crate::Combiner::turn) for this worker, whose note
@@ -85,7 +92,7 @@ impl<B: ServerName> Worker<B> {
         taken: &mut Vec<Handed>,
     ) -> Option<(Turned, Token<B>)>
         requires { 0 < most }
-        ensures heard { IfSome result (λ told. HasHeard most (tells_down told.0.combined) told.1.standing self.old.seat.lane taken.old.items taken.new.items) }
+        ensures heard { IfSome result (λ told. HasHeard self.old.seat.worker most (tells_down told.0.combined) told.1.standing self.old.seat.lane taken.old.items taken.new.items) }
         ensures sound { IfSome result (λ told. IsSound told.1.standing × (told.1.standing.node ≡ self.old.node)) }
         ensures none { IfNone result (taken.new.items ≡ taken.old.items) }
         ensures same { self.new ≡ self.old }
@@ -109,7 +116,7 @@ impl<B: ServerName> Worker<B> {
         taken: &mut Vec<Handed>,
     ) -> Option<(Collected, Token<B>)>
         requires { 0 < most }
-        ensures heard { IfSome result (λ told. HasHeard most told.0.is_down told.1.standing self.old.seat.lane taken.old.items taken.new.items) }
+        ensures heard { IfSome result (λ told. HasHeard self.old.seat.worker most told.0.is_down told.1.standing self.old.seat.lane taken.old.items taken.new.items) }
         ensures sound { IfSome result (λ told. IsSound told.1.standing × (told.1.standing.node ≡ self.old.node)) }
         ensures none { IfNone result (taken.new.items ≡ taken.old.items) }
         ensures same { self.new ≡ self.old }

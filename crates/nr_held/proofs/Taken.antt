@@ -36,15 +36,15 @@ each_of : (most : ℕ) (down : Bool) (s : Standing) (pieces : List Handed) → A
 each_of most down s [] all = tt
 each_of most down s (one ∷ pieces) all = (all.0.piece, each_of most down s pieces all.1)
 
-pub all_of : (most : ℕ) (down : Bool) (s : Standing) (lane : Lane) (old new : List Handed) → old ≡ [] → HasHeard most down s lane old new → AreOfRecord new s
-all_of most down s lane old new none heard = (
+pub all_of : (worker most : ℕ) (down : Bool) (s : Standing) (lane : Lane) (old new : List Handed) → old ≡ [] → HasHeard worker most down s lane old new → AreOfRecord new s
+all_of worker most down s lane old new none heard = (
   most,
   subst (λ l. AllByRecursion (λ (one : Handed). IsPieceOf (connection_of one.piece.conn) most one.piece s) l)
       (sym (heard.added.behind ∙ ap (λ l. l ++ heard.added.pieces) none)) (each_of most down s heard.added.pieces heard.added.all),
 )
 
-pub all_heard : (most : ℕ) (lane : Lane) (old new : List Handed) (told : Option (Turned × LogView)) (turned : Turned) (token : LogView) → told ≡ Some (turned, token)
-    → old ≡ [] → IfSome told (λ (t : Turned × LogView). HasHeard most (tells_down t.0.combined) t.1.standing lane old new) → AreOfRecord new token.standing
-all_heard most lane old new told turned token is none heard =
-    all_of most (tells_down turned.combined) token.standing lane old new none
-    (subst (λ (o : Option (Turned × LogView)). IfSome o (λ (t : Turned × LogView). HasHeard most (tells_down t.0.combined) t.1.standing lane old new)) is heard)
+pub all_heard : (worker most : ℕ) (lane : Lane) (old new : List Handed) (told : Option (Turned × LogView)) (turned : Turned) (token : LogView) → told ≡ Some (turned, token)
+    → old ≡ [] → IfSome told (λ (t : Turned × LogView). HasHeard worker most (tells_down t.0.combined) t.1.standing lane old new) → AreOfRecord new token.standing
+all_heard worker most lane old new told turned token is none heard =
+    all_of worker most (tells_down turned.combined) token.standing lane old new none
+    (subst (λ (o : Option (Turned × LogView)). IfSome o (λ (t : Turned × LogView). HasHeard worker most (tells_down t.0.combined) t.1.standing lane old new)) is heard)

@@ -1,5 +1,10 @@
 // A connection, as its client and its worker drive it.
-ghost use Rattle.std.specs.Prelude.{◌<◌};
+ghost use Rattle.std.specs.Prelude.{◌≡◌, ◌<◌, ◌+◌, ◌++◌, length, IfOk, OnOk, OnErr};
+ghost use Rattle.nr_model.specs.Asked.{jobs_from};
+ghost use Rattle.nr_entry.specs.Jobs.{connection_of, items_of};
+ghost use Rattle.nr_session.specs.SessionState.{asked};
+ghost use Rattle.nr_taps.specs.Taps.{fresh_tap, order_of, with_written};
+ghost use Rattle.nr_held.specs.Clients.{HasOffered, fresh_session};
 ghost use Rattle.nr_held.specs.Pieces.{AreHandedOut};
 
 use crate::station::{Station, Turn};
@@ -12,10 +17,10 @@ use std::alloc::Global;
 use std::cmp::Ordering;
 use std::sync::Wait;
 
-/// A connection of a worker: its session, and its tap.
+/// A connection of a worker: from its bytes to its jobs, and what was handed out for it.
 pub struct Client<B: ServerName> {
-    session: Session,
-    tap: Tap<B>,
+    pub session: Session,
+    pub tap: Tap<B>,
 }
 
 impl<B: ServerName> Drop for Client<B> {
@@ -40,7 +45,10 @@ pub enum Offered {
 
 impl<B: ServerName> Client<B> {
     // The client of a connection that was opened.
-    pub(crate) fn new(alloc: Global, conn: ConnId) -> Client<B> {
+    pub(crate) fn new(alloc: Global, conn: ConnId) -> Client<B>
+        ensures session { result.session ≡ fresh_session (connection_of conn) }
+        ensures tap { result.tap ≡ fresh_tap (connection_of conn) }
+    {
         Client {
             session: Session::new(alloc, conn),
             tap: Tap::new(alloc, conn),
@@ -48,12 +56,20 @@ impl<B: ServerName> Client<B> {
     }
 
     /// Its connection.
-    pub fn conn(&self) -> ConnId {
+    pub fn conn(&self) -> ConnId
+        ensures { connection_of result ≡ self.now.tap.connection }
+    {
         self.tap.conn()
     }
 
     /// Sends these bytes: their jobs are added to the next batch of its worker.
-    pub fn send(&mut self, station: &mut Station<B>, sent: &[u8]) -> Result<(), Memory> {
+    pub fn send(&mut self, station: &mut Station<B>, sent: &[u8]) -> Result<(), Memory>
+        ensures jobs { OnOk result (items_of station.new.jobs.items ≡ items_of station.old.jobs.items
+            ++ jobs_from self.old.session.connection self.old.session.next 0 (asked self.old.session.mode self.old.session.rest sent.now).deeds) }
+        ensures fed { OnOk result (self.new.session.fed ≡ self.old.session.fed + length sent.now) }
+        ensures tap { self.new.tap ≡ self.old.tap }
+        ensures worker { station.new.worker ≡ station.old.worker }
+    {
         if !self.session.fits(sent.len())
             || self.session.feed(sent, 0, &mut station.jobs).is_err()
         {
@@ -71,6 +87,9 @@ impl<B: ServerName> Client<B> {
         most: usize,
     ) -> Result<Offered, Memory>
         requires { 0 < most }
+        ensures offered { IfOk result (λ offered. HasOffered most offered self.old.tap self.new.tap) }
+        ensures err { OnErr result (self.new.tap ≡ self.old.tap) }
+        ensures session { self.new.session ≡ self.old.session }
     {
         let node = station.worker().shared();
         let Ok(taken) = node.take_piece(rt, conn, most) else {
@@ -89,6 +108,9 @@ impl<B: ServerName> Client<B> {
     /// an error.
     pub fn take_in(&mut self, station: &Station<B>, mut turn: Turn<B>) -> Result<usize, Memory>
         requires { AreHandedOut turn.pieces.items turn.token }
+        ensures written { IfOk result (λ count. self.new.tap.written ≡ self.old.tap.written + count) }
+        ensures err { OnErr result (self.new.tap ≡ self.old.tap) }
+        ensures session { self.new.session ≡ self.old.session }
     {
         turn.turned.combined?;
         turn.turned.collected?;
@@ -106,19 +128,29 @@ impl<B: ServerName> Client<B> {
     }
 
     /// What its tap has taken in and isn't written yet.
-    pub fn pending(&self) -> &[u8] {
+    pub fn pending(&self) -> &[u8]
+        ensures { result.now ≡ self.now.tap.pending }
+    {
         self.tap.pending()
     }
 
     /// All of that was written. How many bytes there were.
-    pub fn write(&mut self) -> usize {
+    pub fn write(&mut self) -> usize
+        ensures count { result ≡ length self.old.tap.pending }
+        ensures written { self.new.tap ≡ with_written (length self.old.tap.pending) self.old.tap }
+        ensures session { self.new.session ≡ self.old.session }
+    {
         let count = self.tap.pending().len();
         self.tap.written(count);
         count
     }
 
     /// Which of two taps knows more entries of the log that this worker's node shares; `None` where one of them has taken in nothing.
-    pub fn meet(&mut self, station: &Station<B>, other: &mut Client<B>) -> Option<Ordering> {
+    pub fn meet(&mut self, station: &Station<B>, other: &mut Client<B>) -> Option<Ordering>
+        ensures order { result ≡ order_of self.old.tap.standing other.old.tap.standing }
+        ensures own { self.new ≡ self.old }
+        ensures other { other.new ≡ other.old }
+    {
         meet(
             station.worker().shared().log(),
             &mut self.tap,

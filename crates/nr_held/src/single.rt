@@ -1,4 +1,6 @@
 // A server in one value, with one connection.
+ghost use Rattle.std.specs.Prelude.{◌≡◌, true, IfOk, OnErr};
+
 use nr_blob::Memory;
 use nr_entry::ConnId;
 use nr_nodes::{Outcome, Setup, World};
@@ -7,8 +9,8 @@ use std::hash::RandomState;
 
 /// A server of one node and one worker in one value, with the one connection that it serves.
 pub struct Single {
-    world: World,
-    conn: ConnId,
+    pub world: World,
+    pub conn: ConnId,
 }
 
 impl Drop for Single {
@@ -27,7 +29,9 @@ impl Single {
         keys: RandomState,
         places: usize,
         limit: usize,
-    ) -> Result<Single, Memory> {
+    ) -> Result<Single, Memory>
+        ensures setup { IfOk result (λ single. single.world.setup ≡ record { nodes = 1; places = places; workers = 1; connections = 1; queue_limit = limit }) }
+    {
         let Some(setup) = Setup::new(1, places, 1, 1, limit) else {
             return Err(Memory);
         };
@@ -39,7 +43,11 @@ impl Single {
     }
 
     /// Each step of a batch that the connection sends. How many bytes it got.
-    pub fn serve(&mut self, sent: &[u8]) -> Result<usize, Memory> {
+    pub fn serve(&mut self, sent: &[u8]) -> Result<usize, Memory>
+        ensures setup { self.new.world.setup ≡ self.old.world.setup }
+        ensures conn { self.new.conn ≡ self.old.conn }
+        ensures err { OnErr result (self.new.world.failed ≡ true) }
+    {
         let world = &mut self.world;
         world.feed(self.conn, 0, sent)?;
         world.post(0, 0)?;

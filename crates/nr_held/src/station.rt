@@ -1,7 +1,10 @@
 // A worker, and what a turn of it hands out.
-ghost use Rattle.std.specs.Prelude.{◌≡◌, ◌<◌, ◌≤◌, length, IfOk};
+ghost use Rattle.std.specs.Prelude.{◌≡◌, ◌<◌, ◌≤◌, [], length, IfOk, IfSome, IfNone, OnOk, OnErr};
 ghost use Rattle.nr_oplog.specs.Opening.{name_of, nodes_of, places_of};
+ghost use Rattle.nr_taps.specs.Taps.{fresh_tap};
 ghost use Rattle.nr_combiner.specs.Opened.{AreNamed, AreOfWorkers};
+ghost use Rattle.nr_combiner.specs.Workers.{HasPosted};
+ghost use Rattle.nr_held.specs.Clients.{HasTold, fresh_session};
 ghost use Rattle.nr_held.specs.Pieces.{AreHandedOut};
 
 use crate::client::Client;
@@ -20,8 +23,8 @@ use std::sync::Wait;
 /// A worker at its node, with the jobs of the batch that it hands in next. It may go to a thread of its own.
 pub struct Station<B: ServerName> {
     alloc: Global,
-    worker: Worker<B>,
-    pub(crate) jobs: Vec<Job>,
+    pub worker: Worker<B>,
+    pub jobs: Vec<Job>,
 }
 
 impl<B: ServerName> Drop for Station<B> {
@@ -86,8 +89,14 @@ fn in_order<B: ServerName>(
 
 impl<B: ServerName> Station<B> {
     /// A client of a new connection that this worker serves.
-    pub fn open<R: Wait>(&self, rt: &R) -> Result<Client<B>, OpenError> {
-        let conn = self.worker.open(rt)?;
+    pub fn open<R: Wait>(&mut self, rt: &R) -> Result<Client<B>, OpenError>
+        ensures session { IfOk result (λ client. client.session ≡ fresh_session client.tap.connection) }
+        ensures tap { IfOk result (λ client. client.tap ≡ fresh_tap client.tap.connection) }
+        ensures node { IfOk result (λ client. client.tap.connection.node ≡ self.old.worker.node) }
+        ensures worker { self.new.worker ≡ self.old.worker }
+        ensures jobs { self.new.jobs ≡ self.old.jobs }
+    {
+        let (conn, _token) = self.worker.open(rt)?;
         Ok(Client::new(self.alloc, conn))
     }
 
@@ -98,7 +107,12 @@ impl<B: ServerName> Station<B> {
 
     /// Hands in what was gathered as the worker's next batch. While the last one wasn't collected, or where these are more jobs than a batch has, that is an error,
     /// and they are lost.
-    pub fn post(&mut self) -> Result<(), Memory> {
+    pub fn post(&mut self) -> Result<(), Memory>
+        ensures posted { OnOk result (HasPosted self.old.jobs.items self.old.worker self.new.worker) }
+        ensures few { OnOk result (length self.old.jobs.items ≤ MOST_JOBS) }
+        ensures err { OnErr result (self.new.worker ≡ self.old.worker) }
+        ensures emptied { self.new.jobs.items ≡ [] }
+    {
         let jobs = mem::replace(&mut self.jobs, Vec::new(self.alloc));
         if jobs.len() > MOST_JOBS {
             return Err(Memory);
@@ -114,19 +128,31 @@ impl<B: ServerName> Station<B> {
         self.worker.shared().combine(rt)
     }
 
+    /// The next entry that the worker's node applies is refused, as where memory runs out: then the node is down.
+    pub fn refuse<R: Wait>(&self, rt: &R) {
+        self.worker.refuse(rt);
+    }
+
     /// Whether the worker's last batch was executed, once it is answered.
-    pub fn collect(&mut self) -> Option<bool> {
+    pub fn collect(&mut self) -> Option<bool>
+        ensures told { IfSome result (λ is_executed. HasTold is_executed self.old.worker self.new.worker) }
+        ensures none { IfNone result (self.new.worker ≡ self.old.worker) }
+        ensures jobs { self.new.jobs ≡ self.old.jobs }
+    {
         let outcome = self.worker.collect()?;
         Some(matches!(outcome, Outcome::Executed))
     }
 
-    /// A turn of the worker, which takes the node's lock once: at most so many bytes of each of its connections are handed out.
-    pub fn turn<R: Wait>(&mut self, rt: &R, most: usize) -> Result<Turn<B>, Memory>
+    /// A turn of the worker, which takes the node's lock once, and lifts from the slots of all workers or from its own: at most so many bytes of each of its
+    /// connections are handed out.
+    pub fn turn<R: Wait>(&mut self, rt: &R, lifts: Lifts, most: usize) -> Result<Turn<B>, Memory>
         requires { 0 < most }
-        ensures { IfOk result (λ turn. AreHandedOut turn.pieces.items turn.token) }
+        ensures handed { IfOk result (λ turn. AreHandedOut turn.pieces.items turn.token) }
+        ensures worker { self.new.worker ≡ self.old.worker }
+        ensures jobs { self.new.jobs ≡ self.old.jobs }
     {
         let mut pieces = Vec::new(self.alloc);
-        let Some((turned, token)) = self.worker.turn(rt, Lifts::All, most, &mut pieces) else {
+        let Some((turned, token)) = self.worker.turn(rt, lifts, most, &mut pieces) else {
             return Err(Memory);
         };
         Ok(Turn {
@@ -137,7 +163,9 @@ impl<B: ServerName> Station<B> {
     }
 
     // The worker itself.
-    pub(crate) fn worker(&self) -> &Worker<B> {
+    pub(crate) fn worker(&self) -> &Worker<B>
+        ensures { result.now ≡ self.now.worker }
+    {
         &self.worker
     }
 }

@@ -9,19 +9,21 @@ use Rattle.nr_entry.specs.declared.entry.Entry.{Entry}
 use Rattle.nr_entry.specs.declared.job.Job.{Job}
 use Rattle.nr_log_end.specs.declared.standing.Standing.{Standing}
 use Rattle.nr_log_end.specs.declared.standing.Turn.{Turn}
-use Rattle.nr_log_end.specs.declared.standing.Turn.TheVariants.{Applied, Ran}
+use Rattle.nr_log_end.specs.declared.standing.Turn.TheVariants.{Applied, Ran, Opened}
 
 -- the entries that were passed, in order
 abbrev pub applied_of : List Turn → List Entry
 applied_of [] = []
 applied_of (Applied entry ∷ turns) = entry ∷ applied_of turns
 applied_of (Ran job ∷ turns) = applied_of turns
+applied_of (Opened worker ∷ turns) = applied_of turns
 
 -- the reads that were run, each with how many entries had been applied before it, from so many on
 abbrev pub ran_from : ℕ → List Turn → List (Job × ℕ)
 ran_from count [] = []
 ran_from count (Applied entry ∷ turns) = ran_from (suc count) turns
 ran_from count (Ran job ∷ turns) = (job, count) ∷ ran_from count turns
+ran_from count (Opened worker ∷ turns) = ran_from count turns
 
 abbrev pub ran_of : List Turn → List (Job × ℕ)
 ran_of history = ran_from 0 history
@@ -30,9 +32,17 @@ ran_of history = ran_from 0 history
 abbrev pub items_of_turn : Turn → List Item
 items_of_turn (Applied entry) = entry_items (items_of entry.jobs.items)
 items_of_turn (Ran job) = item_of job ∷ []
+items_of_turn (Opened worker) = []
 
 abbrev pub record_of : List Turn → List Item
 record_of history = flat_map items_of_turn history
+
+-- which workers serve the connections that were opened, by their serials
+abbrev pub opened_of : List Turn → List ℕ
+opened_of [] = []
+opened_of (Applied entry ∷ turns) = opened_of turns
+opened_of (Ran job ∷ turns) = opened_of turns
+opened_of (Opened worker ∷ turns) = worker ∷ opened_of turns
 
 -- the entries that the node knows: those that it passed, and the one that it holds
 abbrev pub known_of : Standing → List Entry
@@ -88,6 +98,14 @@ fetched_with entry s = record s { held = Some entry }
 abbrev pub passed_on : Standing → Standing
 passed_on s = record s { history = s.history ++ map Applied (option_to_list s.held); held = None }
 
--- these reads were run behind all that was done before, and the tail met is `seen`
+-- this was done behind all that was done before, and the tail met is `seen`
+abbrev pub done_with : List Turn → ℕ → Standing → Standing
+done_with turns seen s = record s { history = s.history ++ turns; seen = seen }
+
+-- these reads were run
 abbrev pub noted_with : List Job → ℕ → Standing → Standing
-noted_with jobs seen s = record s { history = s.history ++ map Ran jobs; seen = seen }
+noted_with jobs seen s = done_with (map Ran jobs) seen s
+
+-- the next connection was opened, which this worker serves
+abbrev pub opened_with : ℕ → ℕ → Standing → Standing
+opened_with worker seen s = done_with (Opened worker ∷ []) seen s

@@ -1,7 +1,7 @@
 // One node's end of the log.
 ghost use Rattle.std.specs.Prelude.{◌≡◌, ◌≤◌, ◌∷◌, ◌++◌, [], IfSome, IfNone, IsSome, None, slice_index_or};
 ghost use Rattle.std.specs.Arc.{arc_value};
-ghost use Rattle.nr_log_end.specs.Standings.{LooksOn, IsSharesFor, IsAllFilled, StandsInLog, filled_for, fetched_with, passed_on, noted_with};
+ghost use Rattle.nr_log_end.specs.Standings.{LooksOn, IsSharesFor, IsAllFilled, StandsInLog, filled_for, fetched_with, passed_on, noted_with, opened_with};
 ghost use Rattle.nr_log_end.specs.Reserves.{IfTaken, IfFull, IfLost};
 ghost use Rattle.nr_log_end.specs.Tries.{IsTaken, IsFull, IsLost};
 
@@ -69,6 +69,12 @@ pub trait LogEnd {
     /// Notes that this node's replica has run these reads, in this order, behind the entries that were passed so far.
     fn note(&mut self, jobs: &[Job])
         ensures noted { standing self.new ≡ noted_with jobs.now (standing self.new).seen (standing self.old) }
+        ensures seen { (standing self.old).seen ≤ (standing self.new).seen }
+        ensures looks { looks self.new ≡ looks self.old ++ Look.Tail (standing self.new).seen ∷ [] };
+
+    /// Notes that this node opened its next connection, which a worker serves.
+    fn note_opened(&mut self, worker: u8)
+        ensures opened { standing self.new ≡ opened_with worker (standing self.new).seen (standing self.old) }
         ensures seen { (standing self.old).seen ≤ (standing self.new).seen }
         ensures looks { looks self.new ≡ looks self.old ++ Look.Tail (standing self.new).seen ∷ [] };
 

@@ -8,6 +8,8 @@ pub enum Turn {
     Applied(Entry),
     /// It ran this read.
     Ran(Job),
+    /// It opened its next connection, which this worker serves.
+    Opened(u8),
 }
 
 /// A load that an end made, and what it found. No value of it is made: contracts alone speak of it.

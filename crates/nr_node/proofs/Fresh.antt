@@ -21,6 +21,7 @@ pub fresh_level : (nodes places node upto workers : ℕ) → let n = fresh_node 
 fresh_level nodes places node upto workers = record {
   node = refl;
   named = tt;
+  opened = refl;
   server = λ up. refl;
   applied = λ up. refl;
   behind = λ serial below. absurd (omega arith);

@@ -1,8 +1,8 @@
 -- A replica stays level with its end of the log: it takes an entry in, runs reads, opens and closes connections, and hands out what waits.
-use Rattle.std.proofs.Common.{◌≡◌, ℕ, suc, ◌<◌, ◌+◌, inl, inr, true, false, List, [], ◌∷◌, ◌++◌, length, map, refl, ap, sym, ◌∙◌, subst, arith, slice_set}
+use Rattle.std.proofs.Common.{◌≡◌, ℕ, zero, suc, ◌<◌, ◌+◌, inl, inr, true, false, List, [], ◌∷◌, ◌++◌, length, map, refl, ap, sym, ◌∙◌, subst, arith, slice_set}
 use Rattle.std.specs.Prelude.{slice_index_or, Option}
 use Rattle.std.proofs.lemmas.Bool.Decides.{eqb_tells}
-use Rattle.std.proofs.lemmas.List.{append-nil, length-append, length-set, get_or_append_left, get_or_at, get_or-set_same, get_or-set_other}
+use Rattle.std.proofs.lemmas.List.{append-nil, length-append, length-set, map-append, get_or_append_left, get_or_at, get_or-set_same, get_or-set_other}
 use Rattle.nr_model.specs.Bytes.{Bytes}
 use Rattle.nr_model.specs.Items.{Connection, Sequence}
 use Rattle.nr_model.specs.Sequential.{emitted_for}
@@ -18,16 +18,16 @@ use Rattle.nr_entry.specs.declared.entry.Entry.{Entry}
 use Rattle.nr_entry.specs.declared.job.Job.{Job}
 use Rattle.nr_log_end.specs.declared.standing.Standing.{Standing}
 use Rattle.nr_log_end.specs.declared.standing.Turn.{Turn}
-use Rattle.nr_log_end.specs.declared.standing.Turn.TheVariants.{Applied, Ran}
-use Rattle.nr_log_end.specs.Standings.{applied_of, record_of, passed_of, fetched_with, passed_on}
-use Rattle.nr_replica.specs.Members.{Member, fresh_member, closed_member, handed_member, AreNumbered, AreDelivered}
+use Rattle.nr_log_end.specs.declared.standing.Turn.TheVariants.{Applied, Ran, Opened}
+use Rattle.nr_log_end.specs.Standings.{applied_of, opened_of, record_of, passed_of, fetched_with, opened_with, passed_on}
+use Rattle.nr_replica.specs.Members.{Member, fresh_member, closed_member, handed_member, AreNumbered, AreReceived, AreDelivered}
 use Rattle.nr_replica.specs.Replicas.{ReplicaState, HasRead}
 use Rattle.nr_replica.proofs.Kept.{numbered_push, numbered_set}
 use Rattle.nr_replica.proofs.Received.{received_numbered}
-use Rattle.nr_node.specs.Level.{IsBehind, IsWhole, IsLevel, connection_at, queue_at, emitted_to}
+use Rattle.nr_node.specs.Level.{IsBehind, IsWhole, IsLevel, connection_at, queue_at, emitted_to, workers_of}
 use Rattle.nr_node.specs.Advanced.{IsTakenIn, HasNoted}
 use Rattle.nr_node.specs.Steps.{nobody}
-use Rattle.nr_node.proofs.Lists.{record-append, applied-append}
+use Rattle.nr_node.proofs.Lists.{record-append, applied-append, opened-append, opened_still, none_opened, record_opened, applied_opened}
 use Rattle.nr_node.proofs.Queues.{behind_more, behind_emitted, behind_handing, whole_handing, behind_closed, behind_fresh, delivered_length, delivered_at, connection_of_queue}
 
 -- what is emitted comes to a queue
@@ -47,11 +47,19 @@ come q after c d refused server emitted_by more items got at longer conn same b 
       subst (IsWhole after) text (subst (λ (x : Queue). IsWhole x (emitted_for q.connection (emitted_by ++ items))) queue both.1),
     )
 
+-- what is received leaves each connection with its worker
+workers_received : (texts : Connection → List Bytes) (olds news : List Member) → AreReceived texts olds news → workers_of news ≡ workers_of olds
+workers_received texts [] [] got = refl
+workers_received texts [] (new ∷ news) got = absurd got
+workers_received texts (old ∷ olds) [] got = absurd got
+workers_received texts (old ∷ olds) (new ∷ news) got =
+    λ i. (ap (λ (m : Member). m.worker) got.0.1 i) ∷ workers_received texts olds news got.1 i
+
 -- items are executed by a replica that is up, and what they emit is delivered
 pub delivered_level : (s t : Standing) (old new : ReplicaState) (items : Sequence) → IsLevel s old → old.down ≡ false → t.node ≡ s.node
     → record_of t.history ≡ record_of s.history ++ items → new.node ≡ old.node → new.server ≡ after_all old.server items → new.applied ≡ passed_of t
-    → AreDelivered (emitted_all old.server items) old.members new.members → IsLevel t new
-delivered_level s t old new items l up node more same server applied delivered =
+    → AreDelivered (emitted_all old.server items) old.members new.members → opened_of t.history ≡ opened_of s.history → IsLevel t new
+delivered_level s t old new items l up node more same server applied delivered still =
     let es = emitted_all old.server items in
     let long = delivered_length es old.members new.members delivered in
     let at = l.server up in
@@ -67,6 +75,7 @@ delivered_level s t old new items l up node more same server applied delivered =
     record {
       node = node ∙ l.node ∙ sym same;
       named = subst (λ (n : ℕ). AreNumbered n 0 new.members) (sym same) (received_numbered old.node 0 (λ c. texts_for c es) old.members new.members l.named delivered);
+      opened = workers_received (λ c. texts_for c es) old.members new.members delivered ∙ l.opened ∙ sym still;
       server = λ _. server ∙ ap (λ (x : Server). after_all x items) at ∙ sym (after_all-append fresh (record_of s.history) items) ∙ ap (after_all fresh) (sym more);
       applied = λ _. applied;
       behind = λ serial below. (each serial below).0;
@@ -75,10 +84,11 @@ delivered_level s t old new items l up node more same server applied delivered =
 
 -- one that is down keeps its connections
 pub down_level : (s t : Standing) (old new : ReplicaState) (items : Sequence) → IsLevel s old → new.node ≡ old.node → new.members ≡ old.members → new.down ≡ true
-    → t.node ≡ s.node → record_of t.history ≡ record_of s.history ++ items → IsLevel t new
-down_level s t old new items l same members down node more = record {
+    → t.node ≡ s.node → record_of t.history ≡ record_of s.history ++ items → opened_of t.history ≡ opened_of s.history → IsLevel t new
+down_level s t old new items l same members down node more still = record {
   node = node ∙ l.node ∙ sym same;
   named = subst (λ (n : ℕ). AreNumbered n 0 new.members) (sym same) (subst (AreNumbered old.node 0) (sym members) l.named);
+  opened = ap workers_of members ∙ l.opened ∙ sym still;
   server = λ up. absurd (cc (up, down));
   applied = λ up. absurd (cc (up, down));
   behind = λ serial below.
@@ -106,15 +116,16 @@ pub passed_level : (s t : Standing) (e : Entry) (old new : ReplicaState) → t �
 passed_level s t e old new is taken l =
     let items = entry_items (items_of e.jobs.items) in
     let p = passed_on (fetched_with e s) in
+    let still = opened_still s.history (Applied e ∷ []) refl in
     subst (λ (x : Standing). IsLevel x new) (sym is) (elim taken [
       | inl down ↦ down_level s p old new items l (ap (λ (r : ReplicaState). r.node) down.1) (ap (λ (r : ReplicaState). r.members) down.1)
-          (ap (λ (r : ReplicaState). r.down) down.1 ∙ down.0) refl (record_passed s e)
+          (ap (λ (r : ReplicaState). r.down) down.1 ∙ down.0) refl (record_passed s e) still
       | inr up ↦ elim up.1 [
         | inl applied ↦ delivered_level s p old new items l up.0 refl (record_passed s e) (ap (λ (r : ReplicaState). r.node) applied.state)
             (ap (λ (r : ReplicaState). r.server) applied.state)
-            (ap (λ (r : ReplicaState). r.applied) applied.state ∙ ap suc (l.applied up.0) ∙ sym (one_passed s e)) applied.delivered
+            (ap (λ (r : ReplicaState). r.applied) applied.state ∙ ap suc (l.applied up.0) ∙ sym (one_passed s e)) applied.delivered still
         | inr fell ↦ down_level s p old new items l (ap (λ (r : ReplicaState). r.node) fell) (ap (λ (r : ReplicaState). r.members) fell)
-            (ap (λ (r : ReplicaState). r.down) fell) refl (record_passed s e)
+            (ap (λ (r : ReplicaState). r.down) fell) refl (record_passed s e) still
       ]
     ])
 
@@ -142,6 +153,7 @@ noted_level s t ran old new noted read ran_is up l =
     delivered_level s t old new items l up (ap (λ (x : Standing). x.node) noted.standing) more (ap (λ (r : ReplicaState). r.node) read.state)
     (ap (λ (r : ReplicaState). r.server) read.state ∙ sym (after_reads old.server items (look_reads (items_of old.waiting))))
     (ap (λ (r : ReplicaState). r.applied) read.state ∙ l.applied up ∙ sym (ap length (ap applied_of history ∙ applied_noted s.history ran))) read.delivered
+    (ap opened_of history ∙ opened_still s.history (map Ran ran) (none_opened ran))
 
 -- nothing changed but a tail that was met, what waits to be executed, or the shares
 pub same_level : (s t : Standing) (old new : ReplicaState) → t.node ≡ s.node → t.history ≡ s.history → new.node ≡ old.node → new.members ≡ old.members
@@ -149,6 +161,7 @@ pub same_level : (s t : Standing) (old new : ReplicaState) → t.node ≡ s.node
 same_level s t old new node history same members down server applied l = record {
   node = node ∙ l.node ∙ sym same;
   named = subst (λ (n : ℕ). AreNumbered n 0 new.members) (sym same) (subst (AreNumbered old.node 0) (sym members) l.named);
+  opened = ap workers_of members ∙ l.opened ∙ ap opened_of (sym history);
   server = λ up. server ∙ l.server (sym down ∙ up) ∙ ap (λ (h : List Turn). after_all fresh (record_of h)) (sym history);
   applied = λ up. applied ∙ l.applied (sym down ∙ up) ∙ ap (λ (h : List Turn). length (applied_of h)) (sym history);
   behind = λ serial below.
@@ -164,40 +177,50 @@ same_level s t old new node history same members down server applied l = record 
 }
 
 -- a connection more, for which nothing was emitted
-pub opened_level : (s : Standing) (old new : ReplicaState) (worker limit : ℕ)
+pub opened_level : (s : Standing) (old new : ReplicaState) (worker limit seen : ℕ)
     → new ≡ record old { members = old.members ++ fresh_member (connection_at old.node (length old.members)) worker limit ∷ [] }
-    → emitted_to s (length old.members) ≡ [] → IsLevel s old → IsLevel s new
-opened_level s old new worker limit is silent l =
+    → emitted_to s (length old.members) ≡ [] → IsLevel s old → IsLevel (opened_with worker seen s) new
+opened_level s old new worker limit seen is silent l =
     let c = connection_at old.node (length old.members) in
     let m = fresh_member c worker limit in
     let news = old.members ++ m ∷ [] in
     let both : (P : Queue → Bytes → Type 0) → P m.outbox [] → ((serial : ℕ) → serial < length old.members → P (queue_at serial old.members) (emitted_to s serial))
-    → (serial : ℕ) → serial < length news → P (queue_at serial news) (emitted_to s serial) =
+    → (serial : ℕ) → serial < length news → P (queue_at serial news) (emitted_to (opened_with worker seen s) serial) =
     λ P new_one olds serial below.
-    elim (eqb_tells serial (length old.members)) [
+    subst (λ (items : Sequence). P (queue_at serial news) (emitted_for (connection_at s.node serial) items)) (sym (record_opened s worker))
+    (elim (eqb_tells serial (length old.members)) [
       | inl e ↦ subst (λ (n : ℕ). P (queue_at n news) (emitted_to s n)) (sym e.1)
           (subst (P (queue_at (length old.members) news)) (sym silent)
           (subst (λ (x : Member). P x.outbox []) (sym (get_or_at old.members m [] nobody (length old.members) refl)) new_one))
       | inr e ↦
           let before : serial < length old.members = omega (arith, length-append old.members (m ∷ []), e.1) in
           subst (λ (x : Member). P x.outbox (emitted_to s serial)) (sym (get_or_append_left old.members (m ∷ []) nobody serial before)) (olds serial before)
-    ] in
-    let fresh = behind_fresh c limit in
-    subst (IsLevel s) (sym is) record {
+    ]) in
+    let fresh_one = behind_fresh c limit in
+    subst (IsLevel (opened_with worker seen s)) (sym is) record {
       node = l.node;
       named = numbered_push old.node 0 old.members m l.named (ap (connection_at old.node) (omega arith));
-      server = l.server;
-      applied = l.applied;
-      behind = both IsBehind fresh.0 l.behind;
-      whole = λ up. both IsWhole fresh.1 (l.whole up);
+      opened = map-append (λ (x : Member). x.worker) old.members (m ∷ []) ∙ ap (λ (workers : List ℕ). workers ++ worker ∷ []) l.opened
+          ∙ sym (opened-append s.history (Opened worker ∷ []));
+      server = λ up. l.server up ∙ ap (after_all fresh) (sym (record_opened s worker));
+      applied = λ up. l.applied up ∙ ap length (sym (applied_opened s worker));
+      behind = both IsBehind fresh_one.0 l.behind;
+      whole = λ up. both IsWhole fresh_one.1 (l.whole up);
     }
+
+-- a connection in the place of another of its worker leaves each with its worker
+workers_set : (members : List Member) (i : ℕ) (m : Member) → m.worker ≡ (slice_index_or members i nobody).worker
+    → workers_of (slice_set members i m) ≡ workers_of members
+workers_set [] i m same = refl
+workers_set (x ∷ xs) zero m same = ap (λ (worker : ℕ). worker ∷ workers_of xs) same
+workers_set (x ∷ xs) (suc i) m same = ap (λ (workers : List ℕ). x.worker ∷ workers) (workers_set xs i m same)
 
 -- one connection changed
 set_level : (s : Standing) (old new : ReplicaState) (i : ℕ) (m : Member) → i < length old.members → new ≡ record old { members = slice_set old.members i m }
-    → m.outbox.connection ≡ (queue_at i old.members).connection → (IsBehind (queue_at i old.members) (emitted_to s i) → IsBehind m.outbox (emitted_to s i))
+    → m.outbox.connection ≡ (queue_at i old.members).connection → m.worker ≡ (slice_index_or old.members i nobody).worker → (IsBehind (queue_at i old.members) (emitted_to s i) → IsBehind m.outbox (emitted_to s i))
     → (IsBehind (queue_at i old.members) (emitted_to s i) → IsWhole (queue_at i old.members) (emitted_to s i) → IsWhole m.outbox (emitted_to s i))
     → IsLevel s old → IsLevel s new
-set_level s old new i m there is same behind whole l =
+set_level s old new i m there is same serves behind whole l =
     let news = slice_set old.members i m in
     let long = length-set old.members i m in
     let both : (P : Queue → Bytes → Type 0) → P m.outbox (emitted_to s i) → ((serial : ℕ) → serial < length old.members → P (queue_at serial old.members) (emitted_to s serial))
@@ -212,6 +235,7 @@ set_level s old new i m there is same behind whole l =
     subst (IsLevel s) (sym is) record {
       node = l.node;
       named = numbered_set old.node 0 i old.members nobody m l.named there same;
+      opened = workers_set old.members i m serves ∙ l.opened;
       server = l.server;
       applied = l.applied;
       behind = both IsBehind (behind (l.behind i there)) l.behind;
@@ -223,11 +247,11 @@ pub closed_level : (s : Standing) (old new : ReplicaState) (i : ℕ) → i < len
     → new ≡ record old { members = slice_set old.members i (closed_member (slice_index_or old.members i nobody)) } → IsLevel s old → IsLevel s new
 closed_level s old new i there is l =
     let none = behind_closed (queue_at i old.members).connection (emitted_to s i) in
-    set_level s old new i (closed_member (slice_index_or old.members i nobody)) there is refl (λ _. none.0) (λ _ _. none.1) l
+    set_level s old new i (closed_member (slice_index_or old.members i nobody)) there is refl refl (λ _. none.0) (λ _ _. none.1) l
 
 pub handed_level : (s : Standing) (old new : ReplicaState) (i most : ℕ) → i < length old.members
     → new ≡ record old { members = slice_set old.members i (handed_member most (slice_index_or old.members i nobody)) } → IsLevel s old → IsLevel s new
 handed_level s old new i most there is l =
     let q = queue_at i old.members in
-    set_level s old new i (handed_member most (slice_index_or old.members i nobody)) there is refl (behind_handing most q (emitted_to s i))
+    set_level s old new i (handed_member most (slice_index_or old.members i nobody)) there is refl refl (behind_handing most q (emitted_to s i))
     (whole_handing most q (emitted_to s i)) l

@@ -1,9 +1,9 @@
 -- The jobs of a node's connections stay in their order, wherever they are.
-use Rattle.std.proofs.Common.{◌≡◌, ℕ, zero, suc, ◌<◌, ◌≤◌, ◌+◌, inl, inr, true, false, List, [], ◌∷◌, ◌++◌, length, refl, ap, sym, ◌∙◌, subst, arith, append_assoc}
+use Rattle.std.proofs.Common.{◌≡◌, ℕ, zero, suc, ◌<◌, ◌≤◌, ◌+◌, inl, inr, true, false, List, [], ◌∷◌, ◌++◌, length, drop, refl, ap, sym, ◌∙◌, subst, arith, append_assoc}
 use Rattle.std.specs.Prelude.{◌⊎◌, Option, Some, None}
 use Rattle.std.specs.List.{AllByRecursion, range_with_len}
 use Rattle.std.specs.FinMap as finmap
-use Rattle.std.proofs.lemmas.List.{length-append}
+use Rattle.std.proofs.lemmas.List.{length-append, length-map}
 use Rattle.nr_model.specs.Items.{Connection, Item}
 use Rattle.nr_model.specs.Entries.{Jobs}
 use Rattle.nr_model.proofs.JobLists.{All-append}
@@ -14,17 +14,17 @@ use Rattle.nr_entry.specs.declared.entry.Entry.{Entry}
 use Rattle.nr_entry.specs.declared.job.Job.{Job}
 use Rattle.nr_log_end.specs.declared.standing.Standing.{Standing}
 use Rattle.nr_log_end.specs.declared.standing.Turn.{Turn}
-use Rattle.nr_log_end.specs.declared.standing.Turn.TheVariants.{Applied}
-use Rattle.nr_log_end.specs.Standings.{applied_of, ran_of, record_of, passed_of, own_entries, StandsInLog, fetched_with, passed_on, reserved_as}
+use Rattle.nr_log_end.specs.declared.standing.Turn.TheVariants.{Applied, Ran, Opened}
+use Rattle.nr_log_end.specs.Standings.{applied_of, opened_of, ran_from, ran_of, record_of, passed_of, own_entries, StandsInLog, fetched_with, opened_with, passed_on, reserved_as}
 use Rattle.nr_accounts.specs.declared.account.Account.{Account}
 use Rattle.nr_accounts.specs.Held.{numbers_in, CountsTo}
 use Rattle.nr_accounts.specs.Book.{Book}
 use Rattle.nr_replica.specs.Members.{Member}
 use Rattle.nr_replica.specs.Replicas.{ReplicaState, fallen}
-use Rattle.nr_node.specs.Level.{IsCount, IsReadOf, connection_at, unpassed, jobs_reserved, logged, all_jobs, IsInOrder}
+use Rattle.nr_node.specs.Level.{IsCount, IsReadOf, connection_at, workers_of, unpassed, jobs_reserved, logged, all_jobs, IsInOrder}
 use Rattle.nr_node.specs.Sound.{IsSound}
 use Rattle.nr_node.specs.Reserved.{AreOfNode, due_jobs, left_jobs, LeavesWaiting, HasMet, IsReserved}
-use Rattle.nr_node.proofs.Lists.{ran-append, numbers-append, numbers_left_by_entry, own_passed, logged_passed, logged_reserved, counts_front}
+use Rattle.nr_node.proofs.Lists.{record_opened, applied_opened, unpassed_opened, ran-append, numbers-append, numbers_left_by_entry, own_passed, logged_passed, logged_reserved, counts_front}
 
 -- the numbers in lists behind one another
 joined : (c : Connection) (xs ys zs : Jobs) → numbers_in c (xs ++ (ys ++ zs)) ≡ numbers_in c xs ++ (numbers_in c ys ++ numbers_in c zs)
@@ -54,13 +54,24 @@ pub first_counted : (c : Connection) (front back : Jobs) (all : Jobs) → number
 first_counted c front back all is h =
     counts_front (numbers_in c front) (numbers_in c back) (is ∙ h ∙ ap (λ (ns : List ℕ). range_with_len 0 (length ns)) (sym is))
 
+-- there are none in the record where there are none anywhere
+pub none_recorded : (c : Connection) (xs ys zs : Jobs) → numbers_in c ((xs ++ ys) ++ zs) ≡ [] → numbers_in c xs ≡ []
+none_recorded c xs ys zs e =
+    (no_parts (numbers_in c xs) (numbers_in c ys) (sym (numbers-append c xs ys)
+    ∙ (no_parts (numbers_in c (xs ++ ys)) (numbers_in c zs) (sym (numbers-append c (xs ++ ys) zs) ∙ e)).0)).0
+
 -- what a node in order hands out is sound
-pub is_sound : (s t : Standing) (old : ReplicaState) (book : Book) (next : List Job) → t ≡ s → s.held ≡ None → IsInOrder s old book next → IsSound t
-is_sound s t old book next same idle o = subst IsSound (sym same) record {
+pub is_sound : (s t : Standing) (old : ReplicaState) (book : Book) (next : List Job) → t ≡ s → s.held ≡ None → workers_of old.members ≡ opened_of s.history
+    → IsInOrder s old book next → IsSound t
+is_sound s t old book next same idle served o = subst IsSound (sym same) record {
   reads = o.reads;
   numbered = λ serial.
       let c = connection_at s.node serial in
       first_counted c (record_of s.history) (jobs_reserved (unpassed s)) (logged s) (sym (numbers-append c (record_of s.history) (jobs_reserved (unpassed s)))) (o.numbered serial);
+  opened = λ serial past.
+      let c = connection_at s.node serial in
+      let count : length (opened_of s.history) ≡ length old.members = ap length (sym served) ∙ length-map old.members (λ (m : Member). m.worker) in
+      none_recorded c (record_of s.history) (jobs_reserved (unpassed s)) (items_of next ++ items_of old.waiting) (o.unopened serial (omega (arith, past, count)));
   idle = idle;
 }
 
@@ -258,6 +269,26 @@ met_order s t old book next met o =
     omega (arith, passed, o.passed, same_length))
     (subst (λ (rs : List (ℕ × Entry)). AllByRecursion (λ (x : ℕ × Entry). x.0 < t.seen) rs) (sym (ap (λ (x : Standing). x.reservations) met.standing))
     (further s.seen t.seen s.reservations met.seen o.met))
+    o
+
+-- it was noted at the end of the log that a connection was opened
+ran_opened : (n : ℕ) (turns : List Turn) (worker : ℕ) → ran_from n (turns ++ Opened worker ∷ []) ≡ ran_from n turns
+ran_opened n [] worker = refl
+ran_opened n (Applied entry ∷ turns) worker = ran_opened (suc n) turns worker
+ran_opened n (Ran job ∷ turns) worker = ap (λ (rs : List (Job × ℕ)). (job, n) ∷ rs) (ran_opened n turns worker)
+ran_opened n (Opened other ∷ turns) worker = ran_opened n turns worker
+
+pub noted_opened_order : (s : Standing) (worker seen : ℕ) (old : ReplicaState) (book : Book) (next : List Job) → s.seen ≤ seen → IsInOrder s old book next
+    → IsInOrder (opened_with worker seen s) old book next
+noted_opened_order s worker seen old book next later o =
+    let same : logged (opened_with worker seen s) ≡ logged s = λ i. record_opened s worker i ++ jobs_reserved (unpassed_opened s worker seen i) in
+    same_order s (opened_with worker seen s) old old book next next refl refl (λ u. u)
+    (λ serial. subst (λ (js : Jobs). IsCount (numbers_in (connection_at s.node serial) js)) (sym same) (o.numbered serial))
+    (λ serial. ap (λ (js : Jobs). numbers_in (connection_at s.node serial) (js ++ (items_of next ++ items_of old.waiting))) same)
+    o.own
+    (subst (λ (rs : List (Job × ℕ)). AllByRecursion (λ (x : Job × ℕ). IsReadOf s.node (item_of x.0)) rs) (sym (ran_opened 0 s.history worker)) o.reads)
+    (subst (λ (es : List Entry). length (own_entries s.node es) ≤ length s.reservations) (sym (applied_opened s worker)) o.passed)
+    (further s.seen seen s.reservations later o.met)
     o
 
 -- connections changed, and are as many

@@ -20,7 +20,7 @@ use Rattle.nr_entry.specs.declared.batch.Outcome.TheVariants as outcomes
 use Rattle.nr_entry.specs.declared.entry.Entry.{Entry}
 use Rattle.nr_entry.specs.declared.job.Job.{Job}
 use Rattle.nr_log_end.specs.declared.standing.Standing.{Standing}
-use Rattle.nr_log_end.specs.Standings.{IsAllFilled, StandsInLog, record_of, applied_of, passed_of, own_entries}
+use Rattle.nr_log_end.specs.Standings.{IsAllFilled, StandsInLog, opened_with, record_of, applied_of, passed_of, own_entries}
 use Rattle.nr_oplog.specs.declared.view.LogView.{LogView}
 use Rattle.nr_accounts.specs.declared.account.Account.{Account}
 use Rattle.nr_accounts.specs.Account.{fresh_account}
@@ -40,9 +40,9 @@ use Rattle.nr_node.specs.Kept.{IsKept}
 use Rattle.nr_node.specs.Advanced.{HasNoted, GoesOn}
 use Rattle.nr_node.specs.Reserved.{due_jobs, left_jobs, LeavesWaiting, AreTaken, AreNone, AreDue, HasMet, IsReserved}
 use Rattle.nr_node.specs.Steps.{nobody}
-use Rattle.nr_node.proofs.Lists.{numbers-append, no_numbers, none_unpassed, jobs_reserved_more}
+use Rattle.nr_node.proofs.Lists.{unpassed_opened, numbers-append, no_numbers, none_unpassed, jobs_reserved_more}
 use Rattle.nr_node.proofs.Levels.{same_level, down_level, opened_level, closed_level, handed_level, noted_level}
-use Rattle.nr_node.proofs.Orders.{no_parts, reserved_order, due_order, fallen_order, members_order, owed_order}
+use Rattle.nr_node.proofs.Orders.{no_parts, none_recorded, reserved_order, due_order, fallen_order, members_order, noted_opened_order, owed_order}
 use Rattle.nr_node.proofs.Closing.{closed_accounts}
 use Rattle.nr_node.proofs.Queues.{piece_behind}
 use Rattle.nr_node.proofs.Served.{opened_order, batch_order, noted_order, forgotten, length_read, unpassed_noted}
@@ -138,7 +138,7 @@ waits_level s t old new jobs node history left l =
 pub fell_level : (s : Standing) (old new : ReplicaState) → new ≡ fallen old → IsLevel s old → IsLevel s new
 fell_level s old new is l =
     down_level s s old new [] l (ap (λ (x : ReplicaState). x.node) is) (ap (λ (x : ReplicaState). x.members) is) (ap (λ (x : ReplicaState). x.down) is) refl
-    (sym (append-nil (record_of s.history)))
+    (sym (append-nil (record_of s.history))) refl
 
 same_met : (s : Standing) → HasMet s s
 same_met s = record { seen = omega arith; standing = refl }
@@ -229,27 +229,27 @@ back_kept s t e old new book next between shares back nodes some met taken are i
     due_kept s t old new book next (Some (forms.Shared back)) nodes met (ap items_of jobs ∙ taken.due) taken.left
     (e, is ∙ are, own ∙ sym (ap (λ (x : Standing). x.node) met.standing)) k
 
-none_recorded : (c : Connection) (xs ys zs : Jobs) → numbers_in c ((xs ++ ys) ++ zs) ≡ [] → numbers_in c xs ≡ []
-none_recorded c xs ys zs e =
-    (no_parts (numbers_in c xs) (numbers_in c ys) (sym (numbers-append c xs ys)
-    ∙ (no_parts (numbers_in c (xs ++ ys)) (numbers_in c zs) (sym (numbers-append c (xs ++ ys) zs) ∙ e)).0)).0
-
--- a connection more
-pub opened_kept : (s : Standing) (old new : ReplicaState) (book : Book) (next : Option Next) (nodes worker limit : ℕ)
-    → new ≡ record old { members = old.members ++ fresh_member (connection_at old.node (length old.members)) worker limit ∷ [] } → IsKept s old book next nodes
-    → IsKept s new (record book { held = finmap.insert book.held (length old.members) (fresh_account worker) }) next nodes
-opened_kept s old new book next nodes worker limit is k =
+-- a connection more, which is noted
+pub opened_kept : (s t : Standing) (old new : ReplicaState) (book : Book) (next : Option Next) (nodes worker limit : ℕ)
+    → new ≡ record old { members = old.members ++ fresh_member (connection_at old.node (length old.members)) worker limit ∷ [] }
+    → t ≡ opened_with worker t.seen s → s.seen ≤ t.seen → IsKept s old book next nodes
+    → IsKept t new (record book { held = finmap.insert book.held (length old.members) (fresh_account worker) }) next nodes
+opened_kept s t old new book next nodes worker limit is noted later k =
     let c = connection_at s.node (length old.members) in
     let m = fresh_member (connection_at old.node (length old.members)) worker limit in
+    let after = record book { held = finmap.insert book.held (length old.members) (fresh_account worker) } in
     let parts = none_recorded c (record_of s.history) (jobs_reserved (unpassed s)) (items_of (jobs_next next) ++ items_of old.waiting)
     (k.order.unopened (length old.members) (omega arith)) in
-    record {
-      level = opened_level s old new worker limit is (silent c (record_of s.history) (no_numbers c (record_of s.history) parts)) k.level;
-      order = opened_order s old new book (jobs_next next) worker (fresh_member (connection_at old.node (length old.members)) worker limit) is k.order;
+    let u = opened_with worker t.seen s in
+    subst (λ (x : Standing). IsKept x new after next nodes) (sym noted) record {
+      level = opened_level s old new worker limit t.seen is (silent c (record_of s.history) (no_numbers c (record_of s.history) parts)) k.level;
+      order = noted_opened_order s worker t.seen new after (jobs_next next) later (opened_order s old new book (jobs_next next) worker m is k.order);
       next_is = k.next_is;
       owed = k.owed ∙ sym (ap (λ (x : ReplicaState). length x.owed) is);
-      owing = λ up. subst (λ (r : ReplicaState). IsOwing r.members r.owed (unexecuted s (jobs_next next) r.waiting)) (sym is)
-          (pushed_owing old.members m old.owed (unexecuted s (jobs_next next) old.waiting) (k.owing (sym (ap (λ (x : ReplicaState). x.down) is) ∙ up)));
+      owing = λ up. subst (λ (r : ReplicaState). IsOwing r.members r.owed (unexecuted u (jobs_next next) r.waiting)) (sym is)
+          (subst (λ (rs : List (ℕ × Entry)). IsOwing (old.members ++ m ∷ []) old.owed (jobs_reserved rs ++ (items_of (jobs_next next) ++ items_of old.waiting)))
+          (sym (unpassed_opened s worker t.seen))
+          (pushed_owing old.members m old.owed (unexecuted s (jobs_next next) old.waiting) (k.owing (sym (ap (λ (x : ReplicaState). x.down) is) ∙ up))));
       accounts = subst (λ (ms : List Member). HasAccounts book.node ms (finmap.insert book.held (length old.members) (fresh_account worker)))
           (sym (ap (λ (x : ReplicaState). x.members) is)) (pushed_accounts book.node worker old.members m book.held refl k.accounts);
     }
@@ -296,7 +296,7 @@ handed_kept s t old new book next nodes i most same there is k = subst (λ (x : 
 pub refusing_kept : (s : Standing) (old new : ReplicaState) (book : Book) (next : Option Next) (nodes : ℕ) → new ≡ record old { refused = true }
     → IsKept s old book next nodes → IsKept s new book next nodes
 refusing_kept s old new book next nodes is k = subst (λ (r : ReplicaState). IsKept s r book next nodes) (sym is) record {
-  level = record { node = k.level.node; named = k.level.named; server = k.level.server; applied = k.level.applied; behind = k.level.behind; whole = k.level.whole };
+  level = record { node = k.level.node; named = k.level.named; opened = k.level.opened; server = k.level.server; applied = k.level.applied; behind = k.level.behind; whole = k.level.whole };
   order = record {
     book_is = k.order.book_is;
     own = k.order.own;

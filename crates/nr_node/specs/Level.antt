@@ -1,5 +1,5 @@
 -- What a node keeps, and how its replica agrees with its end of the operation log.
-use Rattle.std.specs.Prelude.{◌≡◌, ℕ, ◌<◌, ◌≤◌, Bool, false, List, [], ◌∷◌, ◌++◌, length, drop, None, slice_index_or, refl}
+use Rattle.std.specs.Prelude.{◌≡◌, ℕ, ◌<◌, ◌≤◌, Bool, false, List, [], ◌∷◌, ◌++◌, length, map, drop, None, slice_index_or, refl}
 use Rattle.std.specs.List.{AllByRecursion, range_with_len}
 use Rattle.std.specs.FinMap as finmap
 use Rattle.std.specs.Coded.{Coded, code_by, coded×, coded_list}
@@ -14,7 +14,7 @@ use Rattle.nr_entry.specs.declared.entry.Entry.{Entry}
 use Rattle.nr_entry.specs.declared.job.Job.{Job}
 use Rattle.nr_entry.specs.contracts.job.Job as of_job
 use Rattle.nr_log_end.specs.declared.standing.Standing.{Standing}
-use Rattle.nr_log_end.specs.Standings.{applied_of, ran_of, record_of, passed_of, own_entries}
+use Rattle.nr_log_end.specs.Standings.{applied_of, opened_of, ran_of, record_of, passed_of, own_entries}
 use Rattle.nr_oplog.specs.declared.view.LogView.{LogView}
 use Rattle.nr_oplog.specs.contracts.view.LogView as of_view
 use Rattle.nr_accounts.specs.Held.{numbers_in}
@@ -79,11 +79,16 @@ emitted_to s serial = emitted_for (connection_at s.node serial) (record_of s.his
 abbrev pub IsWhole : Queue → Bytes → Type 0
 IsWhole queue emitted = queue.cut ≡ false → queue.waiting ≡ drop queue.handed emitted
 
--- A replica stands where its end of the log does. One that is up is the server after the record. What waits for a connection begins what the record
+-- which workers serve its connections, by their serials
+abbrev pub workers_of : List Member → List ℕ
+workers_of members = map (λ (member : Member). member.worker) members
+
+-- A replica stands where its end of the log does, and has the connections that were opened there. One that is up is the server after the record. What waits for a connection begins what the record
 -- emits for it behind what was handed out; it is all of that where the replica is up and the queue isn't cut.
 pub record IsLevel (s : Standing) (replica : ReplicaState) : Type 0 where
   pub node : s.node ≡ replica.node
   pub named : AreNumbered replica.node 0 replica.members
+  pub opened : workers_of replica.members ≡ opened_of s.history
   pub server : replica.down ≡ false → replica.server ≡ after_all fresh (record_of s.history)
   pub applied : replica.down ≡ false → replica.applied ≡ passed_of s
   pub behind : (serial : ℕ) → serial < length replica.members → IsBehind (queue_at serial replica.members) (emitted_to s serial)

@@ -12,7 +12,7 @@ use Rattle.nr_entry.specs.declared.job.Job.{Job}
 use Rattle.nr_log_end.specs.declared.standing.Look.{Look}
 use Rattle.nr_log_end.specs.declared.standing.Look.TheVariants.{Tail}
 use Rattle.nr_log_end.specs.declared.standing.Turn.TheVariants.{Applied, Ran}
-use Rattle.nr_log_end.specs.Standings.{passed_of, record_of}
+use Rattle.nr_log_end.specs.Standings.{opened_with, passed_of, record_of}
 use Rattle.nr_oplog.specs.declared.view.LogView.{LogView}
 use Rattle.nr_accounts.specs.Account.{fresh_account}
 use Rattle.nr_accounts.specs.Book.{with_batch, without_ended}
@@ -43,6 +43,13 @@ opened_node limit worker n =
       replica = record n.replica { members = n.replica.members ++ fresh_member (connection_at n.replica.node (length n.replica.members)) worker limit ∷ [] };
       book = record n.book { held = finmap.insert n.book.held (length n.replica.members) (fresh_account worker) };
     }
+
+-- so one was opened, and it is noted at the end of the log which worker serves it, by one load of the tail
+pub record HasOpened (limit worker : ℕ) (n m : NodeState) : Type 0 where
+  pub opened : m ≡ record (opened_node limit worker n) { seat = m.seat }
+  pub noted : m.seat.standing ≡ opened_with worker m.seat.standing.seen n.seat.standing
+  pub seen : n.seat.standing.seen ≤ m.seat.standing.seen
+  pub looks : m.seat.looks ≡ n.seat.looks ++ Tail m.seat.standing.seen ∷ []
 
 -- one was closed
 abbrev pub closed_node : ℕ → NodeState → NodeState

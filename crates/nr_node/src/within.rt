@@ -5,16 +5,16 @@ ghost use Rattle.std.specs.List.{AllByRecursion};
 ghost use Rattle.nr_entry.specs.Jobs.{connection_of, items_of};
 ghost use Rattle.nr_entry.specs.declared.entry.Entry.{Entry};
 ghost use Rattle.nr_entry.specs.declared.job.Job.{Job};
-ghost use Rattle.nr_log_end.specs.Standings.{passed_of};
+ghost use Rattle.nr_log_end.specs.Standings.{opened_of, passed_of};
 ghost use Rattle.nr_log_end.specs.Tries.{IsFull, IsLost};
 ghost use Rattle.nr_oplog.specs.Rule.{opening_view};
 ghost use Rattle.nr_replica.specs.Members.{next_ready};
-ghost use Rattle.nr_node.specs.Level.{connection_at, queue_at, is_closed_at};
+ghost use Rattle.nr_node.specs.Level.{connection_at, queue_at, is_closed_at, workers_of};
 ghost use Rattle.nr_node.specs.Batches.{AreSame, refusal, is_cut_at, IsOpened, IsPiece};
 ghost use Rattle.nr_node.specs.Collected.{IsHanded};
 ghost use Rattle.nr_node.specs.Owing.{answer_of, answered_node, IsServedBy, HasAllExecuted};
 ghost use Rattle.nr_node.specs.Sound.{IsSound};
-ghost use Rattle.nr_node.specs.Steps.{fresh_node, opened_node, closed_node, taken_node, refusing_node, is_due, HasReserved, GoesOnWaiting, HasNoneDue, HasFallen, GoesOnBy, HasRead, IsStill, HasHandedOut};
+ghost use Rattle.nr_node.specs.Steps.{fresh_node, closed_node, taken_node, refusing_node, is_due, HasOpened, HasReserved, GoesOnWaiting, HasNoneDue, HasFallen, GoesOnBy, HasRead, IsStill, HasHandedOut};
 
 use crate::advancing::catch_up;
 use crate::answers::{Looked, OpenError, Round, TakeError, take_error};
@@ -103,11 +103,13 @@ impl<B: LogName> Core<B> {
         self.replica.is_down()
     }
 
-    /// Opens a connection that one of the node's workers serves, for which at most `limit` bytes wait. Logarithmic.
+    /// Opens a connection that one of the node's workers serves, for which at most `limit` bytes wait, and notes at its end of the log which worker that is, by one
+    /// load. Logarithmic.
     pub fn open(&mut self, worker: u8, limit: usize) -> Result<ConnId, OpenError>
         requires { worker < length self.old.replica.owed }
         ensures conn { IfOk result (λ conn. connection_of conn ≡ connection_at self.old.replica.node (length self.old.replica.members)) }
-        ensures opened { OnOk result (self.new ≡ opened_node limit worker self.old) }
+        ensures node { IfOk result (λ conn. conn.node ≡ self.old.book.node) }
+        ensures opened { OnOk result (HasOpened limit worker self.old self.new) }
         ensures unchanged { OnErr result (self.new ≡ self.old) }
         ensures new { IfOk result (λ conn. finmap.get self.old.book.held conn.serial ≡ None) }
         ensures down { (result ≡ Err OpenError.Down) ↔ (self.old.replica.down ≡ true) }
@@ -120,7 +122,10 @@ impl<B: LogName> Core<B> {
             return Err(OpenError::Memory);
         }
         match self.replica.open(worker as usize, limit) {
-            Ok(conn) => Ok(conn),
+            Ok(conn) => {
+                self.end.note_opened(worker);
+                Ok(conn)
+            }
             Err(Memory) => {
                 self.accounts.forget(serial);
                 Err(OpenError::Memory)
@@ -374,6 +379,7 @@ impl<B: LogName> Core<B> {
         ensures kept { result.standing ≡ self.old.seat.standing }
         ensures sound { IsSound result.standing }
         ensures node { result.standing.node ≡ self.old.book.node }
+        ensures opened { workers_of self.old.replica.members ≡ opened_of result.standing.history }
         ensures same { IsStill self.old self.new }
     {
         self.end.token()

@@ -36,6 +36,10 @@ pub(crate) enum Act {
     Combines(Round),
     /// Whether the worker is told that what it handed in was executed, or nothing.
     IsTold(bool),
+    /// The worker is told that its node is down.
+    IsLost,
+    /// The next entry that the worker's node applies is refused, as where memory runs out.
+    Refuses,
     /// Just these bytes wait for the client, and are written.
     Gets(&'static [u8]),
     /// The same, and they are taken in byte by byte.
@@ -48,15 +52,15 @@ pub(crate) enum Act {
     Closes,
     /// A new client is served in the place of this one.
     Opens,
-    /// There is no room for another connection.
-    OpensNone,
+    /// No connection is opened, for this reason.
+    OpensNone(OpenError),
     /// So often the client's connection is closed, twice, and another one is opened.
     Reopens(u32),
 }
 
 impl<B: ServerName> Desk<B> {
     /// A worker with a client of a new connection.
-    pub(crate) fn new<R: Wait + Abort>(rt: &R, station: Station<B>) -> Desk<B> {
+    pub(crate) fn new<R: Wait + Abort>(rt: &R, mut station: Station<B>) -> Desk<B> {
         let client = station.open(rt).ok().expect(rt, "a connection is opened");
         Desk { station, client }
     }
@@ -78,13 +82,15 @@ impl<B: ServerName> Desk<B> {
             Act::HandsIn(sent) => self.hands_in(rt, sent),
             Act::Combines(round) => self.combines(rt, round),
             Act::IsTold(told) => self.is_told(rt, told),
+            Act::IsLost => self.is_lost(rt),
+            Act::Refuses => self.station.refuse(rt),
             Act::Gets(wanted) => self.gets(rt, wanted),
             Act::GetsEach(wanted) => self.gets_each(rt, wanted),
             Act::GetsLength(least, most) => self.gets_length(rt, least, most),
             Act::Asks(sent, wanted) => self.asks(rt, sent, wanted),
             Act::Closes => self.closes(rt),
             Act::Opens => self.opens(rt),
-            Act::OpensNone => self.opens_none(rt),
+            Act::OpensNone(why) => self.opens_none(rt, why),
             Act::Reopens(count) => self.reopens(rt, count),
         }
     }
@@ -136,6 +142,14 @@ impl<B: ServerName> Desk<B> {
             rt,
             "the batch is answered",
             self.station.collect() == wanted,
+        );
+    }
+
+    fn is_lost<R: Abort>(&mut self, rt: &R) {
+        holds(
+            rt,
+            "the batch is lost",
+            self.station.collect() == Some(false),
         );
     }
 
@@ -213,9 +227,9 @@ impl<B: ServerName> Desk<B> {
             .expect(rt, "a connection is opened");
     }
 
-    fn opens_none<R: Wait + Abort>(&mut self, rt: &R) {
+    fn opens_none<R: Wait + Abort>(&mut self, rt: &R, wanted: OpenError) {
         let why = self.station.open(rt).err();
-        holds(rt, "there is no room", why == Some(OpenError::TooMany));
+        holds(rt, "none is opened", why == Some(wanted));
     }
 
     fn reopens<R: Wait + Abort>(&mut self, rt: &R, count: u32) {

@@ -5,12 +5,12 @@ ghost use Rattle.nr_combiner.specs.Opened.{AreNamed, AreOfWorkers};
 
 use crate::asserted::{holds, same};
 use crate::desk::Act::{
-    Asks, Closes, Combines, Counts, Gets, GetsEach, GetsLength, HandsIn, IsTold, Opens, OpensNone,
-    Reopens, Sends, SendsEach, SendsMany,
+    Asks, Closes, Combines, Counts, Gets, GetsEach, GetsLength, HandsIn, IsLost, IsTold, Opens,
+    OpensNone, Refuses, Reopens, Sends, SendsEach, SendsMany,
 };
 use crate::desk::{Act, Desk};
 use nr_blob::int_text;
-use nr_combiner::{OpenedSlots, Plan, ServerName, open_slots};
+use nr_combiner::{Lifts, OpenError, OpenedSlots, Plan, ServerName, open_slots};
 use nr_held::{Client, Offered, Turn, stations};
 use nr_node::Round;
 use nr_oplog::Opened;
@@ -46,6 +46,17 @@ const TWO_NODES: Layout = Layout {
 const TWO_PLACES: Layout = Layout {
     places: 2,
     ..TWO_NODES
+};
+
+/// The same, where one connection of each is open at most.
+const ONE_EACH: Layout = Layout {
+    nodes: 2,
+    places: 4,
+    plan: Plan {
+        workers: 1,
+        connections: 1,
+        limit: 1 << 20,
+    },
 };
 
 /// Two nodes of a worker each, which has many connections, and sixteen megabytes for each. No entry of some 200 waits for its place.
@@ -107,6 +118,8 @@ enum Play<'a> {
     TurnsHandOut,
     /// A turn hands out for twenty connections at once.
     ManyAtOnce,
+    /// One of two nodes falls.
+    OneFalls,
 }
 
 // The workers of a log's nodes, each with a client.
@@ -153,6 +166,7 @@ fn perform<B: ServerName, R: Wait + Abort>(
         Play::PiecesAreRefused => refuse_pieces(rt, desks),
         Play::TurnsHandOut => hand_out(rt, desks),
         Play::ManyAtOnce => hand_out_to_many(rt, alloc, desks),
+        Play::OneFalls => one_falls(rt, desks),
     }
 }
 
@@ -246,7 +260,10 @@ fn refuse_pieces<B: ServerName, R: Wait + Abort>(rt: &R, desks: Vec<Desk<B>>) {
 
 // A turn in which all was done that was due, and so many pieces were handed out.
 fn turns<B: ServerName, R: Wait + Abort>(rt: &R, desk: &mut Desk<B>, pieces: usize) -> Turn<B> {
-    let turn = desk.station.turn(rt, 8).expect(rt, "a turn is taken");
+    let turn = desk
+        .station
+        .turn(rt, Lifts::All, 8)
+        .expect(rt, "a turn is taken");
     let turned = turn.turned;
     holds(rt, "all was done", turned.combined == Ok(Round::Done));
     holds(rt, "all was handed out", turned.collected.is_ok());
@@ -327,6 +344,30 @@ fn hand_out_to_many<B: ServerName, R: Wait + Abort>(rt: &R, alloc: Global, desks
     for (place, client) in others.iter().enumerate() {
         is_handed(rt, &turn, place.saturating_add(1), client, b"+PONG\r\n");
     }
+}
+
+// A node that fell answers so, opens nothing more, and passes what the other puts into the log, which so goes on through ten times its circle.
+fn one_falls<B: ServerName, R: Wait + Abort>(rt: &R, desks: Vec<Desk<B>>) {
+    let (mut fallen, mut other) = both(rt, desks);
+    fallen.does(rt, Refuses);
+    other.does(rt, Asks(b"SET k v\r\n", b"+OK\r\n"));
+    fallen.all(
+        rt,
+        &[
+            HandsIn(b"GET k\r\n"),
+            Combines(Round::Down),
+            IsLost,
+            Gets(b""),
+            OpensNone(OpenError::TooMany),
+            Closes,
+            OpensNone(OpenError::Down),
+        ],
+    );
+    for _ in 0..40 {
+        other.does(rt, Counts(1));
+        fallen.does(rt, Combines(Round::Down));
+    }
+    other.does(rt, Asks(b"GET n\r\n", b"$2\r\n40\r\n"));
 }
 
 /// SET and GET of a key.
@@ -466,13 +507,13 @@ fn closed_gives_room(rt: HostRuntime) {
         NARROW,
         Play::InTurn(&[
             (0, Reopens(100_000)),
-            (0, OpensNone),
+            (0, OpensNone(OpenError::TooMany)),
             (0, Asks(b"PING\r\nPING\r\n", b"+PONG\r\n+PONG\r\n")),
             (0, Sends(b"PING\r\n")),
             (0, Closes),
             (0, Gets(b"")),
             (0, Opens),
-            (0, OpensNone),
+            (0, OpensNone(OpenError::TooMany)),
             (0, Asks(b"PING\r\n", b"+PONG\r\n")),
         ]),
     );
@@ -504,6 +545,12 @@ fn turns_hand_out(rt: HostRuntime) {
 #[test]
 fn twenty_are_handed_out_at_once(rt: HostRuntime) {
     play_at(&rt, rt.alloc(), WIDE, Play::ManyAtOnce);
+}
+
+// A node falls, as where memory is refused for an entry, and the other one goes on.
+#[test]
+fn one_of_two_nodes_falls(rt: HostRuntime) {
+    play_at(&rt, rt.alloc(), ONE_EACH, Play::OneFalls);
 }
 
 // A reply of a megabyte and 12 bytes; 400 reads in one batch; an entry of 1,024 jobs, whose replies are `:1` to `:1024`; and a node that has 200 entries and more to apply

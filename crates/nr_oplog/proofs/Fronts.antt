@@ -1,11 +1,12 @@
 -- Lists and their beginnings, histories, and a node's own entries.
-use Rattle.std.proofs.Common.{◌≡◌, ◌≢◌, ℕ, zero, suc, ◌+◌, ◌≤◌, ◌==◌, Bool, true, false, cond, List, [], ◌∷◌, ◌++◌, length, take, drop, refl, sym, ap, ◌∙◌, subst, arith, append_assoc, append-nil, length-append, take-append-drop, eq-eqb, ne_eqb}
+use Rattle.std.proofs.Common.{◌≡◌, ◌≢◌, ℕ, zero, suc, ◌+◌, ◌≤◌, ◌==◌, Bool, true, false, cond, List, [], ◌∷◌, ◌++◌, length, map, take, drop, refl, sym, ap, ◌∙◌, subst, arith, append_assoc, append-nil, length-append, take-append-drop, eq-eqb, ne_eqb}
 use mathlib.Core.Option.{some, some-injective, some-ne-none}
 use lib.ListN.{get_elem?}
 use Rattle.nr_model.specs.Bytes.{IsBeginningOf}
 use Rattle.nr_entry.specs.declared.entry.Entry.{Entry}
+use Rattle.nr_entry.specs.declared.job.Job.{Job}
 use Rattle.nr_log_end.specs.declared.standing.Turn.{Turn}
-use Rattle.nr_log_end.specs.declared.standing.Turn.TheVariants.{Applied, Ran}
+use Rattle.nr_log_end.specs.declared.standing.Turn.TheVariants.{Applied, Ran, Opened}
 use Rattle.nr_log_end.specs.Standings.{applied_of, own_from}
 
 module _ {A : Type 0} where
@@ -52,6 +53,16 @@ pub applied_append : (xs ys : List Turn) → applied_of (xs ++ ys) ≡ applied_o
 applied_append [] ys = refl
 applied_append (Applied e ∷ xs) ys = ap (λ z. e ∷ z) (applied_append xs ys)
 applied_append (Ran j ∷ xs) ys = applied_append xs ys
+applied_append (Opened w ∷ xs) ys = applied_append xs ys
+
+-- reads are no entries
+pub none_passed : (jobs : List Job) → applied_of (map Ran jobs) ≡ []
+none_passed [] = refl
+none_passed (j ∷ js) = none_passed js
+
+-- what is no passing of an entry leaves those that were passed
+pub passed_still : (xs turns : List Turn) → applied_of turns ≡ [] → applied_of (xs ++ turns) ≡ applied_of xs
+passed_still xs turns none = applied_append xs turns ∙ ap (λ l. applied_of xs ++ l) none ∙ append-nil (applied_of xs)
 
 abbrev Own : Type 0
 Own = List (ℕ × Entry)

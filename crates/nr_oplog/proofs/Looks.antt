@@ -7,17 +7,15 @@ use lib.ListN.{get_elem?}
 use Rattle.atomic_table.specs.Table.{State, Me, keeps, step, Allows}
 use Rattle.nr_model.specs.Bytes.{IsBeginningOf}
 use Rattle.nr_entry.specs.declared.entry.Entry.{Entry}
-use Rattle.nr_entry.specs.declared.job.Job.{Job}
 use Rattle.nr_log_end.specs.declared.standing.Turn.{Turn}
-use Rattle.nr_log_end.specs.declared.standing.Turn.TheVariants.{Ran}
 use Rattle.nr_log_end.specs.Standings.{applied_of}
 use Rattle.nr_oplog.specs.declared.view.LogView.{LogView}
 use Rattle.nr_oplog.specs.Layout.{passed_word}
 use Rattle.nr_oplog.specs.Rule.{Share, Owns, SeatOk, LogRule}
-use Rattle.nr_oplog.specs.Plays.{with_tail, with_reads, with_passed, saw_tail, saw_tail_and_ran, saw_passed, compared}
+use Rattle.nr_oplog.specs.Plays.{with_tail, with_done, with_passed, saw_tail, saw_tail_and_did, saw_passed, compared}
 use Rattle.nr_oplog.specs.Seats.{IsOfNode}
 use Rattle.nr_oplog.specs.Law.{HoldsOfCounts}
-use Rattle.nr_oplog.proofs.Fronts.{begins_more, begins_both, applied_append}
+use Rattle.nr_oplog.proofs.Fronts.{begins_more, begins_both, passed_still}
 use Rattle.nr_entry.proofs.Changes.{change, at_change, change_here, change_else}
 use Rattle.nr_oplog.proofs.Seats.{each_set, apart_set, unmoved}
 
@@ -92,26 +90,19 @@ module _ (nodes places : ℕ) where
         ),
       )
 
-  -- a read behind what the seat's node did: its history goes on, what it has applied stays
-  module _ (id : ℕ) (m : Sat) (jobs : List Job) (mine : IsOfNode m.0 nodes places) (s : St) (r : LogRule nodes places s) (at : get_elem? s.views id ≡ some m.0) where
+  -- what is no passing of an entry, behind what the seat's node did: its history goes on, what it has applied stays
+  module _ (id : ℕ) (m : Sat) (turns : List Turn) (none : applied_of turns ≡ []) (mine : IsOfNode m.0 nodes places) (s : St) (r : LogRule nodes places s) (at : get_elem? s.views id ≡ some m.0) where
     abbrev node : ℕ
     node = m.0.standing.node
 
     abbrev n : ℕ
     n = get_or s.words 0 0
 
-    abbrev reads : List Turn
-    reads = map Ran jobs
-
-    no_entry : (js : List Job) → applied_of (map Ran js) ≡ []
-    no_entry [] = refl
-    no_entry (j ∷ js) = no_entry js
-
     abbrev w : LogView
-    w = with_reads jobs n m.0
+    w = with_done turns n m.0
 
     abbrev past : ℕ → List Turn
-    past = change r.past node (m.0.standing.history ++ reads)
+    past = change r.past node (m.0.standing.history ++ turns)
 
     has : Owns nodes places m.0 node
     has = (le_refl node, subst (λ z. node < z) (sym mine.2) (omega arith))
@@ -123,14 +114,14 @@ module _ (nodes places : ℕ) where
     whole = ((r.each_seat id m.0 at).owns node has).whole
 
     longer : (h : List Turn) (x : ℕ) → IsBeginningOf h (r.past x) → IsBeginningOf h (past x)
-    longer h x b = at_change r.past node (m.0.standing.history ++ reads) (λ y p. y ≡ x → IsBeginningOf h p) x
-        (λ e. begins_more h m.0.standing.history (reads) (subst (IsBeginningOf h) (ap r.past (sym e) ∙ whole) b)) (λ _ _. b) refl
+    longer h x b = at_change r.past node (m.0.standing.history ++ turns) (λ y p. y ≡ x → IsBeginningOf h p) x
+        (λ e. begins_more h m.0.standing.history turns (subst (IsBeginningOf h) (ap r.past (sym e) ∙ whole) b)) (λ _ _. b) refl
 
-    known_same : applied_of (m.0.standing.history ++ reads) ≡ applied_of m.0.standing.history
-    known_same = applied_append m.0.standing.history reads ∙ ap (λ l. applied_of m.0.standing.history ++ l) (no_entry jobs) ∙ append-nil (applied_of m.0.standing.history)
+    known_same : applied_of (m.0.standing.history ++ turns) ≡ applied_of m.0.standing.history
+    known_same = passed_still m.0.standing.history turns none
 
     same_applied : (x : ℕ) → r.applied x ≡ applied_of (past x)
-    same_applied x = at_change r.past node (m.0.standing.history ++ reads) (λ y p. r.applied y ≡ applied_of p) x
+    same_applied x = at_change r.past node (m.0.standing.history ++ turns) (λ y p. r.applied y ≡ applied_of p) x
         (r.applied_is node ∙ ap applied_of whole ∙ sym known_same) (λ _. r.applied_is x)
 
     others : (j : ℕ) (u : LogView) → j ≢ id → get_elem? s.views j ≡ some u → SeatOk nodes places r.log past r.applied r.phase u
@@ -141,7 +132,7 @@ module _ (nodes places : ℕ) where
       met = k.met;
       owns = λ x o. let b = k.owns x o in
           let away : x ≢ node = λ is. apart (r.apart j id u m.0 x e at o (subst (Owns nodes places m.0) (sym is) has)) in
-          record { there = b.there; shaped = b.shaped; whole = change_else r.past node (m.0.standing.history ++ reads) x away ∙ b.whole; own = b.own; holds = b.holds };
+          record { there = b.there; shaped = b.shaped; whole = change_else r.past node (m.0.standing.history ++ turns) x away ∙ b.whole; own = b.own; holds = b.holds };
       fills = k.fills;
     }
 
@@ -149,18 +140,18 @@ module _ (nodes places : ℕ) where
     me_too = let k = r.each_seat id m.0 at in record {
       part = (
         subst (λ l. IsBeginningOf (l ++ Rattle.std.specs.Prelude.option_to_list m.0.standing.held) r.log) (sym known_same) k.part.0,
-        subst (IsBeginningOf w.standing.history) (sym (change_here r.past node (m.0.standing.history ++ reads))) ([], append-nil w.standing.history),
+        subst (IsBeginningOf w.standing.history) (sym (change_here r.past node (m.0.standing.history ++ turns))) ([], append-nil w.standing.history),
       );
       told = (k.told.0, longer m.0.told.history m.0.told.node k.told.1);
       seen = le_of_eq r.tail_is;
       met = k.met;
       owns = λ x o. let b = k.owns x o in let is : x ≡ node = only x o in
-          record { there = b.there; shaped = b.shaped; whole = ap past is ∙ change_here r.past node (m.0.standing.history ++ reads); own = b.own; holds = b.holds };
+          record { there = b.there; shaped = b.shaped; whole = ap past is ∙ change_here r.past node (m.0.standing.history ++ turns); own = b.own; holds = b.holds };
       fills = k.fills;
     }
 
-    pub reads_kept : LogRule nodes places record { words = s.words; homes = s.homes; views = set s.views id w }
-    reads_kept = record {
+    pub done_kept : LogRule nodes places record { words = s.words; homes = s.homes; views = set s.views id w }
+    done_kept = record {
       log = r.log;
       past = past;
       applied = r.applied;
@@ -176,13 +167,13 @@ module _ (nodes places : ℕ) where
       apart = apart_set nodes places s.views id m.0 w at (λ _ o. o) r.apart;
     }
 
-  pub runs : (slots id : ℕ) (m : Sat) (jobs : List Job) → IsOfNode m.0 nodes places → Allows (LogRule nodes places) slots id m 0 (λ k. k) (saw_tail_and_ran jobs m)
-  runs slots id m jobs mine s r wide at small =
-      let n : ℕ = get_or s.words 0 0 in let w : LogView = with_reads jobs n m.0 in (
+  pub does : (slots id : ℕ) (m : Sat) (turns : List Turn) → applied_of turns ≡ [] → IsOfNode m.0 nodes places → Allows (LogRule nodes places) slots id m 0 (λ k. k) (saw_tail_and_did turns m)
+  does slots id m turns none mine s r wide at small =
+      let n : ℕ = get_or s.words 0 0 in let w : LogView = with_done turns n m.0 in (
         w,
         keeps,
         tt,
-        subst (λ (ws : List ℕ). LogRule nodes places record { words = ws; homes = s.homes; views = set s.views id w }) (sym (lib.Seq.set-get_or s.words 0 0)) (reads_kept id m jobs mine s r at),
+        subst (λ (ws : List ℕ). LogRule nodes places record { words = ws; homes = s.homes; views = set s.views id w }) (sym (lib.Seq.set-get_or s.words 0 0)) (done_kept id m turns none mine s r at),
         (refl, refl, subst (λ z. m.0.standing.seen ≤ z) (sym r.tail_is) (r.each_seat id m.0 at).seen),
       )
 

@@ -3,10 +3,10 @@ use Rattle.std.proofs.Common.{◌≡◌, ℕ, zero, suc, ◌+◌, ◌^◌, ◌<�
 use Rattle.std.specs.Arc.{arc_value}
 use Rattle.atomic_table.specs.Table.{Me, rest}
 use Rattle.nr_entry.specs.declared.entry.Entry.{Entry}
-use Rattle.nr_entry.specs.declared.job.Job.{Job}
 use Rattle.nr_entry.specs.Shares.{shares_of}
 use Rattle.nr_log_end.specs.declared.standing.Standing.{Standing}
-use Rattle.nr_log_end.specs.declared.standing.Turn.TheVariants.{Applied, Ran}
+use Rattle.nr_log_end.specs.declared.standing.Turn.{Turn}
+use Rattle.nr_log_end.specs.declared.standing.Turn.TheVariants.{Applied}
 use Rattle.nr_log_end.specs.declared.reserve.Reserve.{Reserve}
 use Rattle.nr_log_end.specs.declared.reserve.Reserve.TheVariants.{Taken, Full, Lost}
 use Rattle.nr_log_end.specs.Reserves.{IfTaken, IfFull, IfLost}
@@ -16,11 +16,11 @@ use Rattle.nr_log_end.specs.declared.standing.Look.{Look}
 use Rattle.nr_log_end.specs.declared.standing.Look.TheVariants.{Tail, Passed}
 use Rattle.nr_oplog.specs.Layout.{slot_of}
 use Rattle.nr_oplog.specs.Rule.{Share}
-use Rattle.nr_oplog.specs.Plays.{with_reads}
+use Rattle.nr_oplog.specs.Plays.{with_done}
 use Rattle.nr_oplog.specs.Seats.{CountsOf, IsBehind}
 use Rattle.nr_log_end.specs.Tries.{IsTaken, IsFull, IsLost, most_entries}
 use Rattle.nr_oplog.specs.Calls.{IsSeated, LooksAtTail, OnlyCounts}
-use Rattle.nr_oplog.proofs.Fronts.{applied_append}
+use Rattle.nr_oplog.proofs.Fronts.{applied_append, passed_still}
 
 abbrev Sat : Type 0
 Sat = Me (Option Share) LogView
@@ -34,19 +34,15 @@ pub first_share : (entry : Entry) (nodes : ℕ) → 0 < nodes → get_or (shares
 first_share entry zero h = absurd (omega arith)
 first_share entry (suc n) h = refl
 
-no_entry : (js : List Job) → applied_of (map Ran js) ≡ []
-no_entry [] = refl
-no_entry (j ∷ js) = no_entry js
-
--- reads change the history and the tail that was seen alone
-pub seated_read : (m m' : Sat) (jobs : List Job) (n node passed : ℕ) (held : Bool) (seen at : ℕ) (shares : List (Option Entry)) (least : ℕ) → IsSeated m node passed held seen at shares least → m' ≡ (with_reads jobs n m.0, m.1)
+-- what is no passing of an entry changes the history and the tail that was seen alone
+pub seated_done : (m m' : Sat) (turns : List Turn) → applied_of turns ≡ [] → (n node passed : ℕ) (held : Bool) (seen at : ℕ) (shares : List (Option Entry)) (least : ℕ) → IsSeated m node passed held seen at shares least → m' ≡ (with_done turns n m.0, m.1)
     → IsSeated m' node passed held n at shares least
-seated_read m m' jobs n node passed held seen at shares least s is = subst (λ z. IsSeated z node passed held n at shares least) (sym is) record {
+seated_done m m' turns none n node passed held seen at shares least s is = subst (λ z. IsSeated z node passed held n at shares least) (sym is) record {
   node_is = s.node_is;
   upto_is = s.upto_is;
   below = s.below;
   idle = s.idle;
-  passed_is = ap length (applied_append m.0.standing.history (map Ran jobs) ∙ ap (λ l. applied_of m.0.standing.history ++ l) (no_entry jobs) ∙ append-nil (applied_of m.0.standing.history)) ∙ s.passed_is;
+  passed_is = ap length (passed_still m.0.standing.history turns none) ∙ s.passed_is;
   held_is = s.held_is;
   slots = s.slots;
   few = s.few;

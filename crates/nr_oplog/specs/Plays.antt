@@ -7,9 +7,8 @@ use Rattle.nr_model.specs.Bytes.{IsBeginningOf}
 use Rattle.nr_entry.specs.declared.entry.Entry.{Entry}
 use Rattle.nr_entry.specs.Shares.{shares_of}
 use Rattle.nr_log_end.specs.declared.standing.Standing.{Standing}
-use Rattle.nr_log_end.specs.declared.standing.Turn.TheVariants.{Ran}
-use Rattle.nr_entry.specs.declared.job.Job.{Job}
-use Rattle.nr_log_end.specs.Standings.{known_of, passed_of, StandsInLog, reserved_as, filled_for, fetched_with, passed_on}
+use Rattle.nr_log_end.specs.declared.standing.Turn.{Turn}
+use Rattle.nr_log_end.specs.Standings.{done_with, known_of, passed_of, StandsInLog, reserved_as, filled_for, fetched_with, passed_on}
 use Rattle.nr_oplog.specs.declared.view.LogView.{LogView}
 use Rattle.nr_log_end.specs.declared.standing.Look.TheVariants.{Tail, Passed}
 use Rattle.nr_oplog.specs.Layout.{passed_word, stamp_word, slot_of}
@@ -25,9 +24,9 @@ At = Step (Option Share)
 abbrev pub with_tail : ℕ → LogView → LogView
 with_tail n v = record v { standing = record v.standing { seen = n }; looks = v.looks ++ Tail n ∷ [] }
 
--- the tail was loaded, and these reads are noted that the node ran
-abbrev pub with_reads : List Job → ℕ → LogView → LogView
-with_reads jobs n v = record v { standing = record v.standing { seen = n; history = v.standing.history ++ map Ran jobs }; looks = v.looks ++ Tail n ∷ [] }
+-- the tail was loaded, and this is noted that the node did
+abbrev pub with_done : List Turn → ℕ → LogView → LogView
+with_done turns n v = record v { standing = done_with turns n v.standing; looks = v.looks ++ Tail n ∷ [] }
 
 -- a node's passed count was loaded, and is n
 abbrev pub with_passed : ℕ → ℕ → LogView → LogView
@@ -36,8 +35,8 @@ with_passed node n v = record v { met = slice_set v.met node n; looks = v.looks 
 abbrev pub saw_tail : Sat → ℕ → Sat → Type 0
 saw_tail m n m' = (m'.1 ≡ m.1) × (m'.0 ≡ with_tail n m.0) × (m.0.standing.seen ≤ n)
 
-abbrev pub saw_tail_and_ran : List Job → Sat → ℕ → Sat → Type 0
-saw_tail_and_ran jobs m n m' = (m'.1 ≡ m.1) × (m'.0 ≡ with_reads jobs n m.0) × (m.0.standing.seen ≤ n)
+abbrev pub saw_tail_and_did : List Turn → Sat → ℕ → Sat → Type 0
+saw_tail_and_did turns m n m' = (m'.1 ≡ m.1) × (m'.0 ≡ with_done turns n m.0) × (m.0.standing.seen ≤ n)
 
 abbrev pub saw_passed : At → Sat → ℕ → Sat → Type 0
 saw_passed st m n m' = (m'.1 ≡ m.1) × ((node : ℕ) → st.word ≡ passed_word node → (m'.0 ≡ with_passed node n m.0) × (slice_index m.0.met node ≤ n)

@@ -90,6 +90,10 @@ impl<B: LogName> LogEnd for End<B> {
         self.seat.note(&self.log, jobs);
     }
 
+    fn note_opened(&mut self, worker: u8) {
+        self.seat.note_opened(&self.log, worker);
+    }
+
     fn token(&mut self) -> Token<B> {
         self.seat.token(&self.log)
     }

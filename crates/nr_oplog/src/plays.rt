@@ -1,9 +1,9 @@
 // What each step tells its seat. These types are for the proofs alone.
-ghost use Rattle.nr_oplog.specs.Plays.{saw_tail, saw_tail_and_ran, saw_passed, claimed, took_to_fill, filled, looked_for_next, passed_next, compared, adopted, node_left, node_right, token_view, with_told, nobody};
+ghost use Rattle.nr_oplog.specs.Plays.{saw_tail, saw_tail_and_did, saw_passed, claimed, took_to_fill, filled, looked_for_next, passed_next, compared, adopted, node_left, node_right, token_view, with_told, nobody};
 
 use crate::view::LogView;
 use atomic_table::{Join, Play, Split};
-use nr_entry::{Entry, Job};
+use nr_entry::Entry;
 use std::alloc::Global;
 use std::marker::{Brand, PhantomData};
 use std::sync::Arc;
@@ -14,26 +14,26 @@ impl Play<Option<Arc<Entry, Global>>, LogView> for SeeTail {
     ghost then = { λ _. saw_tail };
 }
 
-/// Names the reads that were run.
-pub trait RanJobs {
+/// Names what was done.
+pub trait DoneTurns {
     ghost use Rattle.std.specs.Prelude.{List};
-    ghost use Rattle.nr_entry.specs.declared.job.Job.{Job};
+    ghost use Rattle.nr_log_end.specs.declared.standing.Turn.{Turn};
 
-    ghost jobs: { List Job };
+    ghost turns: { List Turn };
 }
 
-impl RanJobs for Brand {
+impl DoneTurns for Brand {
     ghost use Rattle.std.specs.Prelude.{[]};
 
-    ghost jobs = { [] };
+    ghost turns = { [] };
 }
 
-pub(crate) struct SeeTailAndRun<J> {
-    marker: PhantomData<J>,
+pub(crate) struct SeeTailAndDo<T> {
+    marker: PhantomData<T>,
 }
 
-impl<J: RanJobs> Play<Option<Arc<Entry, Global>>, LogView> for SeeTailAndRun<J> {
-    ghost then = { λ _. saw_tail_and_ran J.jobs };
+impl<T: DoneTurns> Play<Option<Arc<Entry, Global>>, LogView> for SeeTailAndDo<T> {
+    ghost then = { λ _. saw_tail_and_did T.turns };
 }
 
 pub(crate) struct SeePassed;

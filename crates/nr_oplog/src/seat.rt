@@ -1,17 +1,18 @@
 // A node's seat at the log.
-ghost use Rattle.std.specs.Prelude.{ℕ, ◌≡◌, ◌∷◌, ◌≢◌, ◌+◌, ◌^◌, ◌<◌, ◌≤◌, ◌++◌, [], length, slice_index, slice_index_or, IfSome, IfNone, IsSome, None};
+ghost use Rattle.std.specs.Prelude.{ℕ, ◌≡◌, ◌∷◌, ◌≢◌, ◌+◌, ◌^◌, ◌<◌, ◌≤◌, ◌++◌, [], length, map, slice_index, slice_index_or, IfSome, IfNone, IsSome, None};
 ghost use Rattle.std.specs.Bool.{OnTrue, OnFalse};
 ghost use Rattle.std.specs.Arc.{arc_value};
 ghost use Rattle.nr_log_end.specs.Reserves.{IfTaken, IfFull, IfLost};
 ghost use Rattle.nr_log_end.specs.Tries.{IsTaken, IsFull, IsLost};
-ghost use Rattle.nr_log_end.specs.Standings.{IsSharesFor, IsAllFilled, StandsInLog, passed_of, reserved_as, filled_for, fetched_with, passed_on, noted_with};
+ghost use Rattle.nr_log_end.specs.Standings.{IsSharesFor, IsAllFilled, StandsInLog, passed_of, reserved_as, filled_for, fetched_with, passed_on, noted_with, opened_with};
+ghost use Rattle.nr_log_end.specs.declared.standing.Turn.TheVariants.{Ran, Opened};
 ghost use Rattle.nr_oplog.specs.Rule.{opening_view};
-ghost use Rattle.nr_oplog.specs.Plays.{with_reads};
+ghost use Rattle.nr_oplog.specs.Plays.{with_done};
 ghost use Rattle.nr_oplog.specs.Seats.{IsBehind};
 ghost use Rattle.nr_oplog.specs.Calls.{LooksAtTail, OnlyCounts, LoadsCounts, IsLeastOf};
 
 use crate::log::{LogName, Oplog};
-use crate::plays::RanJobs;
+use crate::plays::DoneTurns;
 use crate::token::Token;
 use crate::view::LogSlotSeat;
 use nr_entry::{Entry, Job, Shares};
@@ -197,12 +198,29 @@ impl<B: LogName> LogSeat<B> {
         self.note_named::<Brand>(log, jobs);
     }
 
-    fn note_named<J: RanJobs>(&mut self, log: &Oplog<B>, jobs: &[Job])
-        requires { jobs.now ≡ J.jobs }
-        ensures noted { self.new ≡ with_reads jobs.now self.new.standing.seen self.old }
+    fn note_named<T: DoneTurns>(&mut self, log: &Oplog<B>, jobs: &[Job])
+        requires { T.turns ≡ map Ran jobs.now }
+        ensures noted { self.new ≡ with_done (map Ran jobs.now) self.new.standing.seen self.old }
         ensures seen { self.old.standing.seen ≤ self.new.standing.seen }
     {
-        self.seen = log.load_tail_and_run::<J>(&mut self.seat);
+        self.seen = log.load_tail_and_do::<T>(&mut self.seat);
+    }
+
+    /// Notes that this node opened its next connection, which a worker serves: one load of the tail.
+    pub fn note_opened(&mut self, log: &Oplog<B>, worker: u8)
+        ensures opened { self.new.standing ≡ opened_with worker self.new.standing.seen self.old.standing }
+        ensures seen { self.old.standing.seen ≤ self.new.standing.seen }
+        ensures looks { self.new.looks ≡ self.old.looks ++ Look.Tail self.new.standing.seen ∷ [] }
+    {
+        self.note_opened_named::<Brand>(log, worker);
+    }
+
+    fn note_opened_named<T: DoneTurns>(&mut self, log: &Oplog<B>, worker: u8)
+        requires { T.turns ≡ Opened worker ∷ [] }
+        ensures opened { self.new ≡ with_done (Opened worker ∷ []) self.new.standing.seen self.old }
+        ensures seen { self.old.standing.seen ≤ self.new.standing.seen }
+    {
+        self.seen = log.load_tail_and_do::<T>(&mut self.seat);
     }
 
     /// A token that keeps how this node stands now: one load of the tail.

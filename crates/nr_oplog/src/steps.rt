@@ -3,18 +3,18 @@ ghost use Rattle.std.specs.Prelude.{ℕ, List, ◌≡◌, ◌≢◌, ◌+◌, �
 ghost use Rattle.std.specs.Arc.{arc_value};
 ghost use Rattle.atomic_table.specs.Table.{rest};
 ghost use Rattle.nr_entry.specs.Shares.{shares_of};
-ghost use Rattle.nr_log_end.specs.Standings.{passed_of, IsAllFilled, StandsInLog, reserved_as, filled_for, fetched_with, passed_on};
+ghost use Rattle.nr_log_end.specs.Standings.{applied_of, passed_of, IsAllFilled, StandsInLog, reserved_as, filled_for, fetched_with, passed_on};
 ghost use Rattle.nr_log_end.specs.declared.standing.Look.{Look};
 ghost use Rattle.nr_oplog.specs.Layout.{passed_word, stamp_word, slot_of, words_of, slots_of};
-ghost use Rattle.nr_oplog.specs.Plays.{with_tail, with_reads, with_passed, token_view, with_told, with_look, with_later, AreOfOneLog};
+ghost use Rattle.nr_oplog.specs.Plays.{with_tail, with_done, with_passed, token_view, with_told, with_look, with_later, AreOfOneLog};
 ghost use Rattle.nr_oplog.specs.Calls.{LoadsCounts, IsLeastOf};
 ghost use Rattle.nr_oplog.specs.Rule.{opening_view};
 ghost use Rattle.nr_oplog.specs.Seats.{IsSameSeat, IsOfNode, HasShareFor, CountsOf, IsBehind};
 
 use crate::log::{LogName, Oplog};
 use crate::plays::{
-    Adopt, Claim, Compare, Fill, Keep, LookForNext, NextNode, PassNext, RanJobs, SeePassed,
-    SeeTail, SeeTailAndRun, TakeToFill, Tell,
+    Adopt, Claim, Compare, DoneTurns, Fill, Keep, LookForNext, NextNode, PassNext, SeePassed,
+    SeeTail, SeeTailAndDo, TakeToFill, Tell,
 };
 use crate::view::{LogSlotSeat, Share};
 use nr_entry::Entry;
@@ -51,14 +51,15 @@ impl<B: LogName> Oplog<B> {
         self.table.shared.load::<SeeTail>(seat, 0)
     }
 
-    // Loads the tail, and notes the reads that the seat's node ran.
-    pub(crate) fn load_tail_and_run<J: RanJobs>(&self, seat: &mut LogSlotSeat) -> u64
-        requires { (seat.old.table_id ≡ B.log) × IsOfNode seat.old.me.0 self.now.table.shared.key.nodes self.now.table.shared.key.places }
+    // Loads the tail, and notes what the seat's node did, which is no passing of an entry.
+    pub(crate) fn load_tail_and_do<T: DoneTurns>(&self, seat: &mut LogSlotSeat) -> u64
+        requires seat { (seat.old.table_id ≡ B.log) × IsOfNode seat.old.me.0 self.now.table.shared.key.nodes self.now.table.shared.key.places }
+        requires none { applied_of T.turns ≡ [] }
         ensures seat { IsSameSeat seat.old seat.new }
-        ensures view { seat.new.me ≡ (with_reads J.jobs result seat.old.me.0, seat.old.me.1) }
+        ensures view { seat.new.me ≡ (with_done T.turns result seat.old.me.0, seat.old.me.1) }
         ensures greater { seat.old.me.0.standing.seen ≤ result }
     {
-        self.table.shared.load::<SeeTailAndRun<J>>(seat, 0)
+        self.table.shared.load::<SeeTailAndDo<T>>(seat, 0)
     }
 
     // Loads a node's passed count.

@@ -14,7 +14,7 @@ use Rattle.nr_entry.specs.Jobs.{item_of, items_of}
 use Rattle.nr_entry.specs.declared.entry.Entry.{Entry}
 use Rattle.nr_entry.specs.declared.job.Job.{Job}
 use Rattle.nr_log_end.specs.declared.standing.Turn.{Turn}
-use Rattle.nr_log_end.specs.declared.standing.Turn.TheVariants.{Applied, Ran}
+use Rattle.nr_log_end.specs.declared.standing.Turn.TheVariants.{Applied, Ran, Opened}
 use Rattle.nr_log_end.specs.Standings.{applied_of, ran_from, record_of}
 use Rattle.nr_taps.specs.Sequence.{AreRun, logged_of, reads_by, ran_items}
 
@@ -23,12 +23,14 @@ abbrev pub leading : List Turn → List Job
 leading [] = []
 leading (Applied entry ∷ turns) = []
 leading (Ran job ∷ turns) = job ∷ leading turns
+leading (Opened worker ∷ turns) = leading turns
 
 -- what it did behind that entry
 abbrev pub behind : List Turn → List Turn
 behind [] = []
 behind (Applied entry ∷ turns) = turns
 behind (Ran job ∷ turns) = behind turns
+behind (Opened worker ∷ turns) = behind turns
 
 -- what the nodes of lower numbers ran behind so many entries, before the first entry of these pasts
 abbrev pub runs_below : ℕ → ℕ → (ℕ → List Turn) → List Taken
@@ -104,11 +106,13 @@ abbrev record_behind : List Turn → List Item
 record_behind [] = []
 record_behind (Applied entry ∷ turns) = entry_items (items_of entry.jobs.items) ++ record_of turns
 record_behind (Ran job ∷ turns) = record_behind turns
+record_behind (Opened worker ∷ turns) = record_behind turns
 
 record_apart : (turns : List Turn) → items_of (leading turns) ++ record_behind turns ≡ record_of turns
 record_apart [] = refl
 record_apart (Applied entry ∷ turns) = refl
 record_apart (Ran job ∷ turns) = ap (λ (items : List Item). item_of job ∷ items) (record_apart turns)
+record_apart (Opened worker ∷ turns) = record_apart turns
 
 first_entry : Entry → List Entry → Entry
 first_entry d [] = d
@@ -123,6 +127,7 @@ none_behind : (turns : List Turn) → IsBeginningOf (applied_of turns) [] → re
 none_behind [] b = refl
 none_behind (Applied entry ∷ turns) b = absurd (cc b.1)
 none_behind (Ran job ∷ turns) b = none_behind turns b
+none_behind (Opened worker ∷ turns) b = none_behind turns b
 
 -- else it is of the next entry, and of what was done behind that
 next_behind : (turns : List Turn) (entry : Entry) (log : List Entry) (more : List Item) → IsBeginningOf (applied_of turns) (entry ∷ log)
@@ -133,11 +138,13 @@ next_behind (Applied first ∷ turns) entry log more b c =
     subst (λ (e : Entry). IsBeginningOf (entry_items (items_of first.jobs.items) ++ record_of turns) (entry_items (items_of e.jobs.items) ++ more)) same
     (front_begins (entry_items (items_of first.jobs.items)) (record_of turns) more c)
 next_behind (Ran job ∷ turns) entry log more b c = next_behind turns entry log more b c
+next_behind (Opened worker ∷ turns) entry log more b c = next_behind turns entry log more b c
 
 later_begins : (turns : List Turn) (entry : Entry) (log : List Entry) → IsBeginningOf (applied_of turns) (entry ∷ log) → IsBeginningOf (applied_of (behind turns)) log
 later_begins [] entry log b = none_begins log
 later_begins (Applied first ∷ turns) entry log b = (b.0, cc b.1)
 later_begins (Ran job ∷ turns) entry log b = later_begins turns entry log b
+later_begins (Opened worker ∷ turns) entry log b = later_begins turns entry log b
 
 -- the record of a node begins its part
 pub woven_part : (r count upto : ℕ) (past : ℕ → List Turn) (log : List Entry) → r < upto → IsBeginningOf (applied_of (past r)) log
@@ -169,11 +176,13 @@ leading_read : (node count : ℕ) (turns : List Turn) → IsReader node count tu
 leading_read node count [] all = tt
 leading_read node count (Applied entry ∷ turns) all = tt
 leading_read node count (Ran job ∷ turns) all = (all.0, leading_read node count turns all.1)
+leading_read node count (Opened worker ∷ turns) all = leading_read node count turns all
 
 later_read : (node count : ℕ) (turns : List Turn) → IsReader node count turns → IsReader node (suc count) (behind turns)
 later_read node count [] all = tt
 later_read node count (Applied entry ∷ turns) all = all
 later_read node count (Ran job ∷ turns) all = later_read node count turns all.1
+later_read node count (Opened worker ∷ turns) all = later_read node count turns all
 
 runs_run : (count upto : ℕ) (past : ℕ → List Turn) (more : List Taken) → ((node : ℕ) → IsReader node count (past node)) → AreRun more
     → AreRun (runs_below count upto past ++ more)
@@ -234,11 +243,13 @@ leads_and_behind : (turns : List Turn) → items_of (leading turns) ++ ran_items
 leads_and_behind [] = refl
 leads_and_behind (Applied entry ∷ turns) = refl
 leads_and_behind (Ran job ∷ turns) = ap (λ (items : List Item). item_of job ∷ items) (leads_and_behind turns)
+leads_and_behind (Opened worker ∷ turns) = leads_and_behind turns
 
 none_ran_behind : (turns : List Turn) → IsBeginningOf (applied_of turns) [] → ran_items (behind turns) ≡ []
 none_ran_behind [] b = refl
 none_ran_behind (Applied entry ∷ turns) b = absurd (cc b.1)
 none_ran_behind (Ran job ∷ turns) b = none_ran_behind turns b
+none_ran_behind (Opened worker ∷ turns) b = none_ran_behind turns b
 
 -- the reads of a node in it are all that it ran
 pub woven_reads : (r count upto : ℕ) (past : ℕ → List Turn) (log : List Entry) → r < upto → IsBeginningOf (applied_of (past r)) log

@@ -9,7 +9,7 @@ use Rattle.nr_entry.specs.Jobs.{item_of, items_of}
 use Rattle.nr_entry.specs.declared.entry.Entry as entries
 use Rattle.nr_log_end.specs.declared.standing.Standing.{Standing}
 use Rattle.nr_log_end.specs.declared.standing.Turn.{Turn}
-use Rattle.nr_log_end.specs.declared.standing.Turn.TheVariants.{Applied, Ran}
+use Rattle.nr_log_end.specs.declared.standing.Turn.TheVariants.{Applied, Ran, Opened}
 use Rattle.nr_log_end.specs.Standings.{record_of, known_of}
 use Rattle.nr_accounts.specs.Held.{numbers_in}
 use Rattle.nr_oplog.specs.Plays.{AreOfOneLog}
@@ -62,6 +62,7 @@ abbrev pub ran_items : List Turn → Sequence
 ran_items [] = []
 ran_items (Applied entry ∷ turns) = ran_items turns
 ran_items (Ran job ∷ turns) = item_of job ∷ ran_items turns
+ran_items (Opened worker ∷ turns) = ran_items turns
 
 -- these are the reads that one of these standings of a node ran, or none
 abbrev pub AreReadsOf : List Standing → ℕ → Sequence → Type 0

@@ -22,9 +22,9 @@ use Rattle.nr_combiner.specs.Served.{ComesFrom}
 use Rattle.nr_taps.specs.Sequence.{AreRun, IsExplainedBy, sequence_of}
 use Rattle.nr_taps.proofs.Explains.{begins_filter, one_sequence, own_in_part}
 use Rattle.nr_taps.specs.Sequence.{AreAllOfOneLog}
-use Rattle.nr_worker.specs.Desk.{asked_of, AreAsked, DeskState, IsLed, IsPosted, IsServedAt, Served, history_of}
-use Rattle.nr_worker.specs.Law.{AreAnswered, IsAnswered, marks_of}
-use Rattle.nr_worker.proofs.Lists.{all_own, all_weaker, are_asked, posted_at}
+use Rattle.nr_worker.specs.Desk.{asked_of, AreAsked, ArePosted, DeskState, IsLed, IsPosted, IsServedAt, Served, history_of}
+use Rattle.nr_worker.specs.Law.{AreAnswered, IsAnswered, IsPartOf, marks_of}
+use Rattle.nr_worker.proofs.Lists.{no_front, all_own, all_weaker, are_asked, posted_at}
 
 -- each item of a connection in a record comes from what the connection asked for
 comes_from : (d : DeskState) (x : Served) (job : Item) → IsServedAt d x → job.connection ≡ x.connection → IsPosted d.posted job → ComesFrom job (asked_of x)
@@ -47,7 +47,7 @@ front_counts c front whole b counts =
 -- by a mark
 answered_by : (taken : List Taken) (d : DeskState) (x : Served) (s : Standing) (history : List Turn) → AreRun taken → IsExplainedBy taken s → IsSound s → s.node ≡ d.node
     → IsServedAt d x → IsBeginningOf history s.history → IsBeginningOf x.handed (emitted_for x.connection (record_of history))
-    → AllByRecursion (λ (job : Item). job.connection ≡ x.connection → IsPosted d.posted job) (record_of history) → IsAnswered taken x
+    → ArePosted d.posted x.connection (record_of history) → IsAnswered taken x
 answered_by taken d x s history run explained sound node k kept begins jobs =
     let c = x.connection in
     let done = record_of history in
@@ -74,10 +74,6 @@ answered_by taken d x s history run explained sound node k kept begins jobs =
           (all_weaker (λ (job : Item). job.connection ≡ c → IsPosted d.posted job) (λ (job : Item). job.connection ≡ c → ComesFrom job (asked_of x))
           (λ job p is. comes_from d x job k is (p is)) done jobs));
     }
-
-no_front : (x y : List Turn) → x ++ y ≡ [] → x ≡ []
-no_front [] y e = refl
-no_front (t ∷ x) y e = absurd (cc e)
 
 -- where there is none, nothing was handed out
 answered_not : (taken : List Taken) (x : Served) (history : List Turn) → history ≡ [] → IsBeginningOf x.handed (emitted_for x.connection (record_of history)) → IsAnswered taken x
@@ -126,7 +122,24 @@ each_answered taken (d ∷ desks) run all explained =
       each_answered taken desks run all.1 both.1,
     )
 
+-- each mark's record is the first of its node's part
+part_at : (taken : List Taken) (d : DeskState) (mark : Option Standing) → d.mark ≡ mark → IfSome mark (IsExplainedBy taken)
+    → IfSome mark (λ (s : Standing). IsSound s × (s.node ≡ d.node)) → IsPartOf taken d
+part_at taken d None is explained sound =
+    subst (λ (m : Option Standing). IsBeginningOf (record_of (history_of m)) (part_from d.node (length (log_of taken)) taken)) (sym is)
+    (none_begins (part_from d.node (length (log_of taken)) taken))
+part_at taken d (Some s) is explained sound =
+    subst (λ (m : Option Standing). IsBeginningOf (record_of (history_of m)) (part_from d.node (length (log_of taken)) taken)) (sym is)
+    (subst (λ (n : ℕ). IsBeginningOf (record_of s.history) (part_from n (length (log_of taken)) taken)) sound.1 explained.part)
+
+each_part : (taken : List Taken) (desks : List DeskState) → AllByRecursion IsLed desks → AllByRecursion (IsExplainedBy taken) (marks_of desks)
+    → AllByRecursion (IsPartOf taken) desks
+each_part taken [] all explained = tt
+each_part taken (d ∷ desks) all explained =
+    let both = split (IsExplainedBy taken) d.mark (marks_of desks) explained in
+    (part_at taken d d.mark refl both.0 all.0.sound, each_part taken desks all.1 both.1)
+
 pub are_answered : (desks : List DeskState) → AllByRecursion IsLed desks → AreAllOfOneLog (marks_of desks) → AreAnswered desks
 are_answered desks all one_log =
     let one = one_sequence (marks_of desks) (sound_all desks all) one_log in
-    record { taken = one.0; run = one.1; each = each_answered one.0 desks one.1 all one.2; log = one.3; reads = one.4 }
+    record { taken = one.0; run = one.1; each = each_answered one.0 desks one.1 all one.2; parts = each_part one.0 desks all one.2; log = one.3; reads = one.4 }

@@ -1,7 +1,8 @@
 -- What holds of a worker goes on to hold, whatever step it takes.
-use Rattle.std.proofs.Common.{◌≡◌, ℕ, Bool, ◌+◌, ◌<◌, ◌≤◌, inl, inr, List, [], ◌∷◌, ◌++◌, length, drop, Contains, Option, Some, None, refl, ap, sym, ◌∙◌, subst, arith}
+use Rattle.std.proofs.Common.{◌≡◌, ℕ, Bool, ◌+◌, ◌<◌, ◌≤◌, inl, inr, List, [], ◌∷◌, ◌++◌, length, drop, get_or, Contains, Option, Some, None, refl, ap, sym, ◌∙◌, subst, arith}
 use Rattle.std.specs.Prelude.{◌≢◌, IfSome}
 use Rattle.std.specs.List.{AllByRecursion}
+use Rattle.std.proofs.lemmas.List.{append-nil, get_or_append_left, length-append}
 use Rattle.std.proofs.lemmas.List.Elements.{Contains-append_cases, Contains-append_left, Contains-append_right}
 use Rattle.nr_model.specs.Bytes.{Bytes, IsBeginningOf}
 use Rattle.nr_model.specs.Items.{Connection, Item, Sequence}
@@ -16,27 +17,117 @@ use Rattle.nr_entry.specs.Jobs.{connection_of, items_of}
 use Rattle.nr_entry.specs.declared.batch.Batch.{Batch}
 use Rattle.nr_log_end.specs.declared.standing.Standing.{Standing}
 use Rattle.nr_log_end.specs.declared.standing.Turn.{Turn}
-use Rattle.nr_log_end.specs.Standings.{items_of_turn, record_of}
+use Rattle.nr_log_end.specs.Standings.{items_of_turn, opened_of, record_of}
 use Rattle.nr_slots.specs.declared.view.Lane.{Lane}
-use Rattle.nr_node.specs.Sound.{IsSound}
+use Rattle.nr_node.specs.Sound.{IsSound, Serves}
 use Rattle.nr_node.specs.declared.collecting.Handed.{Handed}
 use Rattle.nr_node.proofs.Owed.{all_back, all_front}
+use Rattle.nr_node.proofs.Lists.{opened-append}
+use Rattle.nr_combiner.specs.Heard.{Knows}
 use Rattle.nr_combiner.specs.Pieces.{IsHandedIn, IsHandedOf}
+use Rattle.nr_taps.specs.Marks.{Adopts}
+use Rattle.nr_taps.specs.Taps.{HaveMet}
 use Rattle.nr_taps.proofs.Explains.{begins_emitted}
 use Rattle.nr_taps.proofs.Marks.{adopts_begins, adopts_has, history_in, still_sound}
-use Rattle.nr_worker.specs.Desk.{AllPosted, asked_of, DeskState, IsAskedBy, IsHandedOut, IsLed, IsPosted, IsServedAt, Served, history_of}
+use Rattle.nr_worker.specs.Desk.{AllPosted, ArePosted, asked_of, DeskState, HasItsOwn, IsAskedBy, IsHandedOut, IsLed, IsOpenedFor, IsPosted, IsServedAt, Served, history_of}
+use Rattle.nr_worker.specs.Law.{GoesTo}
 use Rattle.nr_worker.specs.Moves.{Asks, HasGot, HaveGot, Opens, Posts, Turns, fresh_desk}
-use Rattle.nr_worker.proofs.Lists.{all_at, all_both, all_weaker, piece_on, posted_both, posted_weaker}
+use Rattle.nr_worker.proofs.Lists.{no_front, all_at, all_both, all_weaker, piece_on, posted_both, posted_weaker}
 
-pub fresh_led : (node : ℕ) → IsLed (fresh_desk node)
-fresh_led node = record { sound = tt; known = tt; each = tt }
+pub fresh_led : (node worker : ℕ) → IsLed (fresh_desk node worker)
+fresh_led node worker = record { sound = tt; own = tt; known = tt; each = tt }
+
+begins_itself : {A : Type 0} (xs : List A) → IsBeginningOf xs xs
+begins_itself xs = ([], append-nil xs)
+
+-- nothing but what was posted, or asked for, changed
+unmarked : (d e : DeskState) → e.node ≡ d.node → e.worker ≡ d.worker → e.mark ≡ d.mark → GoesTo d e
+unmarked d e node worker mark =
+    record { node = node; worker = worker; mark = subst (λ (m : Option Standing). IsBeginningOf (history_of d.mark) (history_of m)) (sym mark) (begins_itself (history_of d.mark)) }
+
+-- what holds of a connection, of the new mark
+marked_on : (mark now : Option Standing) (posted : List Batch) (c : Connection) (handed : Bytes) → IsBeginningOf (history_of mark) (history_of now)
+    → IsHandedOut mark posted c handed → IsHandedOut now posted c handed
+marked_on mark now posted c handed begins h =
+    record { history = h.history; kept = begins_on h.history (history_of mark) (history_of now) h.kept begins; begins = h.begins; jobs = h.jobs }
+
+handed_in : (posted lifted : List Batch) (answered : _) (c : Connection) (done : Sequence) → lifted ≡ posted
+    → AllByRecursion (λ (job : Item). job.connection ≡ c → IsHandedIn lifted answered job) done → ArePosted posted c done
+handed_in posted lifted answered c done is all =
+    all_weaker (λ (job : Item). job.connection ≡ c → IsHandedIn lifted answered job) (λ (job : Item). job.connection ≡ c → IsPosted posted job)
+    (λ job from own.
+    let h = from own in
+    record { batch = h.batch; there = subst (λ (bs : List Batch). Contains bs h.batch) (sym h.posted_is ∙ is) (in_middle h.batch h.before h.after); has = h.has })
+    done all
+
+history_is : (mark : Option Standing) → history_in mark ≡ history_of mark
+history_is None = refl
+history_is (Some s) = refl
+
+pub begins_record : (x y : List Turn) → IsBeginningOf x y → IsBeginningOf (record_of x) (record_of y)
+begins_record x y b = begins_flat_map items_of_turn x y b
+
+-- ---- what a mark knows once it adopted a token
+-- a connection that was opened for a worker goes on to be
+pub opened_front : (xs ys : List ℕ) (i : ℕ) → IsBeginningOf xs ys → i < length xs → (i < length ys) × (get_or ys i 0 ≡ get_or xs i 0)
+opened_front xs ys i b near =
+    let long = ap length b.1 in
+    let parts = length-append xs b.0 in
+    (omega (arith, near, long, parts), ap (λ (ws : List ℕ). get_or ws i 0) (sym b.1) ∙ get_or_append_left xs b.0 0 i near)
+
+pub opened_begins : (x y : List Turn) → IsBeginningOf x y → IsBeginningOf (opened_of x) (opened_of y)
+opened_begins x y b = (opened_of b.0, sym (opened-append x b.0) ∙ ap opened_of b.1)
+
+serves_on : (s t : Standing) (worker : ℕ) (c : Connection) → t.node ≡ s.node → IsBeginningOf s.history t.history → Serves s worker c → Serves t worker c
+serves_on s t worker c node begins serves =
+    let on = opened_front (opened_of s.history) (opened_of t.history) c.serial (opened_begins s.history t.history begins) serves.opened in
+    record { node = serves.node ∙ sym node; opened = on.0; worker_is = on.1 ∙ serves.worker_is }
+
+opened_for : (mark : Option Standing) (node worker : ℕ) (c : Connection) (s : Standing) → IfSome mark (λ (x : Standing). IsSound x × (x.node ≡ node)) → s.node ≡ node
+    → IsBeginningOf s.history (history_of mark) → Serves s worker c → IsOpenedFor worker c mark
+opened_for None node worker c s sound at begins serves =
+    let none : s.history ≡ [] = no_front s.history begins.0 begins.1 in
+    absurd (let near = subst (λ (h : List Turn). c.serial < length (opened_of h)) none serves.opened in omega (arith, near))
+opened_for (Some m) node worker c s sound at begins serves = serves_on s m worker c (sound.1 ∙ sym at) begins serves
+
+opened_on : (old mark : Option Standing) (node worker : ℕ) (c : Connection) → IfSome old (λ (x : Standing). IsSound x × (x.node ≡ node))
+    → IfSome mark (λ (x : Standing). IsSound x × (x.node ≡ node)) → IsBeginningOf (history_of old) (history_of mark) → IsOpenedFor worker c old → IsOpenedFor worker c mark
+opened_on None mark node worker c was sound begins never = absurd never
+opened_on (Some s) mark node worker c was sound begins serves = opened_for mark node worker c s sound was.1 begins serves
+
+-- what it knew, and what the token keeps, are first in what it knows
+module _ (d : DeskState) (s : Standing) (now : Option Standing) (led : IsLed d) (at : IsSound s × (s.node ≡ d.node)) (met : HaveMet d.mark (Some s)) (adopted : Adopts d.mark s now) where
+  pub marks_begin : IsBeginningOf (history_of d.mark) (history_of now) × IsBeginningOf s.history (history_of now)
+  marks_begin =
+      let same_node : IfSome d.mark (λ (x : Standing). x.node ≡ s.node) = on d.mark led.sound in
+      let b = adopts_begins d.mark now s same_node met adopted in (
+        subst (λ (h : List Turn). IsBeginningOf h (history_of now)) (history_is d.mark) (subst (IsBeginningOf (history_in d.mark)) (history_is now) b.0),
+        subst (IsBeginningOf s.history) (history_is now) b.1,
+      )
+    where
+      on : (mark : Option Standing) → IfSome mark (λ (x : Standing). IsSound x × (x.node ≡ d.node)) → IfSome mark (λ (x : Standing). x.node ≡ s.node)
+      on None h = tt
+      on (Some x) h = h.1 ∙ sym at.1
+
+  pub sound_now : IfSome now (λ (x : Standing). IsSound x × (x.node ≡ d.node))
+  sound_now = adopts_has (λ (x : Standing). IsSound x × (x.node ≡ d.node)) (λ x n h. (still_sound x n h.0, h.1)) d.mark now s led.sound at adopted
+
+  -- the worker's jobs in its record are those that it posted
+  pub own_now : (lane : Lane) → Knows d.worker s lane → lane.posted ≡ d.posted → IfSome now (HasItsOwn d)
+  own_now lane knows posted =
+      adopts_has (HasItsOwn d) (λ x n h. λ c serves. h c (record { node = serves.node; opened = serves.opened; worker_is = serves.worker_is })) d.mark now s led.own
+      (λ c serves. handed_in d.posted lane.posted knows.desk.answered c (record_of s.history) posted (knows.own c serves)) adopted
+
+  pub goes_now : (e : DeskState) → e.node ≡ d.node → e.worker ≡ d.worker → e.mark ≡ now → GoesTo d e
+  goes_now e node worker mark =
+      record { node = node; worker = worker; mark = subst (λ (m : Option Standing). IsBeginningOf (history_of d.mark) (history_of m)) (sym mark) marks_begin.0 }
 
 -- ---- a connection is opened
 abbrev no_jobs : Jobs
 no_jobs = []
 
 still_at : (d : DeskState) (served : List Served) (y : Served) → IsServedAt d y → IsServedAt (record d { served = served }) y
-still_at d served y s = record { node = s.node; counted = s.counted; posted = s.posted; handed = s.handed }
+still_at d served y s = record { node = s.node; opened = s.opened; counted = s.counted; posted = s.posted; handed = s.handed }
 
 abbrev new_one : Connection → Served
 new_one c = record { connection = c; fed = []; closing = None; handed = [] }
@@ -48,24 +139,47 @@ none_asked served c job new by is = absurd (all_at (λ (x : Served). x.connectio
 opened_more : (served : List Served) (x : Served) (job : Item) → IsAskedBy served job → IsAskedBy (served ++ x ∷ []) job
 opened_more served x job by = record { one = by.one; there = Contains-append_left served (x ∷ []) by.one by.there; connection = by.connection; asked = by.asked }
 
-pub opened_led : (c : Connection) (d e : DeskState) → IsLed d → Opens c d e → IsLed e
-opened_led c d e led o =
-    let x = new_one c in
-    let f : DeskState = record d { served = d.served ++ x ∷ [] } in
+module _ (c : Connection) (s : Standing) (lane : Lane) (d e : DeskState) (led : IsLed d) (o : Opens c s lane d e) where
+  abbrev x : Served
+  x = new_one c
+
+  abbrev opened_desk : DeskState
+  opened_desk = record d { mark = e.mark; served = d.served ++ x ∷ [] }
+
+  abbrev first : IsBeginningOf (history_of d.mark) (history_of e.mark) × IsBeginningOf s.history (history_of e.mark)
+  first = marks_begin d s e.mark led o.sound o.met o.adopted
+
+  abbrev sound_then : IfSome e.mark (λ (m : Standing). IsSound m × (m.node ≡ d.node))
+  sound_then = sound_now d s e.mark led o.sound o.met o.adopted
+
+  others : (y : Served) → IsServedAt d y → IsServedAt opened_desk y
+  others y k = record {
+    node = k.node;
+    opened = opened_on d.mark e.mark d.node d.worker y.connection led.sound sound_then first.0 k.opened;
+    counted = k.counted;
+    posted = k.posted;
+    handed = marked_on d.mark e.mark d.posted y.connection y.handed first.0 k.handed;
+  }
+
+  pub opened_led : IsLed e × GoesTo d e
+  opened_led = (
     subst IsLed (sym o.opened) record {
-      sound = led.sound;
-      known = posted_weaker (IsAskedBy d.served) (IsAskedBy f.served) (opened_more d.served x) d.posted led.known;
-      each = All-append (IsServedAt f) d.served (x ∷ [])
-          (all_weaker (IsServedAt d) (IsServedAt f) (still_at d f.served) d.served led.each) (
-            record {
-              node = o.node;
-              counted = tt;
-              posted = posted_weaker (IsAskedBy d.served) (λ (job : Item). job.connection ≡ c → Contains no_jobs job) (λ job by. none_asked d.served c job o.new by) d.posted led.known;
-              handed = record { history = []; kept = none_begins (history_of d.mark); begins = none_begins (emitted_for c (record_of [])); jobs = tt };
-            },
-            tt,
-          );
-    }
+      sound = sound_then;
+      own = own_now d s e.mark led o.sound o.met o.adopted lane o.knows o.posted;
+      known = posted_weaker (IsAskedBy d.served) (IsAskedBy opened_desk.served) (opened_more d.served x) d.posted led.known;
+      each = All-append (IsServedAt opened_desk) d.served (x ∷ []) (all_weaker (IsServedAt d) (IsServedAt opened_desk) others d.served led.each) (
+        record {
+          node = o.serves.node ∙ o.sound.1;
+          opened = opened_for e.mark d.node d.worker c s sound_then o.sound.1 first.1 o.serves;
+          counted = tt;
+          posted = posted_weaker (IsAskedBy d.served) (λ (job : Item). job.connection ≡ c → Contains no_jobs job) (λ job by. none_asked d.served c job o.new by) d.posted led.known;
+          handed = record { history = []; kept = none_begins (history_of e.mark); begins = none_begins (emitted_for c (record_of [])); jobs = tt };
+        },
+        tt,
+      );
+    },
+    goes_now d s e.mark led o.sound o.met o.adopted e (ap (λ (f : DeskState). f.node) o.opened) (ap (λ (f : DeskState). f.worker) o.opened) refl,
+  )
 
 -- ---- what a connection asks for changes
 asked_there : (front back : List Served) (one now : Served) (job : Item) → now.connection ≡ one.connection
@@ -86,7 +200,7 @@ asked_there front back one now job named (by, own) =
       ]
     ]
 
-pub asked_led : (fed : List Feeding) (closing : Option Item) (d e : DeskState) → IsLed d → Asks fed closing d e → IsLed e
+pub asked_led : (fed : List Feeding) (closing : Option Item) (d e : DeskState) → IsLed d → Asks fed closing d e → IsLed e × GoesTo d e
 asked_led fed closing d e led a =
     let now : Served = record a.one { fed = fed; closing = closing } in
     let served = a.front ++ now ∷ a.back in
@@ -94,27 +208,40 @@ asked_led fed closing d e led a =
     let each = subst (AllByRecursion (IsServedAt d)) a.there led.each in
     let here = (all_back (IsServedAt d) a.front (a.one ∷ a.back) each).0 in
     let known = posted_both (IsAskedBy (a.front ++ a.one ∷ a.back)) (λ (job : Item). job.connection ≡ a.one.connection → Contains (asked_of now) job) d.posted
-    (subst (λ (xs : List Served). AllPosted (IsAskedBy xs) d.posted) a.there led.known) a.posted in
-    subst IsLed (sym a.changed) record {
-      sound = led.sound;
-      known = posted_weaker (λ (job : Item). IsAskedBy (a.front ++ a.one ∷ a.back) job × (job.connection ≡ a.one.connection → Contains (asked_of now) job)) (IsAskedBy served)
-          (λ job. asked_there a.front a.back a.one now job refl) d.posted known;
-      each = All-append (IsServedAt f) a.front (now ∷ a.back)
-          (all_weaker (IsServedAt d) (IsServedAt f) (still_at d served) a.front (all_front (IsServedAt d) a.front (a.one ∷ a.back) each)) (
-            record { node = here.node; counted = a.counted; posted = a.posted; handed = here.handed },
-            all_weaker (IsServedAt d) (IsServedAt f) (still_at d served) a.back (all_back (IsServedAt d) a.front (a.one ∷ a.back) each).1,
-          );
-    }
+    (subst (λ (xs : List Served). AllPosted (IsAskedBy xs) d.posted) a.there led.known) a.posted in (
+      subst IsLed (sym a.changed) record {
+        sound = led.sound;
+        own = led.own;
+        known = posted_weaker (λ (job : Item). IsAskedBy (a.front ++ a.one ∷ a.back) job × (job.connection ≡ a.one.connection → Contains (asked_of now) job)) (IsAskedBy served)
+            (λ job. asked_there a.front a.back a.one now job refl) d.posted known;
+        each = All-append (IsServedAt f) a.front (now ∷ a.back)
+            (all_weaker (IsServedAt d) (IsServedAt f) (still_at d served) a.front (all_front (IsServedAt d) a.front (a.one ∷ a.back) each)) (
+              record { node = here.node; opened = here.opened; counted = a.counted; posted = a.posted; handed = here.handed },
+              all_weaker (IsServedAt d) (IsServedAt f) (still_at d served) a.back (all_back (IsServedAt d) a.front (a.one ∷ a.back) each).1,
+            );
+      },
+      unmarked d e (ap (λ (x : DeskState). x.node) a.changed) (ap (λ (x : DeskState). x.worker) a.changed) (ap (λ (x : DeskState). x.mark) a.changed),
+    )
 
 -- ---- a batch is posted
 posted_on : (posted : List Batch) (batch : Batch) (job : Item) → IsPosted posted job → IsPosted (posted ++ batch ∷ []) job
 posted_on posted batch job p = record { batch = p.batch; there = Contains-append_left posted (batch ∷ []) p.batch p.there; has = p.has }
+
+all_posted_on : (posted : List Batch) (batch : Batch) (c : Connection) (done : Sequence) → ArePosted posted c done → ArePosted (posted ++ batch ∷ []) c done
+all_posted_on posted batch c done all =
+    all_weaker (λ (job : Item). job.connection ≡ c → IsPosted posted job) (λ (job : Item). job.connection ≡ c → IsPosted (posted ++ batch ∷ []) job)
+    (λ job p is. posted_on posted batch job (p is)) done all
+
+own_posted : (d : DeskState) (batch : Batch) (mark : Option Standing) → IfSome mark (HasItsOwn d) → IfSome mark (HasItsOwn (record d { posted = d.posted ++ batch ∷ [] }))
+own_posted d batch None own = tt
+own_posted d batch (Some s) own = λ c serves. all_posted_on d.posted batch c (record_of s.history) (own c serves)
 
 served_posted : (d : DeskState) (batch : Batch) (x : Served) → IsServedAt d x
     × AllByRecursion (λ (job : Item). job.connection ≡ x.connection → Contains (asked_of x) job) (items_of batch.jobs.items)
     → IsServedAt (record d { posted = d.posted ++ batch ∷ [] }) x
 served_posted d batch x (s, new) = record {
   node = s.node;
+  opened = s.opened;
   counted = s.counted;
   posted = All-append (λ (b : Batch). AllByRecursion (λ (job : Item). job.connection ≡ x.connection → Contains (asked_of x) job) (items_of b.jobs.items)) d.posted (batch ∷ [])
       s.posted (new, tt);
@@ -122,8 +249,7 @@ served_posted d batch x (s, new) = record {
     history = s.handed.history;
     kept = s.handed.kept;
     begins = s.handed.begins;
-    jobs = all_weaker (λ (job : Item). job.connection ≡ x.connection → IsPosted d.posted job) (λ (job : Item). job.connection ≡ x.connection → IsPosted (d.posted ++ batch ∷ []) job)
-        (λ job p is. posted_on d.posted batch job (p is)) (record_of s.handed.history) s.handed.jobs;
+    jobs = all_posted_on d.posted batch x.connection (record_of s.handed.history) s.handed.jobs;
   };
 }
 
@@ -150,17 +276,20 @@ each_there front (job ∷ jobs) = (
   subst (λ (all : Jobs). AllByRecursion (λ (j : Item). Contains all j) jobs) (Rattle.std.proofs.Common.append_assoc front (job ∷ []) jobs) (each_there (front ++ job ∷ []) jobs),
 )
 
-pub posted_led : (batch : Batch) (d e : DeskState) → IsLed d → Posts batch d e → IsLed e
+pub posted_led : (batch : Batch) (d e : DeskState) → IsLed d → Posts batch d e → IsLed e × GoesTo d e
 posted_led batch d e led p =
     let items = items_of batch.jobs.items in
     let f : DeskState = record d { posted = d.posted ++ batch ∷ [] } in
-    let new = λ (x : Served). AllByRecursion (λ (job : Item). job.connection ≡ x.connection → Contains (asked_of x) job) items in
-    subst IsLed (sym p.posted) record {
-      sound = led.sound;
-      known = All-append (λ (b : Batch). AllByRecursion (IsAskedBy d.served) (items_of b.jobs.items)) d.posted (batch ∷ []) led.known
-          (known_jobs d.served items items p.asked (each_there [] items) p.known, tt);
-      each = all_weaker (λ (x : Served). IsServedAt d x × new x) (IsServedAt f) (served_posted d batch) d.served (all_both (IsServedAt d) new d.served led.each p.asked);
-    }
+    let new = λ (x : Served). AllByRecursion (λ (job : Item). job.connection ≡ x.connection → Contains (asked_of x) job) items in (
+      subst IsLed (sym p.posted) record {
+        sound = led.sound;
+        own = own_posted d batch d.mark led.own;
+        known = All-append (λ (b : Batch). AllByRecursion (IsAskedBy d.served) (items_of b.jobs.items)) d.posted (batch ∷ []) led.known
+            (known_jobs d.served items items p.asked (each_there [] items) p.known, tt);
+        each = all_weaker (λ (x : Served). IsServedAt d x × new x) (IsServedAt f) (served_posted d batch) d.served (all_both (IsServedAt d) new d.served led.each p.asked);
+      },
+      unmarked d e (ap (λ (x : DeskState). x.node) p.posted) (ap (λ (x : DeskState). x.worker) p.posted) (ap (λ (x : DeskState). x.mark) p.posted),
+    )
 
 -- ---- a turn
 -- a connection asked for what it asked for
@@ -187,28 +316,6 @@ asked_on pieces xs ys got job by =
     let on = got_there pieces xs ys by.one got by.there in
     record { one = on.0; there = on.1; connection = on.2 ∙ by.connection; asked = subst (λ (js : Jobs). Contains js job) (sym on.3) by.asked }
 
--- what holds of a connection, of the new mark
-marked_on : (mark now : Option Standing) (posted : List Batch) (c : Connection) (handed : Bytes) → IsBeginningOf (history_of mark) (history_of now)
-    → IsHandedOut mark posted c handed → IsHandedOut now posted c handed
-marked_on mark now posted c handed begins h =
-    record { history = h.history; kept = begins_on h.history (history_of mark) (history_of now) h.kept begins; begins = h.begins; jobs = h.jobs }
-
-handed_in : (posted lifted : List Batch) (answered : _) (c : Connection) (done : Sequence) → lifted ≡ posted
-    → AllByRecursion (λ (job : Item). job.connection ≡ c → IsHandedIn lifted answered job) done → AllByRecursion (λ (job : Item). job.connection ≡ c → IsPosted posted job) done
-handed_in posted lifted answered c done is all =
-    all_weaker (λ (job : Item). job.connection ≡ c → IsHandedIn lifted answered job) (λ (job : Item). job.connection ≡ c → IsPosted posted job)
-    (λ job from own.
-    let h = from own in
-    record { batch = h.batch; there = subst (λ (bs : List Batch). Contains bs h.batch) (sym h.posted_is ∙ is) (in_middle h.batch h.before h.after); has = h.has })
-    done all
-
-history_is : (mark : Option Standing) → history_in mark ≡ history_of mark
-history_is None = refl
-history_is (Some s) = refl
-
-begins_record : (x y : List Turn) → IsBeginningOf x y → IsBeginningOf (record_of x) (record_of y)
-begins_record x y b = begins_flat_map items_of_turn x y b
-
 -- it got a piece
 got_piece : (mark now : Option Standing) (posted : List Batch) (c : Connection) (handed bytes : Bytes) (s : Standing) → IsBeginningOf (history_of mark) (history_of now)
     → IsBeginningOf s.history (history_of now) → IsBeginningOf bytes (drop (length handed) (emitted_for c (record_of s.history))) → 0 < length bytes
@@ -226,16 +333,10 @@ module _ (most : ℕ) (down : Bool) (s : Standing) (lane : Lane) (old new : List
   pieces = t.heard.added.pieces
 
   abbrev begins : IsBeginningOf (history_of d.mark) (history_of e.mark) × IsBeginningOf s.history (history_of e.mark)
-  begins =
-      let same_node : IfSome d.mark (λ (x : Standing). x.node ≡ s.node) = on d.mark led.sound in
-      let b = adopts_begins d.mark e.mark s same_node t.met t.adopted in (
-        subst (λ (h : List Turn). IsBeginningOf h (history_of e.mark)) (history_is d.mark) (subst (IsBeginningOf (history_in d.mark)) (history_is e.mark) b.0),
-        subst (IsBeginningOf s.history) (history_is e.mark) b.1,
-      )
-    where
-      on : (mark : Option Standing) → IfSome mark (λ (x : Standing). IsSound x × (x.node ≡ d.node)) → IfSome mark (λ (x : Standing). x.node ≡ s.node)
-      on None h = tt
-      on (Some x) h = h.1 ∙ sym t.sound.1
+  begins = marks_begin d s e.mark led t.sound t.met t.adopted
+
+  abbrev sound_after : IfSome e.mark (λ (m : Standing). IsSound m × (m.node ≡ d.node))
+  sound_after = sound_now d s e.mark led t.sound t.met t.adopted
 
   abbrev after : DeskState
   after = record d { mark = e.mark; served = e.served }
@@ -243,6 +344,7 @@ module _ (most : ℕ) (down : Bool) (s : Standing) (lane : Lane) (old new : List
   served_on : (x y : Served) → HasGot pieces x y → IsServedAt d x → IsServedAt after y
   served_on x y (inl same) k = subst (IsServedAt after) (sym same) record {
     node = k.node;
+    opened = opened_on d.mark e.mark d.node d.worker x.connection led.sound sound_after begins.0 k.opened;
     counted = k.counted;
     posted = k.posted;
     handed = marked_on d.mark e.mark d.posted x.connection x.handed begins.0 k.handed;
@@ -250,10 +352,11 @@ module _ (most : ℕ) (down : Bool) (s : Standing) (lane : Lane) (old new : List
   served_on x y (inr (one, there, named, from, got)) k =
       let added = t.heard.added in
       let piece = (all_at (λ (h : Handed). IsHandedOf most down h s) pieces one added.all there).piece in
-      let jobs = handed_in d.posted lane.posted t.heard.desk.answered (connection_of one.piece.conn) (record_of s.history) t.posted (all_at _ pieces one added.own there) in
+      let jobs = handed_in d.posted lane.posted t.heard.knows.desk.answered (connection_of one.piece.conn) (record_of s.history) t.posted (all_at _ pieces one added.own there) in
       let bytes = one.piece.bytes.items in
       subst (IsServedAt after) (sym got) record {
         node = k.node;
+        opened = opened_on d.mark e.mark d.node d.worker x.connection led.sound sound_after begins.0 k.opened;
         counted = k.counted;
         posted = k.posted;
         handed = got_piece d.mark e.mark d.posted x.connection x.handed bytes s begins.0 begins.1
@@ -268,9 +371,13 @@ module _ (most : ℕ) (down : Bool) (s : Standing) (lane : Lane) (old new : List
   all_served_on (x ∷ xs) [] got all = absurd got
   all_served_on (x ∷ xs) (y ∷ ys) got all = (served_on x y got.0 all.0, all_served_on xs ys got.1 all.1)
 
-  pub turned_led : IsLed e
-  turned_led = subst IsLed (sym t.same) record {
-    sound = adopts_has (λ (x : Standing). IsSound x × (x.node ≡ d.node)) (λ x n h. (still_sound x n h.0, h.1)) d.mark e.mark s led.sound t.sound t.adopted;
-    known = posted_weaker (IsAskedBy d.served) (IsAskedBy e.served) (asked_on pieces d.served e.served t.got) d.posted led.known;
-    each = all_served_on d.served e.served t.got led.each;
-  }
+  pub turned_led : IsLed e × GoesTo d e
+  turned_led = (
+    subst IsLed (sym t.same) record {
+      sound = sound_after;
+      own = own_now d s e.mark led t.sound t.met t.adopted lane t.heard.knows t.posted;
+      known = posted_weaker (IsAskedBy d.served) (IsAskedBy e.served) (asked_on pieces d.served e.served t.got) d.posted led.known;
+      each = all_served_on d.served e.served t.got led.each;
+    },
+    goes_now d s e.mark led t.sound t.met t.adopted e (ap (λ (f : DeskState). f.node) t.same) (ap (λ (f : DeskState). f.worker) t.same) refl,
+  )

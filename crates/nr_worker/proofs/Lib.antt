@@ -1,3 +1,4 @@
 mod Lists
 mod Desks
 mod Answered
+mod Timed

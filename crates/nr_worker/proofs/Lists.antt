@@ -9,11 +9,12 @@ use Rattle.nr_model.specs.Bytes.{IsBeginningOf}
 use Rattle.nr_model.specs.Items.{Connection, Item, Sequence, same_connection}
 use Rattle.nr_model.specs.Entries.{Jobs}
 use Rattle.nr_model.specs.Asked.{own_jobs}
-use Rattle.nr_model.proofs.JobLists.{same_is}
+use Rattle.nr_model.proofs.JobLists.{same_is, same_self}
 use Rattle.nr_model.proofs.NodesExecutedLists.{in_cases, some_in}
 use Rattle.nr_oplog.proofs.Fronts.{begins_both}
 use Rattle.nr_entry.specs.declared.batch.Batch.{Batch}
 use Rattle.nr_entry.specs.Jobs.{items_of}
+use Rattle.nr_accounts.specs.Held.{numbers_in}
 use Rattle.nr_combiner.specs.Served.{ComesFrom}
 use Rattle.nr_worker.specs.Desk.{AllPosted, AreAsked, CountsFrom, IsAsked}
 
@@ -32,6 +33,11 @@ all_weaker P Q f (x ∷ xs) all = (f x all.0, all_weaker P Q f xs all.1)
 pub all_both : {A : Type 0} (P Q : A → Type 0) (xs : List A) → AllByRecursion P xs → AllByRecursion Q xs → AllByRecursion (λ (x : A). P x × Q x) xs
 all_both P Q [] a b = tt
 all_both P Q (x ∷ xs) a b = ((a.0, b.0), all_both P Q xs a.1 b.1)
+
+-- a beginning of none is none
+pub no_front : {A : Type 0} (x y : List A) → x ++ y ≡ [] → x ≡ []
+no_front [] y e = refl
+no_front (t ∷ x) y e = absurd (cc e)
 
 -- of all jobs of batches
 pub posted_weaker : (P Q : Item → Type 0) → ((job : Item) → P job → Q job) → (batches : List Batch) → AllPosted P batches → AllPosted Q batches
@@ -59,6 +65,19 @@ pub all_own : (Q : Item → Type 0) (c : Connection) (jobs : Jobs) → AllByRecu
 all_own Q c [] all = tt
 all_own Q c (job ∷ jobs) all =
     own_by Q (λ (j : Item). same_connection j.connection c) job jobs (λ own. all.0 (same_is job.connection c own)) (all_own Q c jobs all.1)
+
+more_none : (b : Bool) (x : Item) (xs : Jobs) → map (λ (j : Item). j.number) (cond b (x ∷ xs) xs) ≡ [] → map (λ (j : Item). j.number) xs ≡ []
+more_none true x xs none = absurd (cc none)
+more_none false x xs none = none
+
+-- a job among others has a number among theirs
+pub has_number : (job : Item) (jobs : Jobs) → Contains jobs job → numbers_in job.connection jobs ≡ [] → ⊥
+has_number job [] there none = some_in [] job refl there
+has_number job (x ∷ xs) there none = elim (in_cases job x xs there) [
+  | inl is ↦ cc (subst (λ (b : Bool). map (λ (j : Item). j.number) (cond b (x ∷ own_jobs job.connection xs) (own_jobs job.connection xs)) ≡ [])
+      (ap (λ (y : Item). same_connection y.connection job.connection) is ∙ same_self job.connection) none)
+  | inr behind ↦ has_number job xs behind (more_none (same_connection x.connection job.connection) x (own_jobs job.connection xs) none)
+]
 
 -- a piece behind what was handed out, where both are of what a longer record emits
 pub piece_on : {A : Type 0} (handed piece emitted all : List A) → IsBeginningOf handed all → IsBeginningOf emitted all

@@ -12,7 +12,7 @@ use Rattle.nr_entry.specs.declared.batch.Batch.{Batch}
 use Rattle.nr_log_end.specs.declared.standing.Standing.{Standing}
 use Rattle.nr_log_end.specs.declared.standing.Turn.{Turn}
 use Rattle.nr_log_end.specs.Standings.{record_of}
-use Rattle.nr_node.specs.Sound.{IsSound}
+use Rattle.nr_node.specs.Sound.{IsSound, Serves}
 use Rattle.nr_combiner.specs.Served.{ComesFrom}
 
 -- a connection that was opened, and may be gone: the bytes that were fed to it and when, the job that its close put, if it was closed and put one, and the bytes that
@@ -27,9 +27,10 @@ pub record Served : Type 0 where
 abbrev pub asked_of : Served → Jobs
 asked_of x = cut_by x.closing (jobs_of_feeds x.connection [] x.fed)
 
--- a worker: its node, the batches that it posted, the standing of its mark, and all connections that were ever opened at it
+-- a worker: its node and its number there, the batches that it posted, the standing of its mark, and all connections that were ever opened at it
 pub record DeskState : Type 0 where
   pub node : ℕ
+  pub worker : ℕ
   pub posted : List Batch
   pub mark : Option Standing
   pub served : List Served
@@ -61,24 +62,40 @@ abbrev pub history_of : Option Standing → List Turn
 history_of None = []
 history_of (Some s) = s.history
 
+-- each job of a connection in a record was posted
+abbrev pub ArePosted : List Batch → Connection → Sequence → Type 0
+ArePosted posted c done = AllByRecursion (λ (job : Item). job.connection ≡ c → IsPosted posted job) done
+
+-- a mark knows that a connection was opened for a worker
+abbrev pub IsOpenedFor : ℕ → Connection → Option Standing → Type 0
+IsOpenedFor worker c None = ⊥
+IsOpenedFor worker c (Some s) = Serves s worker c
+
 -- What was handed out for a connection begins what one sequential Redis emits for it along a record of its node that begins the mark's, and each job of the connection
 -- in that record was posted.
 pub record IsHandedOut (mark : Option Standing) (posted : List Batch) (c : Connection) (handed : Bytes) : Type 0 where
   pub history : List Turn
   pub kept : IsBeginningOf history (history_of mark)
   pub begins : IsBeginningOf handed (emitted_for c (record_of history))
-  pub jobs : AllByRecursion (λ (job : Item). job.connection ≡ c → IsPosted posted job) (record_of history)
+  pub jobs : ArePosted posted c (record_of history)
 
--- a connection of the node: its jobs count up from 0, each that was posted is one that it asked for, and what was handed out is so
+-- a connection of the node, which was opened for this worker: its jobs count up from 0, each that was posted is one that it asked for, and what was handed out is so
 pub record IsServedAt (d : DeskState) (x : Served) : Type 0 where
   pub node : x.connection.node ≡ d.node
+  pub opened : IsOpenedFor d.worker x.connection d.mark
   pub counted : CountsFrom 0 (asked_of x)
   pub posted : AllPosted (λ (job : Item). job.connection ≡ x.connection → Contains (asked_of x) job) d.posted
   pub handed : IsHandedOut d.mark d.posted x.connection x.handed
 
--- What holds of a worker: its mark is a sound standing of its node, each job that it posted is one that a connection asked for, and so it serves each connection.
+-- what a worker posted is what the standing's record has of its connections
+abbrev pub HasItsOwn : DeskState → Standing → Type 0
+HasItsOwn d s = (c : Connection) → Serves s d.worker c → ArePosted d.posted c (record_of s.history)
+
+-- What holds of a worker: its mark is a sound standing of its node, whose record has no job of a connection that was opened for the worker but those that it posted; each
+-- job that it posted is one that a connection asked for; and so it serves each connection.
 pub record IsLed (d : DeskState) : Type 0 where
   pub sound : IfSome d.mark (λ (s : Standing). IsSound s × (s.node ≡ d.node))
+  pub own : IfSome d.mark (HasItsOwn d)
   pub known : AllPosted (IsAskedBy d.served) d.posted
   pub each : AllByRecursion (IsServedAt d) d.served
 

@@ -1,5 +1,5 @@
 -- What workers know together.
-use Rattle.std.specs.Prelude.{ℕ, Bool, List, [], ◌∷◌, ◌++◌, length, Option, option_to_list}
+use Rattle.std.specs.Prelude.{◌≡◌, ℕ, Bool, List, [], ◌∷◌, ◌++◌, length, Contains, Option, option_to_list}
 use Rattle.std.specs.List.{AllByRecursion}
 use Rattle.nr_model.specs.Bytes.{IsBeginningOf}
 use Rattle.nr_model.specs.Items.{Connection, Item, Sequence}
@@ -9,10 +9,12 @@ use Rattle.nr_model.specs.Asked.{own_jobs}
 use Rattle.nr_model.specs.Nodes.{Taken, log_of, part_from}
 use Rattle.nr_entry.specs.declared.batch.Batch.{Batch}
 use Rattle.nr_log_end.specs.declared.standing.Standing.{Standing}
+use Rattle.nr_log_end.specs.Standings.{record_of}
 use Rattle.nr_slots.specs.declared.view.Lane.{Lane}
 use Rattle.nr_node.specs.declared.collecting.Handed.{Handed}
+use Rattle.nr_combiner.specs.Served.{ComesFrom}
 use Rattle.nr_taps.specs.Sequence.{AreAllOfOneLog, AreReadsOf, AreRun, IsLogOf, reads_by, sequence_of}
-use Rattle.nr_worker.specs.Desk.{AreAsked, DeskState, IsLed, Served, asked_of}
+use Rattle.nr_worker.specs.Desk.{AreAsked, DeskState, IsLed, Served, asked_of, history_of}
 use Rattle.nr_worker.specs.Moves.{Asks, Opens, Posts, Turns, fresh_desk}
 
 -- What was handed out for a connection begins what one sequential Redis emits for it along the sequence. It begins what is emitted along a beginning of its node's part of
@@ -30,19 +32,45 @@ abbrev pub marks_of : List DeskState → List Standing
 marks_of [] = []
 marks_of (d ∷ desks) = option_to_list d.mark ++ marks_of desks
 
+-- A worker came from one state to another: its node and its number stay, and what its mark knew is what its mark knows first.
+pub record GoesTo (d e : DeskState) : Type 0 where
+  pub node : e.node ≡ d.node
+  pub worker : e.worker ≡ d.worker
+  pub mark : IsBeginningOf (history_of d.mark) (history_of e.mark)
+
+-- a job comes from what one of these connections asked for
+pub record IsFedTo (served : List Served) (job : Item) : Type 0 where
+  pub one : Served
+  pub there : Contains served one
+  pub connection : one.connection ≡ job.connection
+  pub asked : ComesFrom job (asked_of one)
+
+-- What a worker's mark knew stands in front of all that it knows later. Each job there of a connection that is served later was fed before: so what is fed behind the
+-- moment at which a job was handed out, or told as executed, stands behind that job.
+pub record IsInTime (d e : DeskState) : Type 0 where
+  pub front : IsBeginningOf (record_of (history_of d.mark)) (record_of (history_of e.mark))
+  pub fed : AllByRecursion (λ (job : Item). (y : Served) → Contains e.served y → y.connection ≡ job.connection → IsFedTo d.served job) (record_of (history_of d.mark))
+
+-- a mark's record begins its node's part of what was taken
+abbrev pub IsPartOf : List Taken → DeskState → Type 0
+IsPartOf taken d = IsBeginningOf (record_of (history_of d.mark)) (part_from d.node (length (log_of taken)) taken)
+
 -- one sequence answers all connections of these workers, and has nothing but what their marks know
 pub record AreAnswered (desks : List DeskState) : Type 0 where
   pub taken : List Taken
   pub run : AreRun taken
   pub each : AllByRecursion (λ (d : DeskState). AllByRecursion (IsAnswered taken) d.served) desks
+  pub parts : AllByRecursion (IsPartOf taken) desks
   pub log : IsLogOf (marks_of desks) (log_of taken)
   pub reads : (node : ℕ) → AreReadsOf (marks_of desks) node (reads_by node taken)
 
 pub record HoldsOfDesks : Type 0 where
-  pub fresh : (node : ℕ) → IsLed (fresh_desk node)
-  pub opened : (c : Connection) (d e : DeskState) → IsLed d → Opens c d e → IsLed e
-  pub asked : (fed : List Feeding) (closing : Option Item) (d e : DeskState) → IsLed d → Asks fed closing d e → IsLed e
-  pub posted : (batch : Batch) (d e : DeskState) → IsLed d → Posts batch d e → IsLed e
+  pub fresh : (node worker : ℕ) → IsLed (fresh_desk node worker)
+  pub opened : (c : Connection) (s : Standing) (lane : Lane) (d e : DeskState) → IsLed d → Opens c s lane d e → IsLed e × GoesTo d e
+  pub asked : (fed : List Feeding) (closing : Option Item) (d e : DeskState) → IsLed d → Asks fed closing d e → IsLed e × GoesTo d e
+  pub posted : (batch : Batch) (d e : DeskState) → IsLed d → Posts batch d e → IsLed e × GoesTo d e
   pub turned : (most : ℕ) (down : Bool) (s : Standing) (lane : Lane) (old new : List Handed) (d e : DeskState) → IsLed d
-      → Turns most down s lane old new d e → IsLed e
+      → Turns most down s lane old new d e → IsLed e × GoesTo d e
+  pub goes : (d e f : DeskState) → GoesTo d e → GoesTo e f → GoesTo d f
+  pub in_time : (d e : DeskState) → IsLed d → IsLed e → GoesTo d e → IsInTime d e
   pub answered : (desks : List DeskState) → AllByRecursion IsLed desks → AreAllOfOneLog (marks_of desks) → AreAnswered desks

@@ -1,13 +1,9 @@
-use Rattle.std.proofs.Common.{◌≡◌, ◌≤◌, ℕ, true, length, take}
+use Rattle.std.proofs.Common.{◌≡◌, ℕ, true, take}
 use Rattle.nr_entry.specs.Jobs.{items_of}
 use Rattle.nr_accounts.specs.Held.{Held, takes_all, taken_all}
 use Rattle.nr_accounts.proofs.taking.give_back.Given as goal
 
-abbrev pub invariant-loop-count : goal.invariant-loop-count
-invariant-loop-count l =
-    (l.count ≤ length l.jobs)
-    × ((node worker : ℕ) (before : Held) → takes_all node worker before (items_of l.jobs) ≡ true → l.fn.held ≡ taken_all before (items_of l.jobs)
-    → (takes_all node worker before (items_of (take l.count l.jobs)) ≡ true) × (l.held ≡ taken_all before (items_of (take l.count l.jobs))))
-
-abbrev pub decreases-loop-count : goal.decreases-loop-count
-decreases-loop-count l = l.count
+abbrev pub invariant-loop-index : goal.invariant-loop-index
+invariant-loop-index l =
+    (node worker : ℕ) (before : Held) → takes_all node worker before (items_of l.jobs) ≡ true → l.fn.held ≡ taken_all before (items_of l.jobs)
+    → (takes_all node worker before (items_of (take l.index l.jobs)) ≡ true) × (l.held ≡ taken_all before (items_of (take l.index l.jobs)))

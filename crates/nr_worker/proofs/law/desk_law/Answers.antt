@@ -1,6 +1,16 @@
 use Rattle.nr_worker.proofs.Answered.{are_answered}
 use Rattle.nr_worker.proofs.Desks.{asked_led, fresh_led, opened_led, posted_led, turned_led}
+use Rattle.nr_worker.proofs.Timed.{goes_on, in_time}
 use Rattle.nr_worker.proofs.law.desk_law.Goals as goal
 
 pub returns : goal.returns
-returns c = record { fresh = fresh_led; opened = opened_led; asked = asked_led; posted = posted_led; turned = turned_led; answered = are_answered }
+returns c = record {
+  fresh = fresh_led;
+  opened = opened_led;
+  asked = asked_led;
+  posted = posted_led;
+  turned = turned_led;
+  goes = goes_on;
+  in_time = in_time;
+  answered = are_answered;
+}

@@ -1,5 +1,7 @@
 use Rattle.std.proofs.Common.{ap, sym, ◌∙◌}
+use Rattle.nr_replica.specs.Replicas.{ReplicaState}
 use Rattle.nr_slots.specs.Seats.{note_of}
+use Rattle.nr_node.specs.Level.{workers_of}
 use Rattle.nr_combiner.proofs.Handed.{collected_node}
 use Rattle.nr_combiner.proofs.combiner.Combiner.collect_pieces.Goals as goal
 
@@ -13,6 +15,7 @@ returns-clause-handed g c =
       seat = still.1;
       taken = still.2;
       token = c.keep-token.ensures.token.0 ∙ sym still.0.standing;
+      opened = ap (λ (r : ReplicaState). workers_of r.members) still.0.replica ∙ c.keep-token.ensures.opened;
       note_is = c.keep-token.ensures.note.0 ∙ ap note_of (sym still.1);
     }
 

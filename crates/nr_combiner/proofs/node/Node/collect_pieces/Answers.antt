@@ -1,5 +1,5 @@
 use Rattle.std.proofs.Common.{rules, ◌≡◌, ap, ◌∙◌}
-use Rattle.nr_combiner.proofs.Handed.{collects_added, collects_behind, collects_executed}
+use Rattle.nr_combiner.proofs.Handed.{collects_added, collects_behind, collects_executed, collects_own}
 use Rattle.nr_combiner.proofs.node.Node.collect_pieces.Goals as goal
 
 pub returns-clause-handed : goal.returns-clause-handed
@@ -20,3 +20,6 @@ pub returns-clause-named : goal.returns-clause-named
 returns-clause-named g c =
     let is : c.deref_mut.result.now.node.book.node ≡ c.args.self.now.node = search rules in
     c.collect_pieces.ensures.named ∙ ap g.B.ServerName.slots is
+
+pub returns-clause-own : goal.returns-clause-own
+returns-clause-own g c = collects_own _ _ _ _ _ _ _ _ (returns-clause-handed g c)

@@ -1,5 +1,5 @@
 use Rattle.std.proofs.Common.{rules, ◌≡◌, ap, ◌∙◌}
-use Rattle.nr_combiner.proofs.Handed.{turned_added, turned_executed, turns_behind}
+use Rattle.nr_combiner.proofs.Handed.{turned_added, turned_executed, turned_own, turns_behind}
 use Rattle.nr_combiner.proofs.node.Node.turn.Goals as goal
 
 pub returns-clause-turned : goal.returns-clause-turned
@@ -18,3 +18,6 @@ pub returns-clause-named : goal.returns-clause-named
 returns-clause-named g c =
     let is : c.deref_mut.result.now.node.book.node ≡ c.args.self.now.node = search rules in
     c.turn.ensures.named ∙ ap g.B.ServerName.slots is
+
+pub returns-clause-own : goal.returns-clause-own
+returns-clause-own g c = turned_own _ _ _ _ _ _ _ _ _ _ (returns-clause-turned g c)

@@ -8,6 +8,6 @@ pub returns-clause-heard : goal.returns-clause-heard
 returns-clause-heard g c =
     let told = c.in_ok-collected.field-0 in
     let inside = c.self.inside in
-    subst (λ (w : WorkerState). HasHeard c.args.most told.collected.is_down told.token.standing w.seat.lane c.args.taken.now.items c.collect_pieces.new.taken.items) c.self.view_is
+    subst (λ (w : WorkerState). HasHeard w.seat.worker c.args.most told.collected.is_down told.token.standing w.seat.lane c.args.taken.now.items c.collect_pieces.new.taken.items) c.self.view_is
     (heard_by c.args.most told.collected.is_down told.token.standing inside.seat.lane told.note.desks inside.worker inside.seat.worker c.args.taken.now.items
-    c.collect_pieces.new.taken.items c.self.invariant.1 c.hear.ensures.told c.in_ok-collected.ensures.executed c.in_ok-collected.ensures.added)
+    c.collect_pieces.new.taken.items c.self.invariant.1 c.hear.ensures.told c.in_ok-collected.ensures.executed c.in_ok-collected.ensures.own c.in_ok-collected.ensures.added)

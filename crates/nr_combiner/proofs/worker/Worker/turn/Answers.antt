@@ -9,6 +9,6 @@ pub returns-clause-heard : goal.returns-clause-heard
 returns-clause-heard g c =
     let told = c.in_ok-turned.field-0 in
     let inside = c.self.inside in
-    subst (λ (w : WorkerState). HasHeard c.args.most (tells_down told.turned.combined) told.token.standing w.seat.lane c.args.taken.now.items c.turn.new.taken.items) c.self.view_is
+    subst (λ (w : WorkerState). HasHeard w.seat.worker c.args.most (tells_down told.turned.combined) told.token.standing w.seat.lane c.args.taken.now.items c.turn.new.taken.items) c.self.view_is
     (heard_by c.args.most (tells_down told.turned.combined) told.token.standing inside.seat.lane told.note.desks inside.worker inside.seat.worker c.args.taken.now.items c.turn.new.taken.items
-    c.self.invariant.1 c.hear.ensures.told c.in_ok-turned.ensures.executed c.in_ok-turned.ensures.added)
+    c.self.invariant.1 c.hear.ensures.told c.in_ok-turned.ensures.executed c.in_ok-turned.ensures.own c.in_ok-turned.ensures.added)

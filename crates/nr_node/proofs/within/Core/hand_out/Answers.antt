@@ -67,5 +67,5 @@ returns-clause-handed g c =
     subst (λ (n : NodeState). IsHanded c.args.most c.args.conn.serial one n w) c.self.view_is
     (is_handed c.args.most c.args.conn.serial one v w (subst (λ (d : Connection). IsPiece v d c.args.most c.in-Some.piece inside.end.standing) named piece)
     (c.is_cut-is_cut.ensures nobody) keeps.0.level
-    (is_sound inside.end.standing inside.end.standing inside.replica inside.accounts (jobs_next inside.next) refl keeps.1 keeps.0.order)
+    (is_sound inside.end.standing inside.end.standing inside.replica inside.accounts (jobs_next inside.next) refl keeps.1 keeps.0.level.opened keeps.0.order)
     record { replica = c.in_ok-piece.ensures.left nobody; standing = refl; looks = refl; book = refl; next = refl })

@@ -1,0 +1,99 @@
+// Connections that come and go at a node behind its lock, and what they leave.
+ghost use Rattle.std.specs.Prelude.{◌≡◌, length};
+ghost use Rattle.nr_oplog.specs.Opening.{name_of, nodes_of, places_of};
+ghost use Rattle.nr_combiner.specs.Opened.{AreNamed, AreOfWorkers};
+
+use crate::no_memory;
+use nr_blob::Memory;
+use nr_combiner::{Lifts, OpenedSlots, Plan, ServerName, open_slots};
+use nr_held::{Station, stations};
+use nr_oplog::Opened;
+use std::alloc::Global;
+use std::hash::RandomState;
+use std::io;
+use std::marker::Brand;
+use std::rt::Runtime;
+use std::sync::Wait;
+
+/// How many places the log has.
+const PLACES: usize = 64;
+
+/// How many bytes wait for a connection at most.
+const LIMIT: usize = 1 << 20;
+
+// A connection comes, asks once, says that it ends, and goes. How many bytes it got.
+fn come_and_go<B: ServerName, R: Wait>(rt: &R, station: &mut Station<B>) -> Result<usize, Memory> {
+    let Ok(mut client) = station.open(rt) else {
+        return Err(Memory);
+    };
+    client.send(station, b"PING\r\nQUIT\r\n")?;
+    station.post()?;
+    let turn = station.turn(rt, Lifts::All, LIMIT)?;
+    let got = client.take_in(station, turn)?;
+    station.collect();
+    station.close(rt, client.conn());
+    Ok(got)
+}
+
+// So many, one after the other.
+fn come_and_go_all<B: ServerName, R: Wait>(
+    rt: &R,
+    station: &mut Station<B>,
+    count: u32,
+) -> Result<usize, Memory> {
+    let mut got = 0usize;
+    for _ in 0..count {
+        got = got.saturating_add(come_and_go(rt, station)?);
+    }
+    Ok(got)
+}
+
+// The same at the worker of a new node, which then waits for a line.
+fn hold_named<B: ServerName, R: Runtime + Wait>(
+    host: &HostRuntime,
+    rt: &R,
+    keys: RandomState,
+    opened: Opened,
+    slots: Vec<OpenedSlots>,
+    count: u32,
+) -> io::Result<()>
+    requires name { name_of opened ≡ B.log }
+    requires shape { (nodes_of opened ≡ B.nodes) × (places_of opened ≡ B.places) }
+    requires slots { (length slots.items ≡ B.nodes) × AreNamed B.slots slots.items }
+    requires workers { AreOfWorkers 1 slots.items }
+{
+    let alloc = host.alloc();
+    let plan = Plan {
+        workers: 1,
+        connections: 1,
+        limit: LIMIT,
+    };
+    let Ok(mut all) = stations::<B>(alloc, keys, opened, slots, plan) else {
+        return Err(no_memory(Memory));
+    };
+    let Some(station) = all.get_mut(0) else {
+        return Err(no_memory(Memory));
+    };
+    let got = come_and_go_all(rt, station, count).map_err(no_memory)?;
+    println!(rt; "connections: {count}, bytes of replies: {got}")?;
+    let mut line = String::new(alloc);
+    host.stdin().read_line(&mut line)?;
+    Ok(())
+}
+
+/// So many connections come and go at a node, one after the other, and then it waits for a line, so that what they left can be read.
+pub(crate) fn hold<R: Runtime + Wait>(
+    host: &HostRuntime,
+    rt: &R,
+    keys: RandomState,
+    count: u32,
+) -> io::Result<()> {
+    let alloc = host.alloc();
+    let Ok(opened) = Opened::open(alloc, 1, PLACES) else {
+        return Err(no_memory(Memory));
+    };
+    let Ok(slots) = open_slots(alloc, 1, 1) else {
+        return Err(no_memory(Memory));
+    };
+    hold_named::<Brand, R>(host, rt, keys, opened, slots, count)
+}

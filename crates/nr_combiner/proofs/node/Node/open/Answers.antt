@@ -1,0 +1,25 @@
+use Rattle.std.proofs.Common.{ap, get_or, sym, ◌∙◌, subst}
+use Rattle.std.specs.List.{AllByRecursion}
+use Rattle.nr_log_end.specs.declared.standing.Standing.{Standing}
+use Rattle.nr_log_end.specs.Standings.{record_of}
+use Rattle.nr_accounts.specs.Book.{Book}
+use Rattle.nr_replica.specs.Replicas.{ReplicaState}
+use Rattle.nr_slots.specs.Rule.{no_desk}
+use Rattle.nr_slots.specs.Seats.{NoteView, note_of}
+use Rattle.nr_node.specs.Level.{workers_of}
+use Rattle.nr_combiner.specs.Pieces.{HasOwn}
+use Rattle.nr_combiner.specs.Served.{IsOwnOfBatch}
+use Rattle.nr_combiner.proofs.Handed.{owns_all}
+use Rattle.nr_combiner.proofs.node.Node.open.Goals as goal
+
+pub returns-clause-own : goal.returns-clause-own
+returns-clause-own g c =
+    let k = c.keep-token in
+    let still = k.ensures.still in
+    let n = k.new.self.node in
+    let desks = k.new.self.seat.desks in
+    let s = k.result.0.standing in
+    subst (λ (v : NoteView). HasOwn c.args.worker (get_or v.desks c.args.worker no_desk) s) (ap note_of still.1 ∙ sym k.ensures.note.0)
+    (owns_all n desks c.args.worker s (ap (λ (r : ReplicaState). workers_of r.members) still.0.replica ∙ k.ensures.opened)
+    (k.ensures.token.2 ∙ sym (ap (λ (b : Book). b.node) still.0.book))
+    (subst (λ (x : Standing). AllByRecursion (IsOwnOfBatch n desks) (record_of x.history)) (still.0.standing ∙ sym k.ensures.token.0) k.ensures.served.1.handed_in.done))
