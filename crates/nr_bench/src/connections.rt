@@ -4,6 +4,7 @@ ghost use Rattle.nr_oplog.specs.Opening.{name_of, nodes_of, places_of};
 ghost use Rattle.nr_combiner.specs.Opened.{AreNamed, AreOfWorkers};
 
 use crate::no_memory;
+use crate::nodes::serve_batch;
 use nr_blob::Memory;
 use nr_combiner::{Lifts, OpenedSlots, Plan, ServerName, open_slots};
 use nr_held::{Station, stations};
@@ -26,11 +27,7 @@ fn come_and_go<B: ServerName, R: Wait>(rt: &R, station: &mut Station<B>) -> Resu
     let Ok(mut client) = station.open(rt) else {
         return Err(Memory);
     };
-    client.send(station, b"PING\r\nQUIT\r\n")?;
-    station.post()?;
-    let turn = station.turn(rt, Lifts::All, LIMIT)?;
-    let got = client.take_in(station, turn)?;
-    station.collect();
+    let got = serve_batch(rt, station, Lifts::All, &mut client, b"PING\r\nQUIT\r\n")?;
     station.close(rt, client.conn());
     Ok(got)
 }

@@ -77,8 +77,8 @@ fn wait_for_answer<B: ServerName, R: Wait>(
     Ok(got)
 }
 
-// Hands in a batch, and takes turns until it is answered. How many bytes they handed out.
-fn serve_batch<B: ServerName, R: Wait>(
+/// Hands in a batch, and takes turns until it is answered. How many bytes they handed out.
+pub(crate) fn serve_batch<B: ServerName, R: Wait>(
     rt: &R,
     station: &mut Station<B>,
     lifts: Lifts,
