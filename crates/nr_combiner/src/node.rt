@@ -104,7 +104,7 @@ impl<B: ServerName> Node<B> {
         ensures named { IfOk result (λ told. told.note.slots ≡ B.slots self.now.node) }
     {
         let mut combiner = self.combiner.lock(rt);
-        if combiner.node() != self.node {
+        if combiner.node() != self.node() {
             return Err(OpenError::Down);
         }
         let conn = combiner.open(worker, self.limit, self.connections)?;

@@ -2,12 +2,14 @@
 //! own, so that a crate which holds them proves nothing again of what is in them; and what contracts say of that stays below.
 #![tactic(auto)]
 
+pub use alone::Alone;
 pub use client::{Client, Offered};
 pub use letting_go::let_go;
 pub use single::Single;
 pub use station::{Station, Turn, stations};
 pub use subscribed::Subscribed;
 
+mod alone;
 mod client;
 mod jobs;
 mod letting_go;

@@ -1,3 +1,4 @@
+pub mod Numbers
 pub mod Standings
 pub mod Reserves
 pub mod Tries

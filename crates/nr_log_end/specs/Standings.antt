@@ -1,12 +1,13 @@
 -- How a node stands to the log, and what its calls change of that.
-use Rattle.std.specs.Prelude.{◌≡◌, ℕ, suc, ◌+◌, ◌≤◌, ◌==◌, cond, List, [], ◌∷◌, ◌++◌, length, map, flat_map, slice_index_or, slice_set, Option, Some, None, option_to_list}
+use Rattle.std.specs.Prelude.{◌≡◌, ℕ, suc, ◌+◌, ◌≤◌, ◌==◌, cond, List, [], ◌∷◌, ◌++◌, length, map, flat_map, drop, slice_index_or, slice_set, Option, Some, None, option_to_list}
 use Rattle.nr_model.specs.Items.{Item}
-use Rattle.nr_model.specs.Entries.{entry_items}
+use Rattle.nr_model.specs.Entries.{Jobs, entry_items}
 use Rattle.nr_model.specs.Bytes.{IsBeginningOf}
 use Rattle.nr_entry.specs.Jobs.{item_of, items_of}
 use Rattle.nr_entry.specs.Shares.{shares_of}
 use Rattle.nr_entry.specs.declared.entry.Entry.{Entry}
 use Rattle.nr_entry.specs.declared.job.Job.{Job}
+use Rattle.nr_log_end.specs.Numbers.{AreRising}
 use Rattle.nr_log_end.specs.declared.standing.Standing.{Standing}
 use Rattle.nr_log_end.specs.declared.standing.Turn.{Turn}
 use Rattle.nr_log_end.specs.declared.standing.Turn.TheVariants.{Applied, Ran, Opened}
@@ -60,14 +61,43 @@ own_from node n (entry ∷ entries) = let more = own_from node (suc n) entries i
 abbrev pub own_entries : ℕ → List Entry → List (ℕ × Entry)
 own_entries node log = own_from node 0 log
 
--- There is a log, which begins with what the node knows, and has as many entries as it has seen, or more. The node's reservations are its
--- entries in that log, each under its number and no others.
-abbrev pub StandsInLog : Standing → Type 0
-StandsInLog s = (log : List Entry) × IsBeginningOf (known_of s) log × (s.seen ≤ length log) × (s.reservations ≡ own_entries s.node log)
+-- the entries that the node reserved and hasn't passed, and their jobs
+abbrev pub unpassed : Standing → List (ℕ × Entry)
+unpassed s = drop (length (own_entries s.node (applied_of s.history))) s.reservations
 
--- shares of an entry of this node, one for each node
+abbrev pub jobs_reserved : List (ℕ × Entry) → Jobs
+jobs_reserved [] = []
+jobs_reserved (r ∷ rs) = items_of r.1.jobs.items ++ jobs_reserved rs
+
+-- the node's record, and behind it the jobs of the entries that it has still to pass
+abbrev pub logged : Standing → Jobs
+logged s = record_of s.history ++ jobs_reserved (unpassed s)
+
+-- the jobs of entries, in order
+abbrev pub jobs_in : List Entry → Jobs
+jobs_in [] = []
+jobs_in (entry ∷ entries) = items_of entry.jobs.items ++ jobs_in entries
+
+-- the numbers of each connection's jobs rise along these entries
+abbrev pub EachRises : List Entry → Type 0
+EachRises entries = (node : ℕ) → AreRising node (jobs_in entries)
+
+-- There is a log, which begins with what the node knows, and has as many entries as it has seen, or more. The node's reservations are its
+-- entries in that log, each under its number and no others. The numbers of each connection's jobs rise along it.
+abbrev pub StandsInLog : Standing → Type 0
+StandsInLog s = (log : List Entry) × IsBeginningOf (known_of s) log × (s.seen ≤ length log) × (s.reservations ≡ own_entries s.node log) × EachRises log
+
+-- the jobs of those of a log's entries that the node has still to pass
+abbrev pub jobs_behind : Standing → List Entry → Jobs
+jobs_behind s entries = jobs_in (drop (passed_of s) entries)
+
+-- the numbers of each of the node's connections rise along its record and the entries that follow there
+abbrev pub RisesBefore : Standing → List Entry → Type 0
+RisesBefore s entries = AreRising s.node (record_of s.history ++ jobs_behind s entries)
+
+-- shares of an entry of this node, one for each node; the numbers of its jobs go on rising behind those that the node has logged
 abbrev pub IsSharesFor : Standing → List (Option Entry) → Type 0
-IsSharesFor s shares = (entry : Entry) × (shares ≡ shares_of entry s.nodes) × (entry.node ≡ s.node)
+IsSharesFor s shares = (entry : Entry) × (shares ≡ shares_of entry s.nodes) × (entry.node ≡ s.node) × AreRising s.node (logged s ++ items_of entry.jobs.items)
 
 -- no share waits for its cell
 abbrev pub IsAllFilled : Standing → Type 0
@@ -109,3 +139,7 @@ noted_with jobs seen s = done_with (map Ran jobs) seen s
 -- the next connection was opened, which this worker serves
 abbrev pub opened_with : ℕ → ℕ → Standing → Standing
 opened_with worker seen s = done_with (Opened worker ∷ []) seen s
+
+-- the numbers of the reads go on rising behind those that the node has logged
+abbrev pub AreNextReads : List Job → Standing → Type 0
+AreNextReads jobs s = AreRising s.node (logged (noted_with jobs s.seen s))

@@ -1,7 +1,7 @@
 // One node's end of the log.
 ghost use Rattle.std.specs.Prelude.{◌≡◌, ◌≤◌, ◌∷◌, ◌++◌, [], IfSome, IfNone, IsSome, None, slice_index_or};
 ghost use Rattle.std.specs.Arc.{arc_value};
-ghost use Rattle.nr_log_end.specs.Standings.{LooksOn, IsSharesFor, IsAllFilled, StandsInLog, filled_for, fetched_with, passed_on, noted_with, opened_with};
+ghost use Rattle.nr_log_end.specs.Standings.{LooksOn, IsSharesFor, IsAllFilled, StandsInLog, filled_for, fetched_with, passed_on, noted_with, opened_with, AreNextReads};
 ghost use Rattle.nr_log_end.specs.Reserves.{IfTaken, IfFull, IfLost};
 ghost use Rattle.nr_log_end.specs.Tries.{IsTaken, IsFull, IsLost};
 
@@ -31,7 +31,7 @@ pub trait LogEnd {
     /// How many places the log has.
     ghost places: { ℕ };
 
-    /// Tries once to reserve the next number for an entry of this node.
+    /// Tries once to reserve the next number for an entry of this node. The numbers of each connection's jobs rise along all that the node reserves and notes.
     fn reserve(&mut self, shares: Shares) -> Reserve
         requires shares { IsSharesFor (standing self.old) shares }
         requires filled { IsAllFilled (standing self.old) }
@@ -66,8 +66,9 @@ pub trait LogEnd {
         ensures standing { LooksOn (standing self.old) (standing self.new) }
         ensures looks { looks self.new ≡ looks self.old ++ Look.Tail result ∷ [] };
 
-    /// Notes that this node's replica has run these reads, in this order, behind the entries that were passed so far.
+    /// Notes that this node's replica has run these reads, in this order, behind the entries that were passed so far. Their numbers go on rising.
     fn note(&mut self, jobs: &[Job])
+        requires rising { AreNextReads jobs.now (standing self.old) }
         ensures noted { standing self.new ≡ noted_with jobs.now (standing self.new).seen (standing self.old) }
         ensures seen { (standing self.old).seen ≤ (standing self.new).seen }
         ensures looks { looks self.new ≡ looks self.old ++ Look.Tail (standing self.new).seen ∷ [] };

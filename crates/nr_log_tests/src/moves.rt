@@ -29,6 +29,8 @@ pub(crate) enum Outcome {
     Full,
     /// Another node appended in between.
     Lost,
+    /// The number is below one that the node appended or offered before. The tests never meet it.
+    Refused,
     /// The entry that was taken has a job of this number.
     Took(u64),
     /// The next entry isn't there.
@@ -79,7 +81,9 @@ fn play_named<B: LogName>(
 fn make<B: LogName>(alloc: Global, node: &mut Node<B>, step: Move) -> Result<Outcome, Memory> {
     Ok(match step {
         Move::Append(number) => {
-            node.offer(alloc, number)?;
+            if !node.offer(alloc, number)? {
+                return Ok(Outcome::Refused);
+            }
             match node.append() {
                 Tried::At(at) => Outcome::At(at),
                 Tried::Full => Outcome::Full,

@@ -165,6 +165,7 @@ one_order t new book next job o = record {
   unopened = o.unopened;
   closed = λ serial past. none_stays book.node book.held job serial (o.closed serial past);
   reads = o.reads;
+  entries = o.entries;
   passed = o.passed;
   met = o.met;
 }

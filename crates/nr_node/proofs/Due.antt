@@ -1,7 +1,6 @@
 -- Whether an entry is due.
-use Rattle.std.proofs.Common.{◌≡◌, ℕ, ◌<◌, Bool, true, false, List, [], ◌∷◌, Option, Some, None, refl, ap, sym, ◌∙◌}
+use Rattle.std.proofs.Common.{◌≡◌, ℕ, ◌<◌, Bool, true, false, List, [], ◌∷◌, Option, refl, ap, sym, ◌∙◌}
 use Rattle.std.specs.Prelude.{is_some}
-use Rattle.nr_entry.specs.Jobs.{items_of}
 use Rattle.nr_entry.specs.Waiting.{has_some}
 use Rattle.nr_entry.specs.declared.job.Job.{Job}
 use Rattle.nr_node.specs.declared.next.Next.{Next}

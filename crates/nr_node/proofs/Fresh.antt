@@ -37,6 +37,7 @@ fresh_order nodes places node upto workers = record {
   unopened = λ serial past. refl;
   closed = λ serial past. none_held serial;
   reads = tt;
+  entries = λ _ serial. tt;
   passed = omega arith;
   met = tt;
 }

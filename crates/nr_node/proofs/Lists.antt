@@ -1,20 +1,13 @@
 -- The record of a node, its entries in the log, and the numbers of a connection's jobs, where one more is done, passed or reserved.
-use Rattle.std.proofs.Common.{◌≡◌, ℕ, zero, suc, ◌+◌, ◌<◌, ◌≤◌, Bool, true, false, cond, inl, inr, List, [], ◌∷◌, ◌++◌, length, map, drop, Option, None, refl, ap, sym, ◌∙◌, subst, append_assoc, arith}
-use Rattle.std.specs.Prelude.{◌==◌, option_to_list, IsTrue}
+use Rattle.std.proofs.Common.{◌≡◌, ℕ, zero, suc, ◌+◌, ◌<◌, ◌≤◌, Bool, true, false, cond, List, [], ◌∷◌, ◌++◌, length, map, drop, Option, None, refl, ap, sym, ◌∙◌, subst, append_assoc, arith}
+use Rattle.std.specs.Prelude.{◌==◌, option_to_list}
 use Rattle.std.specs.List.{AllByRecursion, range_with_len}
-use Rattle.std.proofs.Math.Seq.{drop-append_seam}
-use Rattle.std.proofs.lemmas.Bool.{and_parts, eqb-true}
-use Rattle.std.proofs.lemmas.Bool.Decides.{eqb_tells}
-use Rattle.std.proofs.lemmas.Grind.{flat_map-append}
 use Rattle.std.proofs.lemmas.List.{append-nil, drop-append-le, length-append, map-append}
-use Rattle.std.proofs.lemmas.List.Elements.{filter-append}
-use Rattle.nr_model.specs.Items.{Connection, same_connection, Item}
-use Rattle.nr_model.specs.Entries.{Jobs, entry_items, entry_jobs, entry_moment, left_by_entry, read_jobs, left_by_reads}
+use Rattle.nr_model.specs.Items.{Connection, Item}
+use Rattle.nr_model.specs.Entries.{Jobs, entry_items, entry_jobs, left_by_entry, read_jobs, left_by_reads}
 use Rattle.nr_model.specs.Asked.{own_jobs}
 use Rattle.nr_model.proofs.Choices.{entry_apart, reads_apart}
-use Rattle.nr_model.proofs.NodesOwnLists.{All-drop, none_own}
-use Rattle.nr_model.proofs.NodesPartsEmitted.{of_another}
-use Rattle.nr_entry.specs.Entry.{are_of}
+use Rattle.nr_model.proofs.NodesOwnLists.{All-drop}
 use Rattle.nr_entry.specs.Jobs.{item_of, items_of}
 use Rattle.nr_entry.specs.Shares.{shares_of}
 use Rattle.nr_entry.specs.declared.entry.Entry.{Entry}
@@ -22,20 +15,13 @@ use Rattle.nr_entry.specs.declared.job.Job.{Job}
 use Rattle.nr_log_end.specs.declared.standing.Standing.{Standing}
 use Rattle.nr_log_end.specs.declared.standing.Turn.{Turn}
 use Rattle.nr_log_end.specs.declared.standing.Turn.TheVariants.{Applied, Ran, Opened}
-use Rattle.nr_log_end.specs.Standings.{applied_of, opened_of, ran_from, ran_of, items_of_turn, record_of, passed_of, own_from, own_entries, StandsInLog, reservation, reserved_as, opened_with, fetched_with, passed_on, noted_with}
+use Rattle.nr_log_end.specs.Standings.{applied_of, opened_of, ran_from, ran_of, record_of, passed_of, own_from, own_entries, StandsInLog, reservation, reserved_as, opened_with, fetched_with, passed_on, noted_with, EachRises}
+pub use Rattle.nr_log_end.proofs.Numbered.{record-append, applied-append, own-append, numbers-append, numbers_entry, numbers_other}
+use Rattle.nr_log_end.proofs.Numbered.{behind_known, each_rises_front, numbers_front, unpassed_behind}
 use Rattle.nr_accounts.specs.Held.{numbers_in}
 use Rattle.nr_node.specs.Level.{unpassed, jobs_reserved, logged}
 
--- one history behind another
-pub record-append : (turns more : List Turn) → record_of (turns ++ more) ≡ record_of turns ++ record_of more
-record-append turns more = flat_map-append items_of_turn turns more
-
-pub applied-append : (turns more : List Turn) → applied_of (turns ++ more) ≡ applied_of turns ++ applied_of more
-applied-append [] more = refl
-applied-append (Applied entry ∷ turns) more = ap (λ (es : List Entry). entry ∷ es) (applied-append turns more)
-applied-append (Ran job ∷ turns) more = applied-append turns more
-applied-append (Opened worker ∷ turns) more = applied-append turns more
-
+-- which connections were opened, in one history behind another
 pub opened-append : (turns more : List Turn) → opened_of (turns ++ more) ≡ opened_of turns ++ opened_of more
 opened-append [] more = refl
 opened-append (Applied entry ∷ turns) more = opened-append turns more
@@ -79,63 +65,9 @@ pub ran-append : (P : Job → Type 0) (turns more : List Turn) → AllByRecursio
     → AllByRecursion (λ (r : Job × ℕ). P r.0) (ran_of more) → AllByRecursion (λ (r : Job × ℕ). P r.0) (ran_of (turns ++ more))
 ran-append P turns more all both = ran_behind P 0 turns more all both
 
--- the entries of a node in one log behind another
-own_behind : (node n : ℕ) (log more : List Entry) → own_from node n (log ++ more) ≡ own_from node n log ++ own_from node (n + length log) more
-own_behind node n [] more =
-    let same : n ≡ n + 0 = omega arith in
-    ap (λ (k : ℕ). own_from node k more) same
-own_behind node n (entry ∷ log) more =
-    let same : suc n + length log ≡ n + suc (length log) = omega arith in
-    let rest = own_from node (suc n) log in
-    let behind = own_from node (n + suc (length log)) more in
-    let ih : own_from node (suc n) (log ++ more) ≡ rest ++ behind =
-    own_behind node (suc n) log more ∙ ap (λ (k : ℕ). rest ++ own_from node k more) same in
-    let all = own_from node (suc n) (log ++ more) in
-    elim (entry.node == node) as (λ own. cond own ((n, entry) ∷ all) all ≡ cond own ((n, entry) ∷ rest) rest ++ behind) [
-      | true ↦ ap (λ (rs : List (ℕ × Entry)). (n, entry) ∷ rs) ih
-      | false ↦ ih
-    ]
-
-pub own-append : (node : ℕ) (log more : List Entry) → own_entries node (log ++ more) ≡ own_entries node log ++ own_from node (length log) more
-own-append node log more =
-    let same : 0 + length log ≡ length log = omega arith in
-    own_behind node 0 log more ∙ ap (λ (k : ℕ). own_entries node log ++ own_from node k more) same
-
 -- the numbers of a connection's jobs
 abbrev number : Item → ℕ
 number job = job.number
-
-pub numbers-append : (c : Connection) (xs ys : Jobs) → numbers_in c (xs ++ ys) ≡ numbers_in c xs ++ numbers_in c ys
-numbers-append c xs ys =
-    ap (map number) (filter-append (λ (job : Item). same_connection job.connection c) xs ys) ∙ map-append number (own_jobs c xs) (own_jobs c ys)
-
--- at another moment
-numbers_at : (c : Connection) (moment : ℕ) (jobs : Jobs) → numbers_in c (map {A = Item} (λ job. record job { moment = moment }) jobs) ≡ numbers_in c jobs
-numbers_at c moment [] = refl
-numbers_at c moment (job ∷ jobs) =
-    let more : Jobs = map {A = Item} (λ j. record j { moment = moment }) jobs in
-    let now : Item = record job { moment = moment } in
-    let ih = numbers_at c moment jobs in
-    elim (same_connection job.connection c) as (λ own. map number (cond own (now ∷ own_jobs c more) (own_jobs c more))
-    ≡ map number (cond own (job ∷ own_jobs c jobs) (own_jobs c jobs))) [
-      | true ↦ ap (λ (ns : List ℕ). job.number ∷ ns) ih
-      | false ↦ ih
-    ]
-
-pub numbers_entry : (c : Connection) (jobs : Jobs) → numbers_in c (entry_items jobs) ≡ numbers_in c jobs
-numbers_entry c jobs = numbers_at c (entry_moment jobs) jobs
-
--- another node's jobs
-elsewhere : (c : Connection) (node : ℕ) (jobs : Jobs) → IsTrue (are_of node jobs) → (c.node ≡ node → ⊥)
-    → AllByRecursion (λ (job : Item). same_connection job.connection c ≡ false) jobs
-elsewhere c node [] own apart = tt
-elsewhere c node (job ∷ jobs) own apart =
-    let both = and_parts (job.connection.node == node) (are_of node jobs) own in
-    let here = eqb-true job.connection.node node both.0 in
-    (of_another job.connection c (λ e. apart (sym e ∙ here)), elsewhere c node jobs both.1 apart)
-
-pub numbers_other : (c : Connection) (node : ℕ) (jobs : Jobs) → IsTrue (are_of node jobs) → (c.node ≡ node → ⊥) → numbers_in c jobs ≡ []
-numbers_other c node jobs own apart = ap (map number) (none_own c jobs (elsewhere c node jobs own apart))
 
 -- the jobs that are taken, and those that are left
 pub numbers_left_by_entry : (c : Connection) (waiting : Jobs) → numbers_in c (entry_jobs waiting) ++ numbers_in c (left_by_entry waiting) ≡ numbers_in c waiting
@@ -146,17 +78,7 @@ pub numbers_left_by_reads : (c : Connection) (waiting : Jobs) → numbers_in c (
 numbers_left_by_reads c waiting =
     sym (map-append number (own_jobs c (read_jobs waiting)) (own_jobs c (left_by_reads waiting))) ∙ ap (map number) (sym (reads_apart c waiting))
 
--- what is behind the entries that are known
-behind_known : (node : ℕ) (known rest log : List Entry) → known ++ rest ≡ log
-    → own_entries node log ≡ own_entries node known ++ own_from node (length known) rest
-behind_known node known rest log e = ap (own_entries node) (sym e) ∙ own-append node known rest
-
-unpassed_behind : (node : ℕ) (known rest log : List Entry) (reservations : List (ℕ × Entry)) → known ++ rest ≡ log → reservations ≡ own_entries node log
-    → drop (length (own_entries node known)) reservations ≡ own_from node (length known) rest
-unpassed_behind node known rest log reservations e are =
-    ap (drop (length (own_entries node known))) (are ∙ behind_known node known rest log e)
-    ∙ drop-append_seam (own_entries node known) (own_from node (length known) rest)
-
+-- no more of the node's entries are known than it reserved
 fewer_known : (node : ℕ) (known rest log : List Entry) (reservations : List (ℕ × Entry)) → known ++ rest ≡ log → reservations ≡ own_entries node log
     → length (own_entries node known) ≤ length reservations
 fewer_known node known rest log reservations e are =
@@ -174,27 +96,18 @@ still_in_log s e stands = (
   (stands.1.0, ap (λ (known : List Entry). known ++ stands.1.0) (append-nil (applied_of (passed_on (fetched_with e s)).history) ∙ known_more s e) ∙ stands.1.1),
   stands.2,
   stands.3,
+  stands.4,
 )
+
+-- the numbers of each connection's jobs rise along what is known then
+pub entries_passed : (s : Standing) (e : Entry) → StandsInLog (fetched_with e s) → EachRises (applied_of (passed_on (fetched_with e s)).history)
+entries_passed s e stands = subst EachRises (sym (known_more s e)) (each_rises_front (applied_of s.history ++ e ∷ []) stands.0 stands.1 stands.4)
 
 pub own_passed : (s : Standing) (e : Entry) → StandsInLog (fetched_with e s)
     → length (own_entries s.node (applied_of (passed_on (fetched_with e s)).history)) ≤ length s.reservations
 own_passed s e stands =
     fewer_known s.node (applied_of (passed_on (fetched_with e s)).history) stands.1.0 stands.0 s.reservations
     (ap (λ (known : List Entry). known ++ stands.1.0) (known_more s e) ∙ stands.1.1) stands.3
-
--- the entry that was fetched is the next of its own node, and of no other
-numbers_front : (c : Connection) (node n : ℕ) (e : Entry) (rest : List Entry) → c.node ≡ node
-    → numbers_in c (items_of e.jobs.items) ++ numbers_in c (jobs_reserved (own_from node (suc n) rest))
-    ≡ numbers_in c (jobs_reserved (own_from node n (e ∷ rest)))
-numbers_front c node n e rest here =
-    let more = own_from node (suc n) rest in
-    let items = items_of e.jobs.items in
-    let at = λ (own : Bool). numbers_in c (jobs_reserved (cond own ((n, e) ∷ more) more)) in
-    elim (eqb_tells e.node node) [
-      | inl own ↦ sym (numbers-append c items (jobs_reserved more)) ∙ sym (ap at own.0)
-      | inr other ↦ ap (λ (ns : List ℕ). ns ++ numbers_in c (jobs_reserved more)) (numbers_other c e.node items e.own (λ same. other.1 (sym same ∙ here)))
-          ∙ sym (ap at other.0)
-    ]
 
 -- the entries that the node has still to pass before one more is passed, and behind it
 before_passed : (s : Standing) (e : Entry) (stands : StandsInLog (fetched_with e s)) → unpassed s ≡ own_from s.node (passed_of s) (e ∷ stands.1.0)

@@ -1,5 +1,5 @@
 -- The jobs of a node's connections stay in their order, wherever they are.
-use Rattle.std.proofs.Common.{◌≡◌, ℕ, zero, suc, ◌<◌, ◌≤◌, ◌+◌, inl, inr, true, false, List, [], ◌∷◌, ◌++◌, length, drop, refl, ap, sym, ◌∙◌, subst, arith, append_assoc}
+use Rattle.std.proofs.Common.{◌≡◌, ℕ, zero, suc, ◌<◌, ◌≤◌, ◌+◌, inl, inr, true, false, List, [], ◌∷◌, ◌++◌, length, refl, ap, sym, ◌∙◌, subst, arith, append_assoc}
 use Rattle.std.specs.Prelude.{◌⊎◌, Option, Some, None}
 use Rattle.std.specs.List.{AllByRecursion, range_with_len}
 use Rattle.std.specs.FinMap as finmap
@@ -12,10 +12,12 @@ use Rattle.nr_entry.specs.Jobs.{item_of, items_of}
 use Rattle.nr_entry.specs.Shares.{shares_of}
 use Rattle.nr_entry.specs.declared.entry.Entry.{Entry}
 use Rattle.nr_entry.specs.declared.job.Job.{Job}
+use Rattle.nr_log_end.specs.Numbers.{IsRising, AreRising}
+use Rattle.nr_log_end.proofs.Rising.{range_rises}
 use Rattle.nr_log_end.specs.declared.standing.Standing.{Standing}
 use Rattle.nr_log_end.specs.declared.standing.Turn.{Turn}
 use Rattle.nr_log_end.specs.declared.standing.Turn.TheVariants.{Applied, Ran, Opened}
-use Rattle.nr_log_end.specs.Standings.{applied_of, opened_of, ran_from, ran_of, record_of, passed_of, own_entries, StandsInLog, fetched_with, opened_with, passed_on, reserved_as}
+use Rattle.nr_log_end.specs.Standings.{applied_of, opened_of, ran_from, ran_of, record_of, passed_of, own_entries, StandsInLog, fetched_with, opened_with, passed_on, reserved_as, EachRises}
 use Rattle.nr_accounts.specs.declared.account.Account.{Account}
 use Rattle.nr_accounts.specs.Held.{numbers_in, CountsTo}
 use Rattle.nr_accounts.specs.Book.{Book}
@@ -24,7 +26,7 @@ use Rattle.nr_replica.specs.Replicas.{ReplicaState, fallen}
 use Rattle.nr_node.specs.Level.{IsCount, IsReadOf, connection_at, workers_of, unpassed, jobs_reserved, logged, all_jobs, IsInOrder}
 use Rattle.nr_node.specs.Sound.{IsSound}
 use Rattle.nr_node.specs.Reserved.{AreOfNode, due_jobs, left_jobs, LeavesWaiting, HasMet, IsReserved}
-use Rattle.nr_node.proofs.Lists.{record_opened, applied_opened, unpassed_opened, ran-append, numbers-append, numbers_left_by_entry, own_passed, logged_passed, logged_reserved, counts_front}
+use Rattle.nr_node.proofs.Lists.{entries_passed, record_opened, applied_opened, unpassed_opened, ran-append, numbers-append, numbers_left_by_entry, own_passed, logged_passed, logged_reserved, counts_front}
 
 -- the numbers in lists behind one another
 joined : (c : Connection) (xs ys zs : Jobs) → numbers_in c (xs ++ (ys ++ zs)) ≡ numbers_in c xs ++ (numbers_in c ys ++ numbers_in c zs)
@@ -72,6 +74,7 @@ is_sound s t old book next same idle served o = subst IsSound (sym same) record 
       let c = connection_at s.node serial in
       let count : length (opened_of s.history) ≡ length old.members = ap length (sym served) ∙ length-map old.members (λ (m : Member). m.worker) in
       none_recorded c (record_of s.history) (jobs_reserved (unpassed s)) (items_of next ++ items_of old.waiting) (o.unopened serial (omega (arith, past, count)));
+  entries = o.entries;
   idle = idle;
 }
 
@@ -81,8 +84,8 @@ pub same_order : (s t : Standing) (old new : ReplicaState) (book : Book) (next a
     → ((serial : ℕ) → numbers_in (connection_at s.node serial) (all_jobs t after new.waiting) ≡ numbers_in (connection_at s.node serial) (all_jobs s next old.waiting))
     → AreOfNode s.node (items_of new.waiting) → AllByRecursion (λ (r : Job × ℕ). IsReadOf s.node (item_of r.0)) (ran_of t.history)
     → length (own_entries t.node (applied_of t.history)) ≤ length t.reservations → AllByRecursion (λ (r : ℕ × Entry). r.0 < t.seen) t.reservations
-    → IsInOrder s old book next → IsInOrder t new book after
-same_order s t old new book next after node long was numbered all own reads passed met o = record {
+    → EachRises (applied_of t.history) → IsInOrder s old book next → IsInOrder t new book after
+same_order s t old new book next after node long was numbered all own reads passed met entries o = record {
   book_is = o.book_is ∙ sym node;
   own = subst (λ (n : ℕ). AreOfNode n (items_of new.waiting)) (sym node) own;
   numbered = λ serial. subst (λ (n : ℕ). IsCount (numbers_in (connection_at n serial) (logged t))) (sym node) (numbered serial);
@@ -97,6 +100,7 @@ same_order s t old new book next after node long was numbered all own reads pass
       let before : length old.members ≤ serial = omega (arith, long) in
       o.closed serial before;
   reads = subst (λ (n : ℕ). AllByRecursion (λ (r : Job × ℕ). IsReadOf n (item_of r.0)) (ran_of t.history)) (sym node) reads;
+  entries = entries;
   passed = passed;
   met = met;
 }
@@ -106,8 +110,8 @@ pub dropped_order : (s t : Standing) (old new : ReplicaState) (book : Book) (nex
     → new.down ≡ true → ((serial : ℕ) → numbers_in (connection_at s.node serial) (logged t) ≡ numbers_in (connection_at s.node serial) (logged s))
     → ((new.waiting ≡ []) ⊎ (new.waiting ≡ old.waiting)) → AllByRecursion (λ (r : Job × ℕ). IsReadOf s.node (item_of r.0)) (ran_of t.history)
     → length (own_entries t.node (applied_of t.history)) ≤ length t.reservations → AllByRecursion (λ (r : ℕ × Entry). r.0 < t.seen) t.reservations
-    → IsInOrder s old book next → IsInOrder t new book []
-dropped_order s t old new book next node long down same waits reads passed met o =
+    → EachRises (applied_of t.history) → IsInOrder s old book next → IsInOrder t new book []
+dropped_order s t old new book next node long down same waits reads passed met entries o =
     let own : AreOfNode s.node (items_of new.waiting) = elim waits [
       | inl e ↦ subst (λ (js : List Job). AreOfNode s.node (items_of js)) (sym e) tt
       | inr e ↦ subst (λ (js : List Job). AreOfNode s.node (items_of js)) (sym e) o.own
@@ -132,6 +136,7 @@ dropped_order s t old new book next node long down same waits reads passed met o
           let before : length old.members ≤ serial = omega (arith, long) in
           o.closed serial before;
       reads = subst (λ (n : ℕ). AllByRecursion (λ (r : Job × ℕ). IsReadOf n (item_of r.0)) (ran_of t.history)) (sym node) reads;
+      entries = entries;
       passed = passed;
       met = met;
     }
@@ -154,7 +159,7 @@ passed_order s t e old new book next is stands long was waits o =
     ∙ sym (joined c (logged s) (items_of next) (items_of old.waiting)))
     (subst (λ (js : List Job). AreOfNode s.node (items_of js)) (sym waits) o.own)
     (ran-append (λ (job : Job). IsReadOf s.node (item_of job)) s.history (Applied e ∷ []) o.reads tt)
-    (own_passed s e stands) o.met o)
+    (own_passed s e stands) o.met (entries_passed s e stands) o)
 
 -- an entry was passed by a node that is down
 pub passed_down : (s t : Standing) (e : Entry) (old new : ReplicaState) (book : Book) (next : List Job) → t ≡ passed_on (fetched_with e s) → StandsInLog (fetched_with e s)
@@ -165,7 +170,7 @@ passed_down s t e old new book next is stands long down waits o =
     subst (λ (x : Standing). IsInOrder x new book []) (sym is)
     (dropped_order s p old new book next refl long down (λ serial. logged_passed s e (connection_at s.node serial) stands refl) waits
     (ran-append (λ (job : Job). IsReadOf s.node (item_of job)) s.history (Applied e ∷ []) o.reads tt)
-    (own_passed s e stands) o.met o)
+    (own_passed s e stands) o.met (entries_passed s e stands) o)
 
 -- what is due, and what is left behind it
 due_and_left : (c : Connection) (next waiting : List Job)
@@ -184,6 +189,25 @@ further n m rs h all = All-weaker (λ (r : ℕ × Entry). r.0 < n) (λ (r : ℕ 
 one_reservation : (at nodes : ℕ) (e : Entry) → 0 < nodes → Rattle.nr_log_end.specs.Standings.reservation at (shares_of e nodes) ≡ (at, e) ∷ []
 one_reservation at zero e h = absurd (omega arith)
 one_reservation at (suc nodes) e h = refl
+
+-- numbers that count up rise
+pub count_rises : (numbers : List ℕ) → IsCount numbers → IsRising numbers
+count_rises numbers h = subst IsRising (sym h) (range_rises 0 (length numbers))
+
+-- the numbers of the entry that is due go on behind what is logged
+pub due_rises : (s : Standing) (e : Entry) (old : ReplicaState) (book : Book) (next : List Job) → items_of e.jobs.items ≡ due_jobs next old.waiting
+    → old.down ≡ false → IsInOrder s old book next → AreRising s.node (logged s ++ items_of e.jobs.items)
+due_rises s e old book next due up o = λ serial.
+    let c = connection_at s.node serial in
+    let items = items_of e.jobs.items in
+    let left = left_jobs next old.waiting in
+    let apart : numbers_in c (logged s ++ items) ++ numbers_in c left ≡ numbers_in c (all_jobs s next old.waiting) =
+    ap (λ (ns : List ℕ). ns ++ numbers_in c left) (numbers-append c (logged s) items)
+    ∙ append_assoc (numbers_in c (logged s)) (numbers_in c items) (numbers_in c left)
+    ∙ ap (λ (ns : List ℕ). numbers_in c (logged s) ++ ns) (ap (λ (js : Jobs). numbers_in c js ++ numbers_in c left) due ∙ due_and_left c next old.waiting)
+    ∙ sym (joined c (logged s) (items_of next) (items_of old.waiting)) in
+    count_rises (numbers_in c (logged s ++ items))
+    (first_counted c (logged s ++ items) left (all_jobs s next old.waiting) apart (all_counted s old book next up o serial))
 
 -- the entry that was due stands in the log
 pub reserved_order : (s t : Standing) (at : ℕ) (e : Entry) (old new : ReplicaState) (book : Book) (next : List Job) → 0 < s.nodes → IsReserved at (shares_of e s.nodes) s t
@@ -219,6 +243,7 @@ reserved_order s t at e old new book next some reserved due left up o =
     omega (arith, passed, o.passed, ap length reservations, long))
     (subst (λ (rs : List (ℕ × Entry)). AllByRecursion (λ (x : ℕ × Entry). x.0 < t.seen) rs) (sym reservations)
     (All-append (λ (x : ℕ × Entry). x.0 < t.seen) s.reservations ((at, e) ∷ []) (further s.seen t.seen s.reservations on o.met) (here, tt)))
+    (subst (λ (h : List Turn). EachRises (applied_of h)) (sym history) o.entries)
     o
 
 -- a tail was met
@@ -247,13 +272,14 @@ due_order s t old new book next after met due left o =
     omega (arith, passed, o.passed, same_length))
     (subst (λ (rs : List (ℕ × Entry)). AllByRecursion (λ (x : ℕ × Entry). x.0 < t.seen) rs) (sym (ap (λ (x : Standing). x.reservations) met.standing))
     (further s.seen t.seen s.reservations met.seen o.met))
+    (subst (λ (h : List Turn). EachRises (applied_of h)) (sym (ap (λ (x : Standing). x.history) met.standing)) o.entries)
     o
 
 -- the replica fell, and nothing happened at the log
 pub fallen_order : (s : Standing) (old new : ReplicaState) (book : Book) (next : List Job) → new ≡ fallen old → IsInOrder s old book next → IsInOrder s new book []
 fallen_order s old new book next is o =
     dropped_order s s old new book next refl (ap (λ (x : ReplicaState). length x.members) is) (ap (λ (x : ReplicaState). x.down) is) (λ serial. refl)
-    (inl (ap (λ (x : ReplicaState). x.waiting) is)) o.reads o.passed o.met o
+    (inl (ap (λ (x : ReplicaState). x.waiting) is)) o.reads o.passed o.met o.entries o
 
 -- nothing happened at the log but that a tail was met
 pub met_order : (s t : Standing) (old : ReplicaState) (book : Book) (next : List Job) → HasMet s t → IsInOrder s old book next → IsInOrder t old book next
@@ -269,6 +295,7 @@ met_order s t old book next met o =
     omega (arith, passed, o.passed, same_length))
     (subst (λ (rs : List (ℕ × Entry)). AllByRecursion (λ (x : ℕ × Entry). x.0 < t.seen) rs) (sym (ap (λ (x : Standing). x.reservations) met.standing))
     (further s.seen t.seen s.reservations met.seen o.met))
+    (subst (λ (h : List Turn). EachRises (applied_of h)) (sym (ap (λ (x : Standing). x.history) met.standing)) o.entries)
     o
 
 -- it was noted at the end of the log that a connection was opened
@@ -289,6 +316,7 @@ noted_opened_order s worker seen old book next later o =
     (subst (λ (rs : List (Job × ℕ)). AllByRecursion (λ (x : Job × ℕ). IsReadOf s.node (item_of x.0)) rs) (sym (ran_opened 0 s.history worker)) o.reads)
     (subst (λ (es : List Entry). length (own_entries s.node es) ≤ length s.reservations) (sym (applied_opened s worker)) o.passed)
     (further s.seen seen s.reservations later o.met)
+    (subst EachRises (sym (applied_opened s worker)) o.entries)
     o
 
 -- connections changed, and are as many
@@ -306,6 +334,7 @@ members_order s old new book next members is long o = subst (λ (r : ReplicaStat
       let before : length old.members ≤ serial = omega (arith, long) in
       o.closed serial before;
   reads = o.reads;
+  entries = o.entries;
   passed = o.passed;
   met = o.met;
 }
@@ -321,6 +350,7 @@ owed_order s old new book next owed is o = subst (λ (r : ReplicaState). IsInOrd
   unopened = o.unopened;
   closed = o.closed;
   reads = o.reads;
+  entries = o.entries;
   passed = o.passed;
   met = o.met;
 }

@@ -1,5 +1,5 @@
 -- Reads are run, connections opened and batches taken: the jobs of a node's connections stay in their order.
-use Rattle.std.proofs.Common.{◌≡◌, ℕ, ◌<◌, ◌≤◌, inl, inr, Bool, true, false, cond, not, List, [], ◌∷◌, ◌++◌, length, map, refl, ap, sym, ◌∙◌, subst, arith, append_assoc, eqb}
+use Rattle.std.proofs.Common.{◌≡◌, ℕ, ◌<◌, ◌≤◌, inl, inr, Bool, true, false, cond, not, List, [], ◌∷◌, ◌++◌, length, map, refl, ap, sym, ◌∙◌, subst, le_refl, arith, append_assoc, eqb}
 use Rattle.std.specs.Prelude.{Option, None, drop, ◌&&◌, IsTrue}
 use Rattle.std.specs.List.{AllByRecursion}
 use Rattle.std.specs.Cmp.{nat_cmp_total, eq_by_cmp_equiv, unsigned_ties}
@@ -23,7 +23,7 @@ use Rattle.nr_entry.specs.declared.batch.Batch.{Batch}
 use Rattle.nr_log_end.specs.declared.standing.Standing.{Standing}
 use Rattle.nr_log_end.specs.declared.standing.Turn.{Turn}
 use Rattle.nr_log_end.specs.declared.standing.Turn.TheVariants.{Ran}
-use Rattle.nr_log_end.specs.Standings.{applied_of, ran_of, ran_from, record_of, own_entries}
+use Rattle.nr_log_end.specs.Standings.{applied_of, ran_of, ran_from, record_of, own_entries, noted_with, EachRises}
 use Rattle.nr_accounts.specs.declared.account.Account.{Account}
 use Rattle.nr_accounts.specs.Account.{fresh_account, taken}
 use Rattle.nr_accounts.specs.Held.{Held, numbers_in, CountsTo, takes_all, taken_all, takes_one, taken_one}
@@ -35,11 +35,12 @@ use Rattle.nr_replica.specs.Members.{Member}
 use Rattle.nr_replica.specs.Replicas.{ReplicaState, HasRead}
 use Rattle.nr_node.specs.Level.{connection_at, unpassed, jobs_reserved, logged, all_jobs, IsReadOf, IsInOrder}
 use Rattle.nr_node.specs.Advanced.{HasNoted}
+use Rattle.nr_node.specs.Next.{MayBeNoted}
 use Rattle.nr_node.specs.Reserved.{AreOfNode}
 use Rattle.nr_node.proofs.Lists.{record-append, ran-append, numbers-append, numbers_left_by_reads}
 use Rattle.nr_node.proofs.Levels.{record_noted, applied_noted}
 use Rattle.nr_node.proofs.Queues.{delivered_length}
-use Rattle.nr_node.proofs.Orders.{same_order, all_counted, first_counted, further}
+use Rattle.nr_node.proofs.Orders.{same_order, all_counted, count_rises, first_counted, further}
 
 pub length_read : (old new : ReplicaState) → HasRead old new → length new.members ≡ length old.members
 length_read old new read = delivered_length (emitted_all old.server (read_jobs (items_of old.waiting))) old.members new.members read.delivered
@@ -68,29 +69,48 @@ still_unpassed s t ran noted =
 pub unpassed_noted : (s t : Standing) (ran : List Job) → HasNoted ran s t → unpassed s ≡ [] → unpassed t ≡ []
 unpassed_noted s t ran noted none = still_unpassed s t ran noted ∙ none
 
--- the reads that led were run, behind all that was reserved
-pub noted_order : (s t : Standing) (ran : List Job) (old new : ReplicaState) (book : Book) → HasNoted ran s t → unpassed s ≡ [] → HasRead old new
-    → items_of ran ≡ read_jobs (items_of old.waiting) → old.down ≡ false → IsInOrder s old book [] → IsInOrder t new book []
-noted_order s t ran old new book noted none read ran_is up o =
+-- what is logged behind reads that led, and what is left behind them
+noted_apart : (s t : Standing) (ran : List Job) (old : ReplicaState) (c : Connection) → HasNoted ran s t → unpassed s ≡ []
+    → items_of ran ≡ read_jobs (items_of old.waiting)
+    → numbers_in c (logged t) ++ numbers_in c (left_by_reads (items_of old.waiting)) ≡ numbers_in c (all_jobs s [] old.waiting)
+noted_apart s t ran old c noted none ran_is =
     let reads = read_jobs (items_of old.waiting) in
     let left = left_by_reads (items_of old.waiting) in
-    let node : t.node ≡ s.node = ap (λ (x : Standing). x.node) noted.standing in
     let history : t.history ≡ s.history ++ map Ran ran = ap (λ (x : Standing). x.history) noted.standing in
-    let applied : applied_of t.history ≡ applied_of s.history = ap applied_of history ∙ applied_noted s.history ran in
-    let reservations : t.reservations ≡ s.reservations = ap (λ (x : Standing). x.reservations) noted.standing in
     let none' : unpassed t ≡ [] = unpassed_noted s t ran noted none in
     let before : logged s ≡ record_of s.history = ap (λ (rs : List (ℕ × Entry)). record_of s.history ++ jobs_reserved rs) none ∙ append-nil (record_of s.history) in
     let after : logged t ≡ record_of s.history ++ reads =
     ap (λ (rs : List (ℕ × Entry)). record_of t.history ++ jobs_reserved rs) none' ∙ append-nil (record_of t.history)
     ∙ ap record_of history ∙ record-append s.history (map Ran ran) ∙ ap (λ (xs : Jobs). record_of s.history ++ xs) (record_noted ran ∙ ran_is) in
+    ap (λ (ns : List ℕ). ns ++ numbers_in c left) (ap (numbers_in c) after ∙ numbers-append c (record_of s.history) reads)
+    ∙ append_assoc (numbers_in c (record_of s.history)) (numbers_in c reads) (numbers_in c left)
+    ∙ ap (λ (ns : List ℕ). numbers_in c (record_of s.history) ++ ns) (numbers_left_by_reads c (items_of old.waiting))
+    ∙ sym (numbers-append c (logged s) (items_of old.waiting) ∙ ap (λ (js : Jobs). numbers_in c js ++ numbers_in c (items_of old.waiting)) before)
+
+-- the numbers of the reads that lead go on behind what is logged
+pub noted_rises : (s : Standing) (old : ReplicaState) (book : Book) → unpassed s ≡ [] → old.down ≡ false → IsInOrder s old book []
+    → MayBeNoted (read_jobs (items_of old.waiting)) s
+noted_rises s old book none up o = λ ran ran_is serial.
+    let t = noted_with ran s.seen s in
+    let noted : HasNoted ran s t = record { seen = le_refl s.seen; standing = refl } in
+    let c = connection_at s.node serial in
+    count_rises (numbers_in c (logged t))
+    (first_counted c (logged t) (left_by_reads (items_of old.waiting)) (all_jobs s [] old.waiting) (noted_apart s t ran old c noted none ran_is)
+    (all_counted s old book [] up o serial))
+
+-- the reads that led were run, behind all that was reserved
+pub noted_order : (s t : Standing) (ran : List Job) (old new : ReplicaState) (book : Book) → HasNoted ran s t → unpassed s ≡ [] → HasRead old new
+    → items_of ran ≡ read_jobs (items_of old.waiting) → old.down ≡ false → IsInOrder s old book [] → IsInOrder t new book []
+noted_order s t ran old new book noted none read ran_is up o =
+    let node : t.node ≡ s.node = ap (λ (x : Standing). x.node) noted.standing in
+    let history : t.history ≡ s.history ++ map Ran ran = ap (λ (x : Standing). x.history) noted.standing in
+    let applied : applied_of t.history ≡ applied_of s.history = ap applied_of history ∙ applied_noted s.history ran in
+    let reservations : t.reservations ≡ s.reservations = ap (λ (x : Standing). x.reservations) noted.standing in
     let apart : (serial : ℕ) → let c = connection_at s.node serial in
     numbers_in c (logged t) ++ numbers_in c (items_of new.waiting) ≡ numbers_in c (all_jobs s [] old.waiting) =
     λ serial.
     let c = connection_at s.node serial in
-    (λ i. (ap (numbers_in c) after ∙ numbers-append c (record_of s.history) reads) i ++ numbers_in c (read.left i))
-    ∙ append_assoc (numbers_in c (record_of s.history)) (numbers_in c reads) (numbers_in c left)
-    ∙ ap (λ (ns : List ℕ). numbers_in c (record_of s.history) ++ ns) (numbers_left_by_reads c (items_of old.waiting))
-    ∙ sym (numbers-append c (logged s) (items_of old.waiting) ∙ ap (λ (js : Jobs). numbers_in c js ++ numbers_in c (items_of old.waiting)) before) in
+    ap (λ (js : Jobs). numbers_in c (logged t) ++ numbers_in c js) read.left ∙ noted_apart s t ran old c noted none ran_is in
     let is_down : new.down ≡ old.down = ap (λ (x : ReplicaState). x.down) read.state in
     same_order s t old new book [] [] node (length_read old new read) (λ u. sym is_down ∙ u)
     (λ serial. first_counted (connection_at s.node serial) (logged t) (items_of new.waiting) (all_jobs s [] old.waiting) (apart serial) (all_counted s old book [] up o serial))
@@ -103,6 +123,7 @@ noted_order s t ran old new book noted none read ran_is up o =
     omega (arith, passed, o.passed, ap length reservations))
     (subst (λ (rs : List (ℕ × Entry)). AllByRecursion (λ (x : ℕ × Entry). x.0 < t.seen) rs) (sym reservations)
     (further s.seen t.seen s.reservations noted.seen o.met))
+    (subst EachRises (sym applied) o.entries)
     o
 
 -- a connection was opened
@@ -134,6 +155,7 @@ opened_order s old new book next worker m is o =
           let apart : serial ≡ n → ⊥ = λ e. omega (arith, e, length-append old.members (m ∷ [])) in
           put_elsewhere book.held n serial (fresh_account worker) apart ∙ o.closed serial before;
       reads = o.reads;
+      entries = o.entries;
       passed = o.passed;
       met = o.met;
     }
@@ -227,6 +249,7 @@ batch_order s old new book next batch due members down waiting counts o =
           let before : length old.members ≤ serial = omega (arith, ap length members) in
           (none_of_all book.node batch.worker serial book.held jobs takes (o.closed serial before)).1;
       reads = o.reads;
+      entries = o.entries;
       passed = o.passed;
       met = o.met;
     }

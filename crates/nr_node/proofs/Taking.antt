@@ -42,7 +42,7 @@ use Rattle.nr_node.specs.Reserved.{due_jobs, left_jobs, LeavesWaiting, AreTaken,
 use Rattle.nr_node.specs.Steps.{nobody}
 use Rattle.nr_node.proofs.Lists.{unpassed_opened, numbers-append, no_numbers, none_unpassed, jobs_reserved_more}
 use Rattle.nr_node.proofs.Levels.{same_level, down_level, opened_level, closed_level, handed_level, noted_level}
-use Rattle.nr_node.proofs.Orders.{no_parts, none_recorded, reserved_order, due_order, fallen_order, members_order, noted_opened_order, owed_order}
+use Rattle.nr_node.proofs.Orders.{none_recorded, reserved_order, due_order, fallen_order, members_order, noted_opened_order, owed_order}
 use Rattle.nr_node.proofs.Closing.{closed_accounts}
 use Rattle.nr_node.proofs.Queues.{piece_behind}
 use Rattle.nr_node.proofs.Served.{opened_order, batch_order, noted_order, forgotten, length_read, unpassed_noted}
@@ -305,6 +305,7 @@ refusing_kept s old new book next nodes is k = subst (λ (r : ReplicaState). IsK
     unopened = k.order.unopened;
     closed = k.order.closed;
     reads = k.order.reads;
+    entries = k.order.entries;
     passed = k.order.passed;
     met = k.order.met;
   };

@@ -1,10 +1,10 @@
 -- What a node keeps, and how its replica agrees with its end of the operation log.
-use Rattle.std.specs.Prelude.{◌≡◌, ℕ, ◌<◌, ◌≤◌, Bool, false, List, [], ◌∷◌, ◌++◌, length, map, drop, None, slice_index_or, refl}
+use Rattle.std.specs.Prelude.{◌≡◌, ℕ, ◌<◌, ◌≤◌, Bool, false, List, [], ◌++◌, length, map, drop, None, slice_index_or, refl}
 use Rattle.std.specs.List.{AllByRecursion, range_with_len}
 use Rattle.std.specs.FinMap as finmap
 use Rattle.std.specs.Coded.{Coded, code_by, coded×, coded_list}
 use Rattle.nr_model.specs.Bytes.{Bytes, IsBeginningOf}
-use Rattle.nr_model.specs.Items.{Connection, Item, is_update}
+use Rattle.nr_model.specs.Items.{Item, is_update}
 use Rattle.nr_model.specs.Sequential.{emitted_for}
 use Rattle.nr_model.specs.Servers.{fresh, after_all}
 use Rattle.nr_model.specs.Entries.{Jobs}
@@ -13,8 +13,10 @@ use Rattle.nr_entry.specs.Jobs.{item_of, items_of}
 use Rattle.nr_entry.specs.declared.entry.Entry.{Entry}
 use Rattle.nr_entry.specs.declared.job.Job.{Job}
 use Rattle.nr_entry.specs.contracts.job.Job as of_job
+pub use Rattle.nr_log_end.specs.Numbers.{connection_at}
 use Rattle.nr_log_end.specs.declared.standing.Standing.{Standing}
-use Rattle.nr_log_end.specs.Standings.{applied_of, opened_of, ran_of, record_of, passed_of, own_entries}
+pub use Rattle.nr_log_end.specs.Standings.{unpassed, jobs_reserved, logged}
+use Rattle.nr_log_end.specs.Standings.{applied_of, opened_of, ran_of, record_of, passed_of, own_entries, EachRises}
 use Rattle.nr_oplog.specs.declared.view.LogView.{LogView}
 use Rattle.nr_oplog.specs.contracts.view.LogView as of_view
 use Rattle.nr_accounts.specs.Held.{numbers_in}
@@ -38,10 +40,6 @@ coded_node =
 abbrev pub IsCount : List ℕ → Type 0
 IsCount numbers = numbers ≡ range_with_len 0 (length numbers)
 
--- connection number s of a node
-abbrev pub connection_at : ℕ → ℕ → Connection
-connection_at node serial = record { node = node; serial = serial }
-
 -- what waits for it
 abbrev pub queue_at : ℕ → List Member → Queue
 queue_at serial members = (slice_index_or members serial (fresh_member (connection_at 0 0) 0 0)).outbox
@@ -50,19 +48,7 @@ queue_at serial members = (slice_index_or members serial (fresh_member (connecti
 abbrev pub is_closed_at : ℕ → List Member → Bool
 is_closed_at serial members = (slice_index_or members serial (fresh_member (connection_at 0 0) 0 0)).is_closed
 
--- the entries that the node reserved and hasn't passed, and their jobs
-abbrev pub unpassed : Standing → List (ℕ × Entry)
-unpassed s = drop (length (own_entries s.node (applied_of s.history))) s.reservations
-
-abbrev pub jobs_reserved : List (ℕ × Entry) → Jobs
-jobs_reserved [] = []
-jobs_reserved (r ∷ rs) = items_of r.1.jobs.items ++ jobs_reserved rs
-
--- the node's record, and behind it the jobs of the entries that it has still to pass
-abbrev pub logged : Standing → Jobs
-logged s = record_of s.history ++ jobs_reserved (unpassed s)
-
--- and behind these the jobs that it has still to reserve or to run
+-- what a node has logged, and behind that the jobs that it has still to reserve or to run
 abbrev pub all_jobs : Standing → List Job → List Job → Jobs
 all_jobs s next waiting = logged s ++ (items_of next ++ items_of waiting)
 
@@ -83,8 +69,8 @@ IsWhole queue emitted = queue.cut ≡ false → queue.waiting ≡ drop queue.han
 abbrev pub workers_of : List Member → List ℕ
 workers_of members = map (λ (member : Member). member.worker) members
 
--- A replica stands where its end of the log does, and has the connections that were opened there. One that is up is the server after the record. What waits for a connection begins what the record
--- emits for it behind what was handed out; it is all of that where the replica is up and the queue isn't cut.
+-- A replica stands where its end of the log does, and has the connections that were opened there. One that is up is the server after the record. What waits for
+-- a connection begins what the record emits for it behind what was handed out; it is all of that where the replica is up and the queue isn't cut.
 pub record IsLevel (s : Standing) (replica : ReplicaState) : Type 0 where
   pub node : s.node ≡ replica.node
   pub named : AreNumbered replica.node 0 replica.members
@@ -100,7 +86,8 @@ IsReadOf node job = (job.connection.node ≡ node) × (is_update job.deed ≡ fa
 
 -- The jobs of each connection of the node in the record, and behind it in the entries that it reserved, have the numbers 0, 1, 2 and so on, in this order. Where
 -- the replica is up, so do these with those that go on waiting, and they are all that were taken. There are none of a connection that wasn't opened. What the
--- node ran by itself are reads of its connections. All numbers that were reserved are below the tail that was met.
+-- node ran by itself are reads of its connections. The numbers of each connection's jobs rise along the entries that it passed. All numbers that were reserved
+-- are below the tail that was met.
 pub record IsInOrder (s : Standing) (replica : ReplicaState) (book : Book) (next : List Job) : Type 0 where
   pub book_is : book.node ≡ s.node
   pub own : AllByRecursion (λ (job : Item). job.connection.node ≡ s.node) (items_of replica.waiting)
@@ -109,5 +96,6 @@ pub record IsInOrder (s : Standing) (replica : ReplicaState) (book : Book) (next
   pub unopened : (serial : ℕ) → length replica.members ≤ serial → numbers_in (connection_at s.node serial) (all_jobs s next replica.waiting) ≡ []
   pub closed : (serial : ℕ) → length replica.members ≤ serial → finmap.get book.held serial ≡ None
   pub reads : AllByRecursion (λ (r : Job × ℕ). IsReadOf s.node (item_of r.0)) (ran_of s.history)
+  pub entries : EachRises (applied_of s.history)
   pub passed : length (own_entries s.node (applied_of s.history)) ≤ length s.reservations
   pub met : AllByRecursion (λ (r : ℕ × Entry). r.0 < s.seen) s.reservations

@@ -1,8 +1,12 @@
 -- The entry that a node takes to the log next.
 use Rattle.std.specs.Prelude.{◌≡◌, ℕ, List, [], ◌∷◌, Option, Some, None}
+use Rattle.nr_model.specs.Entries.{Jobs}
+use Rattle.nr_entry.specs.Jobs.{items_of}
 use Rattle.nr_entry.specs.declared.entry.Entry.{Entry}
 use Rattle.nr_entry.specs.declared.job.Job.{Job}
 use Rattle.nr_entry.specs.Shares.{shares_of}
+use Rattle.nr_log_end.specs.declared.standing.Standing.{Standing}
+use Rattle.nr_log_end.specs.Standings.{AreNextReads}
 use Rattle.nr_node.specs.declared.next.Next.{Next}
 use Rattle.nr_node.specs.declared.next.Next.TheVariants as forms
 
@@ -23,3 +27,7 @@ abbrev pub IsNextOf : ℕ → ℕ → Option Next → Type 0
 IsNextOf node nodes None = Unit {0}
 IsNextOf node nodes (Some (forms.Whole entry)) = entry.node ≡ node
 IsNextOf node nodes (Some (forms.Shared shares)) = (entry : Entry) × (shares ≡ shares_of entry nodes) × (entry.node ≡ node)
+
+-- reads that are these jobs may be noted next
+abbrev pub MayBeNoted : Jobs → Standing → Type 0
+MayBeNoted jobs s = (ran : List Job) → items_of ran ≡ jobs → AreNextReads ran s

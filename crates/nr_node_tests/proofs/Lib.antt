@@ -1,1 +1,3 @@
 mod Seats
+mod Single
+mod Serving

@@ -10,4 +10,6 @@ mod desk;
 #[cfg(test)]
 mod in_turn;
 #[cfg(test)]
+mod law;
+#[cfg(test)]
 mod stopped;

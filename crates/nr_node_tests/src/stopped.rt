@@ -1,5 +1,5 @@
 // A node that reserved a place of the log and stopped, beside one that goes on.
-ghost use Rattle.std.specs.Prelude.{◌≡◌, None, IfOk, IsSome, slice_index_or};
+ghost use Rattle.std.specs.Prelude.{◌≡◌, length, None, IfOk, IsSome, slice_index_or};
 ghost use Rattle.std.specs.Arc.{arc_value};
 ghost use Rattle.nr_oplog.specs.Rule.{opening_view};
 ghost use Rattle.nr_slots.specs.Seats.{new_combiner};
@@ -25,7 +25,7 @@ use std::sync::Arc;
 
 // SET k v, by a connection of node 0.
 fn setting(alloc: Global) -> Result<Entry, Memory>
-    ensures { IfOk result (λ entry. entry.node ≡ 0) }
+    ensures { IfOk result (λ entry. (entry.node ≡ 0) × (length entry.jobs.items ≡ 1)) }
 {
     let mut words = Vec::with_capacity(alloc, 3)?;
     for word in [b"SET".as_slice(), b"k", b"v"] {

@@ -13,6 +13,7 @@ use Rattle.nr_oplog.specs.Rule.{Share, IsPartOf, SeatOk, LogRule}
 use Rattle.nr_oplog.specs.Plays.{AreComparable, later_of, with_later, adopted}
 use Rattle.nr_oplog.proofs.Comings.{nobody_owns}
 use Rattle.nr_oplog.proofs.Fronts.{begins_both, begins_length, applied_append}
+use Rattle.nr_oplog.proofs.Rises.{rises_before}
 use Rattle.nr_oplog.proofs.Seats.{unmoved}
 
 -- the later one of two standings
@@ -76,6 +77,8 @@ module _ (nodes places : ℕ) where
             (begins_both _ _ r.log k.part.0 k.told.0, begins_both _ _ r.log k.told.0 k.part.0),
             λ same. let b : IsBeginningOf m.0.told.history (r.past m.0.standing.node) = subst (λ z. IsBeginningOf m.0.told.history (r.past z)) (sym same) k.told.1 in
                 (begins_both _ _ (r.past m.0.standing.node) k.part.1 b, begins_both _ _ (r.past m.0.standing.node) b k.part.1),
+            rises_before m.0.standing m.0.told r.log r.past k.part k.told (r.rising m.0.standing.node),
+            rises_before m.0.told m.0.standing r.log r.past k.told k.part (r.rising m.0.told.node),
           ),
         ),
       )

@@ -1,20 +1,25 @@
 -- A reservation keeps the rule.
 use Rattle.std.proofs.Common.{◌≡◌, ◌≢◌, ℕ, zero, suc, ◌+◌, ◌*◌, ◌^◌, ◌<◌, ◌≤◌, List, [], ◌∷◌, ◌++◌, length, set, get_or, eqb, replicate, Option, Some, None, option_map, unwrap_or, refl, sym, ap, ◌∙◌, subst, le_of_eq, le_refl, le_trans, arith, length-append, length-set, get_or-set_same, get_or-set_other}
 use mathlib.Core.Option.{some, some-injective}
+use mathlib.Core.Logic.{dite}
+use native.Mathlib.Decide.{ℕ_discrete}
 use lib.ListN.{get_elem?}
 use prog.Atomic.{either}
 use Rattle.std.specs.Arc.{arc_value}
 use Rattle.atomic_table.specs.Table.{State, Me, Act, Valid, keeps, step, stepped, carried_after, Allows}
 use Rattle.atomic_table.proofs.Lists.{at_longer, at_last, exchanged}
+use Rattle.nr_entry.specs.Jobs.{items_of}
 use Rattle.nr_entry.specs.declared.entry.Entry.{Entry}
 use Rattle.nr_entry.specs.Shares.{shares_of}
-use Rattle.nr_log_end.specs.Standings.{own_entries, reservation, reserved_as}
+use Rattle.nr_log_end.specs.Numbers.{AreRising}
+use Rattle.nr_log_end.specs.Standings.{own_entries, logged, reservation, reserved_as}
 use Rattle.nr_oplog.specs.declared.view.LogView.{LogView}
 use Rattle.nr_oplog.specs.Layout.{passed_word, stamp_word}
-use Rattle.nr_oplog.specs.Rule.{Share, Phase, Owns, OwnerOk, NodeOk, CellOk, FillerOk, SeatOk, LogRule}
+use Rattle.nr_oplog.specs.Rule.{Share, Phase, Owns, OwnerOk, NodeOk, CellOk, FillerOk, SeatOk, RisesAlong, LogRule}
 use Rattle.nr_oplog.specs.Plays.{claimed}
 use Rattle.nr_oplog.specs.Seats.{IsOfNode}
 use Rattle.nr_oplog.proofs.Fronts.{begins_more, begins_length, own_same, own_other}
+use Rattle.nr_oplog.proofs.Rises.{rises_beside, rises_claimed}
 use Rattle.nr_oplog.proofs.Places.{stamp_high}
 use Rattle.nr_oplog.proofs.Seats.{each_set, apart_set, unmoved}
 use Rattle.nr_oplog.proofs.Cells.{cell_stays, is_empty}
@@ -44,6 +49,7 @@ module _ (nodes places : ℕ) where
 
   module _ (id old : ℕ) (m : Sat) (entry : Entry) (mine : IsOfNode m.0 nodes places) (quiet : m.0.filling ≡ 0) (few : old < 2 ^ 63)
       (room : (x : ℕ) → x < nodes → old < get_or m.0.met x 0 + places) (own : entry.node ≡ m.0.standing.node)
+      (numbered : AreRising m.0.standing.node (logged m.0.standing ++ items_of entry.jobs.items))
       (s : St) (r : LogRule nodes places s) (at : get_elem? s.views id ≡ some m.0) (hit : get_or s.words 0 0 ≡ old) where
     abbrev log : List Entry
     log = r.log ++ entry ∷ []
@@ -131,6 +137,12 @@ module _ (nodes places : ℕ) where
           };
     }
 
+    -- the numbers of the node's connections go on rising
+    own_rises : RisesAlong log m.0.standing.node (r.past m.0.standing.node)
+    own_rises = let b = k.owns m.0.standing.node (has_own m.0 mine) in
+        subst (RisesAlong log m.0.standing.node) (sym b.whole)
+        (rises_claimed m.0.standing r.log entry b.own numbered (subst (RisesAlong r.log m.0.standing.node) b.whole (r.rising m.0.standing.node)))
+
     pub claim_kept : LogRule nodes places record { words = words; homes = s.homes; views = set s.views id w }
     claim_kept = record {
       log = log;
@@ -142,6 +154,9 @@ module _ (nodes places : ℕ) where
       tail_is = get_or-set_same s.words 0 (old + 1) 0 (subst (λ z. 0 < z) (sym r.sized.0) (let b : ℕ = nodes * (places + 16) in let g : 0 < 16 * nodes + 16 + b = omega arith in g)) ∙ sym longer;
       bounded = let g : length log ≡ old + 1 = longer in omega arith;
       applied_is = r.applied_is;
+      rising = λ x. dite (ℕ_discrete x m.0.standing.node)
+          (λ is. subst (λ z. RisesAlong log z (r.past z)) (sym is) own_rises)
+          (λ other. rises_beside x r.log entry (r.past x) (λ e. other (sym e ∙ own)) (r.rising x));
       each_node = node_ok;
       each_cell = λ x y near low high. cell_stays nodes places r.log (entry ∷ []) s.words words s.homes s.homes (length (r.applied x)) x y (stamp_same x y) refl (r.phase x y) (r.each_cell x y near low high);
       each_seat = each_set (SeatOk nodes places log r.past r.applied r.phase) s.views id w me_too others;
@@ -153,14 +168,15 @@ module _ (nodes places : ℕ) where
       × claimed (step slots 0 old (old + 1) (some said)) m (get_or s.words 0 0) (w, carried_after m.1 a)
 
   pub claims : (slots id old : ℕ) (m : Sat) (said : Option Share) (entry : Entry) → IsOfNode m.0 nodes places → m.0.filling ≡ 0 → old < 2 ^ 63 → ((x : ℕ) → x < nodes → old < get_or m.0.met x 0 + places)
-      → option_map arc_value said ≡ Some entry → entry.node ≡ m.0.standing.node → Allows (LogRule nodes places) slots id m 0 (λ y. either (eqb y old) (old + 1) y) (claimed (step slots 0 old (old + 1) (some said)) m)
-  claims slots id old m said entry mine quiet few room is own s r wide at small =
+      → option_map arc_value said ≡ Some entry → entry.node ≡ m.0.standing.node → AreRising m.0.standing.node (logged m.0.standing ++ items_of entry.jobs.items)
+      → Allows (LogRule nodes places) slots id m 0 (λ y. either (eqb y old) (old + 1) y) (claimed (step slots 0 old (old + 1) (some said)) m)
+  claims slots id old m said entry mine quiet few room is own numbered s r wide at small =
       let y : ℕ = get_or s.words 0 0 in exchanged y old (old + 1) (Goes slots id m old said s)
       (λ hit. (
         record m.0 { standing = reserved_as old (shares_of entry m.0.standing.nodes) m.0.standing },
         keeps,
         tt,
-        claim_kept id old m entry mine quiet few room own s r at hit,
+        claim_kept id old m entry mine quiet few room own numbered s r at hit,
         (
           refl,
           (λ _ said' entry' e e'. λ i. record m.0 { standing = reserved_as (sym hit i) (shares_of (ap (λ o. unwrap_or o entry) (sym is ∙ ap (option_map arc_value) (some-injective said said' e) ∙ e') i) m.0.standing.nodes) m.0.standing }),

@@ -156,6 +156,7 @@ module _ (nodes places : ℕ) where
         tail_is = zero_row (words_of nodes places) 0;
         bounded = zero-le;
         applied_is = λ _. refl;
+        rising = λ _. ([], refl, λ _. tt);
         each_node = λ node near. record { counts = zero_row (words_of nodes places) (passed_word node); room = zero-le; begins = begins_none [] };
         each_cell = λ node number near low high. (
           subst (λ z. z ≤ number) (sym (zero_row (words_of nodes places) (stamp_word nodes places node number))) zero-le,

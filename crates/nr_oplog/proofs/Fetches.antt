@@ -18,6 +18,7 @@ use Rattle.nr_oplog.specs.Plays.{looked_for_next}
 use Rattle.nr_oplog.specs.Seats.{IsOfNode}
 use Rattle.nr_oplog.proofs.Fronts.{begins_snoc}
 use Rattle.nr_oplog.proofs.Changes.{change₂, change₂_here, change₂_else}
+use Rattle.nr_oplog.proofs.Rises.{each_rises}
 use Rattle.nr_oplog.proofs.Seats.{unmoved}
 use Rattle.nr_oplog.proofs.Cells.{is_full, waiting_phase, filler_stays}
 use Rattle.nr_oplog.proofs.Claims.{has_own, only_own}
@@ -116,7 +117,7 @@ module _ (nodes places : ℕ) where
           (length-set s.homes (slot_of places node count) none) (λ i other. set_else s.homes (slot_of places node count) i none other) (c.0, c.1, sym counted) lifting_ok others_lift (λ _ o. o)
 
     in_log : StandsInLog m.0.standing
-    in_log = (r.log, k.part.0, k.seen, mine.own)
+    in_log = (r.log, k.part.0, k.seen, mine.own, each_rises r.log r.past r.rising)
 
   abbrev Goes : ℕ → Sat → St → Type 0
   Goes id m s = let i : ℕ = stamp_word nodes places m.0.standing.node (passed_of m.0.standing) in (w : LogView) × (a : Act (Option Share)) × Valid s.homes m.1 a
@@ -140,7 +141,7 @@ module _ (nodes places : ℕ) where
             subst (λ (ws : List ℕ). LogRule nodes places record { words = ws; homes = set s.homes slot mathlib.Core.Option.none; views = set s.views id w })
                 (sym (set-get_or s.words (stamp_word nodes places m.0.standing.node (passed_of m.0.standing)) 0)) (lift_kept id m own s r at share f.0 c.2.2 c),
             (
-              (r.log, ok.part.0, (r.each_seat id m.0 at).seen, (mine id m own s r at).own),
+              (r.log, ok.part.0, (r.each_seat id m.0 at).seen, (mine id m own s r at).own, each_rises r.log r.past r.rising),
               (λ _. (omega arith, (share, refl, (λ j. (slot_of (sym own.1 j) m.0.standing.node (passed_of m.0.standing), Some share) ∷ m.1)))),
               (λ other. absurd (other stamped)),
             ),

@@ -52,6 +52,7 @@ module _ (nodes places : ℕ) where
     tail_is = first ∙ r.tail_is;
     bounded = r.bounded;
     applied_is = r.applied_is;
+    rising = r.rising;
     each_node = λ x there. let c = r.each_node x there in record { counts = counts x there ∙ c.counts; room = c.room; begins = c.begins };
     each_cell = λ x y there low' high'. at_change₂ r.phase t a ph (λ x' y' p. x' ≡ x → y' ≡ y → CellOk nodes places r.log words homes (passed_at s r x') x' y' p) x y
         (λ _ _. here)

@@ -1,6 +1,7 @@
 pub mod Fronts
 pub mod Places
 pub mod Changes
+mod Rises
 pub mod Seats
 pub mod Looks
 pub mod Cells

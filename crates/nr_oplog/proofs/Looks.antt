@@ -1,5 +1,5 @@
 -- Loads of the tail and of passed counts keep the rule.
-use Rattle.std.proofs.Common.{◌≡◌, ◌≢◌, ℕ, zero, suc, ◌+◌, ◌*◌, ◌<◌, ◌≤◌, List, [], ◌∷◌, ◌++◌, length, set, get_or, map, option_to_list, Option, Some, None, refl, sym, ap, ◌∙◌, subst, le_of_eq, le_refl, arith, append-nil, get_or-set_same, get_or-set_other}
+use Rattle.std.proofs.Common.{◌≡◌, ◌≢◌, ℕ, zero, suc, ◌+◌, ◌*◌, ◌<◌, ◌≤◌, List, [], ◌∷◌, ◌++◌, length, set, get_or, option_to_list, Option, refl, sym, ap, ◌∙◌, subst, le_of_eq, le_refl, arith, append-nil, get_or-set_same, get_or-set_other}
 use mathlib.Core.Option.{some}
 use mathlib.Core.Logic.{dite}
 use native.Mathlib.Decide.{ℕ_discrete}
@@ -11,10 +11,11 @@ use Rattle.nr_log_end.specs.declared.standing.Turn.{Turn}
 use Rattle.nr_log_end.specs.Standings.{applied_of}
 use Rattle.nr_oplog.specs.declared.view.LogView.{LogView}
 use Rattle.nr_oplog.specs.Layout.{passed_word}
-use Rattle.nr_oplog.specs.Rule.{Share, Owns, SeatOk, LogRule}
-use Rattle.nr_oplog.specs.Plays.{with_tail, with_done, with_passed, saw_tail, saw_tail_and_did, saw_passed, compared}
+use Rattle.nr_oplog.specs.Rule.{Share, Owns, SeatOk, RisesAlong, LogRule}
+use Rattle.nr_oplog.specs.Plays.{MayFollow, with_tail, with_done, with_passed, saw_tail, saw_tail_and_did, saw_passed, compared}
 use Rattle.nr_oplog.specs.Seats.{IsOfNode}
 use Rattle.nr_oplog.specs.Law.{HoldsOfCounts}
+use Rattle.nr_oplog.proofs.Rises.{rises_before, rises_done}
 use Rattle.nr_oplog.proofs.Fronts.{begins_more, begins_both, passed_still}
 use Rattle.nr_entry.proofs.Changes.{change, at_change, change_here, change_else}
 use Rattle.nr_oplog.proofs.Seats.{each_set, apart_set, unmoved}
@@ -48,6 +49,8 @@ module _ (nodes places : ℕ) where
             (begins_both _ _ r.log k.part.0 k.told.0, begins_both _ _ r.log k.told.0 k.part.0),
             λ same. let b : IsBeginningOf m.0.told.history (r.past m.0.standing.node) = subst (λ z. IsBeginningOf m.0.told.history (r.past z)) (sym same) k.told.1 in
                 (begins_both _ _ (r.past m.0.standing.node) k.part.1 b, begins_both _ _ (r.past m.0.standing.node) b k.part.1),
+            rises_before m.0.standing m.0.told r.log r.past k.part k.told (r.rising m.0.standing.node),
+            rises_before m.0.told m.0.standing r.log r.past k.told k.part (r.rising m.0.told.node),
           ),
         ),
       )
@@ -91,7 +94,8 @@ module _ (nodes places : ℕ) where
       )
 
   -- what is no passing of an entry, behind what the seat's node did: its history goes on, what it has applied stays
-  module _ (id : ℕ) (m : Sat) (turns : List Turn) (none : applied_of turns ≡ []) (mine : IsOfNode m.0 nodes places) (s : St) (r : LogRule nodes places s) (at : get_elem? s.views id ≡ some m.0) where
+  module _ (id : ℕ) (m : Sat) (turns : List Turn) (none : applied_of turns ≡ []) (may : MayFollow turns m.0.standing)
+      (mine : IsOfNode m.0 nodes places) (s : St) (r : LogRule nodes places s) (at : get_elem? s.views id ≡ some m.0) where
     abbrev node : ℕ
     node = m.0.standing.node
 
@@ -161,19 +165,23 @@ module _ (nodes places : ℕ) where
       tail_is = r.tail_is;
       bounded = r.bounded;
       applied_is = same_applied;
+      rising = λ x. at_change r.past node (m.0.standing.history ++ turns) (RisesAlong r.log) x
+          (rises_done m.0.standing turns r.log none may ((r.each_seat id m.0 at).owns node has).own (subst (RisesAlong r.log node) whole (r.rising node)))
+          (λ _. r.rising x);
       each_node = r.each_node;
       each_cell = r.each_cell;
       each_seat = each_set (SeatOk nodes places r.log past r.applied r.phase) s.views id w me_too others;
       apart = apart_set nodes places s.views id m.0 w at (λ _ o. o) r.apart;
     }
 
-  pub does : (slots id : ℕ) (m : Sat) (turns : List Turn) → applied_of turns ≡ [] → IsOfNode m.0 nodes places → Allows (LogRule nodes places) slots id m 0 (λ k. k) (saw_tail_and_did turns m)
-  does slots id m turns none mine s r wide at small =
+  pub does : (slots id : ℕ) (m : Sat) (turns : List Turn) → applied_of turns ≡ [] → MayFollow turns m.0.standing → IsOfNode m.0 nodes places
+      → Allows (LogRule nodes places) slots id m 0 (λ k. k) (saw_tail_and_did turns m)
+  does slots id m turns none may mine s r wide at small =
       let n : ℕ = get_or s.words 0 0 in let w : LogView = with_done turns n m.0 in (
         w,
         keeps,
         tt,
-        subst (λ (ws : List ℕ). LogRule nodes places record { words = ws; homes = s.homes; views = set s.views id w }) (sym (lib.Seq.set-get_or s.words 0 0)) (done_kept id m turns none mine s r at),
+        subst (λ (ws : List ℕ). LogRule nodes places record { words = ws; homes = s.homes; views = set s.views id w }) (sym (lib.Seq.set-get_or s.words 0 0)) (done_kept id m turns none may mine s r at),
         (refl, refl, subst (λ z. m.0.standing.seen ≤ z) (sym r.tail_is) (r.each_seat id m.0 at).seen),
       )
 

@@ -14,7 +14,7 @@ use Rattle.nr_log_end.specs.declared.standing.Turn.TheVariants.{Applied}
 use Rattle.nr_log_end.specs.Standings.{applied_of, known_of, passed_of, passed_on}
 use Rattle.nr_oplog.specs.declared.view.LogView.{LogView}
 use Rattle.nr_oplog.specs.Layout.{passed_word, stamp_word, slot_of}
-use Rattle.nr_oplog.specs.Rule.{Share, Homes, Phase, empty, filling, full, lifted, Owns, OwnerOk, NodeOk, CellOk, FillerOk, SeatOk, LogRule}
+use Rattle.nr_oplog.specs.Rule.{Share, Homes, Phase, empty, filling, full, lifted, Owns, OwnerOk, NodeOk, CellOk, FillerOk, SeatOk, RisesAlong, LogRule}
 use Rattle.nr_oplog.specs.Plays.{passed_next}
 use Rattle.nr_oplog.specs.Seats.{IsOfNode}
 use Rattle.nr_oplog.proofs.Fronts.{begins_more, applied_append}
@@ -23,6 +23,7 @@ use Rattle.nr_oplog.proofs.Changes.{change₂, change₂_here, change₂_else, a
 use Rattle.nr_oplog.proofs.Places.{stamp_high, slot_there, slot_apart, passed_there}
 use Rattle.nr_oplog.proofs.Seats.{each_set, apart_set}
 use Rattle.nr_oplog.proofs.Cells.{empty_not_lifted, cell_stays, not_lifted, waiting_phase}
+use Rattle.nr_oplog.proofs.Rises.{rises_passed}
 use Rattle.nr_oplog.proofs.Claims.{has_own, only_own}
 
 module _ (nodes places : ℕ) where
@@ -250,6 +251,11 @@ module _ (nodes places : ℕ) where
       bounded = r.bounded;
       applied_is = λ x. at_change r.past node history (λ y p. applied y ≡ applied_of p) x (here_applied ∙ sym (applied_append m.0.standing.history (Applied entry ∷ [])))
           (λ other. else_applied x other ∙ r.applied_is x);
+      rising = λ x. at_change r.past node history (RisesAlong r.log) x
+          (rises_passed r.log node m.0.standing.history entry
+          (subst (λ o. IsBeginningOf (applied_of m.0.standing.history ++ option_to_list o) r.log) held k.part.0)
+          (subst (RisesAlong r.log node) mine.whole (r.rising node)))
+          (λ _. r.rising x);
       each_node = node_ok;
       each_cell = cell_ok;
       each_seat = each_set (SeatOk nodes places r.log past applied phase) s.views id passing me_too others;

@@ -48,6 +48,7 @@ module _ (nodes places : ℕ) where
     tail_is = r.tail_is;
     bounded = r.bounded;
     applied_is = r.applied_is;
+    rising = r.rising;
     each_node = r.each_node;
     each_cell = r.each_cell;
     each_seat = seats;

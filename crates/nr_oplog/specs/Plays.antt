@@ -1,14 +1,15 @@
 -- What each step tells its seat.
-use Rattle.std.specs.Prelude.{◌≡◌, ◌≢◌, ℕ, suc, ◌^◌, ◌<◌, ◌≤◌, List, [], ◌∷◌, ◌++◌, length, map, slice_index, slice_set, Option, option_map, Some, None, nat_le, if◌then◌else◌}
+use Rattle.std.specs.Prelude.{◌≡◌, ◌≢◌, ◌⊎◌, ℕ, suc, ◌^◌, ◌<◌, ◌≤◌, List, [], ◌∷◌, ◌++◌, length, slice_index, slice_set, Option, option_map, Some, None, nat_le, if◌then◌else◌}
 use mathlib.Core.Option.{some}
 use Rattle.std.specs.Arc.{arc_value}
 use Rattle.atomic_table.specs.Table.{Me, Step, rest}
 use Rattle.nr_model.specs.Bytes.{IsBeginningOf}
 use Rattle.nr_entry.specs.declared.entry.Entry.{Entry}
 use Rattle.nr_entry.specs.Shares.{shares_of}
+use Rattle.nr_log_end.specs.Numbers.{AreRising}
 use Rattle.nr_log_end.specs.declared.standing.Standing.{Standing}
 use Rattle.nr_log_end.specs.declared.standing.Turn.{Turn}
-use Rattle.nr_log_end.specs.Standings.{done_with, known_of, passed_of, StandsInLog, reserved_as, filled_for, fetched_with, passed_on}
+use Rattle.nr_log_end.specs.Standings.{done_with, record_of, known_of, passed_of, logged, StandsInLog, RisesBefore, reserved_as, filled_for, fetched_with, passed_on}
 use Rattle.nr_oplog.specs.declared.view.LogView.{LogView}
 use Rattle.nr_log_end.specs.declared.standing.Look.TheVariants.{Tail, Passed}
 use Rattle.nr_oplog.specs.Layout.{passed_word, stamp_word, slot_of}
@@ -27,6 +28,10 @@ with_tail n v = record v { standing = record v.standing { seen = n }; looks = v.
 -- the tail was loaded, and this is noted that the node did
 abbrev pub with_done : List Turn → ℕ → LogView → LogView
 with_done turns n v = record v { standing = done_with turns n v.standing; looks = v.looks ++ Tail n ∷ [] }
+
+-- the node may do this next: it adds nothing to its record, or the numbers of its connections go on rising behind those that it has logged
+abbrev pub MayFollow : List Turn → Standing → Type 0
+MayFollow turns s = (record_of turns ≡ []) ⊎ AreRising s.node (logged (done_with turns s.seen s))
 
 -- a node's passed count was loaded, and is n
 abbrev pub with_passed : ℕ → ℕ → LogView → LogView
@@ -77,9 +82,11 @@ passed_next m m' = (m'.1 ≡ rest m.1) × (m'.0 ≡ record m.0 { standing = pass
 abbrev pub AreComparable : {A : Type 0} → List A → List A → Type 0
 AreComparable xs ys = (length xs ≤ length ys → IsBeginningOf xs ys) × (length ys ≤ length xs → IsBeginningOf ys xs)
 
--- two standings at one log
+-- Two standings at one log: of what they know of it the one begins the other, and so it is with what they did, where they are of one node. The numbers of each
+-- connection of the one's node rise along its record and the entries behind that which the other knows.
 abbrev pub AreOfOneLog : Standing → Standing → Type 0
 AreOfOneLog s t = AreComparable (known_of s) (known_of t) × (s.node ≡ t.node → AreComparable s.history t.history)
+    × RisesBefore s (known_of t) × RisesBefore t (known_of s)
 
 -- the tail was loaded, and is n, which the standing doesn't show
 abbrev pub with_look : ℕ → LogView → LogView

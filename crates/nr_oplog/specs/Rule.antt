@@ -1,7 +1,7 @@
 -- The rule of the log: what holds between any two steps, whatever the threads do.
 -- There is one log of entries, in the order of their reservations. Word 0 is the tail, their number. Each node has a history, which only its
 -- own seat prolongs, and a cell for each place.
-use Rattle.std.specs.Prelude.{◌≡◌, ◌≢◌, ℕ, suc, ◌+◌, ◌^◌, ◌<◌, ◌≤◌, List, [], length, replicate, slice_index, slice_index_or, Option, Some, None, MatchOption}
+use Rattle.std.specs.Prelude.{◌≡◌, ◌≢◌, ℕ, suc, ◌+◌, ◌^◌, ◌<◌, ◌≤◌, List, [], ◌++◌, length, replicate, slice_index, slice_index_or, Option, Some, None, MatchOption}
 use mathlib.Core.Option.{some}
 use mathlib.Core.Option as maybe
 use lib.ListN.{get_elem?}
@@ -10,9 +10,10 @@ use Rattle.std.specs.declared.sync.Arc.{Arc}
 use Rattle.std.specs.declared.alloc.Global.{Global}
 use Rattle.nr_model.specs.Bytes.{IsBeginningOf}
 use Rattle.nr_entry.specs.declared.entry.Entry.{Entry}
+use Rattle.nr_log_end.specs.Numbers.{AreRising}
 use Rattle.nr_log_end.specs.declared.standing.Standing.{Standing}
 use Rattle.nr_log_end.specs.declared.standing.Turn.{Turn}
-use Rattle.nr_log_end.specs.Standings.{applied_of, known_of, own_entries}
+use Rattle.nr_log_end.specs.Standings.{applied_of, record_of, known_of, own_entries, jobs_in}
 use Rattle.atomic_table.specs.Table.{State}
 use Rattle.nr_oplog.specs.declared.view.LogView.{LogView}
 use Rattle.nr_oplog.specs.Layout.{passed_word, stamp_word, slot_of, words_of, slots_of}
@@ -30,6 +31,10 @@ pub data Phase : Type 0 where
   filling : Phase
   full : Phase
   lifted : Phase
+
+-- the log begins with the entries that the node has passed, and the numbers of each of its connections rise along what it did and the log behind that
+abbrev pub RisesAlong : List Entry → ℕ → List Turn → Type 0
+RisesAlong log node past = (behind : List Entry) × (applied_of past ++ behind ≡ log) × AreRising node (record_of past ++ jobs_in behind)
 
 module _ (nodes places : ℕ) where
   -- A node's word says how many entries it has applied and passed. The log begins with these, and has at most as many more as there are
@@ -96,6 +101,7 @@ module _ (nodes places : ℕ) where
     pub tail_is : slice_index s.words 0 ≡ length log
     pub bounded : length log ≤ 2 ^ 63
     pub applied_is : (node : ℕ) → applied node ≡ applied_of (past node)
+    pub rising : (node : ℕ) → RisesAlong log node (past node)
     pub each_node : (node : ℕ) → node < nodes → NodeOk log s.words (applied node) node
     pub each_cell : (node number : ℕ) → node < nodes → length (applied node) ≤ number → number < length (applied node) + places
         → CellOk log s.words s.homes (length (applied node)) node number (phase node number)

@@ -3,7 +3,10 @@ use Rattle.std.specs.Prelude.{◌≡◌, ℕ, suc, ◌+◌, ◌<◌, ◌≤◌, 
 use Rattle.std.specs.Arc.{arc_value}
 use Rattle.atomic_table.specs.Table.{Me}
 use Rattle.atomic_table.specs.declared.shared.Seat.{Seat}
+use Rattle.nr_entry.specs.Jobs.{items_of}
 use Rattle.nr_entry.specs.declared.entry.Entry.{Entry}
+use Rattle.nr_log_end.specs.Numbers.{AreRising}
+use Rattle.nr_log_end.specs.Standings.{logged}
 use Rattle.nr_oplog.specs.declared.view.LogView.{LogView}
 use Rattle.nr_log_end.specs.declared.standing.Look.{Look}
 use Rattle.nr_log_end.specs.declared.standing.Look.TheVariants.{Passed}
@@ -19,9 +22,10 @@ IsSameSeat s t = (t.table_id ≡ s.table_id) × (t.id ≡ s.id)
 abbrev pub IsOfNode : LogView → ℕ → ℕ → Type 0
 IsOfNode v nodes places = (v.standing.nodes ≡ nodes) × (v.places ≡ places) × (v.upto ≡ suc v.standing.node) × (v.standing.node < nodes)
 
--- a share of an entry of the seat's node
+-- a share of an entry of the seat's node, with numbers that go on rising behind those that the node has logged
 abbrev pub HasShareFor : LogView → Option Share → Type 0
 HasShareFor v said = (entry : Entry) × (option_map arc_value said ≡ Some entry) × (entry.node ≡ v.standing.node)
+    × AreRising v.standing.node (logged v.standing ++ items_of entry.jobs.items)
 
 -- only passed counts were loaded, none of them less than the one met before
 abbrev pub CountsOf : Me (Option Share) LogView → Me (Option Share) LogView → Type 0

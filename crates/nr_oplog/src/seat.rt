@@ -4,7 +4,7 @@ ghost use Rattle.std.specs.Bool.{OnTrue, OnFalse};
 ghost use Rattle.std.specs.Arc.{arc_value};
 ghost use Rattle.nr_log_end.specs.Reserves.{IfTaken, IfFull, IfLost};
 ghost use Rattle.nr_log_end.specs.Tries.{IsTaken, IsFull, IsLost};
-ghost use Rattle.nr_log_end.specs.Standings.{IsSharesFor, IsAllFilled, StandsInLog, passed_of, reserved_as, filled_for, fetched_with, passed_on, noted_with, opened_with};
+ghost use Rattle.nr_log_end.specs.Standings.{IsSharesFor, IsAllFilled, StandsInLog, passed_of, reserved_as, filled_for, fetched_with, passed_on, noted_with, opened_with, AreNextReads};
 ghost use Rattle.nr_log_end.specs.declared.standing.Turn.TheVariants.{Ran, Opened};
 ghost use Rattle.nr_oplog.specs.Rule.{opening_view};
 ghost use Rattle.nr_oplog.specs.Plays.{with_done};
@@ -191,6 +191,7 @@ impl<B: LogName> LogSeat<B> {
 
     /// Notes that this node's replica has run these reads, in this order, behind the entries that were passed so far: one load of the tail for all of them.
     pub fn note(&mut self, log: &Oplog<B>, jobs: &[Job])
+        requires rising { AreNextReads jobs.now self.old.standing }
         ensures noted { self.new.standing ≡ noted_with jobs.now self.new.standing.seen self.old.standing }
         ensures seen { self.old.standing.seen ≤ self.new.standing.seen }
         ensures looks { self.new.looks ≡ self.old.looks ++ Look.Tail self.new.standing.seen ∷ [] }
@@ -199,7 +200,8 @@ impl<B: LogName> LogSeat<B> {
     }
 
     fn note_named<T: DoneTurns>(&mut self, log: &Oplog<B>, jobs: &[Job])
-        requires { T.turns ≡ map Ran jobs.now }
+        requires turns { T.turns ≡ map Ran jobs.now }
+        requires rising { AreNextReads jobs.now self.old.standing }
         ensures noted { self.new ≡ with_done (map Ran jobs.now) self.new.standing.seen self.old }
         ensures seen { self.old.standing.seen ≤ self.new.standing.seen }
     {

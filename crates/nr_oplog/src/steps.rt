@@ -6,7 +6,7 @@ ghost use Rattle.nr_entry.specs.Shares.{shares_of};
 ghost use Rattle.nr_log_end.specs.Standings.{applied_of, passed_of, IsAllFilled, StandsInLog, reserved_as, filled_for, fetched_with, passed_on};
 ghost use Rattle.nr_log_end.specs.declared.standing.Look.{Look};
 ghost use Rattle.nr_oplog.specs.Layout.{passed_word, stamp_word, slot_of, words_of, slots_of};
-ghost use Rattle.nr_oplog.specs.Plays.{with_tail, with_done, with_passed, token_view, with_told, with_look, with_later, AreOfOneLog};
+ghost use Rattle.nr_oplog.specs.Plays.{with_tail, with_done, with_passed, token_view, with_told, with_look, with_later, AreOfOneLog, MayFollow};
 ghost use Rattle.nr_oplog.specs.Calls.{LoadsCounts, IsLeastOf};
 ghost use Rattle.nr_oplog.specs.Rule.{opening_view};
 ghost use Rattle.nr_oplog.specs.Seats.{IsSameSeat, IsOfNode, HasShareFor, CountsOf, IsBehind};
@@ -55,6 +55,7 @@ impl<B: LogName> Oplog<B> {
     pub(crate) fn load_tail_and_do<T: DoneTurns>(&self, seat: &mut LogSlotSeat) -> u64
         requires seat { (seat.old.table_id ≡ B.log) × IsOfNode seat.old.me.0 self.now.table.shared.key.nodes self.now.table.shared.key.places }
         requires none { applied_of T.turns ≡ [] }
+        requires rising { MayFollow T.turns seat.old.me.0.standing }
         ensures seat { IsSameSeat seat.old seat.new }
         ensures view { seat.new.me ≡ (with_done T.turns result seat.old.me.0, seat.old.me.1) }
         ensures greater { seat.old.me.0.standing.seen ≤ result }

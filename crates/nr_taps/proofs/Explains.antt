@@ -19,6 +19,7 @@ use Rattle.nr_model.proofs.NodesParts.{ReadsWithin}
 use Rattle.nr_model.proofs.NodesPartsEmitted as emitted
 use Rattle.nr_model.proofs.NodesPartsEmitted.{AreOfNode, IsRun, begins_itself, begins_on, front_begins, more_emits, of_another, part_emits, part_updates}
 use Rattle.nr_entry.specs.declared.entry.Entry.{Entry}
+use Rattle.nr_log_end.specs.Numbers.{IsRising, AreRising}
 use Rattle.nr_log_end.specs.declared.standing.Standing.{Standing}
 use Rattle.nr_log_end.specs.declared.standing.Turn.{Turn}
 use Rattle.nr_log_end.specs.Standings.{applied_of, items_of_turn, record_of, known_of}
@@ -28,6 +29,8 @@ use Rattle.nr_node.specs.Level.{connection_at}
 use Rattle.nr_node.specs.Sound.{IsSound}
 use Rattle.nr_taps.specs.Sequence.{sequence_of, updates_of, AreRun, IsExplainedBy, HaveOneSequence, reads_by, IsLogOf, AreReadsOf}
 use Rattle.nr_taps.proofs.Longest.{longest_known, longest_past, known_begin, pasts_begin, past_has, longest_log, longest_reads, no_reads}
+use Rattle.nr_taps.proofs.Parts.{numbers_beyond, woven_numbers}
+use Rattle.nr_taps.proofs.Rises.{log_rises, pasts_rise}
 use Rattle.nr_taps.proofs.Weave.{IsReadOf, IsReader, woven, woven_length, woven_logged, woven_of_none, woven_part, woven_reads, woven_run}
 
 -- reads of a node's connections, in the words of the lemmas on parts
@@ -100,9 +103,10 @@ pub begins_emitted : (c : Connection) (x y : Sequence) → IsBeginningOf x y →
 begins_emitted c x y b = subst (λ (items : Sequence). IsBeginningOf (emitted_for c x) (emitted_for c items)) b.1 (more_emits c x b.0)
 
 -- a standing whose record begins its part
-pub explained : (taken : List Taken) (s : Standing) → AreRun taken → IsSound s → IsBeginningOf (record_of s.history) (part_from s.node (length (log_of taken)) taken)
+pub explained : (taken : List Taken) (s : Standing) → AreRun taken → IsSound s → AreRising s.node (sequence_of taken)
+    → IsBeginningOf (record_of s.history) (part_from s.node (length (log_of taken)) taken)
     → IsExplainedBy taken s
-explained taken s run sound b =
+explained taken s run sound rising b =
     let applied = length (log_of taken) in
     let done = record_of s.history in
     let part = part_from s.node applied taken in
@@ -117,6 +121,7 @@ explained taken s run sound b =
           let c = connection_at s.node serial in
           subst (λ (jobs : Jobs). IsBeginningOf (numbers_in c done) (map (λ (job : Item). job.number) jobs)) (own_in_part c applied taken run none)
           (begins_map (λ (job : Item). job.number) (own_jobs c done) (own_jobs c part) (begins_filter (λ (job : Item). same_connection job.connection c) done part b));
+      rising = rising;
       emitted = λ serial.
           let c = connection_at s.node serial in
           begins_on (emitted_for c done) (emitted_for c part) (emitted_for c (sequence_of taken))
@@ -135,16 +140,17 @@ applied_begin x y b = (applied_of b.0, sym (applied_append x b.0) ∙ ap applied
 -- each of these is explained
 each_explained : (taken : List Taken) (upto : ℕ) (past : ℕ → List Turn) (standings : List Standing) → AreRun taken
     → ((node : ℕ) → node < upto → IsBeginningOf (record_of (past node)) (part_from node (length (log_of taken)) taken))
+    → ((node : ℕ) → AreRising node (sequence_of taken))
     → above standings ≤ upto → AllByRecursion IsSound standings → AllByRecursion (λ (s : Standing). IsBeginningOf s.history (past s.node)) standings
     → AllByRecursion (IsExplainedBy taken) standings
-each_explained taken upto past [] run parts h sound begin = tt
-each_explained taken upto past (s ∷ more) run parts h sound begin =
+each_explained taken upto past [] run parts rising h sound begin = tt
+each_explained taken upto past (s ∷ more) run parts rising h sound begin =
     let here : s.node < upto = omega (arith, h) in
     let less : above more ≤ upto = omega (arith, h) in
     let front = begins_flat_map items_of_turn s.history (past s.node) begin.0 in (
-      explained taken s run sound.0
+      explained taken s run sound.0 (rising s.node)
           (begins_on (record_of s.history) (record_of (past s.node)) (part_from s.node (length (log_of taken)) taken) front (parts s.node here)),
-      each_explained taken upto past more run parts less sound.1 begin.1,
+      each_explained taken upto past more run parts rising less sound.1 begin.1,
     )
 
 known_applied : (standings : List Standing) (all : List Entry) → AllByRecursion (λ (s : Standing). IsBeginningOf (known_of s) all) standings
@@ -172,9 +178,20 @@ one_sequence standings sound are =
     let run = woven_run 0 upto past log reads in
     let parts = λ (node : ℕ) (below : node < upto).
     subst (λ (n : ℕ). IsBeginningOf (record_of (past node)) (part_from node n taken)) (sym long) (woven_part node 0 upto past log below (applied node)) in
+    let rising : (node : ℕ) → AreRising node (sequence_of taken) =
+    λ node serial.
+    let c = connection_at node serial in
+    let none : length (log_of taken) ≤ length (log_of taken) = omega arith in
+    let part : numbers_in c (part_from node (length log) taken) ≡ numbers_in c (sequence_of taken) =
+    ap (λ (n : ℕ). numbers_in c (part_from node n taken)) (sym long)
+    ∙ ap (map (λ (job : Item). job.number)) (own_in_part c (length (log_of taken)) taken run none) in
+    elim (cases_lt node upto) as (λ _. IsRising (numbers_in c (sequence_of taken))) [
+      | inl below ↦ subst IsRising (sym (woven_numbers c 0 upto past log below (applied node)) ∙ part) (pasts_rise standings sound are node serial)
+      | inr above ↦ subst IsRising (sym (numbers_beyond c 0 upto past log above) ∙ part) (log_rises standings sound node serial)
+    ] in
     let logged = subst (IsLogOf standings) (sym (woven_logged 0 upto past log)) (longest_log standings) in
     let ran = λ (node : ℕ). elim (cases_lt node upto) as (λ _. AreReadsOf standings node (reads_by node taken)) [
       | inl below ↦ subst (AreReadsOf standings node) (sym (woven_reads node 0 upto past log below (applied node))) (longest_reads standings node)
       | inr above ↦ subst (AreReadsOf standings node) (sym (woven_of_none node 0 upto past log above)) (no_reads standings node)
     ] in
-    (taken, run, each_explained taken upto past standings run parts same sound (pasts_begin standings are), logged, ran)
+    (taken, run, each_explained taken upto past standings run parts rising same sound (pasts_begin standings are), logged, ran, rising)

@@ -148,7 +148,7 @@ pub adopts_has : (P : Standing → Type 0) → ((x : Standing) (n : ℕ) → P x
 adopts_has P on old new t kept here a = subst (λ (o : Option Standing). IfSome o P) (sym a.1) (adopted_has P on old t a.0 kept here)
 
 pub still_sound : (s : Standing) (n : ℕ) → IsSound s → IsSound (record s { seen = n })
-still_sound s n sound = record { reads = sound.reads; numbered = sound.numbered; opened = sound.opened; idle = sound.idle }
+still_sound s n sound = record { reads = sound.reads; numbered = sound.numbered; opened = sound.opened; entries = sound.entries; idle = sound.idle }
 
 -- what was done by either was done by the later one
 abbrev pub history_in : Option Standing → List Turn

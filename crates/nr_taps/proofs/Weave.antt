@@ -74,7 +74,7 @@ reads_other r applied node count jobs more apart =
     reads_in_part r applied node count jobs more ∙ ap (λ (b : Bool). cond b (jobs ++ rest) rest) (ne_eqb node r apart)
 
 -- a node of a higher number has none of these runs
-runs_elsewhere : (r applied count upto : ℕ) (past : ℕ → List Turn) (more : List Taken) → upto ≤ r
+pub runs_elsewhere : (r applied count upto : ℕ) (past : ℕ → List Turn) (more : List Taken) → upto ≤ r
     → part_from r applied (runs_below count upto past ++ more) ≡ part_from r applied more
 runs_elsewhere r applied count zero past more h = refl
 runs_elsewhere r applied count (suc upto) past more h =
@@ -83,7 +83,7 @@ runs_elsewhere r applied count (suc upto) past more h =
     ∙ runs_elsewhere r applied count upto past more below
 
 -- one of a lower number has its own
-runs_here : (r applied count upto : ℕ) (past : ℕ → List Turn) (more : List Taken) → r < upto
+pub runs_here : (r applied count upto : ℕ) (past : ℕ → List Turn) (more : List Taken) → r < upto
     → part_from r applied (runs_below count upto past ++ more) ≡ items_of (leading (past r)) ++ part_from r applied more
 runs_here r applied count zero past more h = absurd (omega (arith, h))
 runs_here r applied count (suc upto) past more h =
@@ -102,13 +102,13 @@ runs_here r applied count (suc upto) past more h =
     ]
 
 -- the record behind what leads
-abbrev record_behind : List Turn → List Item
+abbrev pub record_behind : List Turn → List Item
 record_behind [] = []
 record_behind (Applied entry ∷ turns) = entry_items (items_of entry.jobs.items) ++ record_of turns
 record_behind (Ran job ∷ turns) = record_behind turns
 record_behind (Opened worker ∷ turns) = record_behind turns
 
-record_apart : (turns : List Turn) → items_of (leading turns) ++ record_behind turns ≡ record_of turns
+pub record_apart : (turns : List Turn) → items_of (leading turns) ++ record_behind turns ≡ record_of turns
 record_apart [] = refl
 record_apart (Applied entry ∷ turns) = refl
 record_apart (Ran job ∷ turns) = ap (λ (items : List Item). item_of job ∷ items) (record_apart turns)
@@ -123,7 +123,7 @@ behind_first [] = []
 behind_first (entry ∷ entries) = entries
 
 -- where no entry is passed there is none
-none_behind : (turns : List Turn) → IsBeginningOf (applied_of turns) [] → record_behind turns ≡ []
+pub none_behind : (turns : List Turn) → IsBeginningOf (applied_of turns) [] → record_behind turns ≡ []
 none_behind [] b = refl
 none_behind (Applied entry ∷ turns) b = absurd (cc b.1)
 none_behind (Ran job ∷ turns) b = none_behind turns b
@@ -140,7 +140,8 @@ next_behind (Applied first ∷ turns) entry log more b c =
 next_behind (Ran job ∷ turns) entry log more b c = next_behind turns entry log more b c
 next_behind (Opened worker ∷ turns) entry log more b c = next_behind turns entry log more b c
 
-later_begins : (turns : List Turn) (entry : Entry) (log : List Entry) → IsBeginningOf (applied_of turns) (entry ∷ log) → IsBeginningOf (applied_of (behind turns)) log
+pub later_begins : (turns : List Turn) (entry : Entry) (log : List Entry) → IsBeginningOf (applied_of turns) (entry ∷ log)
+    → IsBeginningOf (applied_of (behind turns)) log
 later_begins [] entry log b = none_begins log
 later_begins (Applied first ∷ turns) entry log b = (b.0, cc b.1)
 later_begins (Ran job ∷ turns) entry log b = later_begins turns entry log b

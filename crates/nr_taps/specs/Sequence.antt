@@ -7,6 +7,7 @@ use Rattle.nr_model.specs.Sequential.{emitted_for}
 use Rattle.nr_model.specs.Nodes.{Taken, Entry, Reads, Logged, log_of, items_taken, part_from}
 use Rattle.nr_entry.specs.Jobs.{item_of, items_of}
 use Rattle.nr_entry.specs.declared.entry.Entry as entries
+use Rattle.nr_log_end.specs.Numbers.{AreRising}
 use Rattle.nr_log_end.specs.declared.standing.Standing.{Standing}
 use Rattle.nr_log_end.specs.declared.standing.Turn.{Turn}
 use Rattle.nr_log_end.specs.declared.standing.Turn.TheVariants.{Applied, Ran, Opened}
@@ -33,14 +34,15 @@ abbrev pub AreRun : List Taken → Type 0
 AreRun taken = AllByRecursion IsRunBy taken
 
 -- A standing's record begins its node's part of what was taken, and its updates are the first of the sequence's. The jobs of each of the node's connections in
--- it have the numbers 0, 1, 2 and so on, and are the first of that connection in the sequence. What one sequential Redis emits for such a connection along
--- the record begins what it emits for it along the sequence.
+-- it have the numbers 0, 1, 2 and so on, and are the first of that connection in the sequence, along which the numbers rise: so the others' numbers are above
+-- these, and each stands there once. What one sequential Redis emits for such a connection along the record begins what it emits for it along the sequence.
 pub record IsExplainedBy (taken : List Taken) (s : Standing) : Type 0 where
   pub part : IsBeginningOf (record_of s.history) (part_from s.node (length (log_of taken)) taken)
   pub updates : IsBeginningOf (updates_of (record_of s.history)) (updates_of (sequence_of taken))
   pub numbered : (serial : ℕ) → IsCount (numbers_in (connection_at s.node serial) (record_of s.history))
   pub jobs : (serial : ℕ) → IsBeginningOf (numbers_in (connection_at s.node serial) (record_of s.history))
       (numbers_in (connection_at s.node serial) (sequence_of taken))
+  pub rising : AreRising s.node (sequence_of taken)
   pub emitted : (serial : ℕ) → IsBeginningOf (emitted_for (connection_at s.node serial) (record_of s.history))
       (emitted_for (connection_at s.node serial) (sequence_of taken))
 
@@ -70,10 +72,10 @@ AreReadsOf [] node items = items ≡ []
 AreReadsOf (s ∷ more) node items = ((s.node ≡ node) × (items ≡ ran_items s.history)) ⊎ AreReadsOf more node items
 
 -- One sequence explains all of these. Its log is what one of them knows, and the reads of each node in it are those that one of them ran: so it has no job that none
--- of them knows, and each as often as one of them does.
+-- of them knows, and each as often as one of them does. The numbers of each connection's jobs rise along it, whether or not one of them is of its node.
 abbrev pub OneSequence : List Standing → Type 0
 OneSequence standings = (taken : List Taken) × AreRun taken × AllByRecursion (IsExplainedBy taken) standings × IsLogOf standings (log_of taken)
-    × ((node : ℕ) → AreReadsOf standings node (reads_by node taken))
+    × ((node : ℕ) → AreReadsOf standings node (reads_by node taken)) × ((node : ℕ) → AreRising node (sequence_of taken))
 
 -- each two of these are of one log
 abbrev pub AreAllOfOneLog : List Standing → Type 0

@@ -1,16 +1,15 @@
 -- Workers whose marks are of one log are answered by one sequence.
-use Rattle.std.proofs.Common.{◌≡◌, ℕ, ◌≤◌, inl, inr, List, [], ◌∷◌, ◌++◌, map, length, Contains, Option, Some, None, refl, ap, sym, ◌∙◌, subst, arith}
+use Rattle.std.proofs.Common.{◌≡◌, ℕ, ◌≤◌, List, [], ◌∷◌, ◌++◌, length, Contains, Option, Some, None, refl, ap, sym, ◌∙◌, subst, arith}
 use Rattle.std.specs.Prelude.{IfSome, option_to_list}
 use Rattle.std.specs.List.{AllByRecursion, range_with_len}
 use Rattle.nr_model.specs.Bytes.{IsBeginningOf}
 use Rattle.nr_model.specs.Items.{Connection, Item, Sequence, same_connection}
-use Rattle.nr_model.specs.Entries.{Jobs}
 use Rattle.nr_model.specs.Sequential.{emitted_for}
 use Rattle.nr_model.specs.Asked.{own_jobs}
 use Rattle.nr_model.specs.Nodes.{Taken, log_of, part_from}
 use Rattle.nr_model.proofs.NodesExecutedGrows.{begins_flat_map}
 use Rattle.nr_model.proofs.NodesPartsEmitted.{begins_on, more_emits, none_begins}
-use Rattle.nr_entry.specs.Jobs.{items_of}
+use Rattle.nr_log_end.specs.Numbers.{AreRising}
 use Rattle.nr_log_end.specs.declared.standing.Standing.{Standing}
 use Rattle.nr_log_end.specs.declared.standing.Turn.{Turn}
 use Rattle.nr_log_end.specs.Standings.{items_of_turn, record_of}
@@ -22,7 +21,7 @@ use Rattle.nr_combiner.specs.Served.{ComesFrom}
 use Rattle.nr_taps.specs.Sequence.{AreRun, IsExplainedBy, sequence_of}
 use Rattle.nr_taps.proofs.Explains.{begins_filter, one_sequence, own_in_part}
 use Rattle.nr_taps.specs.Sequence.{AreAllOfOneLog}
-use Rattle.nr_worker.specs.Desk.{asked_of, AreAsked, ArePosted, DeskState, IsLed, IsPosted, IsServedAt, Served, history_of}
+use Rattle.nr_worker.specs.Desk.{asked_of, ArePosted, DeskState, IsLed, IsPosted, IsServedAt, Served, history_of}
 use Rattle.nr_worker.specs.Law.{AreAnswered, IsAnswered, IsPartOf, marks_of}
 use Rattle.nr_worker.proofs.Lists.{no_front, all_own, all_weaker, are_asked, posted_at}
 
@@ -44,11 +43,15 @@ front_counts c front whole b counts =
     let is : numbers_in c front ++ numbers_in c b.0 ≡ numbers_in c whole = sym (numbers-append c front b.0) ∙ ap (numbers_in c) b.1 in
     counts_front (numbers_in c front) (numbers_in c b.0) (is ∙ counts ∙ ap (λ (ns : List ℕ). range_with_len 0 (length ns)) (sym is))
 
+-- the numbers of each connection rise along what was taken
+abbrev AreNumbered : List Taken → Type 0
+AreNumbered taken = (node : ℕ) → AreRising node (sequence_of taken)
+
 -- by a mark
-answered_by : (taken : List Taken) (d : DeskState) (x : Served) (s : Standing) (history : List Turn) → AreRun taken → IsExplainedBy taken s → IsSound s → s.node ≡ d.node
-    → IsServedAt d x → IsBeginningOf history s.history → IsBeginningOf x.handed (emitted_for x.connection (record_of history))
+answered_by : (taken : List Taken) (d : DeskState) (x : Served) (s : Standing) (history : List Turn) → AreRun taken → AreNumbered taken
+    → IsExplainedBy taken s → IsSound s → s.node ≡ d.node → IsServedAt d x → IsBeginningOf history s.history → IsBeginningOf x.handed (emitted_for x.connection (record_of history))
     → ArePosted d.posted x.connection (record_of history) → IsAnswered taken x
-answered_by taken d x s history run explained sound node k kept begins jobs =
+answered_by taken d x s history run rising explained sound node k kept begins jobs =
     let c = x.connection in
     let done = record_of history in
     let whole = record_of s.history in
@@ -68,6 +71,7 @@ answered_by taken d x s history run explained sound node k kept begins jobs =
       done = done;
       part = part;
       emitted = begins;
+      rising = rising c.node c.serial;
       first = subst (IsBeginningOf (own_jobs c done)) (own_in_part c applied taken run none) (begins_filter own done (part_from c.node applied taken) part);
       asked = are_asked 0 (length (numbers_in c done)) (own_jobs c done) (asked_of x) counts k.counted
           (all_own (λ (job : Item). ComesFrom job (asked_of x)) c done
@@ -76,8 +80,9 @@ answered_by taken d x s history run explained sound node k kept begins jobs =
     }
 
 -- where there is none, nothing was handed out
-answered_not : (taken : List Taken) (x : Served) (history : List Turn) → history ≡ [] → IsBeginningOf x.handed (emitted_for x.connection (record_of history)) → IsAnswered taken x
-answered_not taken x history none begins =
+answered_not : (taken : List Taken) (x : Served) (history : List Turn) → AreNumbered taken → history ≡ []
+    → IsBeginningOf x.handed (emitted_for x.connection (record_of history)) → IsAnswered taken x
+answered_not taken x history rising none begins =
     let c = x.connection in
     let at : IsBeginningOf x.handed (emitted_for c []) = subst (λ (h : List Turn). IsBeginningOf x.handed (emitted_for c (record_of h))) none begins in
     record {
@@ -85,17 +90,18 @@ answered_not taken x history none begins =
       done = [];
       part = none_begins (part_from c.node (length (log_of taken)) taken);
       emitted = at;
+      rising = rising c.node c.serial;
       first = none_begins (own_jobs c (sequence_of taken));
       asked = tt;
     }
 
-answered_at : (taken : List Taken) (d : DeskState) (x : Served) (mark : Option Standing) → AreRun taken → IfSome mark (IsExplainedBy taken)
+answered_at : (taken : List Taken) (d : DeskState) (x : Served) (mark : Option Standing) → AreRun taken → AreNumbered taken → IfSome mark (IsExplainedBy taken)
     → IfSome mark (λ (s : Standing). IsSound s × (s.node ≡ d.node)) → d.mark ≡ mark → IsServedAt d x → IsAnswered taken x
-answered_at taken d x None run explained sound is k =
+answered_at taken d x None run rising explained sound is k =
     let kept = subst (λ (m : Option Standing). IsBeginningOf k.handed.history (history_of m)) is k.handed.kept in
-    answered_not taken x k.handed.history (no_front k.handed.history kept.0 kept.1) k.handed.begins
-answered_at taken d x (Some s) run explained sound is k =
-    answered_by taken d x s k.handed.history run explained sound.0 sound.1 k
+    answered_not taken x k.handed.history rising (no_front k.handed.history kept.0 kept.1) k.handed.begins
+answered_at taken d x (Some s) run rising explained sound is k =
+    answered_by taken d x s k.handed.history run rising explained sound.0 sound.1 k
     (subst (λ (m : Option Standing). IsBeginningOf k.handed.history (history_of m)) is k.handed.kept) k.handed.begins k.handed.jobs
 
 -- all of them
@@ -113,13 +119,14 @@ sound_all [] all = tt
 sound_all (d ∷ desks) all =
     joined IsSound (λ (s : Standing). IsSound s × (s.node ≡ d.node)) (λ s h. h.0) d.mark (marks_of desks) all.0.sound (sound_all desks all.1)
 
-each_answered : (taken : List Taken) (desks : List DeskState) → AreRun taken → AllByRecursion IsLed desks → AllByRecursion (IsExplainedBy taken) (marks_of desks)
+each_answered : (taken : List Taken) (desks : List DeskState) → AreRun taken → AreNumbered taken → AllByRecursion IsLed desks
+    → AllByRecursion (IsExplainedBy taken) (marks_of desks)
     → AllByRecursion (λ (d : DeskState). AllByRecursion (IsAnswered taken) d.served) desks
-each_answered taken [] run all explained = tt
-each_answered taken (d ∷ desks) run all explained =
+each_answered taken [] run rising all explained = tt
+each_answered taken (d ∷ desks) run rising all explained =
     let both = split (IsExplainedBy taken) d.mark (marks_of desks) explained in (
-      all_weaker (IsServedAt d) (IsAnswered taken) (λ x k. answered_at taken d x d.mark run both.0 all.0.sound refl k) d.served all.0.each,
-      each_answered taken desks run all.1 both.1,
+      all_weaker (IsServedAt d) (IsAnswered taken) (λ x k. answered_at taken d x d.mark run rising both.0 all.0.sound refl k) d.served all.0.each,
+      each_answered taken desks run rising all.1 both.1,
     )
 
 -- each mark's record is the first of its node's part
@@ -142,4 +149,11 @@ each_part taken (d ∷ desks) all explained =
 pub are_answered : (desks : List DeskState) → AllByRecursion IsLed desks → AreAllOfOneLog (marks_of desks) → AreAnswered desks
 are_answered desks all one_log =
     let one = one_sequence (marks_of desks) (sound_all desks all) one_log in
-    record { taken = one.0; run = one.1; each = each_answered one.0 desks one.1 all one.2; parts = each_part one.0 desks all one.2; log = one.3; reads = one.4 }
+    record {
+      taken = one.0;
+      run = one.1;
+      each = each_answered one.0 desks one.1 one.5 all one.2;
+      parts = each_part one.0 desks all one.2;
+      log = one.3;
+      reads = one.4;
+    }

@@ -1,13 +1,12 @@
 -- What a worker's mark knew stands in front of what is fed later.
 use Rattle.std.proofs.Common.{◌≡◌, ℕ, ◌<◌, ◌≤◌, inl, inr, List, [], ◌∷◌, ◌++◌, length, map, Contains, Option, Some, None, refl, ap, sym, ◌∙◌, subst, arith, get_or}
-use Rattle.std.specs.Prelude.{IfSome, filter}
+use Rattle.std.specs.Prelude.{IfSome}
 use Rattle.std.specs.List.{AllByRecursion}
 use Rattle.std.proofs.lemmas.Bool.{cases_lt}
 use Rattle.nr_model.specs.Bytes.{IsBeginningOf}
 use Rattle.nr_model.specs.Items.{Connection, Item, Sequence}
 use Rattle.nr_model.proofs.NodesPartsEmitted.{begins_on}
 use Rattle.nr_log_end.specs.declared.standing.Standing.{Standing}
-use Rattle.nr_log_end.specs.declared.standing.Turn.{Turn}
 use Rattle.nr_log_end.specs.Standings.{opened_of, record_of}
 use Rattle.nr_accounts.specs.Held.{numbers_in}
 use Rattle.nr_node.specs.Level.{connection_at}

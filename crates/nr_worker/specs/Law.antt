@@ -8,6 +8,7 @@ use Rattle.nr_model.specs.Sequential.{emitted_for}
 use Rattle.nr_model.specs.Asked.{own_jobs}
 use Rattle.nr_model.specs.Nodes.{Taken, log_of, part_from}
 use Rattle.nr_entry.specs.declared.batch.Batch.{Batch}
+use Rattle.nr_log_end.specs.Numbers.{IsRising, numbers_of}
 use Rattle.nr_log_end.specs.declared.standing.Standing.{Standing}
 use Rattle.nr_log_end.specs.Standings.{record_of}
 use Rattle.nr_slots.specs.declared.view.Lane.{Lane}
@@ -18,13 +19,15 @@ use Rattle.nr_worker.specs.Desk.{AreAsked, DeskState, IsLed, Served, asked_of, h
 use Rattle.nr_worker.specs.Moves.{Asks, Opens, Posts, Turns, fresh_desk}
 
 -- What was handed out for a connection begins what one sequential Redis emits for it along the sequence. It begins what is emitted along a beginning of its node's part of
--- that already, and the connection's items there are its first in the sequence, and the first that its bytes asked for.
+-- that already, and the connection's items there are its first in the sequence, and the first that its bytes asked for. The numbers of all its items rise along
+-- the sequence: so those behind the first have greater ones, and each stands there once.
 pub record IsAnswered (taken : List Taken) (x : Served) : Type 0 where
   pub begins : IsBeginningOf x.handed (emitted_for x.connection (sequence_of taken))
   pub done : Sequence
   pub part : IsBeginningOf done (part_from x.connection.node (length (log_of taken)) taken)
   pub emitted : IsBeginningOf x.handed (emitted_for x.connection done)
   pub first : IsBeginningOf (own_jobs x.connection done) (own_jobs x.connection (sequence_of taken))
+  pub rising : IsRising (numbers_of x.connection (sequence_of taken))
   pub asked : AreAsked (own_jobs x.connection done) (asked_of x)
 
 -- the standings of those that have one

@@ -1,4 +1,4 @@
-use Rattle.std.proofs.Common.{◌≡◌, false, sym, ◌∙◌}
+use Rattle.std.proofs.Common.{sym, ◌∙◌}
 use Rattle.nr_node.proofs.Taking.{goes_within}
 use Rattle.nr_node.proofs.Caught.{caught_by}
 use Rattle.nr_node.proofs.Shares.{went_last}

@@ -1,4 +1,4 @@
-use Rattle.std.proofs.Common.{◌≡◌, ◌<◌, None, [], refl, sym, ◌∙◌, subst, length}
+use Rattle.std.proofs.Common.{◌≡◌, ◌<◌, [], refl, sym, ◌∙◌, subst, length}
 use Rattle.std.specs.Prelude.{slice_index_or}
 use Rattle.nr_model.specs.Items.{Connection}
 use Rattle.nr_entry.specs.Jobs.{connection_of}

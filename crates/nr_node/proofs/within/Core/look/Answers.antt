@@ -4,12 +4,13 @@ use Rattle.std.proofs.lemmas.Bool.{not-false, not-true}
 use Rattle.nr_log_end.specs.Standings.{passed_of}
 use Rattle.nr_oplog.specs.declared.view.LogView.{LogView}
 use Rattle.nr_replica.specs.Replicas.{ReplicaState}
-use Rattle.nr_node.specs.Level.{NodeState}
+use Rattle.nr_node.specs.Level.{NodeState, IsInOrder}
 use Rattle.nr_node.specs.Next.{jobs_next}
 use Rattle.nr_node.specs.Steps.{GoesOnBy, HasRead}
 use Rattle.nr_node.proofs.Lists.{none_unpassed}
 use Rattle.nr_node.proofs.Taking.{goes_within, failed_within, noted_within, read_awaited}
 use Rattle.nr_node.proofs.Caught.{caught_by, failed_by, read_on, read_got, has_read, next_has, none_of}
+use Rattle.nr_node.proofs.Served.{noted_rises}
 use Rattle.nr_node.proofs.Shares.{went_last, ended_last, noted_last}
 use Rattle.nr_node.proofs.within.Core.look.Goals as goal
 
@@ -89,6 +90,20 @@ returns-then-is_some-clause-again g c = λ _ none.
     let up : c.catch_up-reached.new.replica.down ≡ false = sym c.is_down.ensures ∙ c.if-is_down.false in
     let there : is_some inside.next ≡ true = ap is_some (sym (went.1.up up).1) ∙ sym c.is_some.ensures ∙ c.if-is_some.true in
     next_has inside.next inside.end.standing.node inside.nodes keeps.0.next_is keeps.4 there (ap (λ (n : NodeState). n.next) c.self.view_is ∙ none)
+
+pub read-requires-clause-rising : goal.read-requires-clause-rising
+read-requires-clause-rising g c =
+    let went = c.catch_up-reached.ensures.goes in
+    let t = c.catch_up-reached.new.end.standing in
+    let new = c.catch_up-reached.new.replica in
+    let book = c.catch_up-reached.new.accounts in
+    let next = c.catch_up-reached.new.next in
+    let up : new.down ≡ false = sym c.is_down.ensures ∙ c.if-is_down.false in
+    let all = c.catch_up-reached.ensures.reached c.if-not-reached.false in
+    let order = went.1.order c.self.invariant.0.order in
+    let none = none_unpassed t all.1 c.catch_up-reached.ensures.idle all.0 order.met in
+    let still = ap jobs_next (none_of next (sym c.is_some.ensures ∙ c.if-is_some.false)) in
+    noted_rises t new book none up (subst (IsInOrder t new book) still order)
 
 pub invariant_of-self-in_default : goal.invariant_of-self-in_default
 invariant_of-self-in_default g c =

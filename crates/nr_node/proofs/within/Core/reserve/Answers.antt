@@ -7,6 +7,7 @@ use Rattle.nr_node.specs.Next.{jobs_next, IsNextOf}
 use Rattle.nr_node.specs.Reserved.{IsReserved}
 use Rattle.nr_node.specs.Steps.{HasReserved}
 use Rattle.nr_node.proofs.Lists.{jobs_reserved_more}
+use Rattle.nr_node.proofs.Orders.{due_rises}
 use Rattle.nr_node.proofs.Taking.{some_is, none_is, memory_kept, none_kept, reserved_within, back_within}
 use Rattle.nr_node.proofs.Shares.{kept_more, reserved_more, reserved_nodes, met_last}
 use Rattle.nr_node.proofs.within.Core.reserve.Goals as goal
@@ -44,7 +45,12 @@ pub put_in-requires-clause-shares : goal.put_in-requires-clause-shares
 put_in-requires-clause-shares g c =
     let keeps = c.self.invariant in
     let got = some_is _ _ _ c.in-Some.is c.in_ok-shares.ensures.some in
-    (got.0, got.1 ∙ ap (shares_of got.0) keeps.3, got.2 ∙ sym keeps.0.level.node)
+    let up : c.self.inside.replica.down ≡ false = sym c.is_down.ensures ∙ c.if-is_down.false in (
+      got.0,
+      got.1 ∙ ap (shares_of got.0) keeps.3,
+      got.2 ∙ sym keeps.0.level.node,
+      due_rises c.self.inside.end.standing got.0 c.self.inside.replica c.self.inside.accounts (jobs_next c.self.inside.next) got.3.due up keeps.0.order,
+    )
 
 pub invariant_of-self-in-Taken : goal.invariant_of-self-in-Taken
 invariant_of-self-in-Taken g c =

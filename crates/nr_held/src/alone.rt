@@ -1,0 +1,54 @@
+// The one worker of one node.
+ghost use Rattle.std.specs.Prelude.{◌≡◌, [], length, IfOk};
+ghost use Rattle.nr_oplog.specs.Opening.{name_of, nodes_of, places_of};
+ghost use Rattle.nr_combiner.specs.Opened.{AreNamed, AreOfWorkers};
+
+use nr_blob::Memory;
+use nr_combiner::{OpenedSlots, Plan, ServerName, Worker, build};
+use nr_oplog::Opened;
+use std::alloc::Global;
+use std::hash::RandomState;
+
+/// The worker of a node that has no other one, at a log that has no other node.
+pub struct Alone<B: ServerName> {
+    pub worker: Worker<B>,
+}
+
+impl<B: ServerName> Drop for Alone<B> {
+    fn drop(self) {
+        let Alone { worker: _worker } = self;
+    }
+}
+
+impl<B: ServerName> Alone<B> {
+    /// The first worker of the first node of a log that was opened, which has handed in nothing. Where there are others, they go.
+    pub fn new(
+        alloc: Global,
+        keys: RandomState,
+        opened: Opened,
+        slots: Vec<OpenedSlots>,
+        limit: usize,
+    ) -> Result<Alone<B>, Memory>
+        requires name { name_of opened ≡ B.log }
+        requires shape { (nodes_of opened ≡ B.nodes) × (places_of opened ≡ B.places) }
+        requires slots { (length slots.items ≡ B.nodes) × AreNamed B.slots slots.items }
+        requires workers { AreOfWorkers 1 slots.items }
+        ensures { IfOk result (λ alone. alone.worker.seat.lane.posted ≡ []) }
+    {
+        let plan = Plan {
+            workers: 1,
+            connections: 1,
+            limit,
+        };
+        let Ok(nodes) = build::<B>(alloc, keys, opened, slots, plan) else {
+            return Err(Memory);
+        };
+        let Some(workers) = nodes.into_iter().next() else {
+            return Err(Memory);
+        };
+        let Some(worker) = workers.into_iter().next() else {
+            return Err(Memory);
+        };
+        Ok(Alone { worker })
+    }
+}
