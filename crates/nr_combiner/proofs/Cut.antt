@@ -1,13 +1,13 @@
 -- Which of some connections are cut.
-use Rattle.std.proofs.Common.{◌≡◌, ℕ, zero, suc, ◌+◌, ◌<◌, ◌≤◌, Bool, true, false, cond, inl, inr, List, [], ◌∷◌, ◌++◌, length, drop, get_or, drop-cons, add-one, Contains, refl, ap, sym, ◌∙◌, subst, append_assoc, append-nil}
+use Rattle.std.proofs.Common.{◌≡◌, ℕ, suc, ◌+◌, ◌<◌, Bool, cond, inl, inr, List, [], ◌∷◌, ◌++◌, length, drop, get_or, drop-cons, add-one, refl, ap, sym, ◌∙◌, append_assoc, append-nil}
 use Rattle.std.specs.Prelude.{filter, Result, Ok, Err, OnOk, OnErr}
-use Rattle.std.specs.List.{AllByRecursion}
 use Rattle.std.proofs.lemmas.Bool.{cases_Bool}
 use Rattle.nr_blob.specs.declared.memory.Memory.{Memory}
-use Rattle.std.proofs.lemmas.List.Elements.{Contains-append_right}
-use Rattle.nr_model.proofs.NodesExecutedLists.{in_middle}
 use Rattle.nr_entry.specs.declared.conn.ConnId.{ConnId}
-use Rattle.nr_combiner.specs.Pieces.{AddsFront, AddsSomeOf}
+use Rattle.nr_node.specs.Batches.{is_cut_at}
+use Rattle.nr_node.specs.Level.{NodeState}
+use Rattle.nr_combiner.specs.Behind.{CutsBehind, CutsFrontBehind}
+use Rattle.nr_combiner.specs.Pieces.{AddsFront}
 
 -- what was added, and what is left to add, is all
 abbrev pub AreAdded : (ConnId → Bool) → List ConnId → List ConnId → List ConnId → ℕ → Type 0
@@ -41,28 +41,13 @@ one_added p conns old mid new i conn within is pushed a =
       }
     ]
 
--- those of the filter are among all
-all_more : (x : ConnId) (xs ys : List ConnId) → AllByRecursion (Contains xs) ys → AllByRecursion (Contains (x ∷ xs)) ys
-all_more x xs [] all = tt
-all_more x xs (y ∷ ys) all = (Contains-append_right (x ∷ []) xs y all.0, all_more x xs ys all.1)
+-- a node told them behind its lock
+pub cuts_behind : (r : Result (Unit {0}) Memory) (node : ℕ) (n : NodeState) (conns old new : List ConnId) → n.book.node ≡ node
+    → OnOk r (new ≡ old ++ filter (is_cut_at n) conns) → OnOk r (CutsBehind node conns old new)
+cuts_behind (Ok done) node n conns old new is all = record { at = n; node_is = is; added = all }
+cuts_behind (Err memory) node n conns old new is all = tt
 
-passing_by : (x : ConnId) (xs ys : List ConnId) (b : Bool) → AllByRecursion (Contains xs) ys → AllByRecursion (Contains (x ∷ xs)) (cond b (x ∷ ys) ys)
-passing_by x xs ys true all = (in_middle x [] xs, all_more x xs ys all)
-passing_by x xs ys false all = all_more x xs ys all
-
-passing : (p : ConnId → Bool) (xs : List ConnId) → AllByRecursion (Contains xs) (filter p xs)
-passing p [] = tt
-passing p (x ∷ xs) = passing_by x xs (filter p xs) (p x) (passing p xs)
-
-front_of : (P : ConnId → Type 0) (xs ys : List ConnId) → AllByRecursion P (xs ++ ys) → AllByRecursion P xs
-front_of P [] ys all = tt
-front_of P (x ∷ xs) ys all = (all.0, front_of P xs ys all.1)
-
-pub adds_some : (r : Result (Unit {0}) Memory) (p : ConnId → Bool) (conns old new : List ConnId) → OnOk r (new ≡ old ++ filter p conns)
-    → OnErr r ((left : List ConnId) × AddsFront (filter p conns) old new left) → AddsSomeOf conns old new
-adds_some (Ok done) p conns old new all front = record { more = filter p conns; behind = all; some = passing p conns }
-adds_some (Err memory) p conns old new all (left, front) = record {
-  more = front.more;
-  behind = front.behind;
-  some = front_of (Contains conns) front.more left (subst (AllByRecursion (Contains conns)) (sym front.front) (passing p conns));
-}
+pub cuts_front : (r : Result (Unit {0}) Memory) (n : NodeState) (conns old new : List ConnId)
+    → OnErr r ((left : List ConnId) × AddsFront (filter (is_cut_at n) conns) old new left) → OnErr r (CutsFrontBehind conns old new)
+cuts_front (Ok done) n conns old new front = tt
+cuts_front (Err memory) n conns old new (left, front) = record { at = n; left = left; added = front }

@@ -1,15 +1,14 @@
 -- What is handed out, as it stands once the lock is free again.
-use Rattle.std.proofs.Common.{◌≡◌, ℕ, zero, suc, ◌+◌, ◌<◌, ◌≤◌, Bool, inl, inr, List, [], ◌∷◌, ◌++◌, Option, Some, None, length, drop, get_or, arith, refl, ap, sym, subst, ◌∙◌, append-nil, append_assoc}
-use Rattle.std.specs.Prelude.{◌≢◌, ◌↔◌, ◌==◌, true, false, Result, Ok, Err, IfOk, IfSome}
+use Rattle.std.proofs.Common.{◌≡◌, ℕ, zero, suc, ◌+◌, ◌<◌, Bool, inl, inr, List, [], ◌∷◌, ◌++◌, Option, Some, None, length, drop, get_or, arith, refl, ap, sym, subst, ◌∙◌, append-nil, append_assoc}
+use Rattle.std.specs.Prelude.{◌↔◌, ◌==◌, true, false, Result, Ok, Err, IfOk, IfSome}
 use Rattle.std.specs.List.{AllByRecursion}
-use Rattle.std.proofs.lemmas.Bool.{cases_Bool, cases_lt, and_parts, eqb-true}
+use Rattle.std.proofs.lemmas.Bool.{cases_lt, and_parts, eqb-true}
 use Rattle.std.proofs.lemmas.List.{get_or_default, get_or_past, length-take}
 use Rattle.nr_blob.specs.declared.memory.Memory.{Memory}
 use Rattle.nr_model.specs.Bytes.{Bytes, IsBeginningOf}
 use Rattle.nr_model.specs.Connections.{is_some_bytes}
-use Rattle.nr_model.specs.Items.{Connection, Item, Sequence}
+use Rattle.nr_model.specs.Items.{Connection, Sequence}
 use Rattle.nr_model.specs.Sequential.{emitted_for}
-use Rattle.nr_model.proofs.NodesOwnLists.{All-weaker}
 use Rattle.nr_entry.specs.Jobs.{connection_of}
 use Rattle.nr_entry.specs.declared.batch.Batch.{Batch}
 use Rattle.nr_log_end.specs.declared.standing.Standing.{Standing}
@@ -25,7 +24,7 @@ use Rattle.nr_slots.specs.Rule.{no_desk}
 use Rattle.nr_slots.specs.Seats.{CombinerView, NoteView}
 use Rattle.nr_node.specs.Batches.{IsPiece}
 use Rattle.nr_node.specs.Collected.{IsHanded, AreHanded, Collects}
-use Rattle.nr_node.specs.Level.{NodeState, connection_at, emitted_to, queue_at, workers_of}
+use Rattle.nr_node.specs.Level.{NodeState, connection_at, queue_at, workers_of}
 use Rattle.nr_node.specs.Sound.{IsSound, Serves}
 use Rattle.nr_node.specs.Steps.{nobody}
 use Rattle.nr_node.specs.declared.answers.Round.{Round}
@@ -34,9 +33,10 @@ use Rattle.nr_node.specs.declared.collecting.Handed.{Handed}
 use Rattle.nr_node.proofs.Owed.{all_front}
 use Rattle.nr_node.proofs.Ready.{Ascends, all_within, ascends}
 use Rattle.nr_combiner.specs.Heard.{HasHeard, Knows, with_posted}
-use Rattle.nr_combiner.specs.Pieces.{AreHandedIn, AreRising, HasAdded, HasExecuted, HasOwn, IsHandedIn, IsHandedOf, IsPieceOf}
-use Rattle.nr_combiner.specs.Served.{CombinerState, AreExecuted, IsLifted, IsOwnOfBatch, IsServed}
-use Rattle.nr_combiner.specs.Turned.{CollectsBehind, HandsOutTo, HasCollectedFor, HasTurned, TurnsBehind, tells_down}
+use Rattle.nr_combiner.specs.Pieces.{AreHandedIn, AreRising, HasAdded, HasExecuted, HasOwn, IsHandedOf, IsPieceOf}
+use Rattle.nr_combiner.specs.Served.{CombinerState, IsLifted, IsOwnOfBatch, IsServed}
+use Rattle.nr_combiner.specs.Behind.{CollectsBehind, TurnsBehind}
+use Rattle.nr_combiner.specs.Turned.{HandsOutTo, HasCollectedFor, HasTurned, tells_down}
 use Rattle.nr_combiner.specs.declared.answering.Collected.{Collected}
 use Rattle.nr_combiner.specs.declared.answering.Lifts.{Lifts}
 use Rattle.nr_combiner.specs.declared.answering.Turned.{Turned}

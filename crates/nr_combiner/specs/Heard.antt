@@ -1,6 +1,5 @@
 -- What a worker knows of what its node has done, and of what that hands out, by a turn or without one, in its own words.
 use Rattle.std.specs.Prelude.{ℕ, Bool, List}
-use Rattle.nr_model.specs.Items.{Connection}
 use Rattle.nr_entry.specs.Jobs.{connection_of}
 use Rattle.nr_entry.specs.declared.conn.ConnId.{ConnId}
 use Rattle.nr_log_end.specs.declared.standing.Standing.{Standing}

@@ -6,3 +6,4 @@ pub mod Opened
 pub mod Heard
 pub mod Workers
 pub mod Turned
+pub mod Behind

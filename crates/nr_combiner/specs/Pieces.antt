@@ -1,5 +1,5 @@
 -- What a node hands out, as it stands once the lock is free again.
-use Rattle.std.specs.Prelude.{◌≡◌, ℕ, ◌<◌, ◌≤◌, Bool, false, List, [], ◌∷◌, ◌++◌, length, drop, Contains}
+use Rattle.std.specs.Prelude.{◌≡◌, ℕ, ◌<◌, ◌≤◌, Bool, false, List, [], ◌∷◌, ◌++◌, length, drop}
 use Rattle.std.specs.List.{AllByRecursion, slice_get}
 use Rattle.nr_model.specs.Bytes.{IsBeginningOf}
 use Rattle.nr_model.specs.Items.{Connection, Item, Sequence}
@@ -65,12 +65,6 @@ HasOwn worker desk s = (c : Connection) → Serves s worker c → AreHandedIn de
 -- the jobs of each batch that was answered as executed are in the record
 abbrev pub HasExecuted : Desk → Standing → Type 0
 HasExecuted desk s = AreExecuted (record_of s.history) desk.lifted desk.answered
-
--- what was there stays in front, and each connection behind it is one of these
-pub record AddsSomeOf (conns old new : List ConnId) : Type 0 where
-  pub more : List ConnId
-  pub behind : new ≡ old ++ more
-  pub some : AllByRecursion (Contains conns) more
 
 -- what was there stays in front, and the first of all of these stand behind it, so that these are left
 pub record AddsFront (all old new left : List ConnId) : Type 0 where

@@ -1,5 +1,5 @@
 -- What a combiner hands out of what waits for a worker's connections, and what its turn for a worker comes to.
-use Rattle.std.specs.Prelude.{◌≡◌, ◌↔◌, ℕ, ◌<◌, ◌≤◌, Bool, true, false, List, length, Result, Ok, Err}
+use Rattle.std.specs.Prelude.{◌≡◌, ℕ, ◌<◌, ◌≤◌, Bool, true, false, List, length, Result, Ok, Err}
 use Rattle.nr_blob.specs.declared.memory.Memory.{Memory}
 use Rattle.nr_log_end.specs.declared.standing.Standing.{Standing}
 use Rattle.nr_log_end.specs.Standings.{opened_of}
@@ -10,10 +10,9 @@ use Rattle.nr_node.specs.Steps.{IsStill}
 use Rattle.nr_node.specs.declared.answers.Round.{Round}
 use Rattle.nr_node.specs.declared.answers.Round.TheVariants as rounds
 use Rattle.nr_node.specs.declared.collecting.Handed.{Handed}
-use Rattle.nr_combiner.specs.declared.answering.Collected.{Collected}
 use Rattle.nr_combiner.specs.declared.answering.Lifts.{Lifts}
 use Rattle.nr_combiner.specs.declared.answering.Turned.{Turned}
-use Rattle.nr_combiner.specs.Served.{CombinerState, IsServed}
+use Rattle.nr_combiner.specs.Served.{CombinerState}
 use Rattle.nr_combiner.specs.Steps.{HasCombined}
 
 -- a piece of what waited for each of a worker's connections was handed out, and nothing else changed but at the node; one that the node doesn't have got nothing
@@ -40,28 +39,6 @@ pub record HasTurned (places worker : ℕ) (which : Lifts) (most : ℕ) (old new
   pub combined : CombinerState
   pub has_combined : HasCombined places which worker turned.combined turned.is_behind c combined
   pub handed : HandsOutTo worker most old new turned.collected s note combined d
-
--- So a node behind its lock did it, from some state to another: it is down exactly where it says so, and keeps what a combiner keeps.
-pub record TurnsBehind (places node worker : ℕ) (which : Lifts) (most : ℕ) (old new : List Handed) (turned : Turned) (s : Standing) (note : NoteView) : Type 0 where
-  pub before : CombinerState
-  pub after : CombinerState
-  pub has_turned : HasTurned places worker which most old new turned s note before after
-  pub node_is : before.node.book.node ≡ node
-  pub standing : s.node ≡ node
-  pub down : (turned.combined ≡ Ok rounds.Down) ↔ (after.node.replica.down ≡ true)
-  pub numbers : List ℕ
-  pub served : IsServed after.node after.seat numbers
-
--- So it handed out alone, without a turn: no batch is lifted or answered, nothing is put into the log, and no entry is passed.
-pub record CollectsBehind (node worker most : ℕ) (old new : List Handed) (told : Collected) (s : Standing) (note : NoteView) : Type 0 where
-  pub before : CombinerState
-  pub after : CombinerState
-  pub handed : HandsOutTo worker most old new told.result s note before after
-  pub node_is : before.node.book.node ≡ node
-  pub standing : s.node ≡ node
-  pub down : told.is_down ≡ after.node.replica.down
-  pub numbers : List ℕ
-  pub served : IsServed after.node after.seat numbers
 
 -- whether a turn tells that the replica is down
 abbrev pub tells_down : Result Round Memory → Bool

@@ -41,7 +41,7 @@ pub struct Turned {
     pub is_behind: bool,
     /// Whether an entry was put into the log.
     pub has_put: bool,
-    /// The other workers of the node that were answered, or for which bytes wait: a bit for each, worker 0's the lowest.
+    /// The other workers of the node that were answered, also by their batch coming back, or for which bytes wait: a bit for each, worker 0's the lowest.
     pub others: u16,
     /// Whether an entry is due still: updates lead.
     pub leads_update: bool,

@@ -114,6 +114,7 @@ impl<B: ServerName> Combiner<B> {
         ensures conn { IfOk result (λ conn. connection_of conn ≡ connection_at self.old.node.replica.node (length self.old.node.replica.members)) }
         ensures node { IfOk result (λ conn. conn.node ≡ self.old.node.book.node) }
         ensures opened { OnOk result (OpensFor limit worker self.old self.new) }
+        ensures room { OnOk result (HasRoom worker most self.old × (self.old.node.replica.down ≡ false)) }
         ensures unchanged { OnErr result (self.new ≡ self.old) }
         ensures too_many { (result ≡ Err OpenError.TooMany) ↔ (HasRoom worker most self.old → ⊥) }
         ensures down { (result ≡ Err OpenError.Down) ↔ (HasRoom worker most self.old × (self.old.node.replica.down ≡ true)) }
@@ -256,7 +257,7 @@ impl<B: ServerName> Combiner<B> {
         self.core.is_due()
     }
 
-    // The other workers that were answered, which are these, or for which bytes wait.
+    // The other workers that were answered, which are these, or for which bytes wait: a bit for each.
     fn others(&self, worker: usize, answered: u16) -> u16 {
         let mut others = answered;
         for other in 0..self.numbers.len() {
@@ -299,7 +300,7 @@ impl<B: ServerName> Combiner<B> {
         ensures down { (result.round ≡ Ok Round.Down) ↔ (self.new.node.replica.down ≡ true) }
     {
         let workers = self.numbers.len();
-        lift_by(self, lifts, worker, workers);
+        let handed_back = lift_by(self, lifts, worker, workers);
         let was_due = self.core.is_due();
         let tried = try_to_reserve(&mut self.core);
         let looked = self.core.look();
@@ -308,7 +309,7 @@ impl<B: ServerName> Combiner<B> {
             round: outcome(tried, looked.round),
             is_behind: looked.is_behind,
             has_put: has_put(was_due, tried),
-            answered,
+            answered: handed_back | answered,
         }
     }
 
@@ -320,20 +321,21 @@ impl<B: ServerName> Combiner<B> {
         self.taken < most && worker < self.numbers.len()
     }
 
-    // Lifts a worker's batch, if one is offered, and takes its jobs in, or answers it where it is refused.
-    fn lift(&mut self, worker: usize)
+    // Lifts a worker's batch, if one is offered, and takes its jobs in, or answers it where it is refused. Whether it answers it.
+    fn lift(&mut self, worker: usize) -> bool
         requires { worker < length self.old.seat.desks }
         ensures lifted { HasLifted worker self.old self.new }
     {
         let Some(batch) = self.seat.lift(&self.slots, worker) else {
-            return;
+            return false;
         };
         let number = batch.number;
         let Err((batch, why)) = take_in(&mut self.core, worker, batch) else {
             self.numbers[worker] = number;
-            return;
+            return false;
         };
         hand_back(&mut self.seat, &self.slots, worker, batch, why);
+        true
     }
 
     // Answers a worker's batch, once it is known what became of it. Whether it is.
@@ -366,8 +368,13 @@ fn left_open(taken: usize, was_open: bool) -> usize
     }
 }
 
-// Lifts a batch of each worker, of which there are so many, or of this one alone.
-fn lift_by<B: ServerName>(combiner: &mut Combiner<B>, lifts: Lifts, worker: usize, workers: usize)
+// Lifts a batch of each worker, of which there are so many, or of this one alone, and tells whose were handed back.
+fn lift_by<B: ServerName>(
+    combiner: &mut Combiner<B>,
+    lifts: Lifts,
+    worker: usize,
+    workers: usize,
+) -> u16
     requires { workers ≡ length combiner.old.seat.desks }
     ensures { HasLiftedBy lifts worker combiner.old combiner.new }
 {
@@ -377,25 +384,29 @@ fn lift_by<B: ServerName>(combiner: &mut Combiner<B>, lifts: Lifts, worker: usiz
     }
 }
 
-// Lifts a batch of this worker, where there is such a one among so many.
-fn lift_own<B: ServerName>(combiner: &mut Combiner<B>, worker: usize, workers: usize)
+// Lifts a batch of this worker, where there is such a one among so many, and tells whose was handed back.
+fn lift_own<B: ServerName>(combiner: &mut Combiner<B>, worker: usize, workers: usize) -> u16
     requires { workers ≡ length combiner.old.seat.desks }
     ensures { HasLiftedOwn worker combiner.old combiner.new }
 {
     if worker >= workers {
-        return;
+        return 0;
     }
-    combiner.lift(worker);
+    let is_handed_back = combiner.lift(worker);
+    marked(0, worker, is_handed_back)
 }
 
-// Lifts a batch of each worker.
-fn lift_all<B: ServerName>(combiner: &mut Combiner<B>, workers: usize)
+// Lifts a batch of each worker, and tells whose were handed back.
+fn lift_all<B: ServerName>(combiner: &mut Combiner<B>, workers: usize) -> u16
     requires { workers ≡ length combiner.old.seat.desks }
     ensures { HasLiftedAll workers combiner.old combiner.new }
 {
+    let mut handed_back = 0;
     for worker in 0..workers {
-        combiner.lift(worker);
+        let is_handed_back = combiner.lift(worker);
+        handed_back = marked(handed_back, worker, is_handed_back);
     }
+    handed_back
 }
 
 // Answers all batches of which it is known what became of them, and tells whose these are.

@@ -1,12 +1,13 @@
 // A node as all its workers share it: behind a lock, with the log and the slots beside it.
-ghost use Rattle.std.specs.Prelude.{◌≡◌, ◌<◌, IfOk, IfSome, IfNone, slice_index_or};
+ghost use Rattle.std.specs.Prelude.{◌≡◌, ◌<◌, IfOk, IfSome, IfNone, OnOk, OnErr, slice_index_or};
 ghost use Rattle.std.specs.Arc.{arc_value};
 ghost use Rattle.nr_entry.specs.Jobs.{connection_of};
 ghost use Rattle.nr_log_end.specs.Standings.{record_of};
 ghost use Rattle.nr_slots.specs.Rule.{no_desk};
 ghost use Rattle.nr_node.specs.Sound.{IsSound, Serves};
-ghost use Rattle.nr_combiner.specs.Pieces.{AddsSomeOf, AreHandedIn, HasAdded, HasExecuted, HasOwn, IsPieceOf};
-ghost use Rattle.nr_combiner.specs.Turned.{CollectsBehind, TurnsBehind, tells_down};
+ghost use Rattle.nr_combiner.specs.Pieces.{AreHandedIn, HasAdded, HasExecuted, HasOwn, IsPieceOf};
+ghost use Rattle.nr_combiner.specs.Behind.{CollectsBehind, CutsBehind, CutsFrontBehind, OpensBehind, TurnsBehind};
+ghost use Rattle.nr_combiner.specs.Turned.{tells_down};
 
 use crate::answering::{Lifts, OpenError};
 use crate::combiner::Combiner;
@@ -97,6 +98,7 @@ impl<B: ServerName> Node<B> {
     pub fn open<R: Wait>(&self, rt: &R, worker: u8) -> Result<ToldOpened<B>, OpenError>
         requires { worker < self.now.slots.workers }
         ensures node { IfOk result (λ told. told.conn.node ≡ self.now.node) }
+        ensures opened { IfOk result (λ told. OpensBehind self.now worker told.conn told.token.standing told.note) }
         ensures serves { IfOk result (λ told. Serves told.token.standing worker (connection_of told.conn)) }
         ensures own { IfOk result (λ told. HasOwn worker (slice_index_or told.note.desks worker no_desk) told.token.standing) }
         ensures executed { IfOk result (λ told. HasExecuted (slice_index_or told.note.desks worker no_desk) told.token.standing) }
@@ -185,16 +187,22 @@ impl<B: ServerName> Node<B> {
         Some(combiner.collect_pieces(worker, most, taken))
     }
 
-    /// [`Combiner::cut_among`] behind the lock, which it takes once for all of these connections.
+    /// [`Combiner::cut_among`] behind the lock, which it takes once for all of these connections. Where another node stands behind it, which there never is, none is
+    /// added.
     pub fn cut_among<R: Wait>(
         &self,
         rt: &R,
         conns: &[ConnId],
         cut: &mut Vec<ConnId>,
     ) -> Result<(), Memory>
-        ensures { AddsSomeOf conns.now cut.old.items cut.new.items }
+        ensures all { OnOk result (CutsBehind self.now.node conns.now cut.old.items cut.new.items) }
+        ensures front { OnErr result (CutsFrontBehind conns.now cut.old.items cut.new.items) }
     {
-        self.combiner.lock(rt).cut_among(conns, cut)
+        let combiner = self.combiner.lock(rt);
+        if self.node() != combiner.node() {
+            return Err(Memory);
+        }
+        combiner.cut_among(conns, cut)
     }
 
     /// [`Combiner::refuse`] behind the lock. It is for tests.

@@ -1,8 +1,9 @@
 // A worker at its node.
 ghost use Rattle.std.specs.Prelude.{◌≡◌, ◌↔◌, ◌+◌, ◌^◌, ◌<◌, ◌≤◌, length, IsOk, IfOk, IfErr, IfSome, IfNone, OnOk, OnErr};
 ghost use Rattle.std.specs.Arc.{arc_value};
-ghost use Rattle.nr_slots.specs.Seats.{new_worker};
+ghost use Rattle.nr_slots.specs.Seats.{NoteView, new_worker};
 ghost use Rattle.nr_node.specs.Sound.{IsSound};
+ghost use Rattle.nr_combiner.specs.Behind.{CollectsBehind, OpensBehind, TurnsBehind};
 ghost use Rattle.nr_combiner.specs.Heard.{HasHeard, KnowsOpened};
 ghost use Rattle.nr_combiner.specs.Turned.{tells_down};
 ghost use Rattle.nr_combiner.specs.Workers.{fresh_worker, shared_of, HasPosted, HasCollected};
@@ -71,6 +72,7 @@ impl<B: ServerName> Worker<B> {
     /// Opens a connection that this worker serves, and hears what its node and its combiner have done: [`Node::open`], and two loads. The token is of a record in
     /// which each job of a connection that was opened for this worker, as this one was, was handed in by it.
     pub fn open<R: Wait>(&mut self, rt: &R) -> Result<(ConnId, Token<B>), OpenError>
+        ensures behind { IfOk result (λ opened. (note : NoteView) × OpensBehind (shared_of self.old) self.old.seat.worker opened.0 opened.1.standing note) }
         ensures opened { IfOk result (λ opened. KnowsOpened self.old.seat.worker opened.0 opened.1.standing self.old.seat.lane) }
         ensures sound { IfOk result (λ opened. IsSound opened.1.standing × (opened.1.standing.node ≡ self.old.node)) }
         ensures same { self.new ≡ self.old }
@@ -81,9 +83,9 @@ impl<B: ServerName> Worker<B> {
     }
 
     /// A turn at its node, which takes the lock once and lifts from all slots or from its own: [`Combiner::turn`](crate::Combiner::turn) for this worker, whose note
-    /// it hears then by two loads. What it
-    /// hands out, and its token, are of one record, in which each job of a connection that a piece is for was handed in by this worker; and each batch that the
-    /// combiner had answered as executed is in it. `None` where another node stands behind the lock, which there never is: then nothing is done.
+    /// it hears then by two loads. What it hands out, and its token, are of one record, in which each job of a connection that a piece is for was handed in by this
+    /// worker; and each batch that the combiner had answered as executed is in it. `None` where another node stands behind the lock, which there never is: then
+    /// nothing is done.
     pub fn turn<R: Wait>(
         &mut self,
         rt: &R,
@@ -92,6 +94,7 @@ impl<B: ServerName> Worker<B> {
         taken: &mut Vec<Handed>,
     ) -> Option<(Turned, Token<B>)>
         requires { 0 < most }
+        ensures turned { IfSome result (λ told. (note : NoteView) × TurnsBehind B.places self.old.node self.old.seat.worker lifts most taken.old.items taken.new.items told.0 told.1.standing note) }
         ensures heard { IfSome result (λ told. HasHeard self.old.seat.worker most (tells_down told.0.combined) told.1.standing self.old.seat.lane taken.old.items taken.new.items) }
         ensures sound { IfSome result (λ told. IsSound told.1.standing × (told.1.standing.node ≡ self.old.node)) }
         ensures none { IfNone result (taken.new.items ≡ taken.old.items) }
@@ -116,6 +119,7 @@ impl<B: ServerName> Worker<B> {
         taken: &mut Vec<Handed>,
     ) -> Option<(Collected, Token<B>)>
         requires { 0 < most }
+        ensures handed { IfSome result (λ told. (note : NoteView) × CollectsBehind self.old.node self.old.seat.worker most taken.old.items taken.new.items told.0 told.1.standing note) }
         ensures heard { IfSome result (λ told. HasHeard self.old.seat.worker most told.0.is_down told.1.standing self.old.seat.lane taken.old.items taken.new.items) }
         ensures sound { IfSome result (λ told. IsSound told.1.standing × (told.1.standing.node ≡ self.old.node)) }
         ensures none { IfNone result (taken.new.items ≡ taken.old.items) }

@@ -1,3 +1,4 @@
 pub mod Crossing
 mod Taken
 mod Fresh
+mod Gathered

@@ -1,17 +1,22 @@
 -- What was handed out, as a list of pieces of one record.
 use Rattle.std.specs.List.{AllByRecursion}
-use Rattle.std.proofs.Common.{◌≡◌, ℕ, List, [], ◌∷◌, ◌++◌, Bool, Option, Some, option_to_list, ap, sym, ◌∙◌, subst}
+use Rattle.std.proofs.Common.{◌≡◌, ℕ, List, [], ◌∷◌, ◌++◌, Bool, Option, Some, option_to_list, ap, sym, ◌∙◌, subst, refl}
 use Rattle.std.specs.Prelude.{IfSome}
 use Rattle.nr_entry.specs.Jobs.{connection_of}
 use Rattle.nr_log_end.specs.declared.standing.Standing.{Standing}
 use Rattle.nr_oplog.specs.declared.view.LogView.{LogView}
 use Rattle.nr_slots.specs.declared.view.Lane.{Lane}
 use Rattle.nr_node.specs.declared.collecting.Handed.{Handed}
+use Rattle.nr_slots.specs.Seats.{NoteView}
+use Rattle.nr_combiner.specs.Behind.{TurnsBehind}
 use Rattle.nr_combiner.specs.Heard.{HasHeard}
 use Rattle.nr_combiner.specs.Pieces.{IsHandedOf, IsPieceOf}
 use Rattle.nr_combiner.specs.Turned.{tells_down}
+use Rattle.nr_combiner.specs.Workers.{WorkerState}
+use Rattle.nr_combiner.specs.declared.answering.Lifts.{Lifts}
 use Rattle.nr_combiner.specs.declared.answering.Turned.{Turned}
 use Rattle.nr_held.specs.Pieces.{AreHandedOut, AreOfRecord}
+use Rattle.nr_held.specs.Stations.{HasTurnedAt}
 
 all_last : {A : Type 0} (P : A → Type 0) (xs : List A) (x : A) → AllByRecursion P (xs ++ x ∷ []) → P x
 all_last P [] x all = all.0
@@ -48,3 +53,18 @@ pub all_heard : (worker most : ℕ) (lane : Lane) (old new : List Handed) (told 
 all_heard worker most lane old new told turned token is none heard =
     all_of worker most (tells_down turned.combined) token.standing lane old new none
     (subst (λ (o : Option (Turned × LogView)). IfSome o (λ (t : Turned × LogView). HasHeard worker most (tells_down t.0.combined) t.1.standing lane old new)) is heard)
+
+-- so did the turn, where nothing was there before
+pub turned_at : (places : ℕ) (worker : WorkerState) (which : Lifts) (most : ℕ) (old new : List Handed) (told : Option (Turned × LogView)) (turned : Turned) (token : LogView)
+    → told ≡ Some (turned, token) → old ≡ []
+    → IfSome told (λ (t : Turned × LogView). (note : NoteView) × TurnsBehind places worker.node worker.seat.worker which most old new t.0 t.1.standing note)
+    → HasTurnedAt places worker which most new turned (Some token)
+turned_at places worker which most old new told turned token is none behind =
+    let by = subst (λ (o : Option (Turned × LogView)). IfSome o (λ (t : Turned × LogView). (note : NoteView)
+    × TurnsBehind places worker.node worker.seat.worker which most old new t.0 t.1.standing note)) is behind in
+    record {
+      view = token;
+      there = refl;
+      note = by.0;
+      behind = subst (λ (l : List Handed). TurnsBehind places worker.node worker.seat.worker which most l new turned token.standing by.0) none by.1;
+    }

@@ -1,11 +1,11 @@
 -- What contracts see of a connection and of its worker.
-use Rattle.std.specs.Prelude.{◌≡◌, ◌↔◌, ℕ, ◌+◌, ◌<◌, ◌≤◌, Bool, true, false, [], length, None}
+use Rattle.std.specs.Prelude.{◌≡◌, ◌↔◌, ℕ, ◌+◌, ◌<◌, ◌≤◌, Bool, true, false, [], length}
 use Rattle.nr_model.specs.Items.{Connection}
 use Rattle.nr_model.specs.Modes.{plain}
 use Rattle.nr_entry.specs.declared.batch.Outcome.{Outcome}
 use Rattle.nr_entry.specs.declared.batch.Outcome.TheVariants.{Executed}
 use Rattle.nr_session.specs.SessionState.{SessionState}
-use Rattle.nr_taps.specs.Taps.{TapState, accepted, fresh_tap}
+use Rattle.nr_taps.specs.Taps.{TapState}
 use Rattle.nr_combiner.specs.Workers.{WorkerState, HasCollected}
 use Rattle.nr_held.specs.declared.client.Offered.{Offered}
 use Rattle.nr_held.specs.declared.client.Offered.TheVariants.{Nothing, Accepted, Refused}

@@ -1,11 +1,12 @@
 // A worker, and what a turn of it hands out.
-ghost use Rattle.std.specs.Prelude.{◌≡◌, ◌<◌, ◌≤◌, [], length, IfOk, IfSome, IfNone, OnOk, OnErr};
+ghost use Rattle.std.specs.Prelude.{◌≡◌, ◌<◌, ◌≤◌, ◌++◌, [], length, map, flat_map, IfOk, IfSome, IfNone, OnOk, OnErr};
 ghost use Rattle.nr_oplog.specs.Opening.{name_of, nodes_of, places_of};
 ghost use Rattle.nr_taps.specs.Taps.{fresh_tap};
 ghost use Rattle.nr_combiner.specs.Opened.{AreNamed, AreOfWorkers};
 ghost use Rattle.nr_combiner.specs.Workers.{HasPosted};
 ghost use Rattle.nr_held.specs.Clients.{HasTold, fresh_session};
 ghost use Rattle.nr_held.specs.Pieces.{AreHandedOut};
+ghost use Rattle.nr_held.specs.Stations.{AreOfNodes, HasTurnedAt};
 
 use crate::client::Client;
 use nr_blob::Memory;
@@ -66,6 +67,7 @@ pub fn stations<B: ServerName>(
     requires shape { (nodes_of opened ≡ B.nodes) × (places_of opened ≡ B.places) }
     requires slots { (length slots.items ≡ B.nodes) × AreNamed B.slots slots.items }
     requires workers { AreOfWorkers plan.workers slots.items × (1 ≤ plan.workers) × (plan.workers ≤ 16) }
+    ensures { IfOk result (λ all. AreOfNodes B.nodes plan.workers plan.connections plan.limit (map (λ station. station.worker) all.items)) }
 {
     in_order(alloc, build::<B>(alloc, keys, opened, slots, plan)?)
 }
@@ -73,18 +75,31 @@ pub fn stations<B: ServerName>(
 fn in_order<B: ServerName>(
     alloc: Global,
     nodes: Vec<Vec<Worker<B>>>,
-) -> Result<Vec<Station<B>>, Memory> {
+) -> Result<Vec<Station<B>>, Memory>
+    ensures { IfOk result (λ all. map (λ station. station.worker) all.items ≡ flat_map (λ workers. workers.items) nodes.items) }
+{
     let mut all = Vec::new(alloc);
     for workers in nodes {
-        for worker in workers {
-            all.push(Station {
-                alloc,
-                worker,
-                jobs: Vec::new(alloc),
-            })?;
-        }
+        add_each(alloc, workers, &mut all)?;
     }
     Ok(all)
+}
+
+fn add_each<B: ServerName>(
+    alloc: Global,
+    workers: Vec<Worker<B>>,
+    all: &mut Vec<Station<B>>,
+) -> Result<(), Memory>
+    ensures { OnOk result (map (λ station. station.worker) all.new.items ≡ map (λ station. station.worker) all.old.items ++ workers.items) }
+{
+    for worker in workers {
+        all.push(Station {
+            alloc,
+            worker,
+            jobs: Vec::new(alloc),
+        })?;
+    }
+    Ok(())
 }
 
 impl<B: ServerName> Station<B> {
@@ -147,6 +162,7 @@ impl<B: ServerName> Station<B> {
     /// connections are handed out.
     pub fn turn<R: Wait>(&mut self, rt: &R, lifts: Lifts, most: usize) -> Result<Turn<B>, Memory>
         requires { 0 < most }
+        ensures turned { IfOk result (λ turn. HasTurnedAt B.places self.old.worker lifts most turn.pieces.items turn.turned turn.token) }
         ensures handed { IfOk result (λ turn. AreHandedOut turn.pieces.items turn.token) }
         ensures worker { self.new.worker ≡ self.old.worker }
         ensures jobs { self.new.jobs ≡ self.old.jobs }

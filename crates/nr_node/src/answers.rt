@@ -20,11 +20,11 @@ pub enum Round {
     Down,
 }
 
-/// What came of a look.
+/// What came of a look, or of going on without one.
 #[derive(Clone, Copy, Debug, PartialEq, Eq)]
 pub struct Looked {
     pub round: Result<Round, Memory>,
-    /// Whether an entry that was reserved before the look wasn't filled yet. Else all those entries were passed, also by a replica that is down.
+    /// Whether an entry that was reserved before wasn't filled yet. Else all those entries were passed, also by a replica that is down.
     pub is_behind: bool,
 }
 

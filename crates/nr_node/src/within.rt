@@ -245,11 +245,13 @@ impl<B: LogName> Core<B> {
         }
     }
 
-    /// Applies and passes all entries that there are when it begins, and the next one where that is there. A node that is down passes them too.
-    pub fn catch_up(&mut self) -> Round
-        ensures goes { (entries : List Entry) × ((tail : ℕ) × GoesOnBy entries [] tail self.old self.new × (result ≡ Round.Done → tail ≤ passed_of self.new.seat.standing) × (result ≡ Round.NotYet → passed_of self.new.seat.standing < tail)) }
-        ensures never { (result ≢ Round.Full) × (result ≢ Round.Again) }
-        ensures down { (result ≡ Round.Down) ↔ (self.new.replica.down ≡ true) }
+    /// Applies and passes all entries that there are when it begins, and the next one where that is there, and runs no read. A node that is down passes them too.
+    /// It is never an error for want of memory.
+    pub fn catch_up(&mut self) -> Looked
+        ensures goes { (entries : List Entry) × ((tail : ℕ) × GoesOnBy entries [] tail self.old self.new × (result.is_behind ≡ false → tail ≤ passed_of self.new.seat.standing) × (result.is_behind ≡ true → passed_of self.new.seat.standing < tail)) }
+        ensures done { (result.round ≡ Ok Round.Done) ↔ ((result.is_behind ≡ false) × (self.new.replica.down ≡ false)) }
+        ensures not_yet { (result.round ≡ Ok Round.NotYet) ↔ ((result.is_behind ≡ true) × (self.new.replica.down ≡ false)) }
+        ensures down { (result.round ≡ Ok Round.Down) ↔ (self.new.replica.down ≡ true) }
         ensures waiting { self.new.replica.down ≡ false → (self.old.replica.down ≡ false) × (self.new.replica.waiting ≡ self.old.replica.waiting) × (self.new.next ≡ self.old.next) }
     {
         let reached = catch_up(
@@ -259,10 +261,11 @@ impl<B: LogName> Core<B> {
             &mut self.accounts,
             &mut self.next,
         );
-        if self.replica.is_down() {
-            return Round::Down;
+        let is_behind = !reached;
+        Looked {
+            round: Ok(came_to(self.replica.is_down(), is_behind)),
+            is_behind,
         }
-        if reached { Round::Done } else { Round::NotYet }
     }
 
     /// Applies and passes all entries that there are when it begins, and then runs the reads that lead, all of which it notes behind them. They are run only
@@ -454,5 +457,21 @@ impl<B: LogName> Core<B> {
         } else {
             Round::Done
         }
+    }
+}
+
+// What going on came to.
+fn came_to(is_down: bool, is_behind: bool) -> Round
+    ensures done { (result ≡ Round.Done) ↔ ((is_behind ≡ false) × (is_down ≡ false)) }
+    ensures not_yet { (result ≡ Round.NotYet) ↔ ((is_behind ≡ true) × (is_down ≡ false)) }
+    ensures down { (result ≡ Round.Down) ↔ (is_down ≡ true) }
+{
+    if is_down {
+        return Round::Down;
+    }
+    if is_behind {
+        Round::NotYet
+    } else {
+        Round::Done
     }
 }

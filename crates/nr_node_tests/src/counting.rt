@@ -199,6 +199,11 @@ fn count_together<R: Threads + Wait + Abort + Sync>(
         .ok()
         .expect(rt, "slots are opened");
     let told = count_up::<Brand, R>(rt, alloc, keys, opened, slots, counting);
+    holds(
+        rt,
+        "each worker of each node has counted",
+        told.len() == nodes.saturating_mul(counting.workers),
+    );
     let each = counting.batch.saturating_mul(counting.batches);
     let total = each.saturating_mul(told.len()) as u64;
     let mut all = Vec::new(alloc);

@@ -120,6 +120,10 @@ enum Play<'a> {
     ManyAtOnce,
     /// One of two nodes falls.
     OneFalls,
+    /// Those connections are told whose queues are cut.
+    CutsAreTold,
+    /// Turns tell which other workers are to be woken.
+    OthersAreTold,
 }
 
 // The workers of a log's nodes, each with a client.
@@ -167,6 +171,8 @@ fn perform<B: ServerName, R: Wait + Abort>(
         Play::TurnsHandOut => hand_out(rt, desks),
         Play::ManyAtOnce => hand_out_to_many(rt, alloc, desks),
         Play::OneFalls => one_falls(rt, desks),
+        Play::CutsAreTold => tell_cuts(rt, alloc, desks),
+        Play::OthersAreTold => tell_others(rt, desks),
     }
 }
 
@@ -370,6 +376,65 @@ fn one_falls<B: ServerName, R: Wait + Abort>(rt: &R, desks: Vec<Desk<B>>) {
     other.does(rt, Asks(b"GET n\r\n", b"$2\r\n40\r\n"));
 }
 
+// Of these connections those are told whose queue was cut, since more came than may wait, or since they were closed.
+fn tell_cuts<B: ServerName, R: Wait + Abort>(rt: &R, alloc: Global, desks: Vec<Desk<B>>) {
+    let (mut first, mut second) = both(rt, desks);
+    first.does(rt, Asks(b"SETRANGE k 1048575 x\r\n", b":1048576\r\n"));
+    second.does(rt, Sends(b"GET k\r\n"));
+    let closed = first
+        .station
+        .open(rt)
+        .ok()
+        .expect(rt, "a connection is opened")
+        .conn();
+    first.station.close(rt, closed);
+    let (open, long) = (first.client.conn(), second.client.conn());
+    let mut cut = Vec::new(alloc);
+    first
+        .station
+        .worker
+        .shared()
+        .cut_among(rt, &[closed, open, long], &mut cut)
+        .expect(rt, "memory");
+    holds(rt, "two are told", cut.len() == 2);
+    holds(rt, "the closed one is told", cut.first() == Some(&closed));
+    holds(rt, "the long one is told", cut.last() == Some(&long));
+}
+
+// A turn of the worker tells these other workers: a bit for each.
+fn tells_others<B: ServerName, R: Wait + Abort>(rt: &R, desk: &mut Desk<B>, wanted: u16) {
+    let turn = desk
+        .station
+        .turn(rt, Lifts::All, 8)
+        .expect(rt, "a turn is taken");
+    holds(rt, "those others are told", turn.turned.others == wanted);
+}
+
+// Another worker is told where its batch was executed, where bytes wait for it, and where its batch comes back, as it does from a node that fell.
+fn tell_others<B: ServerName, R: Wait + Abort>(rt: &R, desks: Vec<Desk<B>>) {
+    let (mut first, mut second) = both(rt, desks);
+    tells_others(rt, &mut first, 0);
+    second.does(rt, HandsIn(b"PING\r\n"));
+    tells_others(rt, &mut first, 0b10);
+    second.does(rt, IsTold(true));
+    tells_others(rt, &mut first, 0b10);
+    second.does(rt, Gets(b"+PONG\r\n"));
+    tells_others(rt, &mut first, 0);
+    first.all(
+        rt,
+        &[
+            Refuses,
+            HandsIn(b"SET k v\r\n"),
+            Combines(Round::Down),
+            IsLost,
+        ],
+    );
+    second.does(rt, HandsIn(b"PING\r\n"));
+    tells_others(rt, &mut first, 0b10);
+    second.does(rt, IsLost);
+    tells_others(rt, &mut first, 0);
+}
+
 /// SET and GET of a key.
 const SET_AND_GET: &[u8] =
     b"*3\r\n$3\r\nSET\r\n$1\r\nk\r\n$1\r\nv\r\n*2\r\n$3\r\nGET\r\n$1\r\nk\r\n";
@@ -551,6 +616,16 @@ fn twenty_are_handed_out_at_once(rt: HostRuntime) {
 #[test]
 fn one_of_two_nodes_falls(rt: HostRuntime) {
     play_at(&rt, rt.alloc(), ONE_EACH, Play::OneFalls);
+}
+
+#[test]
+fn cut_ones_are_told(rt: HostRuntime) {
+    play_at(&rt, rt.alloc(), TWO_WORKERS, Play::CutsAreTold);
+}
+
+#[test]
+fn others_to_wake_are_told(rt: HostRuntime) {
+    play_at(&rt, rt.alloc(), TWO_WORKERS, Play::OthersAreTold);
 }
 
 // A reply of a megabyte and 12 bytes; 400 reads in one batch; an entry of 1,024 jobs, whose replies are `:1` to `:1024`; and a node that has 200 entries and more to apply

@@ -5,9 +5,9 @@ use bytes::BytesMut;
 use std::alloc::Global;
 use std::marker::Model;
 
-/// Bytes that were accepted, from the first that wasn't written on.
+/// Bytes that were handed out and accepted, from the first that wasn't written on.
 #[derive(Drop)]
-pub(crate) struct Buffer {
+pub struct Buffer {
     bytes: BytesMut,
 }
 
@@ -21,7 +21,7 @@ impl Model for Buffer {
 
 impl Buffer {
     /// Nothing. It takes no memory.
-    pub(crate) fn new(alloc: Global) -> Buffer
+    pub fn new(alloc: Global) -> Buffer
         ensures { result ≡ [] }
     {
         Buffer {
@@ -30,7 +30,7 @@ impl Buffer {
     }
 
     /// Puts bytes behind the others. Where there are none they are taken over, else they are copied. Where memory runs out they come back.
-    pub(crate) fn put(&mut self, bytes: Vec<u8>) -> Result<(), Vec<u8>>
+    pub fn put(&mut self, bytes: Vec<u8>) -> Result<(), Vec<u8>>
         ensures put { OnOk result (self.new ≡ self.old ++ bytes.items) }
         ensures some { OnErr result (0 < length self.old) }
         ensures back { IfErr result (λ back. back.items ≡ bytes.items) }
@@ -47,28 +47,28 @@ impl Buffer {
     }
 
     /// The bytes.
-    pub(crate) fn bytes(&self) -> &[u8]
+    pub fn bytes(&self) -> &[u8]
         ensures { result.now ≡ self.now }
     {
         self.bytes.as_slice()
     }
 
     /// How many there are.
-    pub(crate) fn len(&self) -> usize
+    pub fn len(&self) -> usize
         ensures { result ≡ length self.now }
     {
         self.bytes.len()
     }
 
     /// Nothing, with the same allocator.
-    pub(crate) fn fresh(&self) -> Buffer
+    pub fn fresh(&self) -> Buffer
         ensures { result ≡ [] }
     {
         Buffer::new(*self.bytes.allocator())
     }
 
     /// Lets go of the first so many bytes, and of all memory with the last.
-    pub(crate) fn let_go(&mut self, count: usize)
+    pub fn let_go(&mut self, count: usize)
         requires { count ≤ length self.old }
         ensures { self.new ≡ drop count self.old }
     {

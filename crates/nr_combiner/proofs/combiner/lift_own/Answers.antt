@@ -1,5 +1,5 @@
-use Rattle.std.proofs.Common.{◌<◌, ◌≤◌, ℕ, length, inl, inr, refl, subst, arith}
+use Rattle.std.proofs.Common.{arith}
 use Rattle.nr_combiner.proofs.combiner.lift_own.Goals as goal
 
-pub lift-requires : goal.lift-requires
-lift-requires g c = omega (arith, c.requires)
+pub lift-is_handed_back-requires : goal.lift-is_handed_back-requires
+lift-is_handed_back-requires g c = omega (arith, c.requires)

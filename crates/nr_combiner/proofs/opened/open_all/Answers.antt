@@ -1,4 +1,4 @@
-use Rattle.std.proofs.Common.{rules, ◌≡◌, ◌+◌, ◌∷◌, [], length, ap, ◌∙◌, arith, length-append}
+use Rattle.std.proofs.Common.{rules, ◌≡◌, ◌+◌, ◌∷◌, [], length, ap, ◌∙◌, length-append}
 use Rattle.nr_slots.specs.Seats.{SlotsView}
 use Rattle.nr_combiner.proofs.Seated.{none_of, one_added}
 use Rattle.nr_combiner.proofs.opened.open_all.Goals as goal

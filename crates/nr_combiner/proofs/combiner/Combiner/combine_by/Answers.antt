@@ -24,8 +24,8 @@ invariant_of-self g c =
       keeps.3 ∙ ap g.B.ServerName.slots (sym node),
     )
 
-pub lift_by-requires : goal.lift_by-requires
-lift_by-requires g c =
+pub lift_by-handed_back-requires : goal.lift_by-handed_back-requires
+lift_by-handed_back-requires g c =
     let inside = c.self.inside in
     let served = c.self.invariant.0 in
     let count : c.len-workers.result ≡ length inside.numbers.items = omega (arith, c.len-workers.ensures, inside.numbers.ok.0) in
@@ -38,7 +38,7 @@ answer_all-answered-requires g c =
     let count : c.len-workers.result ≡ length inside.numbers.items = omega (arith, c.len-workers.ensures, inside.numbers.ok.0) in
     let before : c.len-workers.result ≡ length c.args.self.now.seat.desks =
     count ∙ served.numbered ∙ sym served.workers ∙ ap (λ (x : CombinerState). length x.seat.desks) c.self.view_is in
-    let same = lifted_by_long c.args.lifts c.args.worker c.args.self.now c.lift_by.new.combiner c.lift_by.ensures in
+    let same = lifted_by_long c.args.lifts c.args.worker c.args.self.now c.lift_by-handed_back.new.combiner c.lift_by-handed_back.ensures in
     before ∙ sym same ∙ ap (λ (x : CombinerState). length x.seat.desks) (sym c.self-2.view_is)
 
 pub returns-clause-combined : goal.returns-clause-combined
@@ -52,7 +52,7 @@ returns-clause-combined g c =
     let goes = c.look-looked.ensures.goes in
     record {
       lifted = lifted;
-      has_lifted = subst (λ (x : CombinerState). HasLiftedBy c.args.lifts c.args.worker c.args.self.now x) (sym c.self-2.view_is) c.lift_by.ensures;
+      has_lifted = subst (λ (x : CombinerState). HasLiftedBy c.args.lifts c.args.worker c.args.self.now x) (sym c.self-2.view_is) c.lift_by-handed_back.ensures;
       try_is = c.try_to_reserve-tried.result;
       tried = c.try_to_reserve-tried.new.core;
       has_tried = c.try_to_reserve-tried.ensures;

@@ -1,4 +1,4 @@
-use Rattle.std.proofs.Common.{◌≡◌, ap, sym, ◌∙◌, subst}
+use Rattle.std.proofs.Common.{ap, sym, ◌∙◌, subst}
 use Rattle.nr_accounts.specs.Book.{Book}
 use Rattle.nr_slots.specs.Seats.{CombinerView}
 use Rattle.nr_combiner.specs.Served.{IsServed}

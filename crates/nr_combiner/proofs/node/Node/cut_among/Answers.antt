@@ -1,5 +1,18 @@
-use Rattle.nr_combiner.proofs.Cut.{adds_some}
+use Rattle.std.proofs.Common.{rules, ◌≡◌}
+use Rattle.std.specs.Prelude.{filter}
+use Rattle.nr_node.specs.Batches.{is_cut_at}
+use Rattle.nr_combiner.proofs.Cut.{cuts_behind, cuts_front, none_added}
 use Rattle.nr_combiner.proofs.node.Node.cut_among.Goals as goal
 
-pub returns : goal.returns
-returns g c = adds_some c.cut_among.result _ _ _ _ c.cut_among.ensures.all c.cut_among.ensures.front
+pub returns-then-node-clause-front : goal.returns-then-node-clause-front
+returns-then-node-clause-front g c =
+    let n = c.deref.result.now.node in
+    record { at = n; left = filter (is_cut_at n) c.args.conns.now; added = none_added (is_cut_at n) c.args.conns.now c.args.cut.now.items }
+
+pub returns-clause-all : goal.returns-clause-all
+returns-clause-all g c =
+    let is : c.deref-2.result.now.node.book.node ≡ c.args.self.now.node = search rules in
+    cuts_behind c.cut_among.result _ c.deref-2.result.now.node _ _ _ is c.cut_among.ensures.all
+
+pub returns-clause-front : goal.returns-clause-front
+returns-clause-front g c = cuts_front c.cut_among.result c.deref-2.result.now.node _ _ _ c.cut_among.ensures.front

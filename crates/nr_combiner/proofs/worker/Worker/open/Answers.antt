@@ -1,8 +1,12 @@
-use Rattle.std.proofs.Common.{ℕ, subst}
+use Rattle.std.proofs.Common.{ℕ, sym, subst}
+use Rattle.std.specs.Arc.{arc_value}
+use Rattle.atomic_table.specs.Seated.{TableId}
 use Rattle.nr_entry.specs.Jobs.{connection_of}
 use Rattle.nr_node.specs.Sound.{Serves}
+use Rattle.nr_combiner.specs.Behind.{OpensBehind}
 use Rattle.nr_combiner.specs.Heard.{KnowsOpened}
-use Rattle.nr_combiner.specs.Workers.{WorkerState}
+use Rattle.nr_combiner.specs.Shared.{NodeView}
+use Rattle.nr_combiner.specs.Workers.{WorkerState, shared_of}
 use Rattle.nr_combiner.proofs.Handed.{knows_by}
 use Rattle.nr_combiner.proofs.worker.Worker.open.Goals as goal
 
@@ -15,3 +19,18 @@ returns-clause-opened g c =
       knows = knows_by told.token.standing inside.seat.lane told.note.desks inside.worker inside.seat.worker c.self.invariant.1 c.hear.ensures.told heard.executed heard.own;
       serves = subst (λ (k : ℕ). Serves told.token.standing k (connection_of told.conn)) c.self.invariant.1 heard.serves;
     }
+
+pub returns-clause-behind : goal.returns-clause-behind
+returns-clause-behind g c =
+    let told = c.in_ok-conn.field-0 in
+    let inside = c.self.inside in
+    let shared = arc_value inside.shared in
+    let s = told.token.standing in
+    let at : TableId → NodeView =
+    λ id. record { node = shared.node; slots = record { id = id; workers = shared.slots.workers }; connections = shared.connections; limit = shared.limit } in (
+      told.note,
+      subst (λ (w : WorkerState). OpensBehind (shared_of w) w.seat.worker told.conn s told.note) c.self.view_is
+          (subst (λ (id : TableId). OpensBehind (at id) inside.seat.worker told.conn s told.note) (sym c.self.invariant.0)
+          (subst (λ (k : ℕ). OpensBehind shared k told.conn s told.note) c.self.invariant.1
+          (subst (λ (v : NodeView). OpensBehind v inside.worker told.conn s told.note) c.deref.ensures c.in_ok-conn.ensures.opened))),
+    )

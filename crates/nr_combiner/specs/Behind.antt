@@ -1,0 +1,64 @@
+-- What a node did behind its lock, between two states of a combiner that nobody else sees.
+use Rattle.std.specs.Prelude.{◌≡◌, ◌↔◌, ℕ, false, true, filter, List, ◌++◌, length, Ok}
+use Rattle.nr_entry.specs.Jobs.{connection_of}
+use Rattle.nr_entry.specs.declared.conn.ConnId.{ConnId}
+use Rattle.nr_log_end.specs.declared.standing.Standing.{Standing}
+use Rattle.nr_slots.specs.Seats.{NoteView, note_of}
+use Rattle.nr_node.specs.Batches.{is_cut_at}
+use Rattle.nr_node.specs.Level.{NodeState, connection_at}
+use Rattle.nr_node.specs.declared.answers.Round.TheVariants as rounds
+use Rattle.nr_node.specs.declared.collecting.Handed.{Handed}
+use Rattle.nr_combiner.specs.declared.answering.Collected.{Collected}
+use Rattle.nr_combiner.specs.declared.answering.Lifts.{Lifts}
+use Rattle.nr_combiner.specs.declared.answering.Turned.{Turned}
+use Rattle.nr_combiner.specs.Pieces.{AddsFront}
+use Rattle.nr_combiner.specs.Served.{CombinerState, IsServed}
+use Rattle.nr_combiner.specs.Shared.{NodeView}
+use Rattle.nr_combiner.specs.Steps.{HasRoom, OpensFor}
+use Rattle.nr_combiner.specs.Turned.{HandsOutTo, HasTurned}
+
+-- A turn of this node: it is down exactly where it says so, and keeps what a combiner keeps.
+pub record TurnsBehind (places node worker : ℕ) (which : Lifts) (most : ℕ) (old new : List Handed) (turned : Turned) (s : Standing) (note : NoteView) : Type 0 where
+  pub before : CombinerState
+  pub after : CombinerState
+  pub has_turned : HasTurned places worker which most old new turned s note before after
+  pub node_is : before.node.book.node ≡ node
+  pub standing : s.node ≡ node
+  pub down : (turned.combined ≡ Ok rounds.Down) ↔ (after.node.replica.down ≡ true)
+  pub numbers : List ℕ
+  pub served : IsServed after.node after.seat numbers
+
+-- It handed out alone, without a turn: no batch is lifted or answered, nothing is put into the log, and no entry is passed.
+pub record CollectsBehind (node worker most : ℕ) (old new : List Handed) (told : Collected) (s : Standing) (note : NoteView) : Type 0 where
+  pub before : CombinerState
+  pub after : CombinerState
+  pub handed : HandsOutTo worker most old new told.result s note before after
+  pub node_is : before.node.book.node ≡ node
+  pub standing : s.node ≡ node
+  pub down : told.is_down ≡ after.node.replica.down
+  pub numbers : List ℕ
+  pub served : IsServed after.node after.seat numbers
+
+-- It opened a connection for a worker, the node being up, where fewer than its limit weren't closed; it has the next serial, and the node's limit of bytes.
+pub record OpensBehind (at : NodeView) (worker : ℕ) (conn : ConnId) (s : Standing) (note : NoteView) : Type 0 where
+  pub before : CombinerState
+  pub after : CombinerState
+  pub has_opened : OpensFor at.limit worker before after
+  pub room : HasRoom worker at.connections before
+  pub up : before.node.replica.down ≡ false
+  pub node_is : before.node.book.node ≡ at.node
+  pub conn_is : connection_of conn ≡ connection_at before.node.replica.node (length before.node.replica.members)
+  pub token : s ≡ after.node.seat.standing
+  pub note_is : note ≡ note_of after.seat
+
+-- Those of some connections that were cut as it stood were added, in their order.
+pub record CutsBehind (node : ℕ) (conns old new : List ConnId) : Type 0 where
+  pub at : NodeState
+  pub node_is : at.book.node ≡ node
+  pub added : new ≡ old ++ filter (is_cut_at at) conns
+
+-- The first of those that were cut as a node stood were added.
+pub record CutsFrontBehind (conns old new : List ConnId) : Type 0 where
+  pub at : NodeState
+  pub left : List ConnId
+  pub added : AddsFront (filter (is_cut_at at) conns) old new left
