@@ -1,4 +1,4 @@
-//! Tests of nodes behind their locks, of their workers and of taps: what no contract says of them.
+//! Tests of nodes behind their locks, of their workers, of taps and of seats: what no contract says of them.
 #![tactic(auto)]
 
 #[cfg(test)]
@@ -11,5 +11,7 @@ mod desk;
 mod in_turn;
 #[cfg(test)]
 mod law;
+#[cfg(test)]
+mod seated;
 #[cfg(test)]
 mod stopped;

@@ -1,0 +1,92 @@
+// What a worker keeps of its connections: their sessions, and what was handed out for them.
+use crate::asserted::{holds, same};
+use nr_entry::{ConnId, Job};
+use nr_node::Handed;
+use nr_replica::Piece;
+use nr_seats::{Closed, Seats};
+use std::alloc::Global;
+use std::process::Abort;
+
+const CONN: ConnId = ConnId { node: 1, serial: 7 };
+
+// Bytes that were handed out for the connection, behind so many.
+fn handed(rt: &impl Abort, alloc: Global, from: u64, bytes: &[u8], is_cut: bool) -> Handed {
+    let mut all = Vec::new(alloc);
+    all.extend_from_slice(bytes).expect(rt, "memory");
+    Handed {
+        piece: Piece {
+            conn: CONN,
+            from,
+            bytes: all,
+        },
+        is_cut,
+    }
+}
+
+// Puts these in, for which at most eight bytes wait.
+fn put(rt: &impl Abort, alloc: Global, seats: &mut Seats, piece: Handed) {
+    let mut pieces = Vec::new(alloc);
+    pieces.push(piece).expect(rt, "memory");
+    seats.put_each(&mut pieces, 8);
+}
+
+// Feeds bytes to the connection, which takes them.
+fn feed(rt: &impl Abort, seats: &mut Seats, bytes: &[u8], jobs: &mut Vec<Job>) {
+    if !seats.takes(CONN.serial) {
+        panic!(rt; "the connection takes bytes");
+    }
+    let fed = seats.feed(CONN.serial, 1, bytes, jobs);
+    holds(rt, "they are fed", fed);
+}
+
+// Lets go of so many bytes that wait.
+fn write(rt: &impl Abort, seats: &mut Seats, count: usize) {
+    if count > seats.pending(CONN.serial).len() {
+        panic!(rt; "so many bytes wait");
+    }
+    seats.written(CONN.serial, count);
+}
+
+// A connection sends a request in two parts, gets its reply in two, and is cut at a reply above its limit.
+#[test]
+fn a_seat_from_first_to_last(rt: HostRuntime) {
+    let alloc = rt.alloc();
+    let mut seats = Seats::new(alloc);
+    let mut jobs = Vec::new(alloc);
+    holds(&rt, "it is opened", seats.open(CONN));
+    feed(&rt, &mut seats, b"PI", &mut jobs);
+    holds(&rt, "half a request asks for nothing", jobs.is_empty());
+    feed(&rt, &mut seats, b"NG\r\n", &mut jobs);
+    holds(&rt, "the whole asks for one job", jobs.len() == 1);
+    put(&rt, alloc, &mut seats, handed(&rt, alloc, 0, b"+PO", false));
+    put(
+        &rt,
+        alloc,
+        &mut seats,
+        handed(&rt, alloc, 3, b"NG\r\n", false),
+    );
+    same(
+        &rt,
+        "the reply waits",
+        seats.pending(CONN.serial),
+        b"+PONG\r\n",
+    );
+    holds(&rt, "it is told", seats.told(0) == Some(CONN.serial));
+    write(&rt, &mut seats, 5);
+    same(&rt, "its end waits", seats.pending(CONN.serial), b"\r\n");
+    put(
+        &rt,
+        alloc,
+        &mut seats,
+        handed(&rt, alloc, 7, b"1234567", false),
+    );
+    same(&rt, "no more is taken", seats.pending(CONN.serial), b"\r\n");
+    holds(&rt, "it is cut", !seats.takes(CONN.serial));
+    let closed = seats.close(CONN.serial, 2);
+    holds(
+        &rt,
+        "its close has a job",
+        matches!(closed, Closed::Last(_)),
+    );
+    holds(&rt, "it is gone", !seats.is_open(CONN.serial));
+}

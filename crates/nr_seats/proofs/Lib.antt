@@ -1,0 +1,4 @@
+pub mod Found
+pub mod Growing
+pub mod Handing
+pub mod Putting

@@ -1,0 +1,3 @@
+pub mod Seated
+pub mod Placed
+pub mod Portions

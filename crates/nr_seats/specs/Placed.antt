@@ -1,0 +1,57 @@
+-- The seats of a worker's connections, by serial, and how each call changes them.
+use Rattle.std.specs.Prelude.{◌≡◌, ℕ, ◌==◌, Bool, false, cond, Option, None, Some, List, []}
+use Rattle.std.specs.Map.{lookup}
+use Rattle.std.specs.Ordering.{eq_by_cmp, nat_cmp}
+use Rattle.std.specs.Coded.{Coded, coded×, coded_ℕ, coded_list}
+use Rattle.nr_model.specs.Bytes.{Bytes}
+use Rattle.nr_model.specs.Items.{Item}
+use Rattle.nr_entry.specs.Jobs.{item_of}
+use Rattle.nr_seats.specs.Seated.{SeatState, coded_seat, takes, HasFed, HasStopped}
+use Rattle.nr_seats.specs.declared.seats.Closed.{Closed}
+use Rattle.nr_seats.specs.declared.seats.Closed.TheVariants.{Absent, Ended, Last}
+
+-- by serial, what is kept of each connection that is open
+abbrev pub SeatsState : Type 0
+SeatsState = List (ℕ × SeatState)
+
+abbrev pub coded_seats : Coded SeatsState
+coded_seats = coded_list (coded× coded_ℕ coded_seat)
+
+abbrev pub seat_at : ℕ → SeatsState → Option SeatState
+seat_at serial seats = lookup (eq_by_cmp nat_cmp serial) seats
+
+-- this stands at a serial now, or nothing, and at the others what did
+pub record IsPut (serial : ℕ) (seat : Option SeatState) (old new : SeatsState) : Type 0 where
+  pub at : (other : ℕ) → seat_at other new ≡ cond (serial == other) seat (seat_at other old)
+
+-- whether there is a seat that takes bytes
+abbrev pub takes_here : Option SeatState → Bool
+takes_here None = false
+takes_here (Some s) = takes s
+
+-- the bytes that wait, none where there is no seat
+abbrev pub pending_here : Option SeatState → Bytes
+pending_here None = []
+pending_here (Some s) = s.pending
+
+-- the seat at a serial was fed, and no other
+pub record FeedsSeat (serial moment : ℕ) (piece : Bytes) (old new : SeatsState) (before after : List Item) : Type 0 where
+  pub was : SeatState
+  pub is : SeatState
+  pub there : seat_at serial old ≡ Some was
+  pub put : IsPut serial (Some is) old new
+  pub fed : HasFed moment piece was is before after
+
+-- or was not fed to the end
+pub record StopsSeat (serial moment : ℕ) (piece : Bytes) (old new : SeatsState) (before after : List Item) : Type 0 where
+  pub was : SeatState
+  pub is : SeatState
+  pub there : seat_at serial old ≡ Some was
+  pub put : IsPut serial (Some is) old new
+  pub stopped : HasStopped moment piece was is before after
+
+-- what closing came to: whether there was a seat, and its last job
+abbrev pub closed_seen : Closed → Option (Option Item)
+closed_seen Absent = None
+closed_seen Ended = Some None
+closed_seen (Last job) = Some (Some (item_of job))

@@ -1,0 +1,169 @@
+// What a worker keeps of one connection.
+ghost use Rattle.std.specs.Prelude.{◌≡◌, ◌+◌, ◌<◌, ◌≤◌, ◌^◌, ◌&&◌, ◌==◌, ◌∷◌, [], true, length, nat_le};
+ghost use Rattle.std.specs.Bool.{OnTrue, OnFalse};
+ghost use Rattle.std.specs.Option.{option_map};
+ghost use Rattle.nr_model.specs.Keyspace.{last_moment};
+ghost use Rattle.nr_entry.specs.Jobs.{connection_of, item_of, items_of};
+ghost use Rattle.nr_seats.specs.Portions.{portion_of, Grows};
+ghost use Rattle.nr_seats.specs.Seated.{fresh_seat, takes, cut_off, with_bytes, with_written, HasFed, HasStopped, HasAccepted, last_job, closed_seat};
+
+use nr_entry::{ConnId, Job};
+use nr_node::Handed;
+use nr_replica::Piece;
+use nr_session::Session;
+use nr_taps::Buffer;
+use std::alloc::Global;
+use std::marker::Model;
+
+/// What a worker keeps of one connection.
+#[derive(Drop)]
+pub struct Seat {
+    session: Session,
+    // What was handed out and isn't written yet.
+    bytes: Buffer,
+    // How many bytes were handed out in all.
+    handed: u64,
+    is_cut: bool,
+}
+
+impl Model for Seat {
+    ghost use Rattle.nr_seats.specs.Seated.{SeatState, coded_seat};
+
+    ghost Value = { SeatState };
+
+    ghost coded = { coded_seat };
+
+    ghost view = { λ s. record { session = s.session; pending = s.bytes; handed = s.handed; cut = s.is_cut } };
+}
+
+impl Seat {
+    /// The seat of a connection that was just opened. It takes no memory.
+    pub fn new(alloc: Global, conn: ConnId) -> Seat
+        ensures { result ≡ fresh_seat (connection_of conn) }
+    {
+        Seat {
+            session: Session::new(alloc, conn),
+            bytes: Buffer::new(alloc),
+            handed: 0,
+            is_cut: false,
+        }
+    }
+
+    /// Whether bytes are taken from the connection: its session hasn't ended, and it isn't cut.
+    pub fn takes(&self) -> bool
+        ensures { result ≡ takes self.now }
+    {
+        !self.session.has_ended() && !self.is_cut
+    }
+
+    /// Feeds bytes that came from the connection, at a moment in milliseconds, at most 2^53. The jobs that they ask for stand behind those
+    /// before. False where memory runs out, or where more than 2^64 - 2 bytes were fed in all: then the connection is cut, and the first of
+    /// these jobs are there, none of them an end. Linear in the bytes.
+    pub fn feed(&mut self, moment: u64, bytes: &[u8], jobs: &mut Vec<Job>) -> bool
+        requires taken { takes self.old ≡ true }
+        requires in_time { moment ≤ last_moment }
+        ensures fed { OnTrue result (HasFed moment bytes.now self.old self.new (items_of jobs.old.items) (items_of jobs.new.items)) }
+        ensures stopped { OnFalse result (HasStopped moment bytes.now self.old self.new (items_of jobs.old.items) (items_of jobs.new.items)) }
+    {
+        if !self.session.fits(bytes.len()) {
+            self.is_cut = true;
+            return false;
+        }
+        let fed = self.session.feed(bytes, moment, jobs).is_ok();
+        self.is_cut = !fed;
+        fed
+    }
+
+    /// Takes what was handed out for the connection behind the bytes that wait for it. Where none wait the piece's memory is taken over, else
+    /// its bytes are copied. False where it doesn't begin where the last one ended, where more than `limit` bytes would wait, where more than
+    /// 2^64 - 1 were handed out in all, or where memory runs out: then it is lost, and the connection is cut. A connection that is cut still
+    /// takes what was handed out for it.
+    pub fn accept(&mut self, piece: Piece, limit: usize) -> bool
+        ensures taken { OnTrue result (HasAccepted limit piece.from piece.bytes.items self.old self.new) }
+        ensures refused { OnFalse result (self.new ≡ cut_off self.old) }
+        ensures room { self.old.pending ≡ [] → piece.from ≡ self.old.handed → length piece.bytes.items ≤ limit
+            → self.old.handed + length piece.bytes.items < 2 ^ 64 → result ≡ true }
+    {
+        if !self.has_room(&piece, limit) {
+            self.is_cut = true;
+            return false;
+        }
+        let is_put = self.put(piece);
+        if !is_put {
+            self.is_cut = true;
+        }
+        is_put
+    }
+
+    /// Takes what was handed out, as [`accept`](Seat::accept) does, and cuts the connection behind it where nothing more comes for it. Whether
+    /// it was kept.
+    pub fn take_in(&mut self, handed: Handed, limit: usize) -> bool
+        ensures { Grows limit (record { portion = portion_of handed; kept = result } ∷ []) self.old self.new }
+    {
+        let is_last = handed.is_cut;
+        let is_kept = self.accept(handed.piece, limit);
+        if is_last {
+            self.cut();
+        }
+        is_kept
+    }
+
+    // Puts a piece behind the bytes that wait. False where memory runs out, and nothing changes.
+    fn put(&mut self, piece: Piece) -> bool
+        requires { self.old.handed + length piece.bytes.items < 2 ^ 64 }
+        ensures put { OnTrue result (self.new ≡ with_bytes piece.bytes.items self.old) }
+        ensures same { OnFalse result (self.new ≡ self.old) }
+        ensures some { self.old.pending ≡ [] → result ≡ true }
+    {
+        let count = piece.bytes.len() as u64;
+        if self.bytes.put(piece.bytes).is_err() {
+            return false;
+        }
+        self.handed += count;
+        true
+    }
+
+    // Whether a piece begins where the last one ended, and can be counted, and at most so many bytes wait behind it.
+    fn has_room(&self, piece: &Piece, limit: usize) -> bool
+        ensures { result ≡ (piece.now.from == self.now.handed && (nat_le (length self.now.pending + length piece.now.bytes.items) limit
+            && nat_le (self.now.handed + length piece.now.bytes.items + 1) (2 ^ 64))) }
+    {
+        let more = piece.bytes.len();
+        piece.from == self.handed
+            && self.bytes.len() <= limit
+            && more <= limit - self.bytes.len()
+            && more as u64 <= u64::MAX - self.handed
+    }
+
+    /// Takes no more bytes from the connection.
+    pub fn cut(&mut self)
+        ensures { self.new ≡ cut_off self.old }
+    {
+        self.is_cut = true;
+    }
+
+    /// The bytes that were handed out for the connection and aren't written yet.
+    pub fn pending(&self) -> &[u8]
+        ensures { result.now ≡ self.now.pending }
+    {
+        self.bytes.bytes()
+    }
+
+    /// So many of these were written. They are let go of, and all memory with the last.
+    pub fn written(&mut self, count: usize)
+        requires { count ≤ length self.old.pending }
+        ensures { self.new ≡ with_written count self.old }
+    {
+        self.bytes.let_go(count);
+    }
+
+    /// Closes the connection, at a moment in milliseconds, at most 2^53: its session lets go of what it keeps. Its last job, which ends it,
+    /// unless its bytes asked for their end before.
+    pub fn close(&mut self, moment: u64) -> Option<Job>
+        requires { moment ≤ last_moment }
+        ensures job { option_map (λ job. item_of job) result ≡ last_job moment self.old }
+        ensures closed { self.new ≡ closed_seat self.old }
+    {
+        self.session.close(moment, None)
+    }
+}

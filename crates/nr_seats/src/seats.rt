@@ -1,0 +1,225 @@
+// What a worker keeps of its connections.
+ghost use Rattle.std.specs.Prelude.{◌≡◌, ◌≤◌, ◌∷◌, [], true, None, Some, map, length, is_some, OnOk, OnErr};
+ghost use Rattle.std.specs.Bool.{OnTrue, OnFalse};
+ghost use Rattle.std.specs.Option.{option_map};
+ghost use Rattle.nr_model.specs.Keyspace.{last_moment};
+ghost use Rattle.nr_entry.specs.Jobs.{connection_of, item_of, items_of};
+ghost use Rattle.nr_seats.specs.Seated.{fresh_seat, with_written, last_job};
+ghost use Rattle.nr_seats.specs.Placed.{seat_at, IsPut, takes_here, pending_here, FeedsSeat, StopsSeat, closed_seen};
+ghost use Rattle.nr_seats.specs.Portions.{portion_of, Accepts};
+
+use crate::seat::Seat;
+use nr_blob::Memory;
+use nr_entry::{ConnId, Job};
+use nr_node::Handed;
+use std::alloc::Global;
+use std::collections::BTreeMap;
+use std::marker::Model;
+
+/// What closing a connection came to.
+#[derive(Drop)]
+pub enum Closed {
+    /// It wasn't open.
+    Absent,
+    /// Its bytes asked for its end before.
+    Ended,
+    /// Its last job, which ends it.
+    Last(Job),
+}
+
+/// What a worker keeps of its connections, by their serials.
+#[derive(Drop)]
+pub struct Seats {
+    alloc: Global,
+    by_serial: BTreeMap<u64, Seat>,
+    // For which serials something was handed out last. A hint.
+    told: Vec<u64>,
+}
+
+impl Model for Seats {
+    ghost use Rattle.nr_seats.specs.Placed.{SeatsState, coded_seats};
+
+    ghost Value = { SeatsState };
+
+    ghost coded = { coded_seats };
+
+    ghost view = { λ s. s.by_serial.entries };
+}
+
+// Tells of a connection, where there is room for that.
+fn tell(told: &mut Vec<u64>, serial: u64) {
+    let _ = told.push(serial);
+}
+
+impl Seats {
+    /// None. It takes no memory.
+    pub fn new(alloc: Global) -> Seats
+        ensures { result ≡ [] }
+    {
+        Seats {
+            alloc,
+            by_serial: BTreeMap::new(alloc),
+            told: Vec::new(alloc),
+        }
+    }
+
+    /// A seat for a connection that was just opened, in the place of any other of its serial. False where memory runs out: then nothing
+    /// changes. Logarithmic.
+    pub fn open(&mut self, conn: ConnId) -> bool
+        ensures opened { OnTrue result (IsPut conn.serial (Some (fresh_seat (connection_of conn))) self.old self.new) }
+        ensures same { OnFalse result (self.new ≡ self.old) }
+    {
+        let seat = Seat::new(self.alloc, conn);
+        open_at(&mut self.by_serial, conn.serial, seat).is_ok()
+    }
+
+    /// Whether a connection is open here. Logarithmic.
+    pub fn is_open(&self, serial: u64) -> bool
+        ensures { result ≡ is_some (seat_at serial self.now) }
+    {
+        self.by_serial.contains_key(&serial)
+    }
+
+    /// Whether it is open, and bytes are taken from it. Logarithmic.
+    pub fn takes(&self, serial: u64) -> bool
+        ensures { result ≡ takes_here (seat_at serial self.now) }
+    {
+        match self.by_serial.get(&serial) {
+            Some(seat) => seat.takes(),
+            None => false,
+        }
+    }
+
+    /// Feeds bytes that came from a connection, as [`Seat::feed`] does. Logarithmic, and linear in the bytes.
+    pub fn feed(&mut self, serial: u64, moment: u64, bytes: &[u8], jobs: &mut Vec<Job>) -> bool
+        requires taken { takes_here (seat_at serial self.old) ≡ true }
+        requires in_time { moment ≤ last_moment }
+        ensures fed { OnTrue result (FeedsSeat serial moment bytes.now self.old self.new (items_of jobs.old.items) (items_of jobs.new.items)) }
+        ensures stopped { OnFalse result (StopsSeat serial moment bytes.now self.old self.new (items_of jobs.old.items) (items_of jobs.new.items)) }
+    {
+        feed_at(&mut self.by_serial, serial, moment, bytes, jobs)
+    }
+
+    // Puts a piece at its connection's seat, or loses it where that isn't open.
+    fn put(&mut self, handed: Handed, limit: usize)
+        ensures { Accepts limit (portion_of handed ∷ []) self.old self.new }
+    {
+        let serial = handed.piece.conn.serial;
+        tell(&mut self.told, serial);
+        put_at(&mut self.by_serial, serial, handed, limit);
+    }
+
+    /// Puts each piece at its connection's seat, in their order, as [`Seat::take_in`] does; a piece for a connection that isn't open is lost. None
+    /// is left, and the vector keeps its memory. These connections are told from now on, and no others. Logarithmic for each piece, and linear in
+    /// the bytes.
+    #[tactic(auto, using(crate::proofs::Growing::accepting_none, crate::proofs::Growing::accepting_more, crate::proofs::Growing::accepting_all))]
+    pub fn put_each(&mut self, pieces: &mut Vec<Handed>, limit: usize)
+        ensures accepts { Accepts limit (map portion_of pieces.old.items) self.old self.new }
+        ensures none { pieces.new.items ≡ [] }
+    {
+        self.told.clear();
+        for piece in pieces.drain(..) {
+            self.put(piece, limit);
+        }
+    }
+
+    /// The serial of a connection for which something was handed out last, the first at place 0 and so on. A hint: one of which there was no
+    /// memory to tell is missing.
+    pub fn told(&self, place: usize) -> Option<u64> {
+        self.told.get(place).copied()
+    }
+
+    /// The bytes that were handed out for a connection and aren't written yet. Logarithmic.
+    pub fn pending(&self, serial: u64) -> &[u8]
+        ensures { result.now ≡ pending_here (seat_at serial self.now) }
+    {
+        match self.by_serial.get(&serial) {
+            Some(seat) => seat.pending(),
+            None => &[],
+        }
+    }
+
+    /// So many of these were written, and are let go of. Logarithmic.
+    pub fn written(&mut self, serial: u64, count: usize)
+        requires { count ≤ length (pending_here (seat_at serial self.old)) }
+        ensures { IsPut serial (option_map (with_written count) (seat_at serial self.old)) self.old self.new }
+    {
+        let_go_at(&mut self.by_serial, serial, count);
+    }
+
+    /// Closes a connection, at a moment in milliseconds, at most 2^53: its seat goes, with the bytes that wait for it. Logarithmic.
+    #[tactic(auto, using(crate::proofs::Found::put_by))]
+    pub fn close(&mut self, serial: u64, moment: u64) -> Closed
+        requires { moment ≤ last_moment }
+        ensures closed { closed_seen result ≡ option_map (last_job moment) (seat_at serial self.old) }
+        ensures gone { IsPut serial None self.old self.new }
+    {
+        match self.by_serial.remove(&serial) {
+            Some(mut seat) => closing(seat.close(moment)),
+            None => Closed::Absent,
+        }
+    }
+}
+
+// A seat stands at a serial. Where memory runs out nothing changes.
+#[tactic(auto, using(crate::proofs::Found::put_by))]
+fn open_at(by_serial: &mut BTreeMap<u64, Seat>, serial: u64, seat: Seat) -> Result<(), Memory>
+    ensures opened { OnOk result (IsPut serial (Some seat) by_serial.old.entries by_serial.new.entries) }
+    ensures same { OnErr result (by_serial.new.entries ≡ by_serial.old.entries) }
+{
+    by_serial.insert(serial, seat)?;
+    Ok(())
+}
+
+// The seat at a serial is fed.
+fn feed_at(
+    by_serial: &mut BTreeMap<u64, Seat>,
+    serial: u64,
+    moment: u64,
+    bytes: &[u8],
+    jobs: &mut Vec<Job>,
+) -> bool
+    requires taken { takes_here (seat_at serial by_serial.old.entries) ≡ true }
+    requires in_time { moment ≤ last_moment }
+    ensures fed { OnTrue result (FeedsSeat serial moment bytes.now by_serial.old.entries by_serial.new.entries (items_of jobs.old.items)
+        (items_of jobs.new.items)) }
+    ensures stopped { OnFalse result (StopsSeat serial moment bytes.now by_serial.old.entries by_serial.new.entries (items_of jobs.old.items)
+        (items_of jobs.new.items)) }
+{
+    let Some(seat) = by_serial.get_mut(&serial) else {
+        return false;
+    };
+    seat.feed(moment, bytes, jobs)
+}
+
+// A piece comes to the seat at its serial.
+fn put_at(by_serial: &mut BTreeMap<u64, Seat>, serial: u64, handed: Handed, limit: usize)
+    requires { handed.piece.conn.serial ≡ serial }
+    ensures { Accepts limit (portion_of handed ∷ []) by_serial.old.entries by_serial.new.entries }
+{
+    let Some(seat) = by_serial.get_mut(&serial) else {
+        return;
+    };
+    seat.take_in(handed, limit);
+}
+
+// So many bytes of the seat at a serial are let go of.
+fn let_go_at(by_serial: &mut BTreeMap<u64, Seat>, serial: u64, count: usize)
+    requires { count ≤ length (pending_here (seat_at serial by_serial.old.entries)) }
+    ensures { IsPut serial (option_map (with_written count) (seat_at serial by_serial.old.entries)) by_serial.old.entries by_serial.new.entries }
+{
+    let Some(seat) = by_serial.get_mut(&serial) else {
+        return;
+    };
+    seat.written(count);
+}
+
+// A seat was closed, with this last job.
+fn closing(job: Option<Job>) -> Closed
+    ensures { closed_seen result ≡ Some (option_map (λ job. item_of job) job) }
+{
+    match job {
+        Some(job) => Closed::Last(job),
+        None => Closed::Ended,
+    }
+}
