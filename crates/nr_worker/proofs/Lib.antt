@@ -2,3 +2,10 @@ mod Lists
 mod Desks
 mod Answered
 mod Timed
+mod Batched
+mod Portioned
+mod Nourished
+mod Awaited
+mod Admitted
+mod Departed
+mod Emptied

@@ -99,7 +99,7 @@ tail_is : (xs ys : List ℕ) (x y : ℕ) → x ∷ xs ≡ y ∷ ys → xs ≡ ys
 tail_is xs ys x y is = cc is
 
 -- what counts from a number has none below it
-above : (n : ℕ) (jobs : Jobs) (job : Item) → CountsFrom n jobs → Contains jobs job → n ≤ job.number
+pub above : (n : ℕ) (jobs : Jobs) (job : Item) → CountsFrom n jobs → Contains jobs job → n ≤ job.number
 above n [] job c there = absurd (some_in [] job refl there)
 above n (x ∷ xs) job c there = elim (in_cases job x xs there) [
   | inl is ↦ let a = c.0 in let b = ap (λ (i : Item). i.number) is in omega (arith, a, b)

@@ -1,3 +1,5 @@
 pub mod Desk
 pub mod Moves
 pub mod Law
+pub mod Working
+pub mod Settling

@@ -1,0 +1,193 @@
+-- A desk stands for a worker of the law once a connection was opened.
+use Rattle.std.proofs.Common.{◌≡◌, ℕ, ◌+◌, ◌<◌, ◌≤◌, true, false, List, [], ◌∷◌, ◌++◌, Contains, Option, Some, None, refl, ap, sym, ◌∙◌, subst, arith}
+use Rattle.std.specs.Prelude.{◌≢◌}
+use Rattle.std.specs.List.{AllByRecursion}
+use Rattle.std.proofs.lemmas.List.Elements.{Contains-append_left}
+use Rattle.nr_model.specs.Items.{Connection, Item, same_connection}
+use Rattle.nr_model.proofs.JobLists.{All-append, same_is}
+use Rattle.nr_model.proofs.NodesExecutedLists.{in_middle}
+use Rattle.nr_model.proofs.NodesOwnSessions as sessions
+use Rattle.nr_entry.specs.Jobs.{connection_of, items_of}
+use Rattle.nr_entry.specs.declared.batch.Batch.{Batch}
+use Rattle.nr_entry.specs.declared.conn.ConnId.{ConnId}
+use Rattle.nr_log_end.specs.declared.standing.Standing.{Standing}
+use Rattle.nr_node.specs.Sound.{IsSound, Serves}
+use Rattle.nr_combiner.specs.Heard.{Knows, KnowsOpened}
+use Rattle.nr_combiner.specs.Workers.{WorkerState}
+use Rattle.nr_taps.specs.Marks.{Adopts}
+use Rattle.nr_taps.specs.Taps.{HaveMet}
+use Rattle.nr_seats.specs.Seated.{SeatState, fresh_seat}
+use Rattle.nr_seats.specs.Placed.{IsPut, SeatsState}
+use Rattle.nr_seats.specs.Portions.{EachSeat, seat_of}
+use Rattle.nr_seats.proofs.Putting.{each_put, named, seat_here, seat_others}
+use Rattle.nr_worker.specs.Desk.{AllPosted, DeskState, IsAskedBy, IsLed, Served, asked_of}
+use Rattle.nr_worker.specs.Moves.{Opens}
+use Rattle.nr_worker.specs.Working.{AreApart, Goes, IsBelow, IsSeatOf, IsSeated, IsServed, IsToPost, LeadsTo, OpensAt, Reflects, WorkState, connections_of, one_opened}
+use Rattle.nr_worker.proofs.Desks.{opened_led}
+use Rattle.nr_worker.proofs.Lists.{all_at, all_weaker, posted_weaker}
+use Rattle.nr_worker.proofs.Nourished.{false_differs}
+
+abbrev new_one : Connection → Served
+new_one c = record { connection = c; fed = []; closing = None; handed = [] }
+
+-- at first
+fresh_is : (c : Connection) → IsSeatOf (fresh_seat c) (new_one c)
+fresh_is c =
+    let s = sessions.fresh_session 0 0 c in
+    record {
+      unclosed = refl;
+      handed = refl;
+      own = refl;
+      session = λ uncut. record { mode = s.mode; ended = s.ended; next = s.next; rest = s.rest };
+      counted = λ uncut. refl;
+      few = omega arith;
+    }
+
+-- ---- one more
+others_more : (P : Connection → Type 0) (xs : List Served) (y : Served) → AllByRecursion P (connections_of xs) → P y.connection
+    → AllByRecursion P (connections_of (xs ++ y ∷ []))
+others_more P [] y all here = (here, tt)
+others_more P (x ∷ xs) y all here = (all.0, others_more P xs y all.1 here)
+
+apart_more : (xs : List Served) (y : Served) → AreApart (connections_of xs) → AllByRecursion (λ (x : Served). x.connection ≢ y.connection) xs
+    → AreApart (connections_of (xs ++ y ∷ []))
+apart_more [] y apart new = (tt, tt)
+apart_more (x ∷ xs) y apart new =
+    (others_more (λ (other : Connection). other ≢ x.connection) xs y apart.0 (λ same. new.0 (sym same)), apart_more xs y apart.1 new.1)
+
+known_still : (served : List Served) (y : Served) (c : Connection) → IsServed served c → IsServed (served ++ y ∷ []) c
+known_still served y c k = record { one = k.one; there = Contains-append_left served (y ∷ []) k.one k.there; connection = k.connection }
+
+module _ (v : WorkState) (seats : SeatsState) (mark : Option Standing) (serial : ℕ) (s : Standing) (later : v.next ≤ serial)
+    (sound : IsSound s × (s.node ≡ v.worker.node)) (put : IsPut serial (Some (fresh_seat (named v.worker.node serial))) v.seats seats)
+    (d : DeskState) (led : IsLed d) (r : Reflects v d) (knows : Knows d.worker s v.worker.seat.lane) (serves : Serves s d.worker (named v.worker.node serial))
+    (adopted : Adopts d.mark s mark) (met : HaveMet d.mark (Some s)) where
+  abbrev c : Connection
+  c = named v.worker.node serial
+
+  abbrev now : WorkState
+  now = record v { seats = seats; next = serial + 1; mark = mark }
+
+  abbrev served : List Served
+  served = d.served ++ new_one c ∷ []
+
+  abbrev after : DeskState
+  after = record d { mark = mark; served = served }
+
+  new : AllByRecursion (λ (x : Served). x.connection ≢ c) d.served
+  new = all_weaker (λ (x : Served). x.connection.serial < v.next) (λ (x : Served). x.connection ≢ c)
+      (λ x below same. let at = ap (λ (e : Connection). e.serial) same in omega (arith, below, later, at)) d.served r.below
+
+  opens : Opens c s v.worker.seat.lane d after
+  opens = record {
+    new = new;
+    knows = knows;
+    serves = serves;
+    posted = sym r.posted;
+    sound = (sound.0, sound.1 ∙ sym r.node);
+    adopted = adopted;
+    met = met;
+    opened = refl;
+  }
+
+  to_post_still : (job : Item) → IsToPost d.served job → IsToPost served job
+  to_post_still job t = record {
+    known = known_still d.served (new_one c) job.connection t.known;
+    asked = All-append (λ (y : Served). job.connection ≡ y.connection → Contains (asked_of y) job) d.served (new_one c ∷ []) t.asked
+        (λ same. absurd (all_at (λ (x : Served). x.connection ≢ c) d.served t.known.one new t.known.there (t.known.connection ∙ same)), tt);
+  }
+
+  seated_now : EachSeat (IsSeated served) v.worker.node seats
+  seated_now = λ e t at. elim (same_connection e c) as (λ b. same_connection e c ≡ b → IsSeated served e t) [
+    | true ↦ λ own.
+        let same : e ≡ c = same_is e c own in
+        let stands : fresh_seat c ≡ t =
+        ap (λ (o : Option SeatState). elim o [ None ↦ fresh_seat c | Some z ↦ z ])
+        (sym (seat_here v.worker.node serial (Some (fresh_seat c)) v.seats seats put) ∙ ap (seat_of v.worker.node seats) (sym same) ∙ at) in
+        subst (λ (g : Connection). IsSeated served g t) (sym same)
+        (subst (IsSeated served c) stands (record {
+          known = record { one = new_one c; there = in_middle (new_one c) d.served []; connection = refl };
+          seat = All-append (λ (y : Served). y.connection ≡ c → IsSeatOf (fresh_seat c) y) d.served (new_one c ∷ [])
+              (all_weaker (λ (x : Served). x.connection ≢ c) (λ (y : Served). y.connection ≡ c → IsSeatOf (fresh_seat c) y) (λ x other mine. absurd (other mine)) d.served new)
+              (λ mine. fresh_is c, tt);
+        }))
+    | false ↦ λ other.
+        let old = r.seats e t (sym (seat_others v.worker.node serial (Some (fresh_seat c)) v.seats seats put e other) ∙ at) in record {
+          known = known_still d.served (new_one c) e old.known;
+          seat = All-append (λ (y : Served). y.connection ≡ e → IsSeatOf t y) d.served (new_one c ∷ []) old.seat
+              (λ mine. absurd (false_differs e c other mine), tt);
+        }
+  ] refl
+
+  -- no job is of a connection that is new
+  none_of : (job : Item) → IsServed d.served job.connection → job.connection ≡ c → job.number < 0
+  none_of job k same = absurd (all_at (λ (x : Served). x.connection ≢ c) d.served k.one new k.there (k.connection ∙ same))
+
+  numbers_now : EachSeat (λ e t. IsBelow v.worker.seat.lane.posted (items_of v.jobs) e t.session.next) v.worker.node seats
+  numbers_now = each_put (λ e t. IsBelow v.worker.seat.lane.posted (items_of v.jobs) e t.session.next) v.worker.node serial (Some (fresh_seat c)) v.seats seats put
+      (λ t is.
+      subst (λ (u : SeatState). IsBelow v.worker.seat.lane.posted (items_of v.jobs) c u.session.next)
+      (ap (λ (o : Option SeatState). elim o [ None ↦ fresh_seat c | Some z ↦ z ]) is) (record {
+        posted = subst (λ (bs : List Batch). AllPosted (λ (job : Item). job.connection ≡ c → job.number < 0) bs) r.posted
+            (posted_weaker (IsAskedBy d.served) (λ (job : Item). job.connection ≡ c → job.number < 0)
+            (λ job by. none_of job (record { one = by.one; there = by.there; connection = by.connection })) d.posted led.known);
+        waits = all_weaker (IsToPost d.served) (λ (job : Item). job.connection ≡ c → job.number < 0) (λ job t. none_of job t.known) (items_of v.jobs) r.jobs;
+      })) r.numbers
+
+  leads : LeadsTo (one_opened c) now d
+  leads =
+      let on = opened_led c s v.worker.seat.lane d after led opens in
+      record {
+        then = after;
+        led = on.0;
+        goes = on.1;
+        reflects = record {
+          node = r.node;
+          worker = r.worker;
+          posted = r.posted;
+          mark = refl;
+          below = All-append (λ (x : Served). x.connection.serial < serial + 1) d.served (new_one c ∷ [])
+              (all_weaker (λ (x : Served). x.connection.serial < v.next) (λ (x : Served). x.connection.serial < serial + 1)
+              (λ x below. omega (arith, below, later)) d.served r.below)
+              (omega arith, tt);
+          apart = apart_more d.served (new_one c) r.apart new;
+          jobs = all_weaker (IsToPost d.served) (IsToPost served) to_post_still (items_of v.jobs) r.jobs;
+          seats = seated_now;
+          numbers = numbers_now;
+        };
+        served = refl;
+      }
+
+opened_goes : (v : WorkState) (seats : SeatsState) (mark : Option Standing) (conn : ConnId) (s : Standing) → connection_of conn ≡ named v.worker.node conn.serial
+    → v.next ≤ conn.serial → KnowsOpened v.worker.seat.worker conn s v.worker.seat.lane → IsSound s × (s.node ≡ v.worker.node) → Adopts v.mark s mark
+    → HaveMet v.mark (Some s) → IsPut conn.serial (Some (fresh_seat (connection_of conn))) v.seats seats
+    → Goes (one_opened (connection_of conn)) v (record v { seats = seats; next = conn.serial + 1; mark = mark })
+opened_goes v seats mark conn s is later knows sound adopted met put =
+    let w : WorkState = record v { seats = seats; next = conn.serial + 1; mark = mark } in
+    subst (λ (c : Connection). Goes (one_opened c) v w) (sym is) (record {
+      leads = λ d led r.
+          leads v seats mark conn.serial s later sound
+          (subst (λ (c : Connection). IsPut conn.serial (Some (fresh_seat c)) v.seats seats) is put) d led r
+          (subst (λ (n : ℕ). Knows n s v.worker.seat.lane) (sym r.worker) knows.knows)
+          (subst (λ (n : ℕ). Serves s n (named v.worker.node conn.serial)) (sym r.worker)
+          (subst (λ (c : Connection). Serves s v.worker.seat.worker c) is knows.serves))
+          (subst (λ (m : Option Standing). Adopts m s mark) (sym r.mark) adopted) (subst (λ (m : Option Standing). HaveMet m (Some s)) (sym r.mark) met);
+    })
+
+-- of the worker as opening left it
+pub opened_by : (v u : WorkState) (worker : WorkerState) (seats : SeatsState) (mark : Option Standing) (conn : ConnId) (s : Standing) (next : ℕ) → u ≡ v
+    → worker ≡ u.worker → u.next ≤ conn.serial → next ≡ conn.serial + 1 → KnowsOpened u.worker.seat.worker conn s u.worker.seat.lane
+    → IsSound s × (s.node ≡ u.worker.node) → Adopts u.mark s mark → HaveMet u.mark (Some s)
+    → IsPut conn.serial (Some (fresh_seat (connection_of conn))) u.seats seats
+    → let w : WorkState = record u { worker = worker; seats = seats; next = next; mark = mark } in
+    OpensAt (connection_of conn) v w × Goes (one_opened (connection_of conn)) v w
+opened_by v u worker seats mark conn s next same still later next_is knows sound adopted met put =
+    let w : WorkState = record u { worker = worker; seats = seats; next = next; mark = mark } in
+    let w_is : w ≡ record u { seats = seats; next = conn.serial + 1; mark = mark } =
+    λ i. record u { worker = still i; seats = seats; next = next_is i; mark = mark } in
+    let node : conn.node ≡ u.worker.node = knows.serves.node ∙ sound.1 in
+    let is : connection_of conn ≡ named u.worker.node conn.serial = λ i. record { node = node i; serial = conn.serial } in
+    subst (λ (x : WorkState). OpensAt (connection_of conn) x w × Goes (one_opened (connection_of conn)) x w) same (
+      record { node = node; later = later; put = put; changed = w_is },
+      subst (Goes (one_opened (connection_of conn)) u) (sym w_is) (opened_goes u seats mark conn s is later knows sound adopted met put),
+    )

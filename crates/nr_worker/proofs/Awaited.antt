@@ -1,0 +1,107 @@
+-- A desk stands for the same worker of the law once its batch was answered.
+use Rattle.std.proofs.Common.{◌<◌, ◌≡◌, ℕ, Bool, true, false, cond, List, [], ◌∷◌, ◌++◌, take, length, Contains, refl, ap, sym, ◌∙◌, subst}
+use Rattle.std.specs.Prelude.{nat_le}
+use Rattle.std.specs.List.{AllByRecursion}
+use Rattle.std.proofs.Math.Seq.{take-append_seam}
+use Rattle.std.proofs.lemmas.List.{map-append}
+use Rattle.nr_model.specs.Items.{Item}
+use Rattle.nr_model.proofs.JobLists.{All-append}
+use Rattle.nr_entry.specs.Jobs.{item_of, items_of}
+use Rattle.nr_entry.specs.declared.batch.Batch.{Batch}
+use Rattle.nr_entry.specs.declared.batch.Outcome.{Outcome}
+use Rattle.nr_entry.specs.declared.batch.Outcome.TheVariants as outcomes
+use Rattle.nr_entry.specs.declared.job.Job.{Job}
+use Rattle.nr_combiner.specs.Workers.{HasCollected, WorkerState}
+use Rattle.nr_combiner.specs.declared.worker.TheConstants.{MOST_JOBS}
+use Rattle.nr_seats.specs.Portions.{EachSeat}
+use Rattle.nr_worker.specs.Desk.{AllPosted, DeskState, IsAskedBy, IsLed, IsServedAt, Served, asked_of}
+use Rattle.nr_worker.specs.Settling.{AreOfBatches, IsOfBatch, back_of, down_of, left_of, settled_work}
+use Rattle.nr_worker.specs.Working.{Goes, IsBelow, IsSeated, IsToPost, WorkState, unchanged}
+use Rattle.nr_worker.proofs.Batched.{goes_nowhere}
+use Rattle.nr_worker.proofs.Lists.{all_weaker, posted_at}
+
+-- a job that was posted may be posted again
+to_post_again : (d : DeskState) → IsLed d → (job : Item) → IsOfBatch d.posted job → IsToPost d.served job
+to_post_again d led job of =
+    let by = posted_at (IsAskedBy d.served) d.posted of.batch job led.known of.there of.has in
+    record {
+      known = record { one = by.one; there = by.there; connection = by.connection };
+      asked = all_weaker (IsServedAt d) (λ (x : Served). job.connection ≡ x.connection → Contains (asked_of x) job)
+          (λ x at same. posted_at (λ (j : Item). j.connection ≡ x.connection → Contains (asked_of x) j) d.posted of.batch job at.posted of.there of.has same) d.served led.each;
+    }
+
+goes_settled : (v : WorkState) (worker : WorkerState) (back left : List Job) (down : Bool) → worker.node ≡ v.worker.node
+    → worker.seat.worker ≡ v.worker.seat.worker → worker.seat.lane.posted ≡ v.worker.seat.lane.posted
+    → ((P : Item → Type 0) → AllByRecursion P (items_of v.jobs) → AllByRecursion P (items_of left)) → AreOfBatches v.worker.seat.lane.posted back
+    → Goes unchanged v (record v { worker = worker; jobs = back ++ left; returned = length back; waiting = false; down = down })
+goes_settled v worker back left down node number posted keeps of = record {
+  leads = λ d led r. record {
+    then = d;
+    led = led;
+    goes = goes_nowhere d;
+    reflects = record {
+      node = r.node ∙ sym node;
+      worker = r.worker ∙ sym number;
+      posted = r.posted ∙ sym posted;
+      mark = r.mark;
+      below = r.below;
+      apart = r.apart;
+      jobs = subst (AllByRecursion (IsToPost d.served)) (sym (map-append item_of back left))
+          (All-append (IsToPost d.served) (items_of back) (items_of left)
+          (all_weaker (IsOfBatch v.worker.seat.lane.posted) (IsToPost d.served)
+          (λ job h. to_post_again d led job (subst (λ (bs : List Batch). IsOfBatch bs job) (sym r.posted) h)) (items_of back) of)
+          (keeps (IsToPost d.served) r.jobs));
+      seats = subst (λ (n : ℕ). EachSeat (IsSeated d.served) n v.seats) (sym node) r.seats;
+      numbers = subst (λ (n : ℕ). EachSeat (λ c s. IsBelow worker.seat.lane.posted (items_of (back ++ left)) c s.session.next) n v.seats) (sym node)
+          (λ c s at.
+          let old = r.numbers c s at in
+          let P : Item → Type 0 = λ job. job.connection ≡ c → job.number < s.session.next in
+          record {
+            posted = subst (λ (bs : List Batch). AllPosted P bs) (sym posted) old.posted;
+            waits = subst (AllByRecursion P) (sym (map-append item_of back left))
+                (All-append P (items_of back) (items_of left)
+                (all_weaker (IsOfBatch v.worker.seat.lane.posted) P (λ job h. posted_at P v.worker.seat.lane.posted h.batch job old.posted h.there h.has) (items_of back) of)
+                (keeps P old.waits));
+          });
+    };
+    served = refl;
+  };
+}
+
+left_keeps : (most : ℕ) (outcome : Outcome) (jobs : List Job) (P : Item → Type 0) → AllByRecursion P (items_of jobs)
+    → AllByRecursion P (items_of (left_of most outcome jobs))
+left_keeps most outcomes.Executed jobs P all = all
+left_keeps most outcomes.Down jobs P all = tt
+left_keeps most (outcomes.Refused why back) jobs P all =
+    elim (nat_le (length back.items) most) as (λ b. AllByRecursion P (items_of (cond b jobs []))) [ true ↦ all | false ↦ tt ]
+
+pub collected_goes : (outcome : Outcome) (v : WorkState) (worker : WorkerState) → HasCollected outcome v.worker worker
+    → AreOfBatches v.worker.seat.lane.posted (take (settled_work outcome worker v).returned (settled_work outcome worker v).jobs)
+    → Goes unchanged v (settled_work outcome worker v)
+collected_goes outcome v worker c of =
+    let back = back_of MOST_JOBS outcome in
+    let left = left_of MOST_JOBS outcome v.jobs in
+    goes_settled v worker back left (down_of MOST_JOBS outcome v.down) (ap (λ (w : WorkerState). w.node) c.collected)
+    (ap (λ (w : WorkerState). w.seat.worker) c.collected) (ap (λ (w : WorkerState). w.seat.lane.posted) c.collected) (left_keeps MOST_JOBS outcome v.jobs)
+    (subst (AreOfBatches v.worker.seat.lane.posted) (take-append_seam back left) of)
+
+none_left : {A : Type 0} (xs : List A) → length xs ≡ 0 → xs ≡ []
+none_left [] none = refl
+none_left (x ∷ xs) none = absurd (cc none)
+
+pub settled_by : (v u : WorkState) (outcome : Outcome) (worker : WorkerState) (returned jobs back left : List Job) (down : Bool) → u ≡ v
+    → u.jobs ≡ returned ++ jobs → length returned ≡ 0 → HasCollected outcome u.worker worker → back ≡ back_of MOST_JOBS outcome
+    → left ≡ left_of MOST_JOBS outcome jobs → down ≡ down_of MOST_JOBS outcome u.down
+    → AreOfBatches v.worker.seat.lane.posted (take (length back) (back ++ left))
+    → Goes unchanged v (record u { worker = worker; jobs = back ++ left; returned = length back; waiting = false; down = down })
+settled_by v u outcome worker returned jobs back left down same are none c back_is left_is down_is of =
+    let w : WorkState = record u { worker = worker; jobs = back ++ left; returned = length back; waiting = false; down = down } in
+    let all : u.jobs ≡ jobs = are ∙ ap (λ (r : List Job). r ++ jobs) (none_left returned none) in
+    let left_now : left ≡ left_of MOST_JOBS outcome u.jobs = left_is ∙ ap (left_of MOST_JOBS outcome) (sym all) in
+    let is : w ≡ settled_work outcome worker u =
+    λ i. record u { worker = worker; jobs = back_is i ++ left_now i; returned = length (back_is i); waiting = false; down = down_is i } in
+    subst (λ (x : WorkState). Goes unchanged x w) same
+    (subst (Goes unchanged u) (sym is)
+    (collected_goes outcome u worker c
+    (subst (λ (x : WorkState). AreOfBatches u.worker.seat.lane.posted (take x.returned x.jobs)) is
+    (subst (λ (x : WorkState). AreOfBatches x.worker.seat.lane.posted (take (length back) (back ++ left))) (sym same) of))))

@@ -1,0 +1,257 @@
+-- What contracts see of a worker's desk, and the law's worker that it stands for.
+use Rattle.std.specs.Prelude.{◌≡◌, ◌≢◌, ◌==◌, ◌&&◌, ℕ, ◌+◌, ◌<◌, ◌≤◌, Bool, true, false, cond, IfSome, List, [], ◌∷◌, ◌++◌, map, length, take, drop, Contains, option_to_list, Option, None, Some, refl}
+use Rattle.std.specs.Coded.{Coded, code_by, coded×, coded_ℕ, coded_bool, coded_list, coded_option}
+use Rattle.std.specs.List.{AllByRecursion}
+use Rattle.std.specs.Option.{option_map}
+use Rattle.nr_model.specs.Bytes.{Bytes}
+use Rattle.nr_model.specs.Commands.{served}
+use Rattle.nr_model.specs.Connections as connections
+use Rattle.nr_model.specs.Items.{Connection, Item, same_connection}
+use Rattle.nr_model.specs.Modes.{Conversation, framed_conversation, plain, deeds_by}
+use Rattle.nr_model.specs.Requests.{framing_of}
+use Rattle.nr_entry.specs.Jobs.{items_of}
+use Rattle.nr_entry.specs.declared.batch.Batch.{Batch}
+use Rattle.nr_entry.specs.declared.job.Job.{Job}
+use Rattle.nr_entry.specs.contracts.job.Job as of_job
+use Rattle.nr_log_end.specs.declared.standing.Standing.{Standing}
+use Rattle.nr_log_end.specs.contracts.standing.Standing as of_standing
+use Rattle.nr_slots.specs.Seats.{NoteView, one_if}
+use Rattle.nr_node.specs.declared.collecting.Handed.{Handed}
+use Rattle.nr_taps.specs.Marks.{Adopts}
+use Rattle.nr_session.specs.SessionState.{SessionState}
+use Rattle.nr_combiner.specs.Behind.{TurnsBehind}
+use Rattle.nr_combiner.specs.declared.answering.Lifts.{Lifts}
+use Rattle.nr_combiner.specs.declared.answering.Turned.{Turned}
+use Rattle.nr_combiner.specs.declared.worker.TheConstants.{MOST_JOBS}
+use Rattle.nr_combiner.specs.Workers.{WorkerState, coded_worker, HasPosted}
+use Rattle.nr_seats.specs.Seated.{SeatState, fresh_seat, last_job, with_written}
+use Rattle.nr_seats.specs.Placed.{FeedsSeat, IsPut, SeatsState, StopsSeat, coded_seats, seat_at, takes_here}
+use Rattle.nr_seats.specs.Portions.{Accepts, EachSeat, HandsOut, portion_of}
+use Rattle.nr_worker.specs.Desk.{AllPosted, DeskState, IsLed, Served, asked_of}
+use Rattle.nr_worker.specs.Law.{GoesTo}
+
+-- its worker, and what it keeps of its connections; the serials below `next` may have been opened here; the jobs that were asked for and wait to be posted,
+-- in order, and how many of them, the first, were handed back; its mark; whether a batch's answer wasn't collected, and whether its node is down; and how many bytes wait for a connection at most
+pub record WorkState : Type 0 where
+  pub worker : WorkerState
+  pub seats : SeatsState
+  pub next : ℕ
+  pub jobs : List Job
+  pub returned : ℕ
+  pub mark : Option Standing
+  pub waiting : Bool
+  pub down : Bool
+  pub limit : ℕ
+
+abbrev pub coded_work : Coded WorkState
+coded_work =
+    code_by (WorkerState × (SeatsState × (ℕ × (List Job × (ℕ × (Option Standing × (Bool × (Bool × ℕ))))))))
+    (coded× coded_worker
+    (coded× coded_seats
+    (coded× coded_ℕ
+    (coded× (coded_list of_job.the_row.coded)
+    (coded× coded_ℕ (coded× (coded_option of_standing.the_row.coded) (coded× coded_bool (coded× coded_bool coded_ℕ))))))))
+    (λ v. (v.worker, (v.seats, (v.next, (v.jobs, (v.returned, (v.mark, (v.waiting, (v.down, v.limit))))))))) (λ p. record {
+      worker = p.0;
+      seats = p.1.0;
+      next = p.1.1.0;
+      jobs = p.1.1.1.0;
+      returned = p.1.1.1.1.0;
+      mark = p.1.1.1.1.1.0;
+      waiting = p.1.1.1.1.1.1.0;
+      down = p.1.1.1.1.1.1.1.0;
+      limit = p.1.1.1.1.1.1.1.1;
+    }) (λ _. refl)
+
+-- It has counted its batches, waits for an answer where one wasn't collected, and then none are handed back, of which there is at most a batch; and its mark is of
+-- its node.
+pub record IsKept (batches : ℕ) (v : WorkState) : Type 0 where
+  pub counted : batches ≡ v.worker.next
+  pub waits : length v.worker.seat.lane.posted ≡ length v.worker.seat.lane.collected + one_if v.waiting
+  pub mark : IfSome v.mark (λ (s : Standing). s.node ≡ v.worker.node)
+  pub none : v.waiting ≡ true → v.returned ≡ 0
+  pub few : v.returned ≤ MOST_JOBS
+
+-- at first
+abbrev pub fresh_work : WorkerState → ℕ → WorkState
+fresh_work worker limit = record { worker = worker; seats = []; next = 0; jobs = []; returned = 0; mark = None; waiting = false; down = false; limit = limit }
+
+-- its mark was taken
+abbrev pub without_mark : WorkState → WorkState
+without_mark v = record v { mark = None }
+
+-- what bytes ask for, from the start
+abbrev pub asks_for : Bytes → Conversation
+asks_for text = framed_conversation served plain (framing_of text)
+
+-- a session is what all its bytes leave
+pub record IsSession (session : SessionState) (text : Bytes) : Type 0 where
+  pub mode : session.mode ≡ (asks_for text).mode
+  pub ended : session.ended ≡ (asks_for text).ended
+  pub next : session.next ≡ length (deeds_by served text)
+  pub rest : session.ended ≡ false → session.rest ≡ (framing_of text).rest
+
+-- A seat is that of a connection that is served: not closed, as many bytes were handed out as it counts, and its session is as the bytes that were fed
+-- leave it, unless it is cut.
+pub record IsSeatOf (s : SeatState) (x : Served) : Type 0 where
+  pub unclosed : x.closing ≡ None
+  pub handed : s.handed ≡ length x.handed
+  pub own : s.session.connection ≡ x.connection
+  pub session : s.cut ≡ false → IsSession s.session (connections.fed_to x.connection x.fed)
+  pub counted : s.cut ≡ false → length (asked_of x) ≡ s.session.next
+  pub few : s.session.next ≤ length (asked_of x)
+
+-- there is one of a connection
+pub record IsServed (served : List Served) (c : Connection) : Type 0 where
+  pub one : Served
+  pub there : Contains served one
+  pub connection : one.connection ≡ c
+
+-- the connection of a seat is served, and the seat is that
+pub record IsSeated (served : List Served) (c : Connection) (s : SeatState) : Type 0 where
+  pub known : IsServed served c
+  pub seat : AllByRecursion (λ (x : Served). x.connection ≡ c → IsSeatOf s x) served
+
+-- a job is one that its connection asked for
+pub record IsToPost (served : List Served) (job : Item) : Type 0 where
+  pub known : IsServed served job.connection
+  pub asked : AllByRecursion (λ (x : Served). job.connection ≡ x.connection → Contains (asked_of x) job) served
+
+-- the jobs of a connection that were posted or wait have numbers below this
+pub record IsBelow (batches : List Batch) (jobs : List Item) (c : Connection) (next : ℕ) : Type 0 where
+  pub posted : AllPosted (λ (job : Item). job.connection ≡ c → job.number < next) batches
+  pub waits : AllByRecursion (λ (job : Item). job.connection ≡ c → job.number < next) jobs
+
+-- connections no two of which are the same
+abbrev pub AreApart : List Connection → Type 0
+AreApart [] = Unit {0}
+AreApart (c ∷ more) = AllByRecursion (λ (other : Connection). other ≢ c) more × AreApart more
+
+abbrev pub connections_of : List Served → List Connection
+connections_of served = map (λ (x : Served). x.connection) served
+
+-- A desk stands for a worker of the law: what it posted and its mark are the same, its jobs are asked for there, and its seats are those of connections
+-- that the worker serves, each of which numbers its next job behind those that were asked for.
+pub record Reflects (v : WorkState) (d : DeskState) : Type 0 where
+  pub node : d.node ≡ v.worker.node
+  pub worker : d.worker ≡ v.worker.seat.worker
+  pub posted : d.posted ≡ v.worker.seat.lane.posted
+  pub mark : d.mark ≡ v.mark
+  pub below : AllByRecursion (λ (x : Served). x.connection.serial < v.next) d.served
+  pub apart : AreApart (connections_of d.served)
+  pub jobs : AllByRecursion (IsToPost d.served) (items_of v.jobs)
+  pub seats : EachSeat (IsSeated d.served) v.worker.node v.seats
+  pub numbers : EachSeat (λ c s. IsBelow v.worker.seat.lane.posted (items_of v.jobs) c s.session.next) v.worker.node v.seats
+
+-- A worker of the law goes on to one that the desk then stands for, and its connections are changed so.
+pub record LeadsTo (change : List Served → List Served) (w : WorkState) (d : DeskState) : Type 0 where
+  pub then : DeskState
+  pub led : IsLed then
+  pub goes : GoesTo d then
+  pub reflects : Reflects w then
+  pub served : then.served ≡ change d.served
+
+-- Whatever worker of the law a desk stood for, it goes on to one that the desk then stands for, and its connections are changed so: more is fed to
+-- them or handed out for them, one is closed, or one more is opened.
+pub record Goes (change : List Served → List Served) (v w : WorkState) : Type 0 where
+  pub leads : (d : DeskState) → IsLed d → Reflects v d → LeadsTo change w d
+
+-- nothing is fed or handed out
+abbrev pub unchanged : List Served → List Served
+unchanged served = served
+
+-- so much more was handed out
+abbrev pub handed_more : List connections.Handed → Served → Served
+handed_more handed x = record x { handed = x.handed ++ connections.handed_to x.connection handed }
+
+abbrev pub all_handed : List connections.Handed → List Served → List Served
+all_handed handed served = map (handed_more handed) served
+
+-- bytes were fed, where they are the connection's
+abbrev pub fed_more : connections.Feeding → Served → Served
+fed_more feeding x = record x { fed = cond (same_connection feeding.connection x.connection) (x.fed ++ feeding ∷ []) x.fed }
+
+abbrev pub all_fed : connections.Feeding → List Served → List Served
+all_fed feeding served = map (fed_more feeding) served
+
+-- one was opened
+abbrev pub one_opened : Connection → List Served → List Served
+one_opened c served = served ++ record { connection = c; fed = []; closing = None; handed = [] } ∷ []
+
+-- A connection of the node with a serial that none had here has a new seat, and nothing else changed but the mark.
+pub record OpensAt (c : Connection) (v w : WorkState) : Type 0 where
+  pub node : c.node ≡ v.worker.node
+  pub later : v.next ≤ c.serial
+  pub put : IsPut c.serial (Some (fresh_seat c)) v.seats w.seats
+  pub changed : w ≡ record v { seats = w.seats; next = c.serial + 1; mark = w.mark }
+
+-- it was closed with this last job, where it is the job's
+abbrev pub closed_with : Item → Served → Served
+closed_with job x = record x { closing = cond (same_connection job.connection x.connection) (Some job) x.closing }
+
+-- or with none
+abbrev pub all_closed : Option Item → List Served → List Served
+all_closed None served = served
+all_closed (Some job) served = map (closed_with job) served
+
+-- the last job of a connection that is closed, where there is a seat
+abbrev pub last_here : ℕ → Option SeatState → Option Item
+last_here moment None = None
+last_here moment (Some s) = last_job moment s
+
+-- the last job that a close told of
+abbrev pub last_seen : Option (Option Item) → List Item
+last_seen None = []
+last_seen (Some job) = option_to_list job
+
+-- A seat was closed, if there was one: its last job stands behind the others, and nothing else changed.
+pub record Closes (serial moment : ℕ) (v w : WorkState) : Type 0 where
+  pub gone : IsPut serial None v.seats w.seats
+  pub last : items_of w.jobs ≡ items_of v.jobs ++ option_to_list (last_here moment (seat_at serial v.seats))
+  pub changed : w ≡ record v { seats = w.seats; jobs = w.jobs }
+
+-- So many of the bytes that wait for a connection were written, and nothing else changed.
+pub record Writes (serial count : ℕ) (v w : WorkState) : Type 0 where
+  pub put : IsPut serial (option_map (with_written count) (seat_at serial v.seats)) v.seats w.seats
+  pub changed : w ≡ record v { seats = w.seats }
+
+-- whether bytes are taken from a connection
+abbrev pub takes_from : Connection → WorkState → Bool
+takes_from c v = c.node == v.worker.node && takes_here (seat_at c.serial v.seats)
+
+-- Bytes were fed to a seat, and the jobs that they ask for stand behind the others; nothing else changed.
+pub record Feeds (serial moment : ℕ) (bytes : Bytes) (v w : WorkState) : Type 0 where
+  pub fed : FeedsSeat serial moment bytes v.seats w.seats (items_of v.jobs) (items_of w.jobs)
+  pub changed : w ≡ record v { seats = w.seats; jobs = w.jobs }
+
+-- Or they were not fed to their end: no more are taken from the connection, and the first of these jobs stand there.
+pub record Stops (serial moment : ℕ) (bytes : Bytes) (v w : WorkState) : Type 0 where
+  pub stopped : StopsSeat serial moment bytes v.seats w.seats (items_of v.jobs) (items_of w.jobs)
+  pub changed : w ≡ record v { seats = w.seats; jobs = w.jobs }
+
+-- how many jobs are handed in next: those that were handed back, else at most so many
+abbrev pub due : ℕ → ℕ → ℕ
+due most returned = cond (returned == 0) most returned
+
+-- No answer was awaited and some jobs waited: the first that are due were handed in as the next batch, and nothing else changed.
+pub record HandsIn (most : ℕ) (v w : WorkState) : Type 0 where
+  pub still : v.waiting ≡ false
+  pub some : v.jobs ≢ []
+  pub posted : HasPosted (take (due most v.returned) v.jobs) v.worker w.worker
+  pub changed : w ≡ record v { worker = w.worker; jobs = drop (due most v.returned) v.jobs; returned = 0; waiting = true }
+
+-- A turn handed these bytes out: they wait at the seats of their connections, and nothing else changed but the mark.
+pub record HandsOn (v w : WorkState) : Type 0 where
+  pub handed : List connections.Handed
+  pub waiting : HandsOut v.worker.node handed v.seats w.seats
+  pub goes : Goes (all_handed handed) v w
+  pub changed : w ≡ record v { seats = w.seats; mark = w.mark }
+
+-- So it came from the turn that tells this, whose token the mark adopted, and whose pieces came to the seats.
+pub record TakesTurn (places : ℕ) (lifts : Lifts) (most : ℕ) (turned : Turned) (v w : WorkState) : Type 0 where
+  pub standing : Standing
+  pub note : NoteView
+  pub pieces : List Handed
+  pub behind : TurnsBehind places v.worker.node v.worker.seat.worker lifts most [] pieces turned standing note
+  pub adopted : Adopts v.mark standing w.mark
+  pub accepted : Accepts v.limit (map portion_of pieces) v.seats w.seats

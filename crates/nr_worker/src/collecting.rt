@@ -1,0 +1,84 @@
+// What became of a batch.
+ghost use Rattle.std.specs.Prelude.{◌≡◌, [], true, take, IfSome, IfNone};
+ghost use Rattle.nr_worker.specs.Settling.{back_of, down_of, left_of, settled_of, AreOfBatches, HasSettled};
+ghost use Rattle.nr_worker.specs.Working.{unchanged, Goes};
+
+use crate::desk::Desk;
+use nr_combiner::{MOST_JOBS, ServerName};
+use nr_entry::{Job, Outcome, Refusal};
+use std::sync::Wait;
+
+/// What became of the batch that was handed in last.
+#[derive(Clone, Copy, Debug, PartialEq, Eq)]
+pub enum Settled {
+    /// Each of its jobs was executed.
+    Executed,
+    /// The node is down: nothing more is executed, and no jobs wait any more.
+    Down,
+    /// It was handed back, none of its jobs executed: they wait in front of the others.
+    HandedBack(Refusal),
+}
+
+// The node is down: no jobs wait any more.
+fn fall(jobs: &mut Vec<Job>, is_down: &mut bool) -> Settled
+    ensures told { result ≡ Settled.Down }
+    ensures jobs { jobs.new.items ≡ [] }
+    ensures down { is_down.new ≡ true }
+{
+    jobs.clear();
+    *is_down = true;
+    Settled::Down
+}
+
+// Takes an outcome in, where no jobs are there that were handed back. Linear in the jobs that are let go of.
+fn settle(
+    outcome: Outcome,
+    returned: &mut Vec<Job>,
+    jobs: &mut Vec<Job>,
+    is_down: &mut bool,
+    most: usize,
+) -> Settled
+    requires { returned.old.items ≡ [] }
+    ensures told { result ≡ settled_of most outcome }
+    ensures back { returned.new.items ≡ back_of most outcome }
+    ensures left { jobs.new.items ≡ left_of most outcome jobs.old.items }
+    ensures down { is_down.new ≡ down_of most outcome is_down.old }
+{
+    match outcome {
+        Outcome::Executed => Settled::Executed,
+        Outcome::Down => fall(jobs, is_down),
+        Outcome::Refused(why, back) => {
+            if back.len() <= most {
+                *returned = back;
+                return Settled::HandedBack(why);
+            }
+            fall(jobs, is_down)
+        }
+    }
+}
+
+impl<'a, R: Wait, B: ServerName> Desk<'a, R, B> {
+    /// What became of the batch that was handed in last, once that is answered: one load, and one store where it is. `None` where it isn't, or none was handed in.
+    /// The jobs of a batch that comes back wait in front of the others, in their order; where the node is down no jobs wait any more. Constant, and linear in the
+    /// jobs that are let go of.
+    pub fn collect(&mut self) -> Option<Settled>
+        ensures settled { IfSome result (λ told. HasSettled told self.old self.new) }
+        ensures none { IfNone result (self.new ≡ self.old) }
+        ensures goes { AreOfBatches self.old.worker.seat.lane.posted (take self.new.returned self.new.jobs) → Goes unchanged self.old self.new }
+    {
+        if !self.is_waiting {
+            return None;
+        }
+        let Some(outcome) = self.worker.collect() else {
+            return None;
+        };
+        self.is_waiting = false;
+        Some(settle(
+            outcome,
+            &mut self.returned,
+            &mut self.jobs,
+            &mut self.is_down,
+            MOST_JOBS,
+        ))
+    }
+}

@@ -1,0 +1,91 @@
+// A worker's desk: what a worker on a thread keeps of its connections, its jobs and its node.
+ghost use Rattle.std.specs.Prelude.{◌≡◌};
+ghost use Rattle.nr_combiner.specs.Workers.{fresh_worker, shared_of};
+ghost use Rattle.nr_worker.specs.Moves.{fresh_desk};
+ghost use Rattle.nr_worker.specs.Working.{fresh_work, without_mark, Reflects};
+
+use nr_combiner::{ServerName, Worker};
+use nr_entry::Job;
+use nr_node::Handed;
+use nr_seats::Seats;
+use nr_taps::Mark;
+use std::alloc::Global;
+use std::marker::Model;
+use std::mem;
+use std::sync::Wait;
+
+/// What a worker on a thread keeps: its place at its node, its connections' seats, the jobs that their bytes asked for and that weren't handed in yet, and its mark.
+#[derive(Drop)]
+pub struct Desk<'a, R, B: ServerName> {
+    pub(crate) alloc: Global,
+    pub(crate) rt: &'a R,
+    pub(crate) worker: Worker<B>,
+    // How many batches were handed in.
+    pub(crate) batches: u64,
+    pub(crate) seats: Seats,
+    // Serials below it may have been opened here.
+    pub(crate) next: u64,
+    // Those of a batch that was handed back, in front of the others.
+    pub(crate) returned: Vec<Job>,
+    pub(crate) jobs: Vec<Job>,
+    // Whether the answer to the last batch wasn't collected.
+    pub(crate) is_waiting: bool,
+    pub(crate) mark: Mark<B>,
+    // What a turn hands out, between two calls none: the vector keeps its memory.
+    pub(crate) pieces: Vec<Handed>,
+    pub(crate) is_down: bool,
+    pub(crate) limit: usize,
+}
+
+impl<'a, R, B: ServerName> Model for Desk<'a, R, B> {
+    ghost use Rattle.std.specs.Prelude.{◌≡◌, ◌++◌, [], length};
+    ghost use Rattle.nr_worker.specs.Working.{WorkState, coded_work, IsKept};
+
+    ghost Value = { WorkState };
+
+    ghost coded = { coded_work };
+
+    ghost view = { λ d. record { worker = d.worker; seats = d.seats; next = d.next; jobs = d.returned.items ++ d.jobs.items; returned = length d.returned.items; mark = d.mark.standing; waiting = d.is_waiting; down = d.is_down; limit = d.limit } };
+
+    ghost invariant = { λ d. IsKept d.batches (record { worker = d.worker; seats = d.seats; next = d.next; jobs = d.returned.items ++ d.jobs.items; returned = length d.returned.items; mark = d.mark.standing; waiting = d.is_waiting; down = d.is_down; limit = d.limit }) × (d.pieces.items ≡ []) };
+}
+
+impl<'a, R: Wait, B: ServerName> Desk<'a, R, B> {
+    /// The desk of a worker that has handed in nothing, with no connections. At most `limit` bytes wait for each that is opened. It takes no memory.
+    pub fn new(alloc: Global, rt: &'a R, worker: Worker<B>, limit: usize) -> Desk<'a, R, B>
+        requires { worker ≡ fresh_worker (shared_of worker) worker.seat.worker }
+        ensures fresh { result ≡ fresh_work worker limit }
+        ensures reflects { Reflects result (fresh_desk worker.node worker.seat.worker) }
+    {
+        Desk {
+            alloc,
+            rt,
+            worker,
+            batches: 0,
+            seats: Seats::new(alloc),
+            next: 0,
+            returned: Vec::new(alloc),
+            jobs: Vec::new(alloc),
+            is_waiting: false,
+            mark: Mark::new(),
+            pieces: Vec::new(alloc),
+            is_down: false,
+            limit,
+        }
+    }
+
+    /// The number of its node.
+    pub fn node(&self) -> usize
+        ensures { result ≡ self.now.worker.node }
+    {
+        self.worker.shared().node()
+    }
+
+    /// Its mark, in whose place it has one that keeps nothing: for when it ends. Constant.
+    pub fn take_mark(&mut self) -> Mark<B>
+        ensures mark { result.standing ≡ self.old.mark }
+        ensures left { self.new ≡ without_mark self.old }
+    {
+        mem::replace(&mut self.mark, Mark::new())
+    }
+}

@@ -1,0 +1,91 @@
+// Jobs are handed in.
+ghost use Rattle.std.specs.Prelude.{◌≡◌, ◌≢◌, ◌==◌, ◌+◌, ◌++◌, ◌^◌, ◌<◌, ◌≤◌, take, drop, length, [], true, false, IsSome, IfSome, IfNone};
+ghost use Rattle.std.specs.Bool.{OnTrue, OnFalse};
+ghost use Rattle.nr_combiner.specs.Workers.{HasPosted};
+ghost use Rattle.nr_worker.specs.Working.{due, unchanged, Goes, HandsIn};
+
+use crate::desk::Desk;
+use nr_combiner::{MOST_JOBS, ServerName, Worker};
+use nr_entry::Job;
+use std::alloc::Global;
+use std::mem;
+use std::sync::Wait;
+
+// Takes the first jobs, at most so many, and none where memory runs out. Linear in those that are left, and nothing is copied where none are.
+fn take_front(alloc: Global, jobs: &mut Vec<Job>, most: usize) -> Option<Vec<Job>>
+    ensures front { IfSome result (λ front. front.items ≡ take most jobs.old.items) }
+    ensures behind { IfSome result (λ front. jobs.new.items ≡ drop most jobs.old.items) }
+    ensures few { IfSome result (λ front. length front.items ≤ most) }
+    ensures same { IfNone result (jobs.new.items ≡ jobs.old.items) }
+    ensures all { length jobs.old.items ≤ most → IsSome result }
+{
+    if jobs.len() <= most {
+        return Some(mem::replace(jobs, Vec::new(alloc)));
+    }
+    let Ok(behind) = jobs.split_off(most) else {
+        return None;
+    };
+    Some(mem::replace(jobs, behind))
+}
+
+// Takes those that were handed back, else the first of the others.
+fn take_due(
+    alloc: Global,
+    returned: &mut Vec<Job>,
+    jobs: &mut Vec<Job>,
+    most: usize,
+) -> Option<Vec<Job>>
+    requires few { length returned.old.items ≤ most }
+    ensures front { IfSome result (λ front. front.items ≡ take (due most (length returned.old.items)) (returned.old.items ++ jobs.old.items)) }
+    ensures behind { IfSome result (λ front. jobs.new.items ≡ drop (due most (length returned.old.items)) (returned.old.items ++ jobs.old.items)) }
+    ensures few { IfSome result (λ front. length front.items ≤ most) }
+    ensures none { IfSome result (λ front. returned.new.items ≡ []) }
+    ensures same { IfNone result ((returned.new.items ≡ returned.old.items) × (jobs.new.items ≡ jobs.old.items)) }
+    ensures all { length (returned.old.items ++ jobs.old.items) ≤ most → IsSome result }
+{
+    if returned.is_empty() {
+        return take_front(alloc, jobs, most);
+    }
+    Some(mem::replace(returned, Vec::new(alloc)))
+}
+
+// Hands jobs in as the next batch.
+fn hand_in<B: ServerName>(worker: &mut Worker<B>, jobs: Vec<Job>)
+    requires few { length jobs.items ≤ MOST_JOBS }
+    requires answered { length worker.old.seat.lane.posted ≡ length worker.old.seat.lane.collected }
+    requires counted { worker.old.next + 1 < 2 ^ 64 }
+    ensures { HasPosted jobs.items worker.old worker.new }
+{
+    let _posted = worker.post(jobs);
+}
+
+impl<'a, R: Wait, B: ServerName> Desk<'a, R, B> {
+    // Whether no jobs wait.
+    fn has_none(&self) -> bool
+        ensures { result ≡ (length self.now.jobs == 0) }
+    {
+        self.returned.is_empty() && self.jobs.is_empty()
+    }
+
+    /// Hands the first jobs that wait in as the next batch, those of a batch that was handed back, else at most [`MOST_JOBS`]: one load and one store. False where
+    /// none wait, the answer to the last batch wasn't collected, a u64 doesn't count the batches, or memory runs out: then nothing changes. Linear in the jobs that
+    /// are left, and nothing is copied where none are.
+    #[tactic(auto, using(crate::proofs::Batched::stays))]
+    pub fn post(&mut self) -> bool
+        ensures posted { OnTrue result (HandsIn MOST_JOBS self.old self.new) }
+        ensures same { OnFalse result (self.new ≡ self.old) }
+        ensures told { self.old.waiting ≡ false → self.old.jobs ≢ [] → length self.old.jobs ≤ MOST_JOBS → self.old.worker.next + 1 < 2 ^ 64 → result ≡ true }
+        ensures goes { Goes unchanged self.old self.new }
+    {
+        if self.is_waiting || self.has_none() || self.batches == u64::MAX {
+            return false;
+        }
+        let Some(jobs) = take_due(self.alloc, &mut self.returned, &mut self.jobs, MOST_JOBS) else {
+            return false;
+        };
+        hand_in(&mut self.worker, jobs);
+        self.batches += 1;
+        self.is_waiting = true;
+        true
+    }
+}

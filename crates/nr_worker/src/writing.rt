@@ -1,0 +1,39 @@
+// What waits for a connection is written to it.
+ghost use Rattle.std.specs.Prelude.{◌≡◌, ◌≤◌, is_some, length};
+ghost use Rattle.nr_seats.specs.Placed.{pending_here, seat_at};
+ghost use Rattle.nr_worker.specs.Working.{unchanged, Goes, Writes};
+
+use crate::desk::Desk;
+use nr_combiner::ServerName;
+use std::sync::Wait;
+
+impl<'a, R: Wait, B: ServerName> Desk<'a, R, B> {
+    /// Whether the connection of its node with this serial is open here. Logarithmic.
+    pub fn is_open(&self, serial: u64) -> bool
+        ensures { result ≡ is_some (seat_at serial self.now.seats) }
+    {
+        self.seats.is_open(serial)
+    }
+
+    /// The bytes that were handed out for it and aren't written yet; none where it isn't open here. Logarithmic.
+    pub fn pending(&self, serial: u64) -> &[u8]
+        ensures { result.now ≡ pending_here (seat_at serial self.now.seats) }
+    {
+        self.seats.pending(serial)
+    }
+
+    /// So many of these were written, and are let go of. Logarithmic.
+    pub fn written(&mut self, serial: u64, count: usize)
+        requires { count ≤ length (pending_here (seat_at serial self.old.seats)) }
+        ensures written { Writes serial count self.old self.new }
+        ensures goes { Goes unchanged self.old self.new }
+    {
+        self.seats.written(serial, count);
+    }
+
+    /// The serial of a connection for which the last turn handed something out, the first at place 0 and so on. A hint: one may be missing where there was no memory
+    /// to tell of it. Constant.
+    pub fn told(&self, place: usize) -> Option<u64> {
+        self.seats.told(place)
+    }
+}
