@@ -16,7 +16,7 @@ use Rattle.nr_accounts.specs.Book.{refusal_of, is_in_order}
 use Rattle.nr_accounts.specs.Held.{has_stranger}
 use Rattle.nr_accounts.proofs.Batches.{all_of_due}
 use Rattle.nr_slots.specs.declared.view.Desk.{Desk}
-use Rattle.nr_slots.specs.Names.{IsUnanswered, IsForLast, Names}
+use Rattle.nr_slots.specs.Names.{IsBackOf, IsUnanswered, IsForLast, Names}
 use Rattle.nr_slots.specs.Rule.{no_desk}
 use Rattle.nr_slots.specs.Seats.{CombinerView, FoundNone, desk_of, with_lifted, with_answered}
 use Rattle.nr_node.specs.Batches.{AreSame, refusal, refused_by}
@@ -108,12 +108,35 @@ back_kept n m seat after last numbers worker batch back why answer near idle m_i
     let whole : last ≡ with_answered worker answer (with_lifted worker batch seat) = last_is ∙ ap (with_answered worker answer) is in
     subst (λ (x : NodeState). IsServed x last numbers) (sym m_is) (subst (λ (v : CombinerView). IsServed n v numbers) (sym whole) there)
 
+-- the jobs of a batch that is refused come back
+back_of : (why : TakeError) (o : Outcome) (jobs lifted : List Job) → IsOutcomeOf why jobs o → jobs ≡ lifted → IsBackOf o lifted
+back_of why Executed jobs lifted is same = absurd is
+back_of why Down jobs lifted is same = tt
+back_of why (Refused reason back) jobs lifted is same = is.1 ∙ same
+
+-- the answer to a batch that was refused is for the one that was lifted last
+pub is_for_refused : (answer : Answer) (batch lifted : Batch) (why : TakeError) (batches : List Batch) (answers : List Answer) → AreSame batch lifted
+    → IsUnanswered lifted batches answers → answer.node ≡ batch.node → answer.worker ≡ batch.worker → answer.batch ≡ batch.number
+    → IsOutcomeOf why batch.jobs.items answer.outcome → IsForLast answer batches answers
+is_for_refused answer batch lifted why batches answers same last node worker number told = (
+  last.0,
+  lifted,
+  last.1,
+  last.2,
+  (node ∙ same.0, worker ∙ same.1, number ∙ same.2, back_of why answer.outcome batch.jobs.items lifted.jobs.items told same.3),
+)
+
+pub names_refused : (answer : Answer) (batch : Batch) (why : TakeError) → answer.node ≡ batch.node → answer.worker ≡ batch.worker
+    → answer.batch ≡ batch.number → IsOutcomeOf why batch.jobs.items answer.outcome → Names answer batch
+names_refused answer batch why node worker number told =
+    (node, worker, number, back_of why answer.outcome batch.jobs.items batch.jobs.items told refl)
+
 pub hands_back : (c d : CombinerState) (after : CombinerView) (worker : ℕ) (batch back : Batch) (why : TakeError) (answer : Answer)
     → IsRefusedFor worker c.node batch why → AreSame back batch → d.node ≡ c.node → after ≡ with_lifted worker batch c.seat → d.seat ≡ with_answered worker answer after
     → d.taken ≡ c.taken → Names answer back → IsOutcomeOf why back.jobs.items answer.outcome → HandsBack worker batch answer why c d
 hands_back c d after worker batch back why answer refused same node is last taken names told = record {
   refused = refused;
-  names = (names.0 ∙ same.0, names.1 ∙ same.1, names.2 ∙ same.2);
+  names = (names.0 ∙ same.0, names.1 ∙ same.1, names.2 ∙ same.2, subst (λ (jobs : List Job). IsBackOf answer.outcome jobs) same.3 names.3);
   outcome = subst (λ (jobs : List Job). IsOutcomeOf why jobs answer.outcome) same.3 told;
   node = node;
   seat = last ∙ ap (with_answered worker answer) is;
@@ -151,13 +174,14 @@ up_executed (Some owed) true x e is = absurd (cc (e, is))
 up_executed (Some owed) false x e is = refl
 
 -- it is the one that the desk holds
-pub is_held : (n : NodeState) (seat : CombinerView) (numbers : List ℕ) (worker : ℕ) (answer : Answer) (o : Outcome) → worker < length seat.desks
-    → answer_of n worker ≡ Some o → answer.node ≡ n.book.node → answer.worker ≡ worker → answer.batch ≡ get_or numbers worker 0
+pub is_held : (n : NodeState) (seat : CombinerView) (numbers : List ℕ) (worker : ℕ) (answer : Answer) → worker < length seat.desks
+    → answer_of n worker ≡ Some answer.outcome → answer.node ≡ n.book.node → answer.worker ≡ worker → answer.batch ≡ get_or numbers worker 0
     → IsServed n seat numbers → IsForLast answer (desk_of seat worker).lifted (desk_of seat worker).answered
-is_held n seat numbers worker answer o near known node named number s =
-    let some = owes (owed_at worker n) n.replica.down o known in
+is_held n seat numbers worker answer near known node named number s =
+    let some = owes (owed_at worker n) n.replica.down answer.outcome known in
     is_last n worker (get_or numbers worker 0) (desk_of seat worker) answer
     (holds_some n seat numbers worker some.0 (near_of n seat numbers worker near s) some.1 s) node named number
+    (told_by (owed_at worker n) n.replica.down answer.outcome known)
 
 pub answered_kept : (n m : NodeState) (seat after : CombinerView) (numbers : List ℕ) (worker : ℕ) (answer : Answer) → worker < length seat.desks
     → answer_of n worker ≡ Some answer.outcome → m ≡ answered_node worker n → after ≡ with_answered worker answer seat

@@ -10,14 +10,16 @@ use Rattle.nr_model.proofs.NodesExecutedGrows.{begins_itself}
 use Rattle.nr_entry.specs.Jobs.{items_of}
 use Rattle.nr_entry.specs.declared.batch.Batch.{Batch}
 use Rattle.nr_entry.specs.declared.batch.Answer.{Answer}
-use Rattle.nr_entry.specs.declared.batch.Outcome.TheVariants.{Executed}
+use Rattle.nr_entry.specs.declared.batch.Outcome.{Outcome}
+use Rattle.nr_entry.specs.declared.batch.Outcome.TheVariants.{Executed, Refused, Down}
+use Rattle.nr_entry.specs.declared.job.Job.{Job}
 use Rattle.nr_log_end.specs.Standings.{record_of}
 use Rattle.nr_accounts.specs.Held.{takes_all}
 use Rattle.nr_replica.specs.Members.{jobs_of_worker}
 use Rattle.nr_slots.specs.declared.view.Desk.{Desk}
 use Rattle.nr_slots.specs.Seats.{CombinerView, desk_of, with_lifted, with_answered}
 use Rattle.nr_slots.specs.Rule.{no_desk}
-use Rattle.nr_slots.specs.Names.{IsForLast}
+use Rattle.nr_slots.specs.Names.{IsBackOf, IsForLast}
 use Rattle.nr_node.specs.Level.{NodeState}
 use Rattle.nr_node.specs.Owing.{IsServedBy, unexecuted}
 use Rattle.nr_node.specs.Steps.{taken_node}
@@ -154,11 +156,23 @@ back_served n seat numbers worker batch answer near idle other s =
     (of_lifted n n seat.desks v.desks (λ w job own. own) refl
     (λ w b is. subst (λ (ds : List Desk). IsLifted ds w b) (sym desks_is) (back_lifted seat worker batch answer near' even w b is))) n s.handed_in) s)
 
+-- nothing comes back of one that isn't refused
+none_back : (o : Outcome) (jobs : List Job) → IsNoRefusal o → IsBackOf o jobs
+none_back Executed jobs none = tt
+none_back Down jobs none = tt
+none_back (Refused why back) jobs none = absurd none
+
 -- the answer is for the batch that the desk holds
 pub is_last : (n : NodeState) (worker number : ℕ) (desk : Desk) (answer : Answer) → HoldsBatch n worker number desk
-    → answer.node ≡ n.book.node → answer.worker ≡ worker → answer.batch ≡ number → IsForLast answer desk.lifted desk.answered
-is_last n worker number desk answer h node named batch =
-    (h.before, h.batch, h.lifted, h.answered, (node ∙ sym h.named.0, named ∙ sym h.named.1, batch ∙ sym h.named.2))
+    → answer.node ≡ n.book.node → answer.worker ≡ worker → answer.batch ≡ number → IsNoRefusal answer.outcome
+    → IsForLast answer desk.lifted desk.answered
+is_last n worker number desk answer h node named batch none = (
+  h.before,
+  h.batch,
+  h.lifted,
+  h.answered,
+  (node ∙ sym h.named.0, named ∙ sym h.named.1, batch ∙ sym h.named.2, none_back answer.outcome h.batch.jobs.items none),
+)
 
 -- something is owed where a desk holds a batch
 pub holds_some : (n : NodeState) (seat : CombinerView) (numbers : List ℕ) (worker owed : ℕ) → worker < length n.replica.owed → owed_at worker n ≡ Some owed

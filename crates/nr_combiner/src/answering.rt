@@ -45,6 +45,8 @@ pub struct Turned {
     pub others: u16,
     /// Whether an entry is due still: updates lead.
     pub leads_update: bool,
+    /// Whether the batch of the worker itself was answered, also by its coming back: then what is emitted for it was handed out behind that.
+    pub is_answered: bool,
 }
 
 /// What came of handing out what waits for a worker's connections, without a turn.

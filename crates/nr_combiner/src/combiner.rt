@@ -226,6 +226,7 @@ impl<B: ServerName> Combiner<B> {
             has_put: combined.has_put,
             others,
             leads_update,
+            is_answered: is_marked(combined.answered, worker),
         };
         Told {
             turned,
@@ -429,6 +430,11 @@ fn marked(bits: u16, worker: usize, is_set: bool) -> u16 {
     } else {
         bits
     }
+}
+
+// Whether the bit of a worker is set.
+fn is_marked(bits: u16, worker: usize) -> bool {
+    worker < 16 && bits & (1 << worker) != 0
 }
 
 // Whether an entry was put into the log, by whether one was due.

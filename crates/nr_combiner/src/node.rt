@@ -20,8 +20,27 @@ use nr_oplog::{Oplog, Token};
 use nr_replica::Piece;
 use nr_slots::Slots;
 use std::alloc::Global;
+use std::hint;
 use std::marker::Model;
-use std::sync::{Arc, Mutex, Wait};
+use std::sync::{Arc, Mutex, MutexGuard, Wait};
+
+/// How often a node's lock is tried before it is waited for: some 20 microseconds.
+const TRIES: u32 = 400;
+
+// Takes a node's lock. It is tried for a while first: who waits for it is put to sleep by the system and woken again, which takes longer than most turns, and
+// those that come meanwhile queue behind.
+fn hold<'n, R: Wait, B: ServerName>(
+    rt: &R,
+    combiner: &'n Mutex<Combiner<B>>,
+) -> MutexGuard<'n, Combiner<B>> {
+    for _ in 0..TRIES {
+        if let Some(held) = combiner.try_lock() {
+            return held;
+        }
+        hint::spin_loop();
+    }
+    combiner.lock(rt)
+}
 
 /// A node, as its workers share it. Each call takes its lock once, for as long as its work takes. Contracts see which it is, its slots and its limits: what stands
 /// behind the lock changes between any two calls, so what they say of it is what was handed out.
@@ -85,6 +104,12 @@ impl<B: ServerName> Node<B> {
         &self.log
     }
 
+    /// The same, to be held beside the nodes.
+    pub fn share_log(&self) -> Result<Arc<Oplog<B>, Global>, Memory> {
+        let log = Arc::try_clone(&self.log)?;
+        Ok(log)
+    }
+
     /// The slots in which its workers hand in their batches.
     pub fn slots(&self) -> &Slots
         ensures slots { result.now ≡ self.now.slots }
@@ -105,7 +130,7 @@ impl<B: ServerName> Node<B> {
         ensures sound { IfOk result (λ told. IsSound told.token.standing × (told.token.standing.node ≡ self.now.node)) }
         ensures named { IfOk result (λ told. told.note.slots ≡ B.slots self.now.node) }
     {
-        let mut combiner = self.combiner.lock(rt);
+        let mut combiner = hold(rt, &self.combiner);
         if combiner.node() != self.node() {
             return Err(OpenError::Down);
         }
@@ -155,7 +180,7 @@ impl<B: ServerName> Node<B> {
         ensures named { IfSome result (λ told. told.note.slots ≡ B.slots self.now.node) }
         ensures none { IfNone result (taken.new.items ≡ taken.old.items) }
     {
-        let mut combiner = self.combiner.lock(rt);
+        let mut combiner = hold(rt, &self.combiner);
         if combiner.node() != self.node {
             return None;
         }
@@ -180,7 +205,7 @@ impl<B: ServerName> Node<B> {
         ensures named { IfSome result (λ told. told.note.slots ≡ B.slots self.now.node) }
         ensures none { IfNone result (taken.new.items ≡ taken.old.items) }
     {
-        let mut combiner = self.combiner.lock(rt);
+        let mut combiner = hold(rt, &self.combiner);
         if self.node != combiner.node() {
             return None;
         }

@@ -32,7 +32,7 @@ pub enum Closed {
 pub struct Seats {
     alloc: Global,
     by_serial: BTreeMap<u64, Seat>,
-    // For which serials something was handed out last. A hint.
+    // For which serials something was handed out since this was forgotten last, one behind the other. A hint.
     told: Vec<u64>,
 }
 
@@ -110,21 +110,26 @@ impl Seats {
     }
 
     /// Puts each piece at its connection's seat, in their order, as [`Seat::take_in`] does; a piece for a connection that isn't open is lost. None
-    /// is left, and the vector keeps its memory. These connections are told from now on, and no others. Logarithmic for each piece, and linear in
-    /// the bytes.
+    /// is left, and the vector keeps its memory. These connections are told of too from now on. Logarithmic for each piece, and linear in the bytes.
     #[tactic(auto, using(crate::proofs::Growing::accepting_none, crate::proofs::Growing::accepting_more, crate::proofs::Growing::accepting_all))]
     pub fn put_each(&mut self, pieces: &mut Vec<Handed>, limit: usize)
         ensures accepts { Accepts limit (map portion_of pieces.old.items) self.old self.new }
         ensures none { pieces.new.items ≡ [] }
     {
-        self.told.clear();
         for piece in pieces.drain(..) {
             self.put(piece, limit);
         }
     }
 
-    /// The serial of a connection for which something was handed out last, the first at place 0 and so on. A hint: one of which there was no
-    /// memory to tell is missing.
+    /// No connection is told of any more.
+    pub fn forget_told(&mut self)
+        ensures { self.new ≡ self.old }
+    {
+        self.told.clear();
+    }
+
+    /// The serial of a connection for which something was handed out since this was forgotten last, the first at place 0 and so on; one may be there more than
+    /// once. A hint: one of which there was no memory to tell is missing.
     pub fn told(&self, place: usize) -> Option<u64> {
         self.told.get(place).copied()
     }

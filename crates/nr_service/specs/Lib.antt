@@ -2,6 +2,7 @@ pub mod Streams
 pub mod Stories
 pub mod Readings
 pub mod Devices
+pub mod Dealt
 pub mod Serving
 pub mod Steps
 pub mod Arriving

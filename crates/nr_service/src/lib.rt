@@ -4,16 +4,18 @@
 
 pub use answers::{Answers, Standing};
 pub use client::{Client, Ending};
+pub use dealing::{Accepts, Rings, Silent};
 pub use device::{Device, Nowhere, Ready};
 pub use ended::Ended;
 pub use gate::{Gate, Go, Open};
 pub use moments::{MachineClock, Moments};
-pub use service::Service;
+pub use service::{Service, read_buffer};
 pub use stream::{Received, Sent, Stream};
 
 mod accepting;
 mod answers;
 mod client;
+mod dealing;
 mod device;
 mod ended;
 mod gate;

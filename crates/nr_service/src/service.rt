@@ -62,6 +62,16 @@ fn moment_now<M: Moments>(clock: &mut M, moment: u64) -> u64
     clock.now().unwrap_or(moment)
 }
 
+/// Room for the bytes that a service reads at once, 65,536.
+///
+/// # Errors
+///
+/// `Memory` where there is none.
+pub fn read_buffer(alloc: Global) -> Result<Vec<u8>, Memory> {
+    let buffer = vec![in alloc; 0; MOST_ROOM]?;
+    Ok(buffer)
+}
+
 // Has all work done.
 fn work<A: Answers>(answers: &mut A, signs: &mut Signs) -> Result<(), Memory>
     ensures all { signs.new.is_all ≡ signs.old.is_all }
@@ -150,8 +160,35 @@ where
         ensures accepted { IfOk result (λ service. service.accepted ≡ 0) }
         ensures until { IfOk result (λ service. service.until ≡ 0) }
     {
-        let buffer = vec![in alloc; 0; MOST_ROOM]?;
-        Ok(Service {
+        let buffer = read_buffer(alloc)?;
+        Ok(Self::over(alloc, buffer, node, worker, answers, device, clock, limit))
+    }
+
+    /// A service without a client, of what answers and was fed nothing yet, with room that was taken before. It takes no memory.
+    pub fn over(
+        alloc: Global,
+        buffer: Vec<u8>,
+        node: usize,
+        worker: usize,
+        answers: A,
+        device: D,
+        clock: M,
+        limit: usize,
+    ) -> Self
+        ensures node { result.node ≡ node }
+        ensures worker { result.worker ≡ worker }
+        ensures answers { result.answers ≡ answers }
+        ensures serving { (setup : Setup) → A.is_past answers (beginning setup)
+            → IsServing S.received S.sent S.course M.gives A.is_past A.kept D.parted clock setup result }
+        ensures none { result.clients.items ≡ [] }
+        ensures device { result.device ≡ device }
+        ensures clock { result.clock ≡ clock }
+        ensures moment { result.moment ≡ 0 }
+        ensures limit { result.limit ≡ limit }
+        ensures accepted { result.accepted ≡ 0 }
+        ensures until { result.until ≡ 0 }
+    {
+        Service {
             answers,
             device,
             clock,
@@ -164,7 +201,7 @@ where
             until: 0,
             buffer,
             signs: Signs::new(alloc),
-        })
+        }
     }
 
     /// Serves a stream from now on, on which nothing was received or sent yet. False where there was no room for it: then it is abandoned.
@@ -308,16 +345,18 @@ where
         Ok(())
     }
 
-    /// What answers, and the clients that are left.
-    pub fn into_parts(self) -> (A, Vec<Client<S>>)
-        ensures { result ≡ (self.answers, self.clients) }
+    /// What answers, the device, the clock, and the clients that are left.
+    pub fn into_parts(self) -> (A, D, M, Vec<Client<S>>)
+        ensures { result ≡ (self.answers, self.device, self.clock, self.clients) }
     {
         let Service {
             answers,
+            device,
+            clock,
             clients,
             ..
         } = self;
-        (answers, clients)
+        (answers, device, clock, clients)
     }
 
     // Takes a turn, and ends once every node is down and no client is left, or as many turns were taken since as may be.

@@ -3,12 +3,21 @@ use Rattle.std.specs.Prelude.{◌≡◌, ◌≤◌, List, [], ◌∷◌, ◌++�
 use Rattle.nr_model.specs.Bytes.{IsBeginningOf}
 use Rattle.nr_entry.specs.declared.batch.Batch.{Batch}
 use Rattle.nr_entry.specs.declared.batch.Answer.{Answer}
+use Rattle.nr_entry.specs.declared.batch.Outcome.{Outcome}
+use Rattle.nr_entry.specs.declared.batch.Outcome.TheVariants.{Executed, Down, Refused}
+use Rattle.nr_entry.specs.declared.job.Job.{Job}
 use Rattle.nr_slots.specs.declared.view.Lane.{Lane}
 use Rattle.nr_slots.specs.declared.view.Desk.{Desk}
 
--- an answer names a batch by its node, its worker and its number
+-- where a batch comes back it is with these jobs
+abbrev pub IsBackOf : Outcome → List Job → Type 0
+IsBackOf Executed jobs = Unit {0}
+IsBackOf Down jobs = Unit {0}
+IsBackOf (Refused why back) jobs = back.items ≡ jobs
+
+-- an answer names a batch by its node, its worker and its number, and hands back no other jobs
 abbrev pub Names : Answer → Batch → Type 0
-Names answer batch = (answer.node ≡ batch.node) × (answer.worker ≡ batch.worker) × (answer.batch ≡ batch.number)
+Names answer batch = (answer.node ≡ batch.node) × (answer.worker ≡ batch.worker) × (answer.batch ≡ batch.number) × IsBackOf answer.outcome batch.jobs.items
 
 -- the answer is for the last of these batches, and all batches before it have their answers
 abbrev pub IsForLast : Answer → List Batch → List Answer → Type 0

@@ -1,6 +1,6 @@
 -- A desk stands for a worker of the law once a connection was opened.
 use Rattle.std.proofs.Common.{◌≡◌, ℕ, ◌+◌, ◌<◌, ◌≤◌, true, false, List, [], ◌∷◌, ◌++◌, Contains, Option, Some, None, refl, ap, sym, ◌∙◌, subst, arith}
-use Rattle.std.specs.Prelude.{◌≢◌}
+use Rattle.std.specs.Prelude.{◌≢◌, is_some}
 use Rattle.std.specs.List.{AllByRecursion}
 use Rattle.std.proofs.lemmas.List.Elements.{Contains-append_left}
 use Rattle.nr_model.specs.Items.{Connection, Item, same_connection}
@@ -17,7 +17,7 @@ use Rattle.nr_combiner.specs.Workers.{WorkerState}
 use Rattle.nr_taps.specs.Marks.{Adopts}
 use Rattle.nr_taps.specs.Taps.{HaveMet}
 use Rattle.nr_seats.specs.Seated.{SeatState, fresh_seat}
-use Rattle.nr_seats.specs.Placed.{IsPut, SeatsState}
+use Rattle.nr_seats.specs.Placed.{IsPut, SeatsState, seat_at}
 use Rattle.nr_seats.specs.Portions.{EachSeat, seat_of}
 use Rattle.nr_seats.proofs.Putting.{each_put, named, seat_here, seat_others}
 use Rattle.nr_worker.specs.Desk.{AllPosted, DeskState, IsAskedBy, IsLed, Served, asked_of}
@@ -174,20 +174,24 @@ opened_goes v seats mark conn s is later knows sound adopted met put =
           (subst (λ (m : Option Standing). Adopts m s mark) (sym r.mark) adopted) (subst (λ (m : Option Standing). HaveMet m (Some s)) (sym r.mark) met);
     })
 
+none_there : (o : Option SeatState) → is_some o ≡ false → o ≡ None
+none_there None absent = refl
+none_there (Some s) absent = absurd (cc absent)
+
 -- of the worker as opening left it
 pub opened_by : (v u : WorkState) (worker : WorkerState) (seats : SeatsState) (mark : Option Standing) (conn : ConnId) (s : Standing) (next : ℕ) → u ≡ v
-    → worker ≡ u.worker → u.next ≤ conn.serial → next ≡ conn.serial + 1 → KnowsOpened u.worker.seat.worker conn s u.worker.seat.lane
+    → worker ≡ u.worker → u.next ≤ conn.serial → is_some (seat_at conn.serial u.seats) ≡ false → next ≡ conn.serial + 1 → KnowsOpened u.worker.seat.worker conn s u.worker.seat.lane
     → IsSound s × (s.node ≡ u.worker.node) → Adopts u.mark s mark → HaveMet u.mark (Some s)
     → IsPut conn.serial (Some (fresh_seat (connection_of conn))) u.seats seats
     → let w : WorkState = record u { worker = worker; seats = seats; next = next; mark = mark } in
     OpensAt (connection_of conn) v w × Goes (one_opened (connection_of conn)) v w
-opened_by v u worker seats mark conn s next same still later next_is knows sound adopted met put =
+opened_by v u worker seats mark conn s next same still later absent next_is knows sound adopted met put =
     let w : WorkState = record u { worker = worker; seats = seats; next = next; mark = mark } in
     let w_is : w ≡ record u { seats = seats; next = conn.serial + 1; mark = mark } =
     λ i. record u { worker = still i; seats = seats; next = next_is i; mark = mark } in
     let node : conn.node ≡ u.worker.node = knows.serves.node ∙ sound.1 in
     let is : connection_of conn ≡ named u.worker.node conn.serial = λ i. record { node = node i; serial = conn.serial } in
     subst (λ (x : WorkState). OpensAt (connection_of conn) x w × Goes (one_opened (connection_of conn)) x w) same (
-      record { node = node; later = later; put = put; changed = w_is },
+      record { node = node; later = later; absent = none_there (seat_at conn.serial u.seats) absent; put = put; changed = w_is },
       subst (Goes (one_opened (connection_of conn)) u) (sym w_is) (opened_goes u seats mark conn s is later knows sound adopted met put),
     )

@@ -1,16 +1,17 @@
 -- A desk stands for the same worker of the law once its batch was answered.
-use Rattle.std.proofs.Common.{◌<◌, ◌≡◌, ℕ, Bool, true, false, cond, List, [], ◌∷◌, ◌++◌, take, length, Contains, refl, ap, sym, ◌∙◌, subst}
+use Rattle.std.proofs.Common.{◌<◌, ◌≡◌, ℕ, Bool, true, false, cond, List, [], ◌∷◌, ◌++◌, length, Contains, refl, ap, sym, ◌∙◌, subst}
 use Rattle.std.specs.Prelude.{nat_le}
 use Rattle.std.specs.List.{AllByRecursion}
-use Rattle.std.proofs.Math.Seq.{take-append_seam}
 use Rattle.std.proofs.lemmas.List.{map-append}
 use Rattle.nr_model.specs.Items.{Item}
 use Rattle.nr_model.proofs.JobLists.{All-append}
+use Rattle.nr_model.proofs.NodesExecutedLists.{in_middle}
 use Rattle.nr_entry.specs.Jobs.{item_of, items_of}
 use Rattle.nr_entry.specs.declared.batch.Batch.{Batch}
 use Rattle.nr_entry.specs.declared.batch.Outcome.{Outcome}
 use Rattle.nr_entry.specs.declared.batch.Outcome.TheVariants as outcomes
 use Rattle.nr_entry.specs.declared.job.Job.{Job}
+use Rattle.nr_slots.specs.Names.{IsBackOf}
 use Rattle.nr_combiner.specs.Workers.{HasCollected, WorkerState}
 use Rattle.nr_combiner.specs.declared.worker.TheConstants.{MOST_JOBS}
 use Rattle.nr_seats.specs.Portions.{EachSeat}
@@ -19,6 +20,7 @@ use Rattle.nr_worker.specs.Settling.{AreOfBatches, IsOfBatch, back_of, down_of, 
 use Rattle.nr_worker.specs.Working.{Goes, IsBelow, IsSeated, IsToPost, WorkState, unchanged}
 use Rattle.nr_worker.proofs.Batched.{goes_nowhere}
 use Rattle.nr_worker.proofs.Lists.{all_weaker, posted_at}
+use Rattle.nr_worker.proofs.Portioned.{all_of}
 
 -- a job that was posted may be posted again
 to_post_again : (d : DeskState) → IsLed d → (job : Item) → IsOfBatch d.posted job → IsToPost d.served job
@@ -75,15 +77,29 @@ left_keeps most outcomes.Down jobs P all = tt
 left_keeps most (outcomes.Refused why back) jobs P all =
     elim (nat_le (length back.items) most) as (λ b. AllByRecursion P (items_of (cond b jobs []))) [ true ↦ all | false ↦ tt ]
 
+-- jobs that come back are of the batch that was posted last
+are_of_batch : (posted : List Batch) (batch : Batch) (jobs : List Job) → Contains posted batch → jobs ≡ batch.jobs.items → AreOfBatches posted jobs
+are_of_batch posted batch jobs there same =
+    all_of (IsOfBatch posted) (items_of jobs)
+    (λ job has. record { batch = batch; there = there; has = subst (λ (js : List Job). Contains (items_of js) job) same has })
+
+back_batched : (most : ℕ) (outcome : Outcome) (posted : List Batch) (batch : Batch) → Contains posted batch → IsBackOf outcome batch.jobs.items
+    → AreOfBatches posted (back_of most outcome)
+back_batched most outcomes.Executed posted batch there same = tt
+back_batched most outcomes.Down posted batch there same = tt
+back_batched most (outcomes.Refused why back) posted batch there same =
+    elim (nat_le (length back.items) most) as (λ b. AreOfBatches posted (cond b back.items [])) [ true ↦ are_of_batch posted batch back.items there same | false ↦ tt ]
+
 pub collected_goes : (outcome : Outcome) (v : WorkState) (worker : WorkerState) → HasCollected outcome v.worker worker
-    → AreOfBatches v.worker.seat.lane.posted (take (settled_work outcome worker v).returned (settled_work outcome worker v).jobs)
     → Goes unchanged v (settled_work outcome worker v)
-collected_goes outcome v worker c of =
+collected_goes outcome v worker c =
     let back = back_of MOST_JOBS outcome in
     let left = left_of MOST_JOBS outcome v.jobs in
+    let posted = v.worker.seat.lane.posted in
+    let there : Contains posted c.last.1 = subst (λ (bs : List Batch). Contains bs c.last.1) (sym c.last.2) (in_middle c.last.1 c.last.0 []) in
     goes_settled v worker back left (down_of MOST_JOBS outcome v.down) (ap (λ (w : WorkerState). w.node) c.collected)
     (ap (λ (w : WorkerState). w.seat.worker) c.collected) (ap (λ (w : WorkerState). w.seat.lane.posted) c.collected) (left_keeps MOST_JOBS outcome v.jobs)
-    (subst (AreOfBatches v.worker.seat.lane.posted) (take-append_seam back left) of)
+    (back_batched MOST_JOBS outcome posted c.last.1 there (subst (λ (o : Outcome). IsBackOf o c.last.1.jobs.items) c.says c.last.4.3))
 
 none_left : {A : Type 0} (xs : List A) → length xs ≡ 0 → xs ≡ []
 none_left [] none = refl
@@ -92,16 +108,11 @@ none_left (x ∷ xs) none = absurd (cc none)
 pub settled_by : (v u : WorkState) (outcome : Outcome) (worker : WorkerState) (returned jobs back left : List Job) (down : Bool) → u ≡ v
     → u.jobs ≡ returned ++ jobs → length returned ≡ 0 → HasCollected outcome u.worker worker → back ≡ back_of MOST_JOBS outcome
     → left ≡ left_of MOST_JOBS outcome jobs → down ≡ down_of MOST_JOBS outcome u.down
-    → AreOfBatches v.worker.seat.lane.posted (take (length back) (back ++ left))
     → Goes unchanged v (record u { worker = worker; jobs = back ++ left; returned = length back; waiting = false; down = down })
-settled_by v u outcome worker returned jobs back left down same are none c back_is left_is down_is of =
+settled_by v u outcome worker returned jobs back left down same are none c back_is left_is down_is =
     let w : WorkState = record u { worker = worker; jobs = back ++ left; returned = length back; waiting = false; down = down } in
     let all : u.jobs ≡ jobs = are ∙ ap (λ (r : List Job). r ++ jobs) (none_left returned none) in
     let left_now : left ≡ left_of MOST_JOBS outcome u.jobs = left_is ∙ ap (left_of MOST_JOBS outcome) (sym all) in
     let is : w ≡ settled_work outcome worker u =
     λ i. record u { worker = worker; jobs = back_is i ++ left_now i; returned = length (back_is i); waiting = false; down = down_is i } in
-    subst (λ (x : WorkState). Goes unchanged x w) same
-    (subst (Goes unchanged u) (sym is)
-    (collected_goes outcome u worker c
-    (subst (λ (x : WorkState). AreOfBatches u.worker.seat.lane.posted (take x.returned x.jobs)) is
-    (subst (λ (x : WorkState). AreOfBatches x.worker.seat.lane.posted (take (length back) (back ++ left))) (sym same) of))))
+    subst (λ (x : WorkState). Goes unchanged x w) same (subst (Goes unchanged u) (sym is) (collected_goes outcome u worker c))

@@ -182,6 +182,7 @@ one_opened c served = served ++ record { connection = c; fed = []; closing = Non
 pub record OpensAt (c : Connection) (v w : WorkState) : Type 0 where
   pub node : c.node ≡ v.worker.node
   pub later : v.next ≤ c.serial
+  pub absent : seat_at c.serial v.seats ≡ None
   pub put : IsPut c.serial (Some (fresh_seat c)) v.seats w.seats
   pub changed : w ≡ record v { seats = w.seats; next = c.serial + 1; mark = w.mark }
 

@@ -9,7 +9,7 @@ ghost use Rattle.nr_worker.specs.Working.{all_closed, last_here, last_seen, Clos
 
 use crate::desk::Desk;
 use nr_combiner::ServerName;
-use nr_entry::Job;
+use nr_entry::{ConnId, Job};
 use nr_seats::Closed;
 use std::sync::Wait;
 
@@ -26,7 +26,8 @@ fn put_last(jobs: &mut Vec<Job>, closed: Closed)
 
 impl<'a, R: Wait, B: ServerName> Desk<'a, R, B> {
     /// Closes the connection of its node with this serial, at a moment in milliseconds, at most 2^53: its seat goes, with the bytes that wait for it, and its last job,
-    /// which ends it, waits behind the others, unless its bytes asked for their end before. False where memory runs out: then nothing changes. Logarithmic.
+    /// which ends it, waits behind the others, unless its bytes asked for their end before. Its node, whose lock is taken once, lets go of its queue: its room comes
+    /// back. False where memory runs out: then nothing changes. Logarithmic.
     pub fn close(&mut self, serial: u64, moment: u64) -> bool
         requires in_time { moment ≤ last_moment }
         ensures closed { OnTrue result (Closes serial moment self.old self.new) }
@@ -38,6 +39,8 @@ impl<'a, R: Wait, B: ServerName> Desk<'a, R, B> {
         }
         let closed = self.seats.close(serial, moment);
         put_last(&mut self.jobs, closed);
+        let node = self.worker.shared().node();
+        self.worker.shared().close(self.rt, ConnId { node, serial });
         true
     }
 }

@@ -1,6 +1,6 @@
 // What became of a batch.
-ghost use Rattle.std.specs.Prelude.{◌≡◌, [], true, take, IfSome, IfNone};
-ghost use Rattle.nr_worker.specs.Settling.{back_of, down_of, left_of, settled_of, AreOfBatches, HasSettled};
+ghost use Rattle.std.specs.Prelude.{◌≡◌, [], true, IfSome, IfNone};
+ghost use Rattle.nr_worker.specs.Settling.{back_of, down_of, left_of, settled_of, HasSettled};
 ghost use Rattle.nr_worker.specs.Working.{unchanged, Goes};
 
 use crate::desk::Desk;
@@ -64,7 +64,7 @@ impl<'a, R: Wait, B: ServerName> Desk<'a, R, B> {
     pub fn collect(&mut self) -> Option<Settled>
         ensures settled { IfSome result (λ told. HasSettled told self.old self.new) }
         ensures none { IfNone result (self.new ≡ self.old) }
-        ensures goes { AreOfBatches self.old.worker.seat.lane.posted (take self.new.returned self.new.jobs) → Goes unchanged self.old self.new }
+        ensures goes { Goes unchanged self.old self.new }
     {
         if !self.is_waiting {
             return None;

@@ -21,7 +21,11 @@ impl<'a, R: Wait, B: ServerName> Desk<'a, R, B> {
             Ok(opened) => opened,
             Err(why) => return Err(why),
         };
-        if conn.serial < self.next || conn.serial == u64::MAX || !self.seats.open(conn) {
+        if conn.serial < self.next || conn.serial == u64::MAX || self.seats.is_open(conn.serial) {
+            self.worker.shared().close(self.rt, conn);
+            return Err(OpenError::Memory);
+        }
+        if !self.seats.open(conn) {
             self.worker.shared().close(self.rt, conn);
             return Err(OpenError::Memory);
         }

@@ -1,5 +1,5 @@
 // Jobs are handed in.
-ghost use Rattle.std.specs.Prelude.{◌≡◌, ◌≢◌, ◌==◌, ◌+◌, ◌++◌, ◌^◌, ◌<◌, ◌≤◌, take, drop, length, [], true, false, IsSome, IfSome, IfNone};
+ghost use Rattle.std.specs.Prelude.{◌≡◌, ◌≢◌, ◌==◌, ◌+◌, ◌++◌, ◌^◌, ◌<◌, ◌≤◌, ◌||◌, not, take, drop, length, [], true, false, IsSome, IfSome, IfNone};
 ghost use Rattle.std.specs.Bool.{OnTrue, OnFalse};
 ghost use Rattle.nr_combiner.specs.Workers.{HasPosted};
 ghost use Rattle.nr_worker.specs.Working.{due, unchanged, Goes, HandsIn};
@@ -65,6 +65,13 @@ impl<'a, R: Wait, B: ServerName> Desk<'a, R, B> {
         ensures { result ≡ (length self.now.jobs == 0) }
     {
         self.returned.is_empty() && self.jobs.is_empty()
+    }
+
+    /// Whether jobs wait, or the answer to a batch does.
+    pub fn is_at_work(&self) -> bool
+        ensures { result ≡ (self.now.waiting || not (length self.now.jobs == 0)) }
+    {
+        self.is_waiting || !self.has_none()
     }
 
     /// Hands the first jobs that wait in as the next batch, those of a batch that was handed back, else at most [`MOST_JOBS`]: one load and one store. False where

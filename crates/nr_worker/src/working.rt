@@ -23,4 +23,10 @@ impl<'a, R: Wait, B: ServerName> Desk<'a, R, B> {
         self.seats.put_each(&mut self.pieces, self.limit);
         Some(turned)
     }
+
+    /// A turn of its node's combiner for the other workers of the node, in which nothing is handed out here: for one that serves nobody any more. It takes the lock
+    /// once.
+    pub fn turn_for_others(&self) {
+        let _ = self.worker.shared().combine(self.rt);
+    }
 }

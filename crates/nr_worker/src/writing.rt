@@ -31,8 +31,15 @@ impl<'a, R: Wait, B: ServerName> Desk<'a, R, B> {
         self.seats.written(serial, count);
     }
 
-    /// The serial of a connection for which the last turn handed something out, the first at place 0 and so on. A hint: one may be missing where there was no memory
-    /// to tell of it. Constant.
+    /// No connection is told of any more.
+    pub fn forget_told(&mut self)
+        ensures { self.new ≡ self.old }
+    {
+        self.seats.forget_told();
+    }
+
+    /// The serial of a connection for which turns handed something out since this was forgotten last, the first at place 0 and so on; one may be there more than
+    /// once. A hint: one may be missing where there was no memory to tell of it. Constant.
     pub fn told(&self, place: usize) -> Option<u64> {
         self.seats.told(place)
     }

@@ -18,7 +18,7 @@ answer-requires-2-clause-lifted g c =
     let near : c.args.worker < length inside.seat.desks = subst (λ (x : CombinerState). c.args.worker < length x.seat.desks) (sym c.self.view_is) c.requires in
     let answer : Answer = record { node = inside.node; worker = c.args.worker; batch = c.index.result.now; outcome = c.in-Some.outcome } in
     let known : answer_of inside.core c.args.worker ≡ Some c.in-Some.outcome = sym c.answer.ensures.outcome ∙ c.in-Some.is in
-    is_held inside.core inside.seat inside.numbers.items c.args.worker answer c.in-Some.outcome near known c.self.invariant.2 refl
+    is_held inside.core inside.seat inside.numbers.items c.args.worker answer near known c.self.invariant.2 refl
     (number_at inside.core inside.seat inside.numbers.items c.args.worker c.index.result.now near c.index.ensures c.self.invariant.0) c.self.invariant.0
 
 pub invariant_of-self-2 : goal.invariant_of-self-2
@@ -42,7 +42,7 @@ returns g c =
     let near : c.args.worker < length inside.seat.desks = subst (λ (x : CombinerState). c.args.worker < length x.seat.desks) (sym c.self.view_is) c.requires in
     let answer : Answer = record { node = inside.node; worker = c.args.worker; batch = c.index.result.now; outcome = c.in-Some.outcome } in
     let known : answer_of inside.core c.args.worker ≡ Some c.in-Some.outcome = sym c.answer.ensures.outcome ∙ c.in-Some.is in
-    let last = is_held inside.core inside.seat inside.numbers.items c.args.worker answer c.in-Some.outcome near known c.self.invariant.2 refl
+    let last = is_held inside.core inside.seat inside.numbers.items c.args.worker answer near known c.self.invariant.2 refl
     (number_at inside.core inside.seat inside.numbers.items c.args.worker c.index.result.now near c.index.ensures c.self.invariant.0) c.self.invariant.0 in
     let new : CombinerState = record { node = c.answer.new.self; seat = c.answer-2.new.self; taken = inside.taken } in
     record {

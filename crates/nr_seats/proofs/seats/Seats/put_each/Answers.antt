@@ -1,4 +1,4 @@
-use Rattle.std.proofs.Common.{◌≡◌, ◌-◌, map, ap, ◌∙◌, take, drop, length, arith}
+use Rattle.std.proofs.Common.{◌≡◌, ◌-◌, map, refl, ap, ◌∙◌, take, drop, length, arith}
 use Rattle.std.proofs.Math.Seq.{drop-length, take-length}
 use Rattle.std.specs.Vec.Iter.{drain_items, drain_kept}
 use Rattle.nr_seats.specs.Portions.{portion_of}
@@ -14,5 +14,5 @@ loop-piece-init c =
       accepting_none c.args.limit _ _ c.args.self.now _
           (ap (map portion_of)
           ((λ i. drain_items (into i)) ∙ c.drain-piece-items.ensures.rest ∙ ap (λ n. take n pieces.items) count ∙ take-length pieces.items))
-          c.self.view_is,
+          refl,
     )

@@ -1,0 +1,46 @@
+// Where the connections of a server come from that is served by several threads, and what wakes these.
+ghost use Rattle.std.specs.Prelude.{◌≡◌, ◌∷◌, ◌++◌, [], Some, None};
+ghost use Rattle.nr_service.specs.Dealt.{Deals};
+
+/// Where connections come from, for the thread that deals them out to those that serve them: the lanes, numbered from 0 on.
+pub trait Accepts {
+    ghost use Rattle.std.specs.Prelude.{ℕ, Option, None, List};
+
+    // What became of the connections that it took, in order, where that is known: the lane to which each was dealt, none where it was turned away.
+    ghost dealt: { Self → Option (List (Option ℕ)) } = { λ _. None };
+
+    /// Takes the next connection that waits, and holds it until it is dealt or turned away. Whether there was one.
+    fn accept(&mut self) -> bool
+        ensures { dealt self.new ≡ dealt self.old };
+
+    /// Hands the one that it holds to a lane, and wakes that. Where memory is refused it is closed.
+    fn deal(&mut self, lane: usize)
+        ensures { Deals (Some lane ∷ []) (dealt self.old) (dealt self.new) };
+
+    /// Closes the one that it holds, without bytes.
+    fn turn_away(&mut self)
+        ensures { Deals (None ∷ []) (dealt self.old) (dealt self.new) };
+
+    /// Waits until a connection may wait to be taken, at most 10 milliseconds. False where none can come any more.
+    fn wait(&mut self) -> bool
+        ensures { dealt self.new ≡ dealt self.old };
+}
+
+/// Wakes the threads of a server. Nothing that is proved rests on it: one that isn't woken looks by itself, at most 10 milliseconds later.
+pub trait Rings {
+    /// The thread of this lane looks soon at what is put before it.
+    fn ring(&self, lane: usize);
+
+    /// How many connections that were dealt to this lane became none there since this was last asked, since memory or the system refused it.
+    fn take_lost(&self, _: usize) -> u64 {
+        0
+    }
+}
+
+/// Nobody is woken.
+#[derive(Clone, Copy, Debug, Drop)]
+pub struct Silent;
+
+impl Rings for Silent {
+    fn ring(&self, _: usize) {}
+}
