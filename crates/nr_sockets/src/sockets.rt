@@ -1,9 +1,10 @@
 // The sockets of a server: where they come from, and which are ready.
-ghost use Rattle.std.specs.Prelude.{◌≡◌, ◌≤◌, [], if◌then◌else◌, length, IfOk, IfSome, string_bytes};
+ghost use Rattle.std.specs.Prelude.{◌≡◌, ◌≤◌, [], length, IfOk, IfSome, string_bytes};
 
 use crate::lingering::{Lingering, PIECE};
 use crate::readiness::{Readiness, Shared};
 use crate::socket::Socket;
+use crate::waiting::longest_wait;
 use mio::event::Event;
 use mio::net::{TcpListener, TcpStream};
 use mio::{Events, Interest, Poll, Token};
@@ -23,9 +24,6 @@ const LISTENER: Token = Token(usize::MAX);
 
 /// How many changes the system tells of at once.
 const MOST_EVENTS: usize = 1_024;
-
-/// How long a wait takes at most, in milliseconds.
-const MOST_MILLISECONDS: u64 = 10;
 
 /// How many connections are tried in one call: one that went before it was taken is followed by the next.
 const MOST_TRIES: usize = 64;
@@ -271,13 +269,6 @@ fn bind<N: Net>(net: &N, address: &str) -> io::Result<TcpListener> {
         }
     }
     Err(failed)
-}
-
-// How long a wait takes at most, in milliseconds: not at all where there is work at hand.
-fn longest_wait(is_busy: bool) -> u64
-    ensures { result ≡ (if is_busy then 0 else 10) }
-{
-    if is_busy { 0 } else { MOST_MILLISECONDS }
 }
 
 impl<C: Clock> Device<Socket> for Sockets<'_, C> {

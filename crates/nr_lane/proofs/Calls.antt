@@ -1,0 +1,233 @@
+-- What each call of a desk says in the words of what answers a service.
+use Rattle.std.proofs.Common.{◌≡◌, ℕ, inl, inr, Bool, true, false, cond, [], ◌∷◌, drop, Option, Some, None, refl, ap, sym, ◌∙◌, subst, eq-eqb, true≢false}
+use Rattle.std.specs.Prelude.{◌==◌, ◌&&◌, ◌≢◌, is_some}
+use Rattle.std.specs.Bool.{OnTrue, OnFalse}
+use Rattle.std.specs.Option.{option_map}
+use Rattle.std.proofs.lemmas.Bool.{eqb-true, ne_eqb}
+use Rattle.nr_model.specs.Bytes.{Bytes}
+use Rattle.nr_model.specs.Keyspace.{moment}
+use Rattle.nr_model.specs.Items.{Connection, same_connection}
+use Rattle.nr_model.specs.Connections.{Feeding}
+use Rattle.nr_model.proofs.JobLists.{same_is}
+use Rattle.nr_service.specs.Stories.{Closed, Fed, HasWorked, IsClosed, IsFed, IsOpened, IsWritten, KeepsOthers, Story, fed_in, going_on, kept_bytes}
+use Rattle.nr_service.specs.declared.answers.Standing.TheVariants as standings
+use Rattle.nr_service.proofs.Occurrences.{going_none}
+use Rattle.nr_seats.specs.Seated.{SeatState, fresh_seat, with_written}
+use Rattle.nr_seats.specs.Placed.{IsPut, SeatsState, pending_here, seat_at, takes_here}
+use Rattle.nr_seats.specs.Portions.{seat_of, waiting_of}
+use Rattle.nr_seats.proofs.Putting.{named, seat_here, seat_others}
+use Rattle.nr_worker.specs.Working.{Closes, Feeds, Goes, OpensAt, Stops, WorkState, Writes, all_closed, all_fed, last_here, one_opened, takes_from, unchanged}
+use Rattle.nr_lane.specs.Serving.{ServingState, kept_at, standing_of}
+use Rattle.nr_lane.specs.Led.{HasLedTo, IsAtRest}
+use Rattle.nr_lane.specs.Works.{IsIdle, Works}
+use Rattle.nr_lane.proofs.Telling.{nothing_fed}
+use Rattle.nr_lane.proofs.Leading.{absent_new, led_closed, led_fed, led_handed, led_opened, led_still}
+
+-- ---- seats of a node
+pub own_seat : (node : ℕ) (seats : SeatsState) (c : Connection) → c.node ≡ node → seat_of node seats c ≡ seat_at c.serial seats
+own_seat node seats c here = ap (λ b. cond b (seat_at c.serial seats) None) (eq-eqb c.node node here)
+
+own_name : (node : ℕ) (c : Connection) → c.node ≡ node → named node c.serial ≡ c
+own_name node c here = λ i. record { node = sym here i; serial = c.serial }
+
+none_waits : (b : Bool) (o : Option SeatState) → o ≡ None → option_map (λ (s : SeatState). s.pending) (cond b o None) ≡ None
+none_waits true o none = ap (option_map (λ (s : SeatState). s.pending)) none
+none_waits false o none = refl
+
+-- one seat was put
+module _ (v w : WorkState) (c : Connection) (seat : Option SeatState) (here : c.node ≡ v.worker.node) (node : w.worker.node ≡ v.worker.node)
+    (put : IsPut c.serial seat v.seats w.seats) where
+  put_here : waiting_of w.worker.node w.seats c ≡ option_map (λ (s : SeatState). s.pending) seat
+  put_here =
+      ap (λ n. waiting_of n w.seats c) node
+      ∙ ap (λ (d : Connection). waiting_of v.worker.node w.seats d) (sym (own_name v.worker.node c here))
+      ∙ ap (option_map (λ (s : SeatState). s.pending)) (seat_here v.worker.node c.serial seat v.seats w.seats put)
+
+  put_others : KeepsOthers c (waiting_of v.worker.node v.seats) (waiting_of w.worker.node w.seats)
+  put_others = λ other apart.
+      ap (λ n. waiting_of n w.seats other) node
+      ∙ ap (option_map (λ (s : SeatState). s.pending))
+      (seat_others v.worker.node c.serial seat v.seats w.seats put other
+      (subst (λ (d : Connection). same_connection other d ≡ false) (sym (own_name v.worker.node c here)) apart))
+
+-- the same waits for each
+module _ (v w : WorkState) (c : Connection) (s t : SeatState) (here : c.node ≡ v.worker.node) (node : w.worker.node ≡ v.worker.node)
+    (at : seat_at c.serial v.seats ≡ Some s) (pending : t.pending ≡ s.pending) (put : IsPut c.serial (Some t) v.seats w.seats) where
+  same_kept : (other : Connection) → waiting_of w.worker.node w.seats other ≡ waiting_of v.worker.node v.seats other
+  same_kept = λ other. elim (same_connection other c) as (λ b. same_connection other c ≡ b → waiting_of w.worker.node w.seats other ≡ waiting_of v.worker.node v.seats other) [
+    | true ↦ λ same.
+        let is = same_is other c same in
+        ap (waiting_of w.worker.node w.seats) is ∙ put_here v w c (Some t) here node put ∙ ap (λ (b : Bytes). Some b) pending
+        ∙ sym (ap (option_map (λ (u : SeatState). u.pending)) (own_seat v.worker.node v.seats c here ∙ at)) ∙ ap (waiting_of v.worker.node v.seats) (sym is)
+    | false ↦ λ apart. put_others v w c (Some t) here node put other apart
+  ] refl
+
+-- ---- a connection is opened
+pub is_opened : (v w : ServingState) (c : Connection) → OpensAt c v.desk w.desk → Goes (one_opened c) v.desk w.desk
+    → IsOpened c (HasLedTo v) (HasLedTo w) (kept_at v) (kept_at w)
+is_opened v w c o g =
+    let node : w.desk.worker.node ≡ v.desk.worker.node = ap (λ (x : WorkState). x.worker.node) o.changed in
+    record {
+      past = λ story h. led_opened v w c story g o.later h;
+      first = λ story h. absent_new v.desk h.worker story.occurrences c h.reflects h.tells o.later;
+      fed = λ story h.
+          nothing_fed c (fed_in story.occurrences) (h.tells.others c (absent_new v.desk h.worker story.occurrences c h.reflects h.tells o.later)).fed;
+      handed = λ story h. (h.tells.others c (absent_new v.desk h.worker story.occurrences c h.reflects h.tells o.later)).handed;
+      closed = none_waits (c.node == v.desk.worker.node) (seat_at c.serial v.desk.seats) o.absent;
+      kept = put_here v.desk w.desk c (Some (fresh_seat c)) o.node node o.put;
+      others = put_others v.desk w.desk c (Some (fresh_seat c)) o.node node o.put;
+    }
+
+-- ---- bytes are fed
+takes_there : (o : Option SeatState) → takes_here o ≡ true → (s : SeatState) × (o ≡ Some s)
+takes_there None is = absurd (true≢false (sym is))
+takes_there (Some s) is = (s, refl)
+
+both_true : (a b : Bool) → (a && b) ≡ true → (a ≡ true) × (b ≡ true)
+both_true true b is = (refl, is)
+both_true false b is = absurd (true≢false (sym is))
+
+pub open_takes : (v : ServingState) (c : Connection) → standings.Open ≡ standing_of v c → takes_from c v.desk ≡ true
+open_takes v c is = elim v.down as (λ b. standings.Open ≡ cond b standings.Down (cond (takes_from c v.desk) standings.Open standings.Over) → takes_from c v.desk ≡ true) [
+  | true ↦ λ e. absurd (cc e)
+  | false ↦ λ e. elim (takes_from c v.desk) as (λ t. standings.Open ≡ cond t standings.Open standings.Over → t ≡ true) [
+    | true ↦ λ f. refl
+    | false ↦ λ f. absurd (cc f)
+  ] e
+] is
+
+pub is_fed : (is_whole : Bool) (v w : ServingState) (c : Connection) (time capped : ℕ) (bytes : Bytes) → standings.Open ≡ standing_of v c → capped ≡ moment time
+    → OnTrue is_whole (Feeds c.serial capped bytes v.desk w.desk) → OnFalse is_whole (Stops c.serial capped bytes v.desk w.desk)
+    → Goes (all_fed (record { connection = c; moment = capped; bytes = bytes })) v.desk w.desk
+    → IsFed c time bytes (HasLedTo v) (HasLedTo w) (kept_at v) (kept_at w)
+is_fed is_whole v w c time capped bytes takes_it is feeds stops g =
+    let takes = both_true (c.node == v.desk.worker.node) (takes_here (seat_at c.serial v.desk.seats)) (open_takes v c takes_it) in
+    let here : c.node ≡ v.desk.worker.node = eqb-true c.node v.desk.worker.node takes.0 in
+    let there = takes_there (seat_at c.serial v.desk.seats) takes.1 in
+    let feeding : Feeding = record { connection = c; moment = capped; bytes = bytes } in
+    record {
+      past = λ story h.
+          subst (λ (m : ℕ). HasLedTo w (going_on story (Fed (record { connection = c; moment = m; bytes = bytes }) ∷ []))) is
+          (led_fed v w feeding there.0 story g (own_seat v.desk.worker.node v.desk.seats c here ∙ there.1) h);
+      kept = elim is_whole as
+          (λ b. OnTrue b (Feeds c.serial capped bytes v.desk w.desk) → OnFalse b (Stops c.serial capped bytes v.desk w.desk)
+          → (other : Connection) → kept_at w other ≡ kept_at v other) [
+            | true ↦ λ f s.
+                same_kept v.desk w.desk c f.fed.was f.fed.is here (ap (λ (x : WorkState). x.worker.node) f.changed) f.fed.there f.fed.fed.pending f.fed.put
+            | false ↦ λ f s.
+                same_kept v.desk w.desk c s.stopped.was s.stopped.is here (ap (λ (x : WorkState). x.worker.node) s.changed) s.stopped.there
+                s.stopped.stopped.pending s.stopped.put
+          ] feeds stops;
+    }
+
+-- ---- work
+pub has_worked : (v w : ServingState) → Works v.desk w.desk → (w.busy ≡ false → IsIdle w.desk)
+    → HasWorked (HasLedTo v) (HasLedTo w) (IsAtRest w) (kept_at v) (kept_at w)
+has_worked v w k idle = record {
+  handed = k.handed;
+  past = λ story h. led_handed v w k.handed story k.goes k.waiting h;
+  rest = λ story h. record { led = led_handed v w k.handed story k.goes k.waiting h; idle = idle };
+  kept = λ c. ap (λ n. waiting_of n w.desk.seats c) k.node ∙ k.waiting.waiting c;
+}
+
+-- ---- what waits
+pub kept_here : (v : ServingState) (c : Connection) → c.node ≡ v.desk.worker.node
+    → kept_bytes (kept_at v c) ≡ pending_here (seat_at c.serial v.desk.seats)
+kept_here v c here =
+    ap (λ (o : Option SeatState). kept_bytes (option_map (λ (s : SeatState). s.pending) o)) (own_seat v.desk.worker.node v.desk.seats c here)
+    ∙ (elim (seat_at c.serial v.desk.seats) as (λ o. kept_bytes (option_map (λ (s : SeatState). s.pending) o) ≡ pending_here o) [ None ↦ refl | Some s ↦ refl ])
+
+pub kept_elsewhere : (v : ServingState) (c : Connection) → (c.node == v.desk.worker.node) ≡ false → kept_at v c ≡ None
+kept_elsewhere v c other = ap (λ b. option_map (λ (s : SeatState). s.pending) (cond b (seat_at c.serial v.desk.seats) None)) other
+
+written_waits : (count : ℕ) (o : Option SeatState) → option_map (λ (s : SeatState). s.pending) (option_map (with_written count) o)
+    ≡ option_map (λ (bytes : Bytes). drop count bytes) (option_map (λ (s : SeatState). s.pending) o)
+written_waits count None = refl
+written_waits count (Some s) = refl
+
+rest_still : (v w : ServingState) → Goes unchanged v.desk w.desk → w.busy ≡ v.busy → w.desk.jobs ≡ v.desk.jobs → w.desk.waiting ≡ v.desk.waiting
+    → (story : Story) → IsAtRest v story → IsAtRest w story
+rest_still v w g busy jobs waiting story r = record {
+  led = led_still v w story g r.led;
+  idle = λ calm.
+      let i = r.idle (sym busy ∙ calm) in
+      record { none = jobs ∙ i.none; answered = waiting ∙ i.answered };
+}
+
+pub is_written : (v w : ServingState) (c : Connection) (count : ℕ) → c.node ≡ v.desk.worker.node → Writes c.serial count v.desk w.desk
+    → Goes unchanged v.desk w.desk → w.busy ≡ v.busy
+    → IsWritten c count (HasLedTo v) (HasLedTo w) (IsAtRest v) (IsAtRest w) (kept_at v) (kept_at w)
+is_written v w c count here k g busy =
+    let node : w.desk.worker.node ≡ v.desk.worker.node = ap (λ (x : WorkState). x.worker.node) k.changed in
+    let seat = option_map (with_written count) (seat_at c.serial v.desk.seats) in
+    record {
+      past = λ story h. led_still v w story g h;
+      rest = rest_still v w g busy (ap (λ (x : WorkState). x.jobs) k.changed) (ap (λ (x : WorkState). x.waiting) k.changed);
+      kept = put_here v.desk w.desk c seat here node k.put ∙ written_waits count (seat_at c.serial v.desk.seats)
+          ∙ sym (ap (λ (o : Option SeatState). option_map (λ (bytes : Bytes). drop count bytes) (option_map (λ (s : SeatState). s.pending) o))
+          (own_seat v.desk.worker.node v.desk.seats c here));
+      others = put_others v.desk w.desk c seat here node k.put;
+    }
+
+pub is_written_none : (v w : ServingState) (c : Connection) (count : ℕ) → (c.node == v.desk.worker.node) ≡ false → w ≡ v
+    → IsWritten c count (HasLedTo v) (HasLedTo w) (IsAtRest v) (IsAtRest w) (kept_at v) (kept_at w)
+is_written_none v w c count other same =
+    subst (λ (x : ServingState). IsWritten c count (HasLedTo v) (HasLedTo x) (IsAtRest v) (IsAtRest x) (kept_at v) (kept_at x)) (sym same) (record {
+      past = λ story h. h;
+      rest = λ story r. r;
+      kept = kept_elsewhere v c other ∙ sym (ap (option_map (λ (bytes : Bytes). drop count bytes)) (kept_elsewhere v c other));
+      others = λ e apart. refl;
+    })
+
+-- ---- a connection is closed
+abbrev pub IsGoneFrom : ServingState → Connection → Type 0
+IsGoneFrom v c = seat_of v.desk.worker.node v.desk.seats c ≡ None
+
+there_not_gone : (o : Option SeatState) → is_some o ≡ true → o ≡ None → ⊥
+there_not_gone o there gone = true≢false (sym there ∙ ap is_some gone)
+
+pub is_closed : (v w : ServingState) (c : Connection) (time : ℕ) → c.node ≡ v.desk.worker.node → is_some (seat_at c.serial v.desk.seats) ≡ true
+    → Closes c.serial time v.desk w.desk → Goes (all_closed (last_here time (seat_at c.serial v.desk.seats))) v.desk w.desk
+    → IsClosed c (IsGoneFrom v c) (HasLedTo v) (HasLedTo w) (kept_at v) (kept_at w)
+is_closed v w c time here there k g =
+    let node : w.desk.worker.node ≡ v.desk.worker.node = ap (λ (x : WorkState). x.worker.node) k.changed in
+    record {
+      shut = Closed c ∷ [];
+      is = inl (refl, λ gone. there_not_gone (seat_at c.serial v.desk.seats) there (sym (own_seat v.desk.worker.node v.desk.seats c here) ∙ gone));
+      past = λ story h. led_closed v w c (last_here time (seat_at c.serial v.desk.seats)) story g h;
+      kept = put_here v.desk w.desk c None here node k.gone;
+      others = put_others v.desk w.desk c None here node k.gone;
+    }
+
+pub is_gone_now : (v w : ServingState) (c : Connection) (time : ℕ) → c.node ≡ v.desk.worker.node → Closes c.serial time v.desk w.desk → IsGoneFrom w c
+is_gone_now v w c time here k =
+    let node : w.desk.worker.node ≡ v.desk.worker.node = ap (λ (x : WorkState). x.worker.node) k.changed in
+    ap (λ n. seat_of n w.desk.seats c) node
+    ∙ ap (seat_of v.desk.worker.node w.desk.seats) (sym (own_name v.desk.worker.node c here))
+    ∙ seat_here v.desk.worker.node c.serial None v.desk.seats w.desk.seats k.gone
+
+pub is_closed_none : (v w : ServingState) (c : Connection) → IsGoneFrom v c → w ≡ v
+    → IsClosed c (IsGoneFrom v c) (HasLedTo v) (HasLedTo w) (kept_at v) (kept_at w)
+is_closed_none v w c gone same =
+    subst (λ (x : ServingState). IsClosed c (IsGoneFrom v c) (HasLedTo v) (HasLedTo x) (kept_at v) (kept_at x)) (sym same) (record {
+      shut = [];
+      is = inr (refl, gone);
+      past = λ story h. subst (HasLedTo v) (sym (going_none story)) h;
+      kept = ap (option_map (λ (s : SeatState). s.pending)) gone;
+      others = λ other apart. refl;
+    })
+
+pub gone_elsewhere : (v : ServingState) (c : Connection) → (c.node == v.desk.worker.node) ≡ false → IsGoneFrom v c
+gone_elsewhere v c other = ap (λ b. cond b (seat_at c.serial v.desk.seats) None) other
+
+none_of : (b : Bool) (o : Option SeatState) → is_some o ≡ false → cond b o None ≡ None
+none_of true None absent = refl
+none_of true (Some s) absent = absurd (true≢false absent)
+none_of false o absent = refl
+
+pub gone_absent : (v : ServingState) (c : Connection) → is_some (seat_at c.serial v.desk.seats) ≡ false → IsGoneFrom v c
+gone_absent v c absent = none_of (c.node == v.desk.worker.node) (seat_at c.serial v.desk.seats) absent
+
+pub gone_other : (v : ServingState) (c : Connection) (node : ℕ) → node ≡ v.desk.worker.node → c.node ≢ node → IsGoneFrom v c
+gone_other v c node is other =
+    gone_elsewhere v c (ne_eqb c.node v.desk.worker.node (subst (λ (n : ℕ). c.node ≢ n) is other))

@@ -1,0 +1,161 @@
+-- A story that led to a desk goes on.
+use Rattle.std.proofs.Common.{◌≡◌, ℕ, ◌≤◌, true, false, cond, List, [], ◌∷◌, ◌++◌, map, Option, Some, None, refl, ap, sym, ◌∙◌, subst, append-nil, true≢false}
+use Rattle.std.proofs.lemmas.List.{map-id}
+use Rattle.nr_model.specs.Items.{Connection, Item, same_connection}
+use Rattle.nr_model.specs.Connections.{Feeding, Handed, handed_to}
+use Rattle.nr_model.proofs.JobLists.{same_is, same_self}
+use Rattle.nr_service.specs.Stories.{Closed, Fed, HandedOut, Occurrence, Opened, Story, beginning, fed_in, going_on, is_among, opened_in}
+use Rattle.nr_service.proofs.Occurrences.{pieces_fed, pieces_handed, pieces_opened}
+use Rattle.nr_seats.specs.Seated.{SeatState}
+use Rattle.nr_seats.specs.Portions.{HandsOut, seat_of}
+use Rattle.nr_model.specs.Connections.{Setup}
+use Rattle.nr_worker.specs.Desk.{DeskState, Served}
+use Rattle.nr_worker.specs.Moves.{fresh_desk}
+use Rattle.nr_worker.specs.Working.{Goes, IsServed, Reflects, WorkState, all_closed, all_fed, all_handed, closed_with, connections_of, fed_more, handed_more, one_opened, unchanged}
+use Rattle.nr_lane.specs.Serving.{ServingState}
+use Rattle.nr_lane.specs.Told.{Tells, feeds_to}
+use Rattle.nr_lane.specs.Led.{HasLedTo}
+use Rattle.nr_lane.proofs.Lists.{at_one, fresh_is_led, goes_further, goes_nowhere}
+use Rattle.nr_lane.proofs.Telling.{NoneElse, some_there, absent_above, none_among, tells_map, tells_opened, was_fed, was_on}
+
+-- ---- who isn't told of has no seat
+absent_served : (served : List Served) (c : Connection) → is_among c (connections_of served) ≡ false → IsServed served c → ⊥
+absent_served served c absent k =
+    let other = at_one (λ (x : Served). same_connection x.connection c ≡ false) served k.one (none_among served c absent) k.there in
+    true≢false (sym (subst (λ (d : Connection). same_connection k.one.connection d ≡ true) k.connection (same_self k.one.connection)) ∙ other)
+
+no_seat : (o : Option SeatState) → ((s : SeatState) → o ≡ Some s → ⊥) → o ≡ None
+no_seat None none = refl
+no_seat (Some s) none = absurd (none s refl)
+
+pub absent_seat : (v : WorkState) (d : DeskState) (c : Connection) → Reflects v d → is_among c (connections_of d.served) ≡ false
+    → seat_of v.worker.node v.seats c ≡ None
+absent_seat v d c r absent =
+    no_seat (seat_of v.worker.node v.seats c) (λ s at. absent_served d.served c absent (r.seats c s at).known)
+
+among_told : (occurrences : List Occurrence) (d : DeskState) (c : Connection) → Tells occurrences d.served → is_among c (opened_in occurrences) ≡ false
+    → is_among c (connections_of d.served) ≡ false
+among_told occurrences d c t absent = ap (is_among c) (sym t.opened) ∙ absent
+
+-- one with a serial that none has had
+pub absent_new : (v : WorkState) (d : DeskState) (occurrences : List Occurrence) (c : Connection) → Reflects v d → Tells occurrences d.served
+    → v.next ≤ c.serial → is_among c (opened_in occurrences) ≡ false
+absent_new v d occurrences c r t later = ap (is_among c) t.opened ∙ absent_above d.served c v.next later r.below
+
+-- ---- a story goes on
+pub led_on : (v w : ServingState) (story : Story) (more : List Occurrence) (change : List Served → List Served) → Goes change v.desk w.desk → fed_in more ≡ []
+    → ((d : DeskState) → Reflects v.desk d → Tells story.occurrences d.served → Tells (story.occurrences ++ more) (change d.served))
+    → HasLedTo v story → HasLedTo w (going_on story more)
+led_on v w story more change g none tells h =
+    let l = g.leads h.worker h.led h.reflects in
+    record {
+      worker = l.then;
+      led = l.led;
+      reflects = l.reflects;
+      tells = subst (Tells (story.occurrences ++ more)) (sym l.served) (tells h.worker h.reflects h.tells);
+      earlier = was_on story.occurrences more h.worker l.then none l.goes h.earlier;
+    }
+
+-- nothing happened
+pub led_still : (v w : ServingState) (story : Story) → Goes unchanged v.desk w.desk → HasLedTo v story → HasLedTo w story
+led_still v w story g h =
+    let l = g.leads h.worker h.led h.reflects in
+    record {
+      worker = l.then;
+      led = l.led;
+      reflects = l.reflects;
+      tells = subst (Tells story.occurrences) (sym l.served) h.tells;
+      earlier = λ front back feeding is.
+          let w = h.earlier front back feeding is in
+          record { earlier = w.earlier; led = w.led; tells = w.tells; goes = goes_further w.earlier h.worker l.then w.goes l.goes };
+    }
+
+-- a connection was opened
+pub led_opened : (v w : ServingState) (c : Connection) (story : Story) → Goes (one_opened c) v.desk w.desk
+    → v.desk.next ≤ c.serial → HasLedTo v story → HasLedTo w (going_on story (Opened c ∷ []))
+led_opened v w c story g later h =
+    led_on v w story (Opened c ∷ []) (one_opened c) g refl
+    (λ d r t. tells_opened story.occurrences c d.served (absent_new v.desk d story.occurrences c r t later) t) h
+
+-- bytes were handed out
+none_handed : (v w : WorkState) (d : DeskState) (occurrences : List Occurrence) (handed : List Handed) → HandsOut v.worker.node handed v.seats w.seats
+    → Reflects v d → Tells occurrences d.served → NoneElse occurrences (map HandedOut handed)
+none_handed v w d occurrences handed out r t = λ c absent. (
+  ap (feeds_to c) (pieces_fed handed),
+  ap (handed_to c) (pieces_handed handed) ∙ (out.none c (absent_seat v d c r (among_told occurrences d c t absent))).0,
+)
+
+pub led_handed : (v w : ServingState) (handed : List Handed) (story : Story) → Goes (all_handed handed) v.desk w.desk
+    → HandsOut v.desk.worker.node handed v.desk.seats w.desk.seats → HasLedTo v story → HasLedTo w (going_on story (map HandedOut handed))
+led_handed v w handed story g out h =
+    let more = map HandedOut handed in
+    led_on v w story more (all_handed handed) g (pieces_fed handed)
+    (λ d r t.
+    tells_map story.occurrences more (handed_more handed) d.served (pieces_opened handed) (λ x. refl)
+    (λ x. sym (append-nil x.fed) ∙ ap (λ (l : List Feeding). x.fed ++ feeds_to x.connection l) (sym (pieces_fed handed)))
+    (λ x. ap (λ (l : List Handed). x.handed ++ handed_to x.connection l) (sym (pieces_handed handed)))
+    (none_handed v.desk w.desk d story.occurrences handed out r t) t) h
+
+-- bytes were fed
+fed_is : (feeding : Feeding) (x : Served) → (fed_more feeding x).fed ≡ x.fed ++ feeds_to x.connection (feeding ∷ [])
+fed_is feeding x = elim (same_connection feeding.connection x.connection) as
+    (λ b. cond b (x.fed ++ feeding ∷ []) x.fed ≡ x.fed ++ cond b (feeding ∷ []) []) [
+      | true ↦ refl
+      | false ↦ sym (append-nil x.fed)
+    ]
+
+none_fed_else : (v : WorkState) (d : DeskState) (occurrences : List Occurrence) (feeding : Feeding) (s : SeatState) → Reflects v d
+    → Tells occurrences d.served → seat_of v.worker.node v.seats feeding.connection ≡ Some s → NoneElse occurrences (Fed feeding ∷ [])
+none_fed_else v d occurrences feeding s r t at = λ c absent. (
+  elim (same_connection feeding.connection c) as (λ b. same_connection feeding.connection c ≡ b → cond b (feeding ∷ []) [] ≡ []) [
+    | true ↦ λ same.
+        let is = same_is feeding.connection c same in
+        let none = absent_seat v d feeding.connection r
+        (among_told occurrences d feeding.connection t (ap (λ (e : Connection). is_among e (opened_in occurrences)) is ∙ absent)) in
+        absurd (cc (at, none))
+    | false ↦ λ other. refl
+  ] refl,
+  refl,
+)
+
+pub led_fed : (v w : ServingState) (feeding : Feeding) (s : SeatState) (story : Story) → Goes (all_fed feeding) v.desk w.desk
+    → seat_of v.desk.worker.node v.desk.seats feeding.connection ≡ Some s → HasLedTo v story → HasLedTo w (going_on story (Fed feeding ∷ []))
+led_fed v w feeding s story g at h =
+    let l = g.leads h.worker h.led h.reflects in
+    let more = Fed feeding ∷ [] in
+    record {
+      worker = l.then;
+      led = l.led;
+      reflects = l.reflects;
+      tells = subst (Tells (story.occurrences ++ more)) (sym l.served)
+          (tells_map story.occurrences more (fed_more feeding) h.worker.served refl (λ x. refl) (fed_is feeding) (λ x. sym (append-nil x.handed))
+          (none_fed_else v.desk h.worker story.occurrences feeding s h.reflects h.tells at) h.tells);
+      earlier = was_fed story.occurrences feeding h.worker l.then
+          (record { earlier = h.worker; led = h.led; tells = h.tells; goes = goes_nowhere h.worker }) l.goes h.earlier;
+    }
+
+-- one was closed
+closed_told : (occurrences : List Occurrence) (c : Connection) (job : Option Item) (xs : List Served) → Tells occurrences xs
+    → Tells (occurrences ++ Closed c ∷ []) (all_closed job xs)
+closed_told occurrences c None xs t =
+    subst (Tells (occurrences ++ Closed c ∷ [])) (map-id xs)
+    (tells_map occurrences (Closed c ∷ []) (λ (x : Served). x) xs refl (λ x. refl) (λ x. sym (append-nil x.fed)) (λ x. sym (append-nil x.handed))
+    (λ d absent. (refl, refl)) t)
+closed_told occurrences c (Some job) xs t =
+    tells_map occurrences (Closed c ∷ []) (closed_with job) xs refl (λ x. refl) (λ x. sym (append-nil x.fed)) (λ x. sym (append-nil x.handed))
+    (λ d absent. (refl, refl)) t
+
+pub led_closed : (v w : ServingState) (c : Connection) (job : Option Item) (story : Story) → Goes (all_closed job) v.desk w.desk → HasLedTo v story
+    → HasLedTo w (going_on story (Closed c ∷ []))
+led_closed v w c job story g h =
+    led_on v w story (Closed c ∷ []) (all_closed job) g refl (λ d r t. closed_told story.occurrences c job d.served t) h
+
+-- at first
+pub led_fresh : (v : ServingState) (node worker : ℕ) (setup : Setup) → Reflects v.desk (fresh_desk node worker) → HasLedTo v (beginning setup)
+led_fresh v node worker setup r = record {
+  worker = fresh_desk node worker;
+  led = fresh_is_led node worker;
+  reflects = r;
+  tells = record { opened = refl; each = tt; others = λ c absent. record { fed = refl; handed = refl } };
+  earlier = λ front back feeding is. absurd (some_there front back (Fed feeding) (sym is));
+}

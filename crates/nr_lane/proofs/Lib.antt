@@ -1,0 +1,5 @@
+pub mod Lists
+mod Telling
+mod Working
+mod Leading
+mod Calls

@@ -1,0 +1,126 @@
+-- What is done one behind the other is a work of the desk.
+use Rattle.std.proofs.Common.{◌≡◌, ℕ, Bool, true, false, List, [], ◌∷◌, ◌++◌, Option, Some, None, refl, ap, sym, ◌∙◌, subst, append-nil, append_assoc}
+use Rattle.std.specs.Prelude.{IfSome, IfNone}
+use Rattle.std.specs.Bool.{OnTrue, OnFalse}
+use Rattle.std.specs.Option.{option_map}
+use Rattle.nr_model.specs.Bytes.{Bytes}
+use Rattle.nr_model.specs.Connections.{Handed, handed_to}
+use Rattle.nr_model.proofs.Exchanged.{handed_to-append}
+use Rattle.nr_combiner.specs.Workers.{WorkerState}
+use Rattle.nr_combiner.specs.declared.worker.TheConstants.{MOST_JOBS}
+use Rattle.nr_combiner.specs.declared.answering.Turned.{Turned}
+use Rattle.nr_seats.specs.Placed.{SeatsState}
+use Rattle.nr_seats.specs.Portions.{HandsOut, waiting_of}
+use Rattle.nr_worker.specs.Desk.{Served}
+use Rattle.nr_worker.specs.Settling.{HasSettled}
+use Rattle.nr_worker.specs.declared.collecting.Settled.{Settled}
+use Rattle.nr_worker.specs.Working.{Goes, HandsIn, HandsOn, WorkState, all_handed, unchanged}
+use Rattle.nr_lane.specs.Works.{Works}
+use Rattle.nr_lane.proofs.Lists.{goes_further, goes_nowhere}
+
+-- ---- what was handed out in two parts
+handed_twice : (first second : List Handed) (served : List Served) → all_handed second (all_handed first served) ≡ all_handed (first ++ second) served
+handed_twice first second [] = refl
+handed_twice first second (x ∷ served) =
+    let c = x.connection in
+    let bytes : (x.handed ++ handed_to c first) ++ handed_to c second ≡ x.handed ++ handed_to c (first ++ second) =
+    append_assoc x.handed (handed_to c first) (handed_to c second) ∙ ap (λ (b : Bytes). x.handed ++ b) (sym (handed_to-append c first second)) in
+    λ i. record x { handed = bytes i } ∷ handed_twice first second served i
+
+handed_nothing : (served : List Served) → served ≡ all_handed [] served
+handed_nothing [] = refl
+handed_nothing (x ∷ served) = λ i. record x { handed = sym (append-nil x.handed) i } ∷ handed_nothing served i
+
+waited_twice : (o : Option Bytes) (a b all : Bytes) → a ++ b ≡ all
+    → option_map (λ (bytes : Bytes). bytes ++ b) (option_map (λ (bytes : Bytes). bytes ++ a) o) ≡ option_map (λ (bytes : Bytes). bytes ++ all) o
+waited_twice None a b all is = refl
+waited_twice (Some bytes) a b all is = ap (λ (more : Bytes). Some more) (append_assoc bytes a b ∙ ap (λ (more : Bytes). bytes ++ more) is)
+
+waited_same : (o : Option Bytes) → o ≡ option_map (λ (bytes : Bytes). bytes ++ []) o
+waited_same None = refl
+waited_same (Some bytes) = ap (λ (more : Bytes). Some more) (sym (append-nil bytes))
+
+hands_none : (node : ℕ) (seats : SeatsState) → HandsOut node [] seats seats
+hands_none node seats = record { waiting = λ c. waited_same (waiting_of node seats c); none = λ c absent. (refl, absent) }
+
+hands_then : (node : ℕ) (first second : List Handed) (a b c : SeatsState) → HandsOut node first a b → HandsOut node second b c
+    → HandsOut node (first ++ second) a c
+hands_then node first second a b c one two = record {
+  waiting = λ d.
+      two.waiting d ∙ ap (option_map (λ (bytes : Bytes). bytes ++ handed_to d second)) (one.waiting d)
+      ∙ waited_twice (waiting_of node a d) (handed_to d first) (handed_to d second) (handed_to d (first ++ second)) (sym (handed_to-append d first second));
+  none = λ d absent.
+      let was = one.none d absent in
+      let is = two.none d was.1 in
+      (handed_to-append d first second ∙ (λ i. was.0 i ++ is.0 i), is.1);
+}
+
+-- ---- works
+goes_then : (first second : List Handed) (u v w : WorkState) → Goes (all_handed first) u v → Goes (all_handed second) v w
+    → Goes (all_handed (first ++ second)) u w
+goes_then first second u v w one two = record {
+  leads = λ d led r.
+      let a = one.leads d led r in
+      let b = two.leads a.then a.led a.reflects in
+      record {
+        then = b.then;
+        led = b.led;
+        goes = goes_further d a.then b.then a.goes b.goes;
+        reflects = b.reflects;
+        served = b.served ∙ ap (all_handed second) a.served ∙ handed_twice first second d.served;
+      };
+}
+
+goes_nothing : (v w : WorkState) → Goes unchanged v w → Goes (all_handed []) v w
+goes_nothing v w g = record {
+  leads = λ d led r.
+      let a = g.leads d led r in
+      record { then = a.then; led = a.led; goes = a.goes; reflects = a.reflects; served = a.served ∙ handed_nothing d.served };
+}
+
+pub works_then : (u v w : WorkState) → Works u v → Works v w → Works u w
+works_then u v w one two = record {
+  handed = one.handed ++ two.handed;
+  goes = goes_then one.handed two.handed u v w one.goes two.goes;
+  waiting = hands_then u.worker.node one.handed two.handed u.seats v.seats w.seats one.waiting
+      (subst (λ (n : ℕ). HandsOut n two.handed v.seats w.seats) one.node two.waiting);
+  node = two.node ∙ one.node;
+}
+
+-- nothing was handed out
+pub works_none : (v w : WorkState) → Goes unchanged v w → w.seats ≡ v.seats → w.worker.node ≡ v.worker.node → Works v w
+works_none v w g seats node = record {
+  handed = [];
+  goes = goes_nothing v w g;
+  waiting = subst (HandsOut v.worker.node [] v.seats) (sym seats) (hands_none v.worker.node v.seats);
+  node = node;
+}
+
+pub works_still : (v w : WorkState) → Goes unchanged v w → w ≡ v → Works v w
+works_still v w g same = works_none v w g (ap (λ (x : WorkState). x.seats) same) (ap (λ (x : WorkState). x.worker.node) same)
+
+pub works_posted : (is_posted : Bool) (v w : WorkState) → OnTrue is_posted (HandsIn MOST_JOBS v w) → OnFalse is_posted (w ≡ v) → Goes unchanged v w → Works v w
+works_posted true v w posted same g =
+    works_none v w g (ap (λ (x : WorkState). x.seats) posted.changed)
+    (ap (λ (x : WorkState). x.worker.node) posted.changed ∙ ap (λ (x : WorkerState). x.node) posted.posted.posted)
+works_posted false v w posted same g = works_still v w g same
+
+pub works_turned : (turned : Option Turned) (v w : WorkState) → IfSome turned (λ _. HandsOn v w) → IfNone turned (w ≡ v) → Works v w
+works_turned (Some turned) v w on same = record { handed = on.handed; goes = on.goes; waiting = on.waiting; node = ap (λ (x : WorkState). x.worker.node) on.changed }
+works_turned None v w on same =
+    subst (Works v) (sym same) (record {
+      handed = [];
+      goes = goes_nothing v v (record { leads = λ d led r. record { then = d; led = led; goes = goes_nowhere d; reflects = r; served = refl } });
+      waiting = hands_none v.worker.node v.seats;
+      node = refl;
+    })
+
+pub works_collected : (settled : Option Settled) (v w : WorkState) → IfSome settled (λ told. HasSettled told v w) → IfNone settled (w ≡ v) → Goes unchanged v w
+    → Works v w
+works_collected (Some told) v w s same g =
+    works_none v w g (ap (λ (x : WorkState). x.seats) s.changed)
+    (ap (λ (x : WorkState). x.worker.node) s.changed ∙ ap (λ (x : WorkerState). x.node) s.collected.collected)
+works_collected None v w s same g = works_still v w g same
+
+pub works_same : (v : WorkState) → Works v v
+works_same v = works_turned None v v tt refl

@@ -1,0 +1,30 @@
+use Rattle.std.proofs.Common.{refl, sym, ◌∙◌, subst}
+use Rattle.nr_entry.specs.Jobs.{connection_of}
+use Rattle.nr_service.specs.Stories.{IsClosed}
+use Rattle.nr_lane.specs.Serving.{ServingState, kept_at}
+use Rattle.nr_lane.specs.Led.{HasLedTo}
+use Rattle.nr_lane.proofs.Calls.{IsGoneFrom, gone_absent, gone_other, is_closed, is_closed_none}
+use Rattle.nr_lane.proofs.serving.ServingDeskAnswers.close.Goals as goal
+
+pub returns-then-conn-node-clause-closed : goal.returns-then-conn-node-clause-closed
+returns-then-conn-node-clause-closed g c =
+    let conn = connection_of c.args.conn in
+    let old : ServingState = record { desk = c.self.inside.desk; busy = c.self.inside.is_busy; down = c.self.inside.is_down } in
+    subst (λ (v : ServingState). IsClosed conn (IsGoneFrom v conn) (HasLedTo v) (HasLedTo v) (kept_at v) (kept_at v)) c.self.view_is
+    (is_closed_none old old conn (gone_other old conn c.node.result c.node.ensures c.if-conn-node.true) refl)
+
+pub returns-then-not-is_open-clause-closed : goal.returns-then-not-is_open-clause-closed
+returns-then-not-is_open-clause-closed g c =
+    let conn = connection_of c.args.conn in
+    let old : ServingState = record { desk = c.self.inside.desk; busy = c.self.inside.is_busy; down = c.self.inside.is_down } in
+    subst (λ (v : ServingState). IsClosed conn (IsGoneFrom v conn) (HasLedTo v) (HasLedTo v) (kept_at v) (kept_at v)) c.self.view_is
+    (is_closed_none old old conn (gone_absent old conn (sym c.is_open.ensures ∙ c.if-not-is_open.true)) refl)
+
+pub returns-clause-closed : goal.returns-clause-closed
+returns-clause-closed g c =
+    let conn = connection_of c.args.conn in
+    let old : ServingState = record { desk = c.self.inside.desk; busy = c.self.inside.is_busy; down = c.self.inside.is_down } in
+    let new : ServingState = record { desk = c.close.new.self; busy = c.self.inside.is_busy; down = c.self.inside.is_down } in
+    subst (λ (v : ServingState). IsClosed conn (IsGoneFrom v conn) (HasLedTo v) (HasLedTo new) (kept_at v) (kept_at new)) c.self.view_is
+    (is_closed old new conn c.capped.result (c.if-conn-node.false ∙ c.node.ensures) (sym c.is_open.ensures ∙ c.if-not-is_open.false)
+    c.if-not-close.ensures.closed c.if-not-close.ensures.goes)

@@ -1,0 +1,18 @@
+use Rattle.std.proofs.Common.{◌≡◌, sym, subst}
+use Rattle.nr_entry.specs.Jobs.{connection_of}
+use Rattle.nr_service.specs.Stories.{IsFed}
+use Rattle.nr_service.specs.declared.answers.Standing.TheVariants as standings
+use Rattle.nr_lane.specs.Serving.{ServingState, kept_at, standing_of}
+use Rattle.nr_lane.specs.Led.{HasLedTo}
+use Rattle.nr_lane.proofs.Calls.{is_fed}
+use Rattle.nr_lane.proofs.serving.ServingDeskAnswers.feed.Goals as goal
+
+pub returns-clause-fed : goal.returns-clause-fed
+returns-clause-fed g c =
+    let conn = connection_of c.args.conn in
+    let old : ServingState = record { desk = c.self.inside.desk; busy = c.self.inside.is_busy; down = c.self.inside.is_down } in
+    let new : ServingState = record { desk = c.feed-is_whole.new.self; busy = c.self.inside.is_busy; down = c.self.inside.is_down } in
+    subst (λ (v : ServingState). IsFed conn c.args.moment c.args.bytes.now (HasLedTo v) (HasLedTo new) (kept_at v) (kept_at new)) c.self.view_is
+    (is_fed c.feed-is_whole.result old new conn c.args.moment c.capped.result c.args.bytes.now
+    (subst (λ (v : ServingState). standings.Open ≡ standing_of v conn) (sym c.self.view_is) c.requires) c.capped.ensures.value
+    c.feed-is_whole.ensures.fed c.feed-is_whole.ensures.stopped c.feed-is_whole.ensures.goes)

@@ -1,0 +1,15 @@
+use Rattle.std.proofs.Common.{subst}
+use Rattle.nr_entry.specs.Jobs.{connection_of}
+use Rattle.nr_service.specs.Stories.{IsOpened}
+use Rattle.nr_lane.specs.Serving.{ServingState, kept_at}
+use Rattle.nr_lane.specs.Led.{HasLedTo}
+use Rattle.nr_lane.proofs.Calls.{is_opened}
+use Rattle.nr_lane.proofs.serving.ServingDeskAnswers.open.Goals as goal
+
+pub returns-in-Ok-clause-opened : goal.returns-in-Ok-clause-opened
+returns-in-Ok-clause-opened g c =
+    let conn = connection_of c.in-Ok.conn in
+    let old : ServingState = record { desk = c.self.inside.desk; busy = c.self.inside.is_busy; down = c.self.inside.is_down } in
+    let new : ServingState = record { desk = c.open.new.self; busy = c.self.inside.is_busy; down = c.self.inside.is_down } in
+    subst (λ (v : ServingState). IsOpened conn (HasLedTo v) (HasLedTo new) (kept_at v) (kept_at new)) c.self.view_is
+    (is_opened old new conn c.in-Ok.ensures.opened c.in-Ok.ensures.goes)

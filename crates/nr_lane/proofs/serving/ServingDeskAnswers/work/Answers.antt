@@ -1,0 +1,17 @@
+use Rattle.std.proofs.Common.{subst}
+use Rattle.std.specs.Prelude.{◌||◌}
+use Rattle.nr_service.specs.Stories.{HasWorked}
+use Rattle.nr_worker.specs.Working.{WorkState}
+use Rattle.nr_lane.specs.Serving.{ServingState, kept_at}
+use Rattle.nr_lane.specs.Led.{HasLedTo, IsAtRest}
+use Rattle.nr_lane.specs.Works.{Works}
+use Rattle.nr_lane.proofs.Calls.{has_worked}
+use Rattle.nr_lane.proofs.serving.ServingDeskAnswers.work.Goals as goal
+
+pub returns-clause-worked : goal.returns-clause-worked
+returns-clause-worked g c =
+    let worked = c.work_on-worked in
+    let old : ServingState = record { desk = c.self.inside.desk; busy = c.self.inside.is_busy; down = c.self.inside.is_down } in
+    let new : ServingState = record { desk = worked.new.desk; busy = worked.result.is_busy; down = c.self.inside.is_down || worked.result.is_down } in
+    subst (λ (v : ServingState). HasWorked (HasLedTo v) (HasLedTo new) (IsAtRest new) (kept_at v) (kept_at new)) c.self.view_is
+    (has_worked old new (subst (λ (d : WorkState). Works d worked.new.desk) c.forget_told.ensures worked.ensures.works) worked.ensures.rest)

@@ -1,0 +1,4 @@
+pub mod Serving
+pub mod Told
+pub mod Led
+pub mod Works

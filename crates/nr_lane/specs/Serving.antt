@@ -1,0 +1,28 @@
+-- What contracts see of a worker's desk as what answers its service.
+use Rattle.std.specs.Prelude.{Bool, cond, refl}
+use Rattle.std.specs.Coded.{Coded, code_by, coded×, coded_bool}
+use Rattle.nr_model.specs.Items.{Connection}
+use Rattle.nr_service.specs.Stories.{Kept}
+use Rattle.nr_service.specs.declared.answers.Standing.{Standing}
+use Rattle.nr_service.specs.declared.answers.Standing.TheVariants as standings
+use Rattle.nr_seats.specs.Portions.{waiting_of}
+use Rattle.nr_worker.specs.Working.{WorkState, coded_work, takes_from}
+
+-- the desk; whether something was left to be done when it worked last, and whether its node is known to be down
+pub record ServingState : Type 0 where
+  pub desk : WorkState
+  pub busy : Bool
+  pub down : Bool
+
+abbrev pub coded_serving : Coded ServingState
+coded_serving =
+    code_by (WorkState × (Bool × Bool)) (coded× coded_work (coded× coded_bool coded_bool)) (λ d. (d.desk, (d.busy, d.down)))
+    (λ p. record { desk = p.0; busy = p.1.0; down = p.1.1 }) (λ _. refl)
+
+-- the bytes that wait for a connection that is open here
+abbrev pub kept_at : ServingState → Kept
+kept_at d c = waiting_of d.desk.worker.node d.desk.seats c
+
+-- how a connection stands
+abbrev pub standing_of : ServingState → Connection → Standing
+standing_of d c = cond d.down standings.Down (cond (takes_from c d.desk) standings.Open standings.Over)

@@ -1,0 +1,197 @@
+// What the threads of a server tell one another.
+ghost use Rattle.std.specs.Prelude.{◌≡◌, IfOk};
+
+use crate::news::News;
+use nr_blob::Memory;
+use nr_service::Rings;
+use std::alloc::Global;
+use std::sync::atomic::{AtomicBool, AtomicU64, AtomicUsize, Ordering};
+
+/// What the threads of a server tell one another: how many connections each node has, which nodes are down, how many workers serve yet, that all shall stop, and the
+/// bells that wake who sleeps. Hints alone: nothing that is proved rests on them. The threads share it.
+#[derive(Drop)]
+pub struct Crew<K> {
+    bells: K,
+    nodes: usize,
+    workers: usize,
+    connections: usize,
+    // Of each node, how many of its connections are open, or on their way to it.
+    taken: Vec<AtomicUsize>,
+    // A bit for each node that is down, node 0's the lowest.
+    downs: AtomicU64,
+    serving: AtomicUsize,
+    stops: AtomicBool,
+}
+
+impl<K: Rings> Crew<K> {
+    /// Of a server of so many nodes, each with so many workers, of which each node has at most so many connections: none yet. Nobody serves yet, and no node is down.
+    pub fn new(
+        alloc: Global,
+        bells: K,
+        nodes: usize,
+        workers: usize,
+        connections: usize,
+    ) -> Result<Crew<K>, Memory>
+    where
+        K: Drop,
+    {
+        let mut taken = Vec::with_capacity(alloc, nodes)?;
+        for _ in 0..nodes {
+            taken.push(AtomicUsize::new(0))?;
+        }
+        Ok(Crew {
+            bells,
+            nodes,
+            workers,
+            connections,
+            taken,
+            downs: AtomicU64::new(0),
+            serving: AtomicUsize::new(0),
+            stops: AtomicBool::new(false),
+        })
+    }
+
+    /// What wakes its threads.
+    pub fn bells(&self) -> &K {
+        &self.bells
+    }
+
+    /// Takes room for one more connection of a node. False where the node is down, or has as many as it takes: then no room is taken.
+    pub fn admit(&self, node: usize) -> bool {
+        if self.is_down(node) {
+            return false;
+        }
+        self.take_room(node) || (self.find_lost(node) && self.take_room(node))
+    }
+
+    // Takes room for one more, where there is some.
+    fn take_room(&self, node: usize) -> bool {
+        let Some(taken) = self.taken.get(node) else {
+            return false;
+        };
+        if taken.fetch_add(1, Ordering::SeqCst) < self.connections {
+            return true;
+        }
+        taken.fetch_sub(1, Ordering::SeqCst);
+        false
+    }
+
+    // Gives the room of those back that never came to a node they were dealt to. Whether there were any.
+    fn find_lost(&self, node: usize) -> bool {
+        let mut has_found = false;
+        for worker in 0..self.workers {
+            let lost = self.bells.take_lost(self.lane(node, worker));
+            for _ in 0..lost {
+                self.leave(node);
+                has_found = true;
+            }
+        }
+        has_found
+    }
+
+    /// The room of a connection of a node comes back.
+    pub fn leave(&self, node: usize) {
+        if let Some(taken) = self.taken.get(node) {
+            taken.fetch_sub(1, Ordering::SeqCst);
+        }
+    }
+
+    /// A node is down from now on.
+    pub fn fall(&self, node: usize) {
+        if node < 64 {
+            self.downs.fetch_or(1 << node, Ordering::SeqCst);
+        }
+    }
+
+    /// Whether a node is known to be down.
+    pub fn is_down(&self, node: usize) -> bool {
+        node < 64 && self.downs.load(Ordering::SeqCst) & (1 << node) != 0
+    }
+
+    /// Whether every node is.
+    pub fn are_down(&self) -> bool {
+        for node in 0..self.nodes {
+            if !self.is_down(node) {
+                return false;
+            }
+        }
+        true
+    }
+
+    /// One more worker serves.
+    pub fn begin(&self) {
+        self.serving.fetch_add(1, Ordering::SeqCst);
+    }
+
+    /// One serves no more.
+    pub fn end(&self) {
+        self.serving.fetch_sub(1, Ordering::SeqCst);
+    }
+
+    /// How many serve.
+    pub fn serving(&self) -> usize {
+        self.serving.load(Ordering::SeqCst)
+    }
+
+    /// All shall stop.
+    pub fn stop(&self) {
+        self.stops.store(true, Ordering::SeqCst);
+    }
+
+    /// Whether all shall stop.
+    pub fn is_stopped(&self) -> bool {
+        self.stops.load(Ordering::SeqCst)
+    }
+
+    /// Wakes everybody.
+    pub fn ring_all(&self) {
+        for node in 0..self.nodes {
+            for worker in 0..self.workers {
+                self.ring(node, worker);
+            }
+        }
+    }
+
+    // Which lane a worker of a node is.
+    fn lane(&self, node: usize, worker: usize) -> usize {
+        node.saturating_mul(self.workers).saturating_add(worker)
+    }
+
+    // Wakes a worker of a node.
+    fn ring(&self, node: usize, worker: usize) {
+        self.bells.ring(self.lane(node, worker));
+    }
+
+    // Whether a node has connections, or some are on their way to it.
+    fn has_clients(&self, node: usize) -> bool {
+        match self.taken.get(node) {
+            Some(taken) => taken.load(Ordering::SeqCst) != 0,
+            None => false,
+        }
+    }
+
+    // Wakes the other workers of a node that got something.
+    fn ring_others(&self, node: usize, others: u16) {
+        for worker in 0..self.workers {
+            if worker < 16 && others & (1 << worker) != 0 {
+                self.ring(node, worker);
+            }
+        }
+    }
+
+    /// Passes on what the turns of a worker of a node found for others: it wakes those of its node that got something; where an entry was put into the log, a worker of
+    /// each other node that has connections; and where the log was full, of each other node.
+    pub(crate) fn pass_on(&self, node: usize, worker: usize, news: &News) {
+        if news.others != 0 {
+            self.ring_others(node, news.others);
+        }
+        if !news.has_put && !news.was_full {
+            return;
+        }
+        for other in 0..self.nodes {
+            if other != node && (news.was_full || self.has_clients(other)) {
+                self.ring(other, worker);
+            }
+        }
+    }
+}

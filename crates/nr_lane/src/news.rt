@@ -1,0 +1,32 @@
+// What the turns of a worker find for others.
+use nr_combiner::Turned;
+use nr_node::Round;
+
+/// What the turns of a worker found for others since they were told last.
+#[derive(Clone, Copy, Debug)]
+pub(crate) struct News {
+    /// The other workers of its node that got something: a bit for each, worker 0's the lowest.
+    pub others: u16,
+    /// An entry was put into the log.
+    pub has_put: bool,
+    /// The log was full.
+    pub was_full: bool,
+}
+
+impl News {
+    /// Nothing.
+    pub(crate) fn none() -> News {
+        News {
+            others: 0,
+            has_put: false,
+            was_full: false,
+        }
+    }
+
+    /// What a turn found is added.
+    pub(crate) fn add(&mut self, turned: Turned) {
+        self.others |= turned.others;
+        self.has_put |= turned.has_put;
+        self.was_full |= matches!(turned.combined, Ok(Round::Full));
+    }
+}

@@ -1,0 +1,212 @@
+// A worker's desk as what answers its service.
+ghost use Rattle.std.specs.Prelude.{◌≡◌, ◌≤◌, [], None};
+ghost use Rattle.nr_model.specs.Connections.{Setup};
+ghost use Rattle.nr_model.specs.Keyspace.{moment as moment_of, last_moment};
+ghost use Rattle.nr_combiner.specs.Workers.{fresh_worker, shared_of};
+ghost use Rattle.nr_service.specs.Stories.{beginning};
+ghost use Rattle.nr_worker.specs.Working.{without_mark};
+ghost use Rattle.nr_lane.specs.Led.{HasLedTo};
+
+use crate::crew::Crew;
+use crate::news::News;
+use crate::rounds::work_on;
+use nr_blob::Memory;
+use nr_combiner::{ServerName, Worker};
+use nr_entry::ConnId;
+use nr_service::{Answers, Rings, Standing};
+use nr_taps::Mark;
+use nr_worker::Desk;
+use std::alloc::Global;
+use std::marker::Model;
+use std::sync::Wait;
+
+/// The last moment that is delivered apart, 2^53 milliseconds.
+const LAST_MOMENT: u64 = 9_007_199_254_740_992;
+
+/// A worker's desk among those of its server, as what answers its service.
+#[derive(Drop)]
+pub struct ServingDesk<'a, R, B: ServerName, K> {
+    desk: Desk<'a, R, B>,
+    crew: &'a Crew<K>,
+    // Which worker of its node it is.
+    worker: usize,
+    // What the last work found for others.
+    news: News,
+    is_busy: bool,
+    is_down: bool,
+}
+
+impl<'a, R, B: ServerName, K> Model for ServingDesk<'a, R, B, K> {
+    ghost use Rattle.nr_lane.specs.Serving.{ServingState, coded_serving};
+
+    ghost Value = { ServingState };
+
+    ghost coded = { coded_serving };
+
+    ghost view = { λ d. record { desk = d.desk; busy = d.is_busy; down = d.is_down } };
+}
+
+fn capped(milliseconds: u64) -> u64
+    ensures value { result ≡ moment_of milliseconds }
+    ensures in_time { result ≤ last_moment }
+{
+    milliseconds.min(LAST_MOMENT)
+}
+
+impl<'a, R: Wait, B: ServerName, K: Rings> ServingDesk<'a, R, B, K> {
+    /// The desk of a worker that has handed in nothing, which is this worker of its node, with no connections. At most `limit` bytes wait for each. It takes no
+    /// memory.
+    pub fn new(
+        alloc: Global,
+        rt: &'a R,
+        worker: Worker<B>,
+        number: usize,
+        crew: &'a Crew<K>,
+        limit: usize,
+    ) -> ServingDesk<'a, R, B, K>
+        requires { worker ≡ fresh_worker (shared_of worker) worker.seat.worker }
+        ensures past { (setup : Setup) → HasLedTo result (beginning setup) }
+        ensures mark { result.desk.mark ≡ None }
+    {
+        ServingDesk {
+            desk: Desk::new(alloc, rt, worker, limit),
+            crew,
+            worker: number,
+            news: News::none(),
+            is_busy: false,
+            is_down: false,
+        }
+    }
+
+    /// Its mark, in whose place it has one that keeps nothing: for when it ends. Constant.
+    pub fn take_mark(&mut self) -> Mark<B>
+        ensures mark { result.standing ≡ self.old.desk.mark }
+        ensures left { self.new.desk ≡ without_mark self.old.desk }
+    {
+        self.desk.take_mark()
+    }
+
+    /// A turn of its node's combiner for the other workers of the node, in which nothing is handed out here: for one that serves nobody any more. It takes the lock
+    /// once.
+    pub fn turn_for_others(&self) {
+        self.desk.turn_for_others();
+    }
+}
+
+impl<'a, R: Wait, B: ServerName, K: Rings> Answers for ServingDesk<'a, R, B, K> {
+    ghost use Rattle.std.specs.Prelude.{◌≡◌, None};
+    ghost use Rattle.nr_seats.specs.Portions.{seat_of};
+    ghost use Rattle.nr_lane.specs.Led.{HasLedTo, IsAtRest};
+    ghost use Rattle.nr_lane.specs.Serving.{kept_at, standing_of};
+
+    ghost is_past = { HasLedTo };
+
+    ghost is_settled = { IsAtRest };
+
+    ghost is_left = { HasLedTo };
+
+    ghost busy = { λ d. d.busy };
+
+    ghost kept = { kept_at };
+
+    ghost stands = { λ d c standing. standing ≡ standing_of d c };
+
+    // Nobody knows of all nodes at once.
+    ghost falls = { λ _ _. Unit {0} };
+
+    // There may be no memory for one more.
+    ghost is_full = { λ _. Unit {0} };
+
+    // Where it goes was decided as it was dealt out.
+    ghost is_placed = { λ d e number c. c.node ≡ d.desk.worker.node };
+
+    ghost is_gone = { λ d c. seat_of d.desk.worker.node d.desk.seats c ≡ None };
+
+    /// A connection of its node. `None` where the node is down, has no room, or memory runs out. Where the number came from says nothing here.
+    fn open(&mut self, _: u64) -> Result<Option<ConnId>, Memory> {
+        if let Ok(conn) = self.desk.open() {
+            return Ok(Some(conn));
+        }
+        self.crew.leave(self.desk.node());
+        Ok(None)
+    }
+
+    fn standing(&self, conn: ConnId) -> Standing {
+        if self.is_down {
+            return Standing::Down;
+        }
+        if self.desk.takes(conn) {
+            return Standing::Open;
+        }
+        Standing::Over
+    }
+
+    fn is_down(&self) -> bool {
+        self.crew.are_down()
+    }
+
+    /// Where memory runs out the connection is cut.
+    fn feed(&mut self, conn: ConnId, moment: u64, bytes: &[u8]) -> Result<(), Memory> {
+        let _is_whole = self.desk.feed(conn, capped(moment), bytes);
+        Ok(())
+    }
+
+    /// At most 64 turns of its node. Where memory runs out what is left waits.
+    fn work(&mut self) -> Result<(), Memory> {
+        self.desk.forget_told();
+        let worked = work_on(&mut self.desk);
+        if worked.is_down && !self.is_down {
+            self.crew.fall(self.desk.node());
+        }
+        self.news = worked.news;
+        self.is_down |= worked.is_down;
+        self.is_busy = worked.is_busy;
+        Ok(())
+    }
+
+    fn is_busy(&self) -> bool {
+        self.is_busy
+    }
+
+    fn leaves(&self) {}
+
+    fn pass_on(&self) {
+        self.crew.pass_on(self.desk.node(), self.worker, &self.news);
+    }
+
+    fn told(&self, place: usize) -> Option<ConnId> {
+        let serial = self.desk.told(place)?;
+        Some(ConnId {
+            node: self.desk.node(),
+            serial,
+        })
+    }
+
+    fn pending(&self, conn: ConnId) -> &[u8] {
+        if conn.node != self.desk.node() {
+            return &[];
+        }
+        self.desk.pending(conn.serial)
+    }
+
+    fn written(&mut self, conn: ConnId, count: usize) {
+        if conn.node == self.desk.node() {
+            self.desk.written(conn.serial, count);
+        }
+    }
+
+    /// Its last job waits behind the others, and its node lets go of its queue. Where there is no memory for that job nothing changes.
+    fn close(&mut self, conn: ConnId, moment: u64) -> Result<(), Memory> {
+        if conn.node != self.desk.node() {
+            return Ok(());
+        }
+        if !self.desk.is_open(conn.serial) {
+            return Ok(());
+        }
+        if !self.desk.close(conn.serial, capped(moment)) {
+            return Err(Memory);
+        }
+        self.crew.leave(conn.node);
+        Ok(())
+    }
+}

@@ -1,0 +1,276 @@
+// The door of a lane: the sockets of the connections that its thread serves, and which of them are ready.
+ghost use Rattle.std.specs.Prelude.{◌≡◌, ◌≤◌, true, false, [], length, IfOk, IfSome, IsOk};
+ghost use Rattle.nr_service.specs.Streams.{fresh_course};
+
+use crate::entrance::{Entrance, Lane, Lookout, WAKER};
+use crate::lingering::{Lingering, PIECE};
+use crate::readiness::{Readiness, Shared};
+use crate::socket::Socket;
+use crate::waiting::longest_wait;
+use mio::event::Event;
+use mio::net::TcpStream;
+use mio::{Events, Interest, Poll, Token};
+use nr_blob::Memory;
+use nr_service::{Device, Ready, Stream};
+use nr_transcript::Transcript;
+use slab::Slab;
+use std::alloc::Global;
+use std::io::{self, Error, ErrorKind};
+use std::net::Shutdown;
+use std::rt::Clock;
+use std::sync::{Arc, Wait};
+use std::time::{Duration, Instant};
+
+/// How many letters are tried in one call: one that becomes no connection is followed by the next.
+const MOST_TRIES: usize = 64;
+
+/// How many sockets linger at most. One more is closed at once.
+const MOST_LINGERING: usize = 1_024;
+
+/// In how many waits at most those that linger are looked at, whether their time is over.
+const MOST_WAITS: u32 = 16;
+
+/// The sockets of one lane, each with a place in the list of what is ready. They come through the lane's letter box, and the lane's bell ends a wait.
+#[derive(Drop)]
+pub struct Door<'a, R> {
+    alloc: Global,
+    runtime: &'a R,
+    lane: &'a Lane,
+    poll: Poll,
+    events: Events<Global>,
+    // Of each socket, at its place: what may be done.
+    ready: Slab<Shared>,
+    // The places of those that the last wait told of, and of those whose end it told of before and that still have it to give.
+    listed: Vec<usize>,
+    lingering: Vec<Lingering>,
+    // Into this the bytes go that those that linger still get.
+    dropped: Vec<u8>,
+    // Whether one of those may be read, and how many waits there may be before they are looked at anyway.
+    is_lingering_ready: bool,
+    waits: u32,
+    pub ghost few_linger: { length lingering.items ≤ 1024 },
+}
+
+impl<'a, R> Door<'a, R> {
+    /// The door of the lane whose lookout this is, at the entrance that was opened with it. Nobody has come yet.
+    ///
+    /// # Errors
+    ///
+    /// `OutOfMemory` where memory is refused, `InvalidInput` where the entrance has no such lane.
+    pub fn new(
+        alloc: Global,
+        runtime: &'a R,
+        entrance: &'a Entrance,
+        lookout: Lookout,
+    ) -> io::Result<Door<'a, R>> {
+        let Some(lane) = entrance.lane(lookout.lane) else {
+            return Err(Error::from(ErrorKind::InvalidInput));
+        };
+        Ok(Door {
+            alloc,
+            runtime,
+            lane,
+            poll: lookout.poll,
+            events: lookout.events,
+            ready: Slab::new(alloc),
+            listed: Vec::new(alloc),
+            lingering: Vec::new(alloc),
+            dropped: vec![in alloc; 0; PIECE]?,
+            is_lingering_ready: false,
+            waits: MOST_WAITS,
+        })
+    }
+
+    /// How many of the connections that were dealt to this lane became none since this was last asked, since memory or the system refused it.
+    pub fn take_lost(&mut self) -> u64 {
+        self.lane.letters.take_lost()
+    }
+
+    // The socket of a connection, or `None` where memory or the system refuses it.
+    fn socket(&mut self, mut stream: TcpStream) -> Option<Socket>
+        ensures { IfSome result (λ socket. (socket.received.bytes ≡ []) × (socket.sent.bytes ≡ [])) }
+    {
+        let readiness = Arc::new(self.alloc, Readiness::new()).ok()?;
+        let shared = Arc::try_clone(&readiness).ok()?;
+        let place = self.ready.insert(shared).ok()?;
+        let registered = self.poll.registry().register(
+            &mut stream,
+            Token(place),
+            Interest::READABLE | Interest::WRITABLE,
+        );
+        let set = stream.set_nodelay(true);
+        if registered.is_err() || set.is_err() {
+            self.ready.try_remove(place);
+            return None;
+        }
+        Some(Socket {
+            stream,
+            place,
+            readiness,
+            received: Transcript::new(),
+            sent: Transcript::new(),
+        })
+    }
+
+    // Whether the thread sleeps until something is told of: no work is at hand, no letter is there, and nobody rang.
+    fn falls_asleep(&self, is_busy: bool) -> bool
+        ensures { result ≡ true → is_busy ≡ false }
+    {
+        !is_busy && self.lane.letters.is_empty() && self.lane.bell.may_sleep()
+    }
+
+    // Notes what the system told of.
+    fn note(&mut self) {
+        let ready = &self.ready;
+        self.listed.retain(|place| has_end(ready, *place));
+        for event in &self.events {
+            let Token(place) = event.token();
+            if event.token() == WAKER {
+                continue;
+            }
+            if mark(&self.ready, event) {
+                self.is_lingering_ready = true;
+            } else {
+                list(&mut self.listed, place);
+            }
+        }
+    }
+
+    // Whether those that linger are to be looked at: one of them may be read, or it is time to.
+    fn has_to_linger(&mut self) -> bool {
+        self.waits = self.waits.saturating_sub(1);
+        !self.lingering.is_empty() && (self.is_lingering_ready || self.waits == 0)
+    }
+}
+
+impl<R: Wait> Door<'_, R> {
+    // The socket of the next letter of which one can be made. Those before it are lost.
+    fn next(&mut self) -> Option<Socket>
+        ensures { IfSome result (λ socket. (socket.received.bytes ≡ []) × (socket.sent.bytes ≡ [])) }
+    {
+        for _ in 0..MOST_TRIES {
+            let stream = self.lane.letters.take(self.runtime)?;
+            match self.socket(stream) {
+                Some(socket) => return Some(socket),
+                None => self.lane.letters.lose(),
+            }
+        }
+        None
+    }
+}
+
+impl<R: Clock> Door<'_, R> {
+    // Drops what peers of lingering sockets still send, and lets go of those whose time is over.
+    fn linger(&mut self) {
+        self.waits = MOST_WAITS;
+        self.is_lingering_ready = false;
+        let Ok(now) = Instant::now(self.runtime) else {
+            self.lingering.clear();
+            return;
+        };
+        let ready = &mut self.ready;
+        let dropped = &mut self.dropped;
+        let is_ready = &mut self.is_lingering_ready;
+        self.lingering.retain_mut(|lingering| {
+            let goes_on = lingering.goes_on(now, dropped);
+            if goes_on {
+                *is_ready |= lingering.socket.readiness.is_readable();
+            } else {
+                ready.try_remove(lingering.socket.place);
+            }
+            goes_on
+        });
+    }
+
+    // Lets a socket linger, where that can be.
+    fn keep(&mut self, socket: Socket) {
+        let place = socket.place;
+        socket.readiness.set_lingering();
+        self.is_lingering_ready = true;
+        let is_kept = match Instant::now(self.runtime) {
+            Ok(now) if self.lingering.len() < MOST_LINGERING => {
+                self.lingering.push(Lingering::new(socket, now)).is_ok()
+            }
+            _ => false,
+        };
+        if !is_kept {
+            self.ready.try_remove(place);
+        }
+    }
+}
+
+// Whether the end of the socket at this place was told of, and may still be read.
+fn has_end(ready: &Slab<Shared>, place: usize) -> bool {
+    match ready.get(place) {
+        Some(readiness) => {
+            readiness.is_ending() && readiness.is_readable() && !readiness.is_lingering()
+        }
+        None => false,
+    }
+}
+
+// Lists a place. Where there is no room for it, it is found later.
+fn list(listed: &mut Vec<usize>, place: usize) {
+    let _ = listed.push(place);
+}
+
+// A socket may be read, or written, again. Whether it is one that lingers.
+fn mark(ready: &Slab<Shared>, event: &Event) -> bool {
+    let Token(place) = event.token();
+    let Some(readiness) = ready.get(place) else {
+        return false;
+    };
+    if event.is_read_closed() || event.is_error() {
+        readiness.set_ending();
+    }
+    if event.is_readable() || event.is_read_closed() || event.is_error() {
+        readiness.set_readable(true);
+    }
+    if event.is_writable() || event.is_write_closed() || event.is_error() {
+        readiness.set_writable(true);
+    }
+    readiness.is_lingering()
+}
+
+impl<R: Clock + Wait> Device<Socket> for Door<'_, R> {
+    // Want of memory ends a connection, and never the server.
+    fn accept(&mut self) -> Result<Option<Socket>, Memory>
+        ensures goes_on { IsOk result }
+        ensures received { IfOk result (λ accepted. IfSome accepted (λ socket. IfSome (⟦<Socket as Stream>⟧.received socket) (λ bytes. bytes ≡ []))) }
+        ensures sent { IfOk result (λ accepted. IfSome accepted (λ socket. IfSome (⟦<Socket as Stream>⟧.sent socket) (λ bytes. bytes ≡ []))) }
+        ensures course { IfOk result (λ accepted. IfSome accepted (λ socket. IfSome (⟦<Socket as Stream>⟧.course socket) (λ course. course ≡ fresh_course))) }
+    {
+        Ok(self.next())
+    }
+
+    fn wait(&mut self, is_busy: bool) -> bool {
+        let is_asleep = self.falls_asleep(is_busy);
+        let longest = Duration::from_millis(longest_wait(!is_asleep));
+        let waited = self.poll.poll(&mut self.events, Some(longest));
+        self.lane.bell.wakes();
+        self.note();
+        if self.has_to_linger() {
+            self.linger();
+        }
+        waited.is_ok()
+    }
+
+    fn ready(&self, place: usize) -> Ready {
+        match self.listed.get(place) {
+            Some(socket) => Ready::One(*socket),
+            None => Ready::NoMore,
+        }
+    }
+
+    fn finish(&mut self, socket: Socket) {
+        if socket.stream.shutdown(Shutdown::Write).is_ok() {
+            self.keep(socket);
+        } else {
+            self.abandon(socket);
+        }
+    }
+
+    fn abandon(&mut self, socket: Socket) {
+        self.ready.try_remove(socket.place);
+    }
+}

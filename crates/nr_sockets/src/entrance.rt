@@ -1,0 +1,110 @@
+// The entrance of a server that is served in lanes, each by a thread: the bells and the letter boxes of all.
+ghost use Rattle.std.specs.Prelude.{ℕ, ◌≡◌, IfOk, Some, length, slice_get};
+
+use crate::bell::Bell;
+use crate::letters::LetterBox;
+use mio::net::TcpStream;
+use mio::{Events, Poll, Token, Waker};
+use nr_service::Rings;
+use std::alloc::Global;
+use std::io;
+use std::net::Net;
+use std::sync::Wait;
+
+/// The token of a lane's waker. Those of sockets are their places.
+pub(crate) const WAKER: Token = Token(usize::MAX);
+
+/// Of how many changes the system tells a lane at once.
+const MOST_EVENTS: usize = 1_024;
+
+/// What others reach a lane by.
+#[derive(Drop)]
+pub(crate) struct Lane {
+    pub(crate) bell: Bell,
+    pub(crate) letters: LetterBox,
+}
+
+/// The bells and the letter boxes of all lanes, which are numbered from 0 on. All threads share it.
+#[derive(Drop)]
+pub struct Entrance {
+    lanes: Vec<Lane>,
+}
+
+/// What the thread of a lane waits at. A door is made from it.
+#[derive(Drop)]
+pub struct Lookout {
+    pub lane: usize,
+    pub(crate) poll: Poll,
+    pub(crate) events: Events<Global>,
+}
+
+impl Entrance {
+    pub(crate) fn lane(&self, lane: usize) -> Option<&Lane> {
+        self.lanes.get(lane)
+    }
+
+    /// Puts a connection into the letter box of a lane, and rings there. It is closed where memory is refused, or there is no such lane.
+    pub(crate) fn hand_in<R: Wait>(&self, runtime: &R, lane: usize, stream: TcpStream) {
+        let Some(lane) = self.lanes.get(lane) else {
+            return;
+        };
+        if lane.letters.put(runtime, stream) {
+            lane.bell.ring();
+        }
+    }
+
+    /// How many of the connections that were dealt to a lane became none there since this was last asked, since memory or the system refused it.
+    pub fn take_lost(&self, lane: usize) -> u64 {
+        match self.lanes.get(lane) {
+            Some(lane) => lane.letters.take_lost(),
+            None => 0,
+        }
+    }
+}
+
+impl Rings for Entrance {
+    fn ring(&self, lane: usize) {
+        if let Some(lane) = self.lanes.get(lane) {
+            lane.bell.ring();
+        }
+    }
+}
+
+// What others reach one lane by, and what its thread waits at.
+fn open_lane<N: Net>(alloc: Global, net: &N, lane: usize) -> io::Result<(Lane, Lookout)>
+    ensures { IfOk result (λ opened. opened.1.lane ≡ lane) }
+{
+    let poll = Poll::new(net)?;
+    let waker = Waker::new(poll.registry(), WAKER)?;
+    let events = Events::with_capacity(alloc, MOST_EVENTS)?;
+    Ok((
+        Lane {
+            bell: Bell::new(waker),
+            letters: LetterBox::new(alloc),
+        },
+        Lookout { lane, poll, events },
+    ))
+}
+
+/// The entrance of so many lanes, and what the thread of each waits at, in order.
+///
+/// # Errors
+///
+/// Those of the system where it refuses one, as for want of descriptors, of which each lane takes two, or of memory.
+pub fn open_lanes<N: Net>(
+    alloc: Global,
+    net: &N,
+    count: usize,
+) -> io::Result<(Entrance, Vec<Lookout>)>
+    ensures count { IfOk result (λ opened. length opened.1.items ≡ count) }
+    ensures numbers { IfOk result (λ opened. (lane : ℕ) (lookout : _) → slice_get opened.1.items lane ≡ Some lookout → lookout.lane ≡ lane) }
+{
+    let mut lanes = Vec::new(alloc);
+    let mut lookouts = Vec::new(alloc);
+    for number in 0..count {
+        let (lane, lookout) = open_lane(alloc, net, number)?;
+        lanes.push(lane)?;
+        lookouts.push(lookout)?;
+    }
+    Ok((Entrance { lanes }, lookouts))
+}
