@@ -1,4 +1,5 @@
 ghost use Rattle.std.specs.Prelude.{◌≡◌, ◌<◌, length};
+ghost use Rattle.nr_slots.specs.Names.{Names};
 
 use nr_entry::{Answer, Batch, Outcome};
 use nr_slots::{CombinerSeat, OpenError, Slots, WorkerSeat};
@@ -8,7 +9,7 @@ use std::test::Fail;
 
 // The answer that a batch was executed.
 fn answer_to(batch: &Batch) -> Answer
-    ensures { (result.node ≡ batch.now.node) × (result.worker ≡ batch.now.worker) × (result.batch ≡ batch.now.number) }
+    ensures { Names result batch.now }
 {
     Answer {
         node: batch.node,
