@@ -3,11 +3,15 @@
 #![tactic(auto)]
 
 use nr_config::{Settings, Task, WordsError, words};
-use nr_server::{Fault, listen_on, play_on, run_on, serve_on, settings_on};
+use nr_server::{Fault, listen_on, play_on, run_on, serve_by_tcp, settings_on};
 use nr_service::{MachineClock, Open};
 use std::hash::RandomState;
 use std::io::{self, ErrorKind};
+use std::net::Net;
 use std::process::ExitCode;
+use std::rt::Clock;
+use std::sync::Wait;
+use std::thread::Threads;
 use std::{env, fs};
 
 fn serve_input(rt: &HostRuntime) -> io::Result<Result<(), Fault>> {
@@ -37,9 +41,13 @@ fn play_script(rt: &HostRuntime, file: &str) -> io::Result<Result<(), Fault>> {
     }
 }
 
-fn serve_clients(rt: &HostRuntime, file: &str) -> io::Result<Result<(), Fault>> {
+fn serve_clients<R: Clock + Net + Threads + Wait + Sync>(
+    rt: &HostRuntime,
+    threads: &R,
+    file: &str,
+) -> io::Result<Result<(), Fault>> {
     match read_file(rt, file, Fault::Settings)? {
-        Ok(text) => serve_with(rt, &text),
+        Ok(text) => serve_with(rt, threads, &text),
         Err(fault) => Ok(Err(fault)),
     }
 }
@@ -49,27 +57,31 @@ fn announce(rt: &HostRuntime, settings: &Settings) -> Result<(), Fault> {
     if println!(rt; "noderedis: listening on {}", settings.listen).is_err() {
         return Err(Fault::Write);
     }
-    let _ = eprintln!(rt; "noderedis: one thread serves all nodes");
+    let threads = settings.nodes * settings.workers;
+    let _ = eprintln!(rt; "noderedis: {threads} threads serve");
     Ok(())
 }
 
-// Serves with the settings of this text.
-fn serve_with(rt: &HostRuntime, text: &[u8]) -> io::Result<Result<(), Fault>> {
+// Serves with the settings of this text, by threads.
+fn serve_with<R: Clock + Net + Threads + Wait + Sync>(
+    rt: &HostRuntime,
+    threads: &R,
+    text: &[u8],
+) -> io::Result<Result<(), Fault>> {
     let alloc = rt.alloc();
     let settings = match settings_on(alloc, text) {
         Ok(settings) => settings,
         Err(fault) => return Ok(Err(fault)),
     };
-    let sockets = match listen_on(alloc, rt, &settings) {
-        Ok(sockets) => sockets,
+    let listening = match listen_on(alloc, threads, &settings) {
+        Ok(listening) => listening,
         Err(fault) => return Ok(Err(fault)),
     };
     if let Err(fault) = announce(rt, &settings) {
         return Ok(Err(fault));
     }
     let keys = RandomState::new(rt)?;
-    let clock = MachineClock { runtime: rt };
-    Ok(serve_on(alloc, keys, &settings, sockets, clock, &Open))
+    Ok(serve_by_tcp(threads, alloc, keys, &settings, listening, &Open))
 }
 
 // Says why the program ends, in one line.
@@ -88,7 +100,10 @@ fn refuse(rt: &HostRuntime, error: &WordsError) -> io::Result<ExitCode> {
     }
 }
 
-fn perform(rt: &HostRuntime) -> io::Result<ExitCode> {
+fn perform<R: Clock + Net + Threads + Wait + Sync>(
+    rt: &HostRuntime,
+    threads: &R,
+) -> io::Result<ExitCode> {
     let alloc = rt.alloc();
     let given: Vec<String> = env::args(rt)?.collect(alloc)?;
     let task = match words(alloc, given) {
@@ -98,7 +113,7 @@ fn perform(rt: &HostRuntime) -> io::Result<ExitCode> {
     let done = match &task {
         Task::Run => serve_input(rt)?,
         Task::Script(file) => play_script(rt, file.as_str())?,
-        Task::Serve(file) => serve_clients(rt, file.as_str())?,
+        Task::Serve(file) => serve_clients(rt, threads, file.as_str())?,
     };
     match done {
         Ok(()) => Ok(ExitCode::SUCCESS),
@@ -107,7 +122,7 @@ fn perform(rt: &HostRuntime) -> io::Result<ExitCode> {
 }
 
 fn main(rt: HostRuntime) -> io::Result<ExitCode> {
-    match perform(&rt) {
+    match perform(&rt, &rt) {
         Err(error) if error.kind() == ErrorKind::OutOfMemory => fail(&rt, &Fault::Memory),
         done => done,
     }

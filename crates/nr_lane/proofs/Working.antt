@@ -1,5 +1,5 @@
 -- What is done one behind the other is a work of the desk.
-use Rattle.std.proofs.Common.{◌≡◌, ℕ, Bool, true, false, List, [], ◌∷◌, ◌++◌, Option, Some, None, refl, ap, sym, ◌∙◌, subst, append-nil, append_assoc}
+use Rattle.std.proofs.Common.{◌≡◌, ℕ, Bool, true, false, cond, List, [], ◌∷◌, ◌++◌, Option, Some, None, refl, ap, sym, ◌∙◌, subst, append-nil, append_assoc}
 use Rattle.std.specs.Prelude.{IfSome, IfNone}
 use Rattle.std.specs.Bool.{OnTrue, OnFalse}
 use Rattle.std.specs.Option.{option_map}
@@ -9,12 +9,16 @@ use Rattle.nr_model.proofs.Exchanged.{handed_to-append}
 use Rattle.nr_combiner.specs.Workers.{WorkerState}
 use Rattle.nr_combiner.specs.declared.worker.TheConstants.{MOST_JOBS}
 use Rattle.nr_combiner.specs.declared.answering.Turned.{Turned}
-use Rattle.nr_seats.specs.Placed.{SeatsState}
-use Rattle.nr_seats.specs.Portions.{HandsOut, waiting_of}
+use Rattle.std.specs.Prelude.{◌==◌}
+use Rattle.std.proofs.lemmas.Bool.{eqb-true}
+use Rattle.nr_model.specs.Items.{Connection}
+use Rattle.nr_seats.specs.Seated.{SeatState, cut_off}
+use Rattle.nr_seats.specs.Placed.{IsPut, SeatsState, seat_at}
+use Rattle.nr_seats.specs.Portions.{HandsOut, seat_of, waiting_of}
 use Rattle.nr_worker.specs.Desk.{Served}
 use Rattle.nr_worker.specs.Settling.{HasSettled}
 use Rattle.nr_worker.specs.declared.collecting.Settled.{Settled}
-use Rattle.nr_worker.specs.Working.{Goes, HandsIn, HandsOn, WorkState, all_handed, unchanged}
+use Rattle.nr_worker.specs.Working.{CutsOff, Goes, HandsIn, HandsOn, WorkState, all_handed, unchanged}
 use Rattle.nr_lane.specs.Works.{Works}
 use Rattle.nr_lane.proofs.Lists.{goes_further, goes_nowhere}
 
@@ -124,3 +128,45 @@ works_collected None v w s same g = works_still v w g same
 
 pub works_same : (v : WorkState) → Works v v
 works_same v = works_turned None v v tt refl
+
+-- ---- no more bytes are taken from one
+abbrev pending_of : Option SeatState → Option Bytes
+pending_of o = option_map (λ (s : SeatState). s.pending) o
+
+pending_cut : (o : Option SeatState) → pending_of (option_map cut_off o) ≡ pending_of o
+pending_cut None = refl
+pending_cut (Some s) = refl
+
+pending_put : (serial : ℕ) (old new : SeatsState) → IsPut serial (option_map cut_off (seat_at serial old)) old new
+    → (other : ℕ) → pending_of (seat_at other new) ≡ pending_of (seat_at other old)
+pending_put serial old new put other =
+    let seat = option_map cut_off (seat_at serial old) in
+    elim (serial == other) as (λ b. (serial == other) ≡ b → pending_of (seat_at other new) ≡ pending_of (seat_at other old)) [
+      | true ↦ λ own.
+          ap pending_of (put.at other ∙ ap (λ b. cond b seat (seat_at other old)) own) ∙ pending_cut (seat_at serial old)
+          ∙ ap (λ n. pending_of (seat_at n old)) (eqb-true serial other own)
+      | false ↦ λ apart. ap pending_of (put.at other ∙ ap (λ b. cond b seat (seat_at other old)) apart)
+    ] refl
+
+waits_still : (node serial : ℕ) (old new : SeatsState) → IsPut serial (option_map cut_off (seat_at serial old)) old new
+    → (c : Connection) → waiting_of node new c ≡ waiting_of node old c
+waits_still node serial old new put c =
+    elim (c.node == node) as (λ b. pending_of (cond b (seat_at c.serial new) None) ≡ pending_of (cond b (seat_at c.serial old) None)) [
+      | true ↦ pending_put serial old new put c.serial
+      | false ↦ refl
+    ]
+
+none_pending : (o : Option SeatState) → pending_of o ≡ None → o ≡ None
+none_pending None is = refl
+none_pending (Some s) is = absurd (cc is)
+
+pub works_stopped : (serial : ℕ) (v w : WorkState) → CutsOff serial v w → Goes unchanged v w → Works v w
+works_stopped serial v w cut g = record {
+  handed = [];
+  goes = goes_nothing v w g;
+  waiting = record {
+    waiting = λ c. waits_still v.worker.node serial v.seats w.seats cut.put c ∙ waited_same (waiting_of v.worker.node v.seats c);
+    none = λ c absent. (refl, none_pending (seat_of v.worker.node w.seats c) (waits_still v.worker.node serial v.seats w.seats cut.put c ∙ ap pending_of absent));
+  };
+  node = ap (λ (x : WorkState). x.worker.node) cut.changed;
+}

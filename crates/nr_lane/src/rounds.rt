@@ -5,7 +5,7 @@ ghost use Rattle.nr_lane.specs.Works.{IsIdle, Works};
 
 use crate::news::News;
 use nr_combiner::{Lifts, ServerName, Turned};
-use nr_entry::Refusal;
+use nr_entry::{ConnId, Refusal};
 use nr_node::Round;
 use nr_worker::{Desk, Settled};
 use std::sync::Wait;
@@ -102,6 +102,34 @@ fn take_turn<R: Wait, B: ServerName>(desk: &mut Desk<'_, R, B>, worked: &mut Wor
     next_of(turned, settled, desk.is_at_work())
 }
 
+// Takes no more bytes from a connection.
+fn stop<R: Wait, B: ServerName>(desk: &mut Desk<'_, R, B>, conn: ConnId)
+    ensures { Works desk.old desk.new }
+{
+    desk.stop(conn.serial);
+}
+
+// Takes no more bytes from those for which nothing more comes, as far as there is room to hear of them.
+fn hear_of_cut<R: Wait, B: ServerName>(desk: &mut Desk<'_, R, B>)
+    ensures { Works desk.old desk.new }
+{
+    let Ok(cut) = desk.cut_ones() else {
+        return;
+    };
+    for conn in cut {
+        stop(desk, conn);
+    }
+}
+
+// Does so where it is time to.
+fn hear_in_time<R: Wait, B: ServerName>(desk: &mut Desk<'_, R, B>, is_time: bool)
+    ensures { Works desk.old desk.new }
+{
+    if is_time {
+        hear_of_cut(desk);
+    }
+}
+
 // Takes turns until nothing is left to be done, or others have to do something first, at most 64. Whether something is left.
 fn take_turns<R: Wait, B: ServerName>(desk: &mut Desk<'_, R, B>, worked: &mut Worked) -> bool
     ensures { Works desk.old desk.new }
@@ -116,8 +144,9 @@ fn take_turns<R: Wait, B: ServerName>(desk: &mut Desk<'_, R, B>, worked: &mut Wo
     true
 }
 
-/// Has the work of a desk done, until nothing is left to be done or others have to do something first: at most 64 turns, each of which takes the lock once.
-pub(crate) fn work_on<R: Wait, B: ServerName>(desk: &mut Desk<'_, R, B>) -> Worked
+/// Has the work of a desk done, until nothing is left to be done or others have to do something first: at most 64 turns, each of which takes the lock once. Where
+/// it is time to, it hears before which queues its node has cut.
+pub(crate) fn work_on<R: Wait, B: ServerName>(desk: &mut Desk<'_, R, B>, is_time: bool) -> Worked
     ensures works { Works desk.old desk.new }
     ensures rest { result.is_busy ≡ false → IsIdle desk.new }
 {
@@ -126,6 +155,7 @@ pub(crate) fn work_on<R: Wait, B: ServerName>(desk: &mut Desk<'_, R, B>) -> Work
         is_down: false,
         is_busy: false,
     };
+    hear_in_time(desk, is_time);
     let has_rest = take_turns(desk, &mut worked);
     worked.is_busy = has_rest | desk.is_at_work();
     worked

@@ -23,6 +23,9 @@ use std::sync::Wait;
 /// The last moment that is delivered apart, 2^53 milliseconds.
 const LAST_MOMENT: u64 = 9_007_199_254_740_992;
 
+/// How many works go by until the desk hears which queues its node has cut: with nothing to do some 640 milliseconds.
+const WORKS_TO_HEAR: u8 = 64;
+
 /// A worker's desk among those of its server, as what answers its service.
 #[derive(Drop)]
 pub struct ServingDesk<'a, R, B: ServerName, K> {
@@ -34,6 +37,8 @@ pub struct ServingDesk<'a, R, B: ServerName, K> {
     news: News,
     is_busy: bool,
     is_down: bool,
+    // How many works it has done, counted to 256.
+    works: u8,
 }
 
 impl<'a, R, B: ServerName, K> Model for ServingDesk<'a, R, B, K> {
@@ -67,6 +72,7 @@ impl<'a, R: Wait, B: ServerName, K: Rings> ServingDesk<'a, R, B, K> {
         requires { worker ≡ fresh_worker (shared_of worker) worker.seat.worker }
         ensures past { (setup : Setup) → HasLedTo result (beginning setup) }
         ensures mark { result.desk.mark ≡ None }
+        ensures limit { result.desk.limit ≡ limit }
     {
         ServingDesk {
             desk: Desk::new(alloc, rt, worker, limit),
@@ -75,6 +81,7 @@ impl<'a, R: Wait, B: ServerName, K: Rings> ServingDesk<'a, R, B, K> {
             news: News::none(),
             is_busy: false,
             is_down: false,
+            works: 0,
         }
     }
 
@@ -151,10 +158,11 @@ impl<'a, R: Wait, B: ServerName, K: Rings> Answers for ServingDesk<'a, R, B, K> 
         Ok(())
     }
 
-    /// At most 64 turns of its node. Where memory runs out what is left waits.
+    /// At most 64 turns of its node. Where memory runs out what is left waits. Each 64th work hears which queues its node has cut.
     fn work(&mut self) -> Result<(), Memory> {
         self.desk.forget_told();
-        let worked = work_on(&mut self.desk);
+        self.works = self.works.wrapping_add(1);
+        let worked = work_on(&mut self.desk, self.works % WORKS_TO_HEAR == 0);
         if worked.is_down && !self.is_down {
             self.crew.fall(self.desk.node());
         }

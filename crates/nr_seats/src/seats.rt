@@ -4,7 +4,7 @@ ghost use Rattle.std.specs.Bool.{OnTrue, OnFalse};
 ghost use Rattle.std.specs.Option.{option_map};
 ghost use Rattle.nr_model.specs.Keyspace.{last_moment};
 ghost use Rattle.nr_entry.specs.Jobs.{connection_of, item_of, items_of};
-ghost use Rattle.nr_seats.specs.Seated.{fresh_seat, with_written, last_job};
+ghost use Rattle.nr_seats.specs.Seated.{cut_off, fresh_seat, with_written, last_job};
 ghost use Rattle.nr_seats.specs.Placed.{seat_at, IsPut, takes_here, pending_here, FeedsSeat, StopsSeat, closed_seen};
 ghost use Rattle.nr_seats.specs.Portions.{portion_of, Accepts};
 
@@ -152,6 +152,32 @@ impl Seats {
         let_go_at(&mut self.by_serial, serial, count);
     }
 
+    /// Takes no more bytes from a connection, as [`Seat::cut`] does. It is told of too from now on. Logarithmic.
+    pub fn cut(&mut self, serial: u64)
+        ensures { IsPut serial (option_map cut_off (seat_at serial self.old)) self.old self.new }
+    {
+        tell(&mut self.told, serial);
+        cut_at(&mut self.by_serial, serial);
+    }
+
+    /// The connections of this node that are open, and from which bytes may be taken yet. Linear in those that are open.
+    ///
+    /// # Errors
+    ///
+    /// `Memory` where there is no room for them.
+    pub fn open_ones(&self, alloc: Global, node: usize) -> Result<Vec<ConnId>, Memory> {
+        let mut conns = Vec::new(alloc);
+        for (serial, seat) in self.by_serial.iter() {
+            if seat.takes() {
+                conns.push(ConnId {
+                    node,
+                    serial: *serial,
+                })?;
+            }
+        }
+        Ok(conns)
+    }
+
     /// Closes a connection, at a moment in milliseconds, at most 2^53: its seat goes, with the bytes that wait for it. Logarithmic.
     #[tactic(auto, using(crate::proofs::Found::put_by))]
     pub fn close(&mut self, serial: u64, moment: u64) -> Closed
@@ -217,6 +243,16 @@ fn let_go_at(by_serial: &mut BTreeMap<u64, Seat>, serial: u64, count: usize)
         return;
     };
     seat.written(count);
+}
+
+// The seat at a serial takes no more bytes.
+fn cut_at(by_serial: &mut BTreeMap<u64, Seat>, serial: u64)
+    ensures { IsPut serial (option_map cut_off (seat_at serial by_serial.old.entries)) by_serial.old.entries by_serial.new.entries }
+{
+    let Some(seat) = by_serial.get_mut(&serial) else {
+        return;
+    };
+    seat.cut();
 }
 
 // A seat was closed, with this last job.

@@ -3,6 +3,5 @@ pub mod Going
 pub mod Begun
 pub mod Whole
 pub mod Ended
-pub mod Explained
 pub mod Read
 pub mod Both

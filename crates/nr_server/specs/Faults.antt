@@ -5,7 +5,7 @@ use Rattle.nr_model.specs.Bytes.{Bytes}
 use Rattle.nr_script.specs.declared.playing.ScriptError.{ScriptError}
 use Rattle.nr_script.specs.declared.playing.ScriptError.TheVariants as script
 use Rattle.nr_server.specs.declared.fault.Fault.{Fault}
-use Rattle.nr_server.specs.declared.fault.Fault.TheVariants.{Read, Write, Memory, BadStep, Script, Settings, NotToml, UnknownKey, BadValue, CannotListen, Listener}
+use Rattle.nr_server.specs.declared.fault.Fault.TheVariants.{Read, Write, Memory, BadStep, Script, Settings, NotToml, UnknownKey, BadValue, CannotListen, Listener, NoThread}
 
 abbrev pub line_of : Fault → Bytes
 line_of Read = codes "noderedis: read failed"
@@ -19,6 +19,7 @@ line_of (UnknownKey key) = codes "noderedis: settings: unknown key " ++ string_b
 line_of (BadValue key) = codes "noderedis: settings: bad value " ++ string_bytes key
 line_of (CannotListen address) = codes "noderedis: cannot listen on " ++ string_bytes address
 line_of Listener = codes "noderedis: listener failed"
+line_of NoThread = codes "noderedis: no thread"
 
 abbrev pub status_of : Fault → ℕ
 status_of fault = 1

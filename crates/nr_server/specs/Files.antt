@@ -39,3 +39,4 @@ IsToldOf bytes (faults.UnknownKey key) = IsUtf8 bytes × Refuses bytes (errors.U
 IsToldOf bytes (faults.BadValue key) = IsUtf8 bytes × Refuses bytes (errors.BadValue key)
 IsToldOf bytes (faults.CannotListen address) = ⊥
 IsToldOf bytes faults.Listener = ⊥
+IsToldOf bytes faults.NoThread = ⊥

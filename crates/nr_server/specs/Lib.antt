@@ -5,8 +5,6 @@ pub mod Ran
 pub mod Going
 pub mod Faults
 pub mod Files
-pub mod Answered
-pub mod Sizes
 pub mod Plays
 pub mod Serving
 pub mod Listening

@@ -17,3 +17,4 @@ IsUnheard settings faults.NotToml = ⊥
 IsUnheard settings (faults.UnknownKey key) = ⊥
 IsUnheard settings (faults.BadValue key) = ⊥
 IsUnheard settings faults.Listener = ⊥
+IsUnheard settings faults.NoThread = ⊥

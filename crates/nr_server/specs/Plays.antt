@@ -19,3 +19,4 @@ EndsScript (faults.UnknownKey key) lines before after = ⊥
 EndsScript (faults.BadValue key) lines before after = ⊥
 EndsScript (faults.CannotListen address) lines before after = ⊥
 EndsScript faults.Listener lines before after = ⊥
+EndsScript faults.NoThread lines before after = ⊥

@@ -10,7 +10,6 @@ use Rattle.nr_model.specs.Nodes.Steps.{is_client}
 use Rattle.nr_model.specs.Nodes.Pasts.{Event, IsPast}
 use Rattle.nr_model.specs.Nodes.Explained.{jobs_executed, asked_jobs, Explains}
 use Rattle.nr_service.specs.Readings.{AreFedFrom}
-use Rattle.nr_server.specs.declared.run.Done.{Done}
 use Rattle.nr_server.specs.declared.run.Done.TheVariants as dones
 use Rattle.nr_server.specs.declared.run.Served.{Served}
 use Rattle.nr_service.specs.Streams.{Course, fresh_course}

@@ -32,6 +32,8 @@ pub enum Fault {
     CannotListen(String),
     /// No connection can come any more.
     Listener,
+    /// The system gave no thread.
+    NoThread,
 }
 
 impl Fault {
@@ -63,6 +65,7 @@ impl fmt::Display for Fault {
             Fault::BadValue(key) => write!(f, "noderedis: settings: bad value {key}"),
             Fault::CannotListen(address) => write!(f, "noderedis: cannot listen on {address}"),
             Fault::Listener => f.write_str("noderedis: listener failed"),
+            Fault::NoThread => f.write_str("noderedis: no thread"),
         }
     }
 }

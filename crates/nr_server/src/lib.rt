@@ -1,16 +1,14 @@
-//! The server by TCP, from the text of its settings to the thread that serves its connections; one connection on any stream, from its first byte to
+//! The server by TCP, from the text of its settings to the threads that serve its connections; one connection on any stream, from its first byte to
 //! its end; and why the program failed.
 #![tactic(auto)]
 
-pub use answered::serve_answered;
 pub use fault::Fault;
 pub use line::{Ran, run_on};
 pub use run::{Done, Served, serve_stream};
 pub use script::play_on;
-pub use serve::{listen_on, serve_on};
+pub use serve::{listen_on, serve_by_tcp, serve_on};
 pub use settings::settings_on;
 
-mod answered;
 mod bytes;
 mod fault;
 mod joined;

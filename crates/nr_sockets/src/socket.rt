@@ -100,14 +100,27 @@ impl<T: Read + Write> Stream for Channel<T> {
         self.place
     }
 
-    fn receive(&mut self, buffer: &mut [u8]) -> Received {
+    fn receive(&mut self, buffer: &mut [u8]) -> Received
+        ensures some { IsSomeReceived result }
+        ensures bound { received_count result ≤ length buffer.new }
+        ensures received { self.new.received.bytes ≡ self.old.received.bytes ++ take (received_count result) buffer.new }
+        ensures sent { self.new.sent.bytes ≡ self.old.sent.bytes }
+        ensures bytes { Consumes (T.remaining self.old.stream) (T.remaining self.new.stream) (take (received_count result) buffer.new) }
+        ensures end { result ≡ received_as.End → 0 < length buffer.new → IsAtEnd (T.remaining self.new.stream) }
+    {
         if !self.readiness.is_readable() {
             return Received::Nothing;
         }
         self.read(buffer)
     }
 
-    fn send(&mut self, bytes: &[u8]) -> Sent {
+    fn send(&mut self, bytes: &[u8]) -> Sent
+        ensures some { IsSomeSent result }
+        ensures bound { sent_count result ≤ length bytes.now }
+        ensures sent { self.new.sent.bytes ≡ self.old.sent.bytes ++ take (sent_count result) bytes.now }
+        ensures received { self.new.received.bytes ≡ self.old.received.bytes }
+        ensures bytes { Appends (T.contents self.old.stream) (T.contents self.new.stream) (take (sent_count result) bytes.now) }
+    {
         if !self.readiness.is_writable() {
             return Sent::Nothing;
         }

@@ -1,8 +1,7 @@
 // The service over many streams in memory, of which its device tells it in one way or another: no clause says how soon anybody is served.
-use nr_answering::{Answering, story_law};
+use nr_answering::Answering;
 use nr_blob::Memory;
 use nr_nodes::Setup;
-use nr_server::serve_answered;
 use nr_service::{Device, Ended, MachineClock, Open, Ready, Received, Sent, Service, Stream};
 use std::alloc::Global;
 use std::hash::RandomState;
@@ -180,8 +179,7 @@ fn came_of(
     };
     let clock = MachineClock { runtime: rt };
     let mut service = Service::new(alloc, 0, 0, answering, crowd, clock, 1_048_576)?;
-    story_law();
-    if serve_answered(&mut service, &Open) != Ended::Device {
+    if service.serve(&Open) != Ended::Device {
         return Ok(None);
     }
     Ok(Some(Came {

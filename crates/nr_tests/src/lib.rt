@@ -22,6 +22,4 @@ mod settings;
 #[cfg(test)]
 mod sorted_sets;
 #[cfg(test)]
-mod tcp;
-#[cfg(test)]
 mod worlds;

@@ -4,10 +4,10 @@ ghost use Rattle.nr_model.specs.Bytes.{IsBeginningOf};
 ghost use Rattle.nr_model.specs.Items.{Connection, Sequence};
 ghost use Rattle.nr_model.specs.Sequential.{emitted_for};
 
-use nr_answering::{Answering, story_law};
+use nr_answering::Answering;
 use nr_blob::Memory;
 use nr_nodes::Setup;
-use nr_server::{serve_answered, serve_stream};
+use nr_server::serve_stream;
 use nr_service::{Device, Ended, MachineClock, Moments, Open, Received, Sent, Service, Stream};
 use std::alloc::{AllocError, Global};
 use std::hash::RandomState;
@@ -254,8 +254,7 @@ fn came_of<R: Abort, M: Moments + Drop>(
         calm: 0,
     };
     let mut service = Service::new(alloc, 0, 0, answering, desk, clock, 67_108_864)?;
-    story_law();
-    if serve_answered(&mut service, &Open) != Ended::Device {
+    if service.serve(&Open) != Ended::Device {
         return Ok(None);
     }
     Ok(Some(Came {

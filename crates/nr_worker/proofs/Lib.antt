@@ -9,3 +9,4 @@ mod Awaited
 mod Admitted
 mod Departed
 mod Emptied
+mod Stopped

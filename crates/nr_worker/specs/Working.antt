@@ -24,7 +24,7 @@ use Rattle.nr_combiner.specs.declared.answering.Lifts.{Lifts}
 use Rattle.nr_combiner.specs.declared.answering.Turned.{Turned}
 use Rattle.nr_combiner.specs.declared.worker.TheConstants.{MOST_JOBS}
 use Rattle.nr_combiner.specs.Workers.{WorkerState, coded_worker, HasPosted}
-use Rattle.nr_seats.specs.Seated.{SeatState, fresh_seat, last_job, with_written}
+use Rattle.nr_seats.specs.Seated.{SeatState, cut_off, fresh_seat, last_job, with_written}
 use Rattle.nr_seats.specs.Placed.{FeedsSeat, IsPut, SeatsState, StopsSeat, coded_seats, seat_at, takes_here}
 use Rattle.nr_seats.specs.Portions.{Accepts, EachSeat, HandsOut, portion_of}
 use Rattle.nr_worker.specs.Desk.{AllPosted, DeskState, IsLed, Served, asked_of}
@@ -214,6 +214,11 @@ pub record Closes (serial moment : ℕ) (v w : WorkState) : Type 0 where
 -- So many of the bytes that wait for a connection were written, and nothing else changed.
 pub record Writes (serial count : ℕ) (v w : WorkState) : Type 0 where
   pub put : IsPut serial (option_map (with_written count) (seat_at serial v.seats)) v.seats w.seats
+  pub changed : w ≡ record v { seats = w.seats }
+
+-- no more bytes are taken from the seat at a serial; nothing else changed
+pub record CutsOff (serial : ℕ) (v w : WorkState) : Type 0 where
+  pub put : IsPut serial (option_map cut_off (seat_at serial v.seats)) v.seats w.seats
   pub changed : w ≡ record v { seats = w.seats }
 
 -- whether bytes are taken from a connection

@@ -12,5 +12,6 @@ mod feeding;
 mod law;
 mod opening;
 mod posting;
+mod stopping;
 mod working;
 mod writing;

@@ -1,0 +1,6 @@
+mod Dealt
+mod Parting
+mod Remains
+mod Together
+mod Fresh
+mod Crossing

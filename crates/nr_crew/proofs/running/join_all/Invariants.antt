@@ -1,0 +1,11 @@
+use Rattle.std.specs.Prelude.{◌≡◌, ◌+◌, ◌≤◌, length}
+use Rattle.std.specs.Vec.{vec_capacity, vec_len}
+use Rattle.nr_crew.specs.Together.{AreLeft}
+use Rattle.nr_crew.proofs.running.join_all.Given as goal
+
+abbrev pub invariant-loop-handle : goal.invariant-loop-handle
+invariant-loop-handle g l =
+    (vec_len l.marks + length l.handle-iterator.rest.items ≤ vec_capacity l.marks)
+    × (vec_len l.lefts + length l.handle-iterator.rest.items ≤ vec_capacity l.lefts)
+    × AreLeft g.S.Stream.received g.S.Stream.sent g.M.Moments.gives g.D.Device.parted l.marks.items l.lefts.items
+    × (vec_len l.lefts + length l.handle-iterator.rest.items ≡ vec_len l.fn.handles)

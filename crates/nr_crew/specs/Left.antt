@@ -1,0 +1,34 @@
+-- What a worker leaves.
+use Rattle.std.specs.Prelude.{◌≡◌, ℕ, List, ◌++◌, Option, All}
+use Rattle.nr_model.specs.Bytes.{Bytes}
+use Rattle.nr_log_end.specs.declared.standing.Standing.{Standing}
+use Rattle.nr_service.specs.Devices.{AreGivenBack, Parting}
+use Rattle.nr_service.specs.Readings.{AreFedFrom}
+use Rattle.nr_service.specs.Serving.{AreOpened, IsLeft, streams_of}
+use Rattle.nr_service.specs.Stories.{Story, fed_in}
+use Rattle.nr_service.specs.declared.client.Client.{Client}
+use Rattle.nr_worker.specs.Desk.{DeskState, IsLed}
+use Rattle.nr_lane.specs.Told.{Tells, WasAtFeeds}
+
+-- A story tells of all that was fed to a worker's connections and handed out for them, of those that were ever opened at it. Each was one of a client, of those that
+-- left or of those that are there: it was fed a beginning of what its stream received, and its stream sent a beginning of what was handed out for it. The streams of
+-- those that left were given back, and bytes were fed at the moments behind the readings of the worker's clock.
+pub record HasServed {S M : Type 0} (was_received was_sent : S → Option Bytes) (gives : M → M → Option ℕ → Type 0) (given : Option (List (Parting S)))
+    (clients : List (Client S)) (worker : DeskState) : Type 0 where
+  pub story : Story
+  pub gone : List (Client S)
+  pub first : M
+  pub tells : Tells story.occurrences worker.served
+  pub earlier : WasAtFeeds story.occurrences worker
+  pub left : All (IsLeft was_received was_sent story) (gone ++ clients)
+  pub opened : AreOpened story gone clients
+  pub given_back : AreGivenBack (streams_of gone) given
+  pub in_time : AreFedFrom gives first (fed_in story.occurrences)
+
+-- So it was with a worker whose mark this is.
+pub record IsAnswered {S M : Type 0} (was_received was_sent : S → Option Bytes) (gives : M → M → Option ℕ → Type 0) (given : Option (List (Parting S)))
+    (mark : Option Standing) (clients : List (Client S)) : Type 0 where
+  pub worker : DeskState
+  pub led : IsLed worker
+  pub marked : worker.mark ≡ mark
+  pub served : HasServed was_received was_sent gives given clients worker

@@ -1,0 +1,109 @@
+// The thread that takes connections deals them out to the workers.
+ghost use Rattle.std.specs.Prelude.{◌≡◌, ◌+◌, ◌*◌, ◌<◌, ◌≤◌, ◌%◌, ◌/◌};
+ghost use Rattle.nr_crew.specs.Dealing.{DealsFrom, DealsOne, HasDealt};
+
+use nr_lane::Crew;
+use nr_service::{Accepts, Rings};
+
+// How many connections are dealt out between two waits at most.
+const MOST_DEALT: u32 = 64;
+
+/// How many nodes a server has, 1 to 8, and how many workers each of them, 1 to 16.
+#[derive(Clone, Copy, Debug)]
+pub struct Shape {
+    pub nodes: usize,
+    pub workers: usize,
+    pub ghost nodes_in: { (1 ≤ nodes) × (nodes ≤ 8) },
+    pub ghost workers_in: { (1 ≤ workers) × (workers ≤ 16) },
+}
+
+// The node so many behind that of a number.
+fn node_at(shape: Shape, number: u64, passed: usize) -> usize
+    requires { passed < shape.nodes }
+    ensures node { result ≡ (number % shape.nodes + passed) % shape.nodes }
+    ensures there { result < shape.nodes }
+{
+    let first = (number % shape.nodes as u64) as usize;
+    (first + passed) % shape.nodes
+}
+
+// The lane of the worker of a number at a node.
+fn lane_at(shape: Shape, number: u64, node: usize) -> usize
+    requires { node < shape.nodes }
+    ensures { result ≡ node * shape.workers + number / shape.nodes % shape.workers }
+{
+    let worker = (number / shape.nodes as u64 % shape.workers as u64) as usize;
+    node * shape.workers + worker
+}
+
+/// What knows whether there is room for one more connection of a node.
+pub(crate) trait Rooms {
+    ghost use Rattle.std.specs.Prelude.{ℕ, Bool};
+
+    // What it said as it was asked for room at a node.
+    ghost admits: { Self → ℕ → Bool → Type 0 };
+
+    /// Takes room for one more connection of a node, where there is some.
+    fn admit(&self, node: usize) -> bool
+        ensures { admits self.now node result };
+}
+
+impl<K: Rings> Rooms for Crew<K> {
+    ghost admits = { λ _ _ _. Unit {0} };
+
+    fn admit(&self, node: usize) -> bool {
+        Crew::admit(self, node)
+    }
+}
+
+// Deals one out that is held, which was taken as this number, to the worker of its number at the node of its number, or at the next node that takes it. Where none
+// does it is turned away.
+fn deal_one<L: Accepts, C: Rooms>(main: &mut L, rooms: &C, shape: Shape, number: u64)
+    ensures { DealsOne shape.nodes shape.workers number (C.admits rooms.now) (L.dealt main.old) (L.dealt main.new) }
+{
+    for passed in 0..shape.nodes {
+        let node = node_at(shape, number, passed);
+        if rooms.admit(node) {
+            main.deal(lane_at(shape, number, node));
+            return;
+        }
+    }
+    main.turn_away();
+}
+
+// Deals those out that wait to be taken, at most 64, from this number on. The next number.
+fn deal_waiting<L: Accepts, K: Rings>(
+    main: &mut L,
+    crew: &Crew<K>,
+    shape: Shape,
+    number: u64,
+) -> u64
+    ensures { DealsFrom shape.nodes shape.workers number result (L.dealt main.old) (L.dealt main.new) }
+{
+    let mut number = number;
+    for _ in 0..MOST_DEALT {
+        if !main.accept() {
+            break;
+        }
+        deal_one(main, crew, shape, number);
+        number = number.wrapping_add(1);
+    }
+    number
+}
+
+/// Deals connections out until all shall stop, nobody serves any more, or none can come any more. False in that case alone.
+pub(crate) fn deal_out<L: Accepts, K: Rings>(main: &mut L, crew: &Crew<K>, shape: Shape) -> bool
+    ensures { HasDealt shape.nodes shape.workers (L.dealt main.old) (L.dealt main.new) }
+{
+    let mut number = 0;
+    for _ in 0..u64::MAX {
+        if crew.is_stopped() || crew.serving() == 0 {
+            return true;
+        }
+        number = deal_waiting(main, crew, shape, number);
+        if !main.wait() {
+            return false;
+        }
+    }
+    true
+}

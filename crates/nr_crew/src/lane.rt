@@ -1,0 +1,80 @@
+// What a worker begins with, and what it leaves.
+ghost use Rattle.std.proofs.Props.{props};
+ghost use Rattle.std.specs.Prelude.{◌≡◌, IfOk};
+ghost use Rattle.nr_combiner.specs.Workers.{fresh_worker, shared_of};
+
+use nr_blob::Memory;
+use nr_combiner::{ServerName, Worker};
+use nr_service::{Client, Device, Ended, Moments, Stream, read_buffer};
+use nr_taps::Mark;
+use std::alloc::Global;
+use std::thread::Promise;
+
+/// What a worker begins with: its place at its node, where its connections come from, its clock, and room for what it reads at once.
+#[derive(Drop)]
+pub struct Lane<B: ServerName, D, M> {
+    pub worker: Worker<B>,
+    /// Which worker of its node it is.
+    pub number: usize,
+    pub device: D,
+    pub clock: M,
+    pub(crate) buffer: Vec<u8>,
+    // It has handed in nothing.
+    pub ghost fresh: { worker ≡ fresh_worker (shared_of worker) worker.seat.worker } by { Prim.hlevel props },
+}
+
+impl<B: ServerName, D: Drop, M: Drop> Lane<B, D, M> {
+    /// The lane of a worker, which is this one of its node. It takes room for 65,536 bytes.
+    ///
+    /// # Errors
+    ///
+    /// `Memory` where there is no room.
+    pub fn new(
+        alloc: Global,
+        worker: Worker<B>,
+        number: usize,
+        device: D,
+        clock: M,
+    ) -> Result<Lane<B, D, M>, Memory>
+        requires { worker ≡ fresh_worker (shared_of worker) worker.seat.worker }
+        ensures worker { IfOk result (λ lane. lane.worker ≡ worker) }
+        ensures number { IfOk result (λ lane. lane.number ≡ number) }
+        ensures device { IfOk result (λ lane. lane.device ≡ device) }
+        ensures clock { IfOk result (λ lane. lane.clock ≡ clock) }
+    {
+        let buffer = read_buffer(alloc)?;
+        Ok(Lane {
+            worker,
+            number,
+            device,
+            clock,
+            buffer,
+        })
+    }
+}
+
+/// What a worker leaves: its device and its clock, the clients that were there, and how it ended.
+#[derive(Drop)]
+pub struct Left<S, D, M> {
+    pub device: D,
+    pub clock: M,
+    pub clients: Vec<Client<S>>,
+    pub ended: Ended,
+}
+
+/// The same, with what its node had done when it last handed something out to it.
+#[derive(Drop)]
+pub(crate) struct Leaving<B: ServerName, S, D, M> {
+    pub(crate) mark: Mark<B>,
+    pub(crate) left: Left<S, D, M>,
+}
+
+/// What a worker promises of what it leaves.
+#[derive(Drop)]
+pub(crate) struct Answered;
+
+impl<B: ServerName, S: Stream, D: Device<S>, M: Moments> Promise<Leaving<B, S, D, M>> for Answered {
+    ghost use Rattle.nr_crew.specs.Left.{IsAnswered};
+
+    ghost kept_by = { λ _ leaving. IsAnswered S.received S.sent M.gives (D.parted leaving.left.device) leaving.mark.standing leaving.left.clients.items };
+}

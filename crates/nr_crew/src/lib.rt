@@ -1,0 +1,15 @@
+//! The workers of a server, each on a thread of its own, beside the thread that deals connections out to them.
+#![tactic(auto)]
+
+pub use dealing::Shape;
+pub use lane::{Lane, Left};
+pub use nodes::{Place, Served, Size, serve_nodes};
+pub use running::{Ran, ServeError, run_workers};
+
+mod dealing;
+mod gate;
+mod lane;
+mod nodes;
+mod others;
+mod running;
+mod serving;

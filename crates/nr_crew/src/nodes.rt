@@ -1,0 +1,190 @@
+// A server of several nodes, with a thread for each worker, from its size on.
+ghost use Rattle.std.specs.Prelude.{◌≡◌, ◌+◌, ◌*◌, ◌≤◌, IfOk, OnOk, length};
+ghost use Rattle.std.specs.List.{AllByRecursion};
+ghost use Rattle.std.specs.Vec.{vec_len};
+ghost use Rattle.nr_oplog.specs.Opening.{name_of, nodes_of, places_of};
+ghost use Rattle.nr_combiner.specs.Opened.{AreNamed, AreOfWorkers};
+ghost use Rattle.nr_crew.specs.Dealing.{HasDealt};
+ghost use Rattle.nr_crew.specs.Nodes.{AreFresh, IsFresh};
+ghost use Rattle.nr_crew.specs.Together.{AreServedTogether};
+
+use crate::dealing::Shape;
+use crate::lane::{Lane, Left};
+use crate::running::{ServeError, run_workers};
+use nr_blob::Memory;
+use nr_combiner::{OpenedSlots, Plan, ServerName, Worker, build, open_slots};
+use nr_lane::Crew;
+use nr_oplog::{Opened, Oplog};
+use nr_service::{Accepts, Device, Gate, Moments, Rings, Stream};
+use std::alloc::Global;
+use std::hash::RandomState;
+use std::marker::Brand;
+use std::sync::{Arc, Wait};
+use std::thread::Threads;
+
+/// How large a server is: its nodes and their workers, how many places its log has, 2 to 65,536, how many connections of a node are open at most, and how many bytes
+/// wait for one at most.
+#[derive(Clone, Copy, Debug)]
+pub struct Size {
+    pub shape: Shape,
+    pub places: usize,
+    pub connections: usize,
+    pub limit: usize,
+}
+
+/// Where the connections of one worker come from, and its clock.
+#[derive(Drop)]
+pub struct Place<D, M> {
+    pub device: D,
+    pub clock: M,
+}
+
+/// What the workers of a server left, and why they ended.
+#[derive(Drop)]
+pub struct Served<S, D, M> {
+    pub lefts: Vec<Left<S, D, M>>,
+    pub ended: Result<(), ServeError>,
+}
+
+// The lanes of a node's workers, in order, with the next places. Memory runs out also where there are fewer places.
+fn add_lanes<B: ServerName, D: Drop, M: Drop>(
+    alloc: Global,
+    workers: Vec<Worker<B>>,
+    places: &mut Vec<Place<D, M>>,
+    lanes: &mut Vec<Lane<B, D, M>>,
+) -> Result<(), Memory>
+    requires { AllByRecursion IsFresh workers.items }
+    ensures { OnOk result (vec_len lanes.new ≡ vec_len lanes.old + vec_len workers) }
+{
+    let mut number = 0usize;
+    for worker in workers {
+        let Some(Place { device, clock }) = places.pop() else {
+            return Err(Memory);
+        };
+        lanes.push(Lane::new(alloc, worker, number, device, clock)?)?;
+        number = number.saturating_add(1);
+    }
+    Ok(())
+}
+
+// The lanes of all workers, so many a node, those of node 0 first, each with the place of its number.
+fn lanes_of<B: ServerName, D: Drop, M: Drop>(
+    alloc: Global,
+    built: Vec<Vec<Worker<B>>>,
+    count: usize,
+    mut places: Vec<Place<D, M>>,
+) -> Result<Vec<Lane<B, D, M>>, Memory>
+    requires { AllByRecursion (λ workers. AreFresh count workers.items) built.items }
+    ensures { IfOk result (λ lanes. vec_len lanes ≡ vec_len built * count) }
+{
+    places.reverse();
+    let mut lanes = Vec::with_capacity(alloc, built.len().saturating_mul(count))?;
+    for workers in built {
+        add_lanes(alloc, workers, &mut places, &mut lanes)?;
+    }
+    Ok(lanes)
+}
+
+// Serves by the nodes of a log that was opened.
+fn serve_named<B, R, S, D, M, K, G, L>(
+    rt: &R,
+    alloc: Global,
+    keys: RandomState,
+    opened: Opened,
+    slots: Vec<OpenedSlots>,
+    size: Size,
+    places: Vec<Place<D, M>>,
+    bells: K,
+    main: L,
+    gate: &G,
+) -> Result<(Served<S, D, M>, L), Memory>
+where
+    B: ServerName + Send + Sync,
+    R: Threads + Wait + Sync,
+    S: Stream + Drop + Send,
+    D: Device<S> + Drop + Send,
+    M: Moments + Drop + Send,
+    K: Rings + Drop + Sync,
+    G: Gate + Sync,
+    L: Accepts + Drop,
+    requires name { name_of opened ≡ B.log }
+    requires shape { (nodes_of opened ≡ B.nodes) × (places_of opened ≡ B.places) }
+    requires nodes { size.shape.nodes ≡ B.nodes }
+    requires slots { (length slots.items ≡ B.nodes) × AreNamed B.slots slots.items }
+    requires workers { AreOfWorkers size.shape.workers slots.items }
+    ensures together { IfOk result (λ served. AreServedTogether S.received S.sent M.gives D.parted served.0.lefts.items) }
+    ensures dealt { IfOk result (λ served. HasDealt size.shape.nodes size.shape.workers (L.dealt main) (L.dealt served.1)) }
+    ensures all { IfOk result (λ served. IfOk served.0.ended (λ _. vec_len served.0.lefts ≡ size.shape.nodes * size.shape.workers)) }
+{
+    let shape = size.shape;
+    let crew = Crew::new(alloc, bells, shape.nodes, shape.workers, size.connections)?;
+    let plan = Plan {
+        workers: shape.workers,
+        connections: size.connections,
+        limit: size.limit,
+    };
+    let built = build::<B>(alloc, keys, opened, slots, plan)?;
+    let log = share_log(&built)?;
+    let lanes = lanes_of(alloc, built, shape.workers, places)?;
+    let (ran, main) = run_workers::<B, R, S, D, M, K, G, L>(
+        rt, alloc, lanes, &log, &crew, main, gate, shape, size.limit,
+    )?;
+    Ok((
+        Served {
+            lefts: ran.lefts,
+            ended: ran.ended,
+        },
+        main,
+    ))
+}
+
+// The log that all of these share.
+fn share_log<B: ServerName>(built: &[Vec<Worker<B>>]) -> Result<Arc<Oplog<B>, Global>, Memory> {
+    let Some(workers) = built.first() else {
+        return Err(Memory);
+    };
+    match workers.first() {
+        Some(worker) => worker.shared().share_log(),
+        None => Err(Memory),
+    }
+}
+
+/// Serves by a new server of this size, each worker on a thread of its own, which has the place of its number: worker w of node n is number n * workers + w. The
+/// connections that come from `main` are dealt out to them as [`run_workers`] says, and it ends as that does. Strangers choose the keys, so the hashers take a seed of
+/// their own.
+///
+/// # Errors
+///
+/// `Memory` where memory runs out before any worker starts, or there are fewer places than workers.
+pub fn serve_nodes<R, S, D, M, K, G, L>(
+    rt: &R,
+    alloc: Global,
+    keys: RandomState,
+    size: Size,
+    places: Vec<Place<D, M>>,
+    bells: K,
+    main: L,
+    gate: &G,
+) -> Result<(Served<S, D, M>, L), Memory>
+where
+    R: Threads + Wait + Sync,
+    S: Stream + Drop + Send,
+    D: Device<S> + Drop + Send,
+    M: Moments + Drop + Send,
+    K: Rings + Drop + Sync,
+    G: Gate + Sync,
+    L: Accepts + Drop,
+    ensures together { IfOk result (λ served. AreServedTogether S.received S.sent M.gives D.parted served.0.lefts.items) }
+    ensures dealt { IfOk result (λ served. HasDealt size.shape.nodes size.shape.workers (L.dealt main) (L.dealt served.1)) }
+    ensures all { IfOk result (λ served. IfOk served.0.ended (λ _. vec_len served.0.lefts ≡ size.shape.nodes * size.shape.workers)) }
+{
+    let Ok(opened) = Opened::open(alloc, size.shape.nodes, size.places) else {
+        return Err(Memory);
+    };
+    let Ok(slots) = open_slots(alloc, size.shape.nodes, size.shape.workers) else {
+        return Err(Memory);
+    };
+    serve_named::<Brand, R, S, D, M, K, G, L>(
+        rt, alloc, keys, opened, slots, size, places, bells, main, gate,
+    )
+}

@@ -1,0 +1,356 @@
+// The workers of a server, each on a thread of its own, beside the thread that deals connections out.
+ghost use Rattle.std.specs.Prelude.{◌≡◌, ◌+◌, ◌<◌, ◌≤◌, [], IsTrue, IfOk};
+ghost use Rattle.std.specs.Vec.{vec_len, vec_capacity};
+ghost use Rattle.nr_crew.specs.Dealing.{HasDealt};
+ghost use Rattle.nr_crew.specs.Left.{IsAnswered};
+ghost use Rattle.nr_crew.specs.Together.{AreAnsweredTogether, AreLeft};
+
+use crate::dealing::{Shape, deal_out};
+use crate::lane::{Answered, Lane, Leaving, Left};
+use crate::serving::serve_lane;
+use nr_blob::Memory;
+use nr_combiner::ServerName;
+use nr_lane::Crew;
+use nr_oplog::Oplog;
+use nr_service::{Accepts, Device, Ended, Gate, Moments, Rings, Stream};
+use nr_taps::{Mark, meet_marks};
+use nr_worker::desk_law;
+use std::alloc::Global;
+use std::sync::Wait;
+use std::thread::{self, PromisedHandle, Scope, Threads};
+
+/// Why a server's workers ended before they were to.
+#[derive(Clone, Copy, Debug, PartialEq, Eq)]
+pub enum ServeError {
+    /// Memory ran out for all of them, or every node is down.
+    Memory,
+    /// No connection can come any more, or a worker can't wait for those that it has.
+    Device,
+    /// The system gave no thread: those that had started ended.
+    NoThread,
+}
+
+/// What the workers left that had started, and why they ended. And their marks: what the node of each had done when it last handed something out to it.
+#[derive(Drop)]
+pub struct Ran<B: ServerName, S, D, M> {
+    pub marks: Vec<Mark<B>>,
+    pub lefts: Vec<Left<S, D, M>>,
+    pub ended: Result<(), ServeError>,
+}
+
+// Room for all that is made of so many lanes.
+struct Room<B: ServerName, S: Stream, D: Device<S>, M: Moments> {
+    handles: Vec<PromisedHandle<Leaving<B, S, D, M>, Answered>>,
+    marks: Vec<Mark<B>>,
+    lefts: Vec<Left<S, D, M>>,
+}
+
+fn room_for<B: ServerName, S: Stream + Drop, D: Device<S> + Drop, M: Moments + Drop>(
+    alloc: Global,
+    lanes: usize,
+) -> Result<Room<B, S, D, M>, Memory>
+    ensures handles { IfOk result (λ room. (room.handles.items ≡ []) × (lanes ≤ vec_capacity room.handles)) }
+    ensures marks { IfOk result (λ room. (room.marks.items ≡ []) × (lanes ≤ vec_capacity room.marks)) }
+    ensures lefts { IfOk result (λ room. (room.lefts.items ≡ []) × (lanes ≤ vec_capacity room.lefts)) }
+{
+    Ok(Room {
+        handles: Vec::with_capacity(alloc, lanes)?,
+        marks: Vec::with_capacity(alloc, lanes)?,
+        lefts: Vec::with_capacity(alloc, lanes)?,
+    })
+}
+
+// Waits for a worker to end, and keeps what it left.
+fn join_one<B, R, S, D, M>(
+    rt: &R,
+    handle: PromisedHandle<Leaving<B, S, D, M>, Answered>,
+    marks: &mut Vec<Mark<B>>,
+    lefts: &mut Vec<Left<S, D, M>>,
+)
+where
+    B: ServerName,
+    R: Threads,
+    S: Stream + Drop,
+    D: Device<S> + Drop,
+    M: Moments + Drop,
+    requires marks { vec_len marks.old < vec_capacity marks.old }
+    requires lefts { vec_len lefts.old < vec_capacity lefts.old }
+    ensures marks { (vec_len marks.new ≡ vec_len marks.old + 1) × (vec_capacity marks.new ≡ vec_capacity marks.old) }
+    ensures lefts { (vec_len lefts.new ≡ vec_len lefts.old + 1) × (vec_capacity lefts.new ≡ vec_capacity lefts.old) }
+    ensures answered { AreLeft S.received S.sent M.gives D.parted marks.old.items lefts.old.items → AreLeft S.received S.sent M.gives D.parted marks.new.items
+        lefts.new.items }
+{
+    let Leaving { mark, left } = handle.join(rt);
+    marks.push_reserved(mark);
+    lefts.push_reserved(left);
+}
+
+// Waits for all of them to end, and keeps what each left.
+fn join_all<B, R, S, D, M>(
+    rt: &R,
+    handles: Vec<PromisedHandle<Leaving<B, S, D, M>, Answered>>,
+    marks: &mut Vec<Mark<B>>,
+    lefts: &mut Vec<Left<S, D, M>>,
+)
+where
+    B: ServerName,
+    R: Threads,
+    S: Stream + Drop,
+    D: Device<S> + Drop,
+    M: Moments + Drop,
+    requires marks { (marks.old.items ≡ []) × (vec_len handles ≤ vec_capacity marks.old) }
+    requires lefts { (lefts.old.items ≡ []) × (vec_len handles ≤ vec_capacity lefts.old) }
+    ensures answered { AreLeft S.received S.sent M.gives D.parted marks.new.items lefts.new.items }
+    ensures len { vec_len lefts.new ≡ vec_len handles }
+{
+    for handle in handles {
+        join_one(rt, handle, marks, lefts);
+    }
+}
+
+// Why they ended, once all have.
+fn ended_by<S, D, M>(
+    lefts: &[Left<S, D, M>],
+    has_all_threads: bool,
+    comes_more: bool,
+) -> Result<(), ServeError>
+    ensures { IfOk result (λ _. IsTrue has_all_threads) }
+{
+    if !has_all_threads {
+        return Err(ServeError::NoThread);
+    }
+    if !comes_more || lefts.iter().any(|left| left.ended == Ended::Device) {
+        return Err(ServeError::Device);
+    }
+    if !lefts.is_empty() && lefts.iter().all(|left| left.ended == Ended::Memory) {
+        return Err(ServeError::Memory);
+    }
+    Ok(())
+}
+
+// Keeps the thread that was started. Whether it was: else all that did are told to stop.
+fn keep_started<H, E: Drop, K: Rings>(
+    started: Result<H, E>,
+    handles: &mut Vec<H>,
+    crew: &Crew<K>,
+) -> bool
+    requires { vec_len handles.old < vec_capacity handles.old }
+    ensures kept { IsTrue result → vec_len handles.new ≡ vec_len handles.old + 1 }
+    ensures len { vec_len handles.new ≤ vec_len handles.old + 1 }
+    ensures room { vec_capacity handles.new ≡ vec_capacity handles.old }
+{
+    match started {
+        Ok(handle) => {
+            handles.push_reserved(handle);
+            true
+        }
+        Err(_) => {
+            crew.end();
+            crew.stop();
+            false
+        }
+    }
+}
+
+// What the threads of all lanes share, and what each of them is told.
+#[derive(Drop)]
+struct Shared<'e, R, K, G> {
+    rt: &'e R,
+    alloc: Global,
+    crew: &'e Crew<K>,
+    gate: &'e G,
+    limit: usize,
+}
+
+impl<'e, R, K, G> Shared<'e, R, K, G> {
+    // The same once more, for one more thread.
+    fn share(&self) -> Shared<'e, R, K, G> {
+        Shared {
+            rt: self.rt,
+            alloc: self.alloc,
+            crew: self.crew,
+            gate: self.gate,
+            limit: self.limit,
+        }
+    }
+}
+
+// Serves by a lane, on this thread.
+fn serve_shared<B, R, S, D, M, K, G>(
+    shared: Shared<'_, R, K, G>,
+    lane: Lane<B, D, M>,
+) -> Leaving<B, S, D, M>
+where
+    B: ServerName,
+    R: Wait,
+    S: Stream + Drop,
+    D: Device<S> + Drop,
+    M: Moments + Drop,
+    K: Rings,
+    G: Gate,
+    ensures { IsAnswered S.received S.sent M.gives (D.parted result.left.device) result.mark.standing result.left.clients.items }
+{
+    let Shared {
+        rt,
+        alloc,
+        crew,
+        gate,
+        limit,
+    } = shared;
+    serve_lane(rt, alloc, lane, crew, gate, limit)
+}
+
+// Starts the thread of a lane, and keeps it. Whether it was started: else all that were are told to stop.
+fn start_one<'s, 'e, B, R, S, D, M, K, G>(
+    scope: &Scope<'s, &'e ()>,
+    shared: &Shared<'e, R, K, G>,
+    lane: Lane<B, D, M>,
+    handles: &mut Vec<PromisedHandle<Leaving<B, S, D, M>, Answered>>,
+) -> bool
+where
+    B: ServerName + Send + Sync + 'e,
+    R: Threads + Wait + Sync + 'e,
+    S: Stream + Drop + Send + 'e,
+    D: Device<S> + Drop + Send + 'e,
+    M: Moments + Drop + Send + 'e,
+    K: Rings + Sync + 'e,
+    G: Gate + Sync + 'e,
+    requires { vec_len handles.old < vec_capacity handles.old }
+    ensures kept { IsTrue result → vec_len handles.new ≡ vec_len handles.old + 1 }
+    ensures len { vec_len handles.new ≤ vec_len handles.old + 1 }
+    ensures room { vec_capacity handles.new ≡ vec_capacity handles.old }
+{
+    shared.crew.begin();
+    let share = shared.share();
+    let started = scope.spawn_with(Answered, move || serve_shared(share, lane));
+    keep_started(started, handles, shared.crew)
+}
+
+// Starts a thread for each lane, and keeps those that were started. Whether all were.
+fn start_all<'s, 'e, B, R, S, D, M, K, G>(
+    scope: &Scope<'s, &'e ()>,
+    shared: &Shared<'e, R, K, G>,
+    lanes: Vec<Lane<B, D, M>>,
+    handles: &mut Vec<PromisedHandle<Leaving<B, S, D, M>, Answered>>,
+) -> bool
+where
+    B: ServerName + Send + Sync + 'e,
+    R: Threads + Wait + Sync + 'e,
+    S: Stream + Drop + Send + 'e,
+    D: Device<S> + Drop + Send + 'e,
+    M: Moments + Drop + Send + 'e,
+    K: Rings + Sync + 'e,
+    G: Gate + Sync + 'e,
+    requires { (handles.old.items ≡ []) × (vec_len lanes ≤ vec_capacity handles.old) }
+    ensures kept { IsTrue result → vec_len handles.new ≡ vec_len lanes }
+    ensures len { vec_len handles.new ≤ vec_len lanes }
+{
+    let mut has_all = true;
+    for lane in lanes {
+        has_all &= start_one(scope, shared, lane, handles);
+    }
+    has_all
+}
+
+// Starts a thread for each lane, deals connections out to them until they have ended or shall end, and waits for all of them. Memory runs out before any starts.
+fn run_all<B, R, S, D, M, K, G, L>(
+    rt: &R,
+    alloc: Global,
+    lanes: Vec<Lane<B, D, M>>,
+    crew: &Crew<K>,
+    main: L,
+    gate: &G,
+    shape: Shape,
+    limit: usize,
+) -> Result<(Ran<B, S, D, M>, L), Memory>
+where
+    B: ServerName + Send + Sync,
+    R: Threads + Wait + Sync,
+    S: Stream + Drop + Send,
+    D: Device<S> + Drop + Send,
+    M: Moments + Drop + Send,
+    K: Rings + Sync,
+    G: Gate + Sync,
+    L: Accepts + Drop,
+    ensures left { IfOk result (λ r. AreLeft S.received S.sent M.gives D.parted r.0.marks.items r.0.lefts.items) }
+    ensures dealt { IfOk result (λ r. HasDealt shape.nodes shape.workers (L.dealt main) (L.dealt r.1)) }
+    ensures all { IfOk result (λ r. IfOk r.0.ended (λ _. vec_len r.0.lefts ≡ vec_len lanes)) }
+{
+    thread::scope(
+        thread::scope_env(),
+        rt,
+        move |scope| -> Result<(Ran<B, S, D, M>, L), Memory>
+            ensures left { IfOk result (λ r. AreLeft S.received S.sent M.gives D.parted r.0.marks.items r.0.lefts.items) }
+            ensures dealt { IfOk result (λ r. HasDealt shape.nodes shape.workers (L.dealt main) (L.dealt r.1)) }
+            ensures all { IfOk result (λ r. IfOk r.0.ended (λ _. vec_len r.0.lefts ≡ vec_len lanes)) }
+        {
+            let room = room_for(alloc, lanes.len())?;
+            let Room {
+                mut handles,
+                mut marks,
+                mut lefts,
+            } = room;
+            let mut main = main;
+            let shared = Shared {
+                rt,
+                alloc,
+                crew,
+                gate,
+                limit,
+            };
+            let has_all_threads = start_all(scope, &shared, lanes, &mut handles);
+            let comes_more = deal_out(&mut main, crew, shape);
+            crew.stop();
+            crew.ring_all();
+            join_all(rt, handles, &mut marks, &mut lefts);
+            let ended = ended_by(&lefts, has_all_threads, comes_more);
+            Ok((
+                Ran {
+                    marks,
+                    lefts,
+                    ended,
+                },
+                main,
+            ))
+        },
+    )
+}
+
+/// Serves by these lanes, each on a thread of its own, and deals the connections out to them that come from `main`: connection number x, from 0 on, goes to node
+/// x mod nodes, worker (x / nodes) mod workers, or to that worker of the next node that takes it. The lanes stand in the order of their nodes, and of the workers of
+/// each: worker w of node n is lane n * workers + w. At most `limit` bytes wait for a connection. It ends once the gate stopped all workers, memory ran out for all or
+/// every node is down, no connection can come any more, or the crew is told to stop: then all end, and what they left is handed back with `main`.
+///
+/// # Errors
+///
+/// `Memory` where memory runs out before any worker starts.
+pub fn run_workers<B, R, S, D, M, K, G, L>(
+    rt: &R,
+    alloc: Global,
+    lanes: Vec<Lane<B, D, M>>,
+    log: &Oplog<B>,
+    crew: &Crew<K>,
+    main: L,
+    gate: &G,
+    shape: Shape,
+    limit: usize,
+) -> Result<(Ran<B, S, D, M>, L), Memory>
+where
+    B: ServerName + Send + Sync,
+    R: Threads + Wait + Sync,
+    S: Stream + Drop + Send,
+    D: Device<S> + Drop + Send,
+    M: Moments + Drop + Send,
+    K: Rings + Sync,
+    G: Gate + Sync,
+    L: Accepts + Drop,
+    ensures together { IfOk result (λ ran. AreAnsweredTogether S.received S.sent M.gives D.parted ran.0.marks.items ran.0.lefts.items) }
+    ensures dealt { IfOk result (λ ran. HasDealt shape.nodes shape.workers (L.dealt main) (L.dealt ran.1)) }
+    ensures all { IfOk result (λ ran. IfOk ran.0.ended (λ _. vec_len ran.0.lefts ≡ vec_len lanes)) }
+{
+    let ran_all = run_all(rt, alloc, lanes, crew, main, gate, shape, limit)?;
+    let (mut ran, main) = ran_all;
+    meet_marks(log, &mut ran.marks);
+    desk_law();
+    Ok((ran, main))
+}

@@ -1,0 +1,15 @@
+//! Tests of the workers of a server on their threads, over streams in memory and over sockets: what no contract says of them.
+#![tactic(auto)]
+
+#[cfg(test)]
+mod asserted;
+#[cfg(test)]
+mod line;
+#[cfg(test)]
+mod places;
+#[cfg(test)]
+mod streams;
+#[cfg(test)]
+mod tcp;
+#[cfg(test)]
+mod watch;

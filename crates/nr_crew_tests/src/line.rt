@@ -1,0 +1,99 @@
+// A connection in memory: a client that sends its requests, and then no more.
+use nr_service::{Received, Sent, Stream};
+use std::alloc::Global;
+
+/// A client's two streams of bytes, and what became of them.
+#[derive(Drop)]
+pub(crate) struct Line {
+    /// It comes once so many went.
+    pub from: usize,
+    /// It stays once all was sent, and never ends.
+    pub stays: bool,
+    /// How many bytes a call gives or takes at most.
+    pub piece: usize,
+    /// So many reads, and so many writes, are made before one fails.
+    pub reads: usize,
+    pub writes: usize,
+    pub has_failed: bool,
+    pub is_finished: bool,
+    input: Vec<u8>,
+    given: usize,
+    wanted: Vec<u8>,
+    output: Vec<u8>,
+}
+
+impl Line {
+    /// One that comes at once, sends this, wants that, and never fails.
+    pub(crate) fn new(alloc: Global, input: Vec<u8>, wanted: Vec<u8>) -> Line {
+        Line {
+            from: 0,
+            stays: false,
+            piece: usize::MAX,
+            reads: usize::MAX,
+            writes: usize::MAX,
+            has_failed: false,
+            is_finished: false,
+            input,
+            given: 0,
+            wanted,
+            output: Vec::new(alloc),
+        }
+    }
+
+    /// Whether it got all replies, and no more.
+    pub(crate) fn is_answered(&self) -> bool {
+        self.output.as_slice() == self.wanted.as_slice()
+    }
+
+    /// Whether it got a beginning of them, all where it didn't fail; and where it did, it was let go of at once.
+    pub(crate) fn is_served(&self) -> bool {
+        self.wanted.starts_with(&self.output)
+            & (self.has_failed | self.is_answered())
+            & (self.is_finished != self.has_failed)
+    }
+}
+
+// One call less is left. Whether there was one.
+fn passes(calls: &mut usize) -> bool {
+    let is_left = *calls > 0;
+    *calls = calls.saturating_sub(1);
+    is_left
+}
+
+impl Stream for Line {
+    ghost use Rattle.std.specs.Prelude.{None};
+
+    ghost received = { λ _. None };
+
+    ghost sent = { λ _. None };
+
+    fn receive(&mut self, buffer: &mut [u8]) -> Received {
+        if !passes(&mut self.reads) {
+            self.has_failed = true;
+            return Received::Failed;
+        }
+        let left = self.input.get(self.given..).unwrap_or(b"");
+        let count = left.len().min(buffer.len()).min(self.piece);
+        if left.is_empty() && !self.stays {
+            return Received::End;
+        }
+        if count == 0 {
+            return Received::Nothing;
+        }
+        buffer[..count].copy_from_slice(&left[..count]);
+        self.given = self.given.saturating_add(count);
+        Received::Bytes(count)
+    }
+
+    fn send(&mut self, bytes: &[u8]) -> Sent {
+        if !passes(&mut self.writes) {
+            self.has_failed = true;
+            return Sent::Failed;
+        }
+        let count = bytes.len().min(self.piece);
+        match self.output.extend_from_slice(&bytes[..count]) {
+            Ok(()) if count > 0 => Sent::Bytes(count),
+            _ => Sent::Nothing,
+        }
+    }
+}

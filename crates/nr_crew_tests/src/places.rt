@@ -1,0 +1,216 @@
+// Workers over connections in memory: these come, are dealt into letter boxes, one a lane, and are kept once they went.
+use crate::line::Line;
+use crate::watch::Watch;
+use nr_blob::Memory;
+use nr_crew::{Place, ServeError, Shape, Size, serve_nodes};
+use nr_service::{Accepts, Device, MachineClock, Silent};
+use std::alloc::Global;
+use std::collections::VecDeque;
+use std::hash::RandomState;
+use std::process::Abort;
+use std::random::RandomSource;
+use std::rt::Clock;
+use std::sync::{Mutex, Wait};
+use std::thread;
+use std::thread::Threads;
+
+// Connections on their way to a lane.
+type Letters = Mutex<VecDeque<Line>>;
+
+// Where the connections of a lane come from, and go.
+#[derive(Drop)]
+struct Door<'a, R> {
+    rt: &'a R,
+    watch: &'a Watch,
+    letters: &'a Letters,
+    lane: usize,
+    gone: Vec<Line>,
+    // How many of these it told of.
+    told: usize,
+}
+
+impl<R: Abort> Door<'_, R> {
+    fn keep(&mut self, line: Line) {
+        if line.is_answered() {
+            self.watch.answers(self.lane);
+        }
+        self.gone.push(line).expect(self.rt, "memory");
+    }
+}
+
+impl<R: Wait + Abort> Device<Line> for Door<'_, R> {
+    fn accept(&mut self) -> Result<Option<Line>, Memory> {
+        Ok(self.letters.lock(self.rt).pop_front())
+    }
+
+    // A connection is gone once the turn is over in which it went: its room came back by then.
+    fn wait(&mut self, is_busy: bool) -> bool {
+        for _ in self.told..self.gone.len() {
+            self.watch.goes();
+        }
+        self.told = self.gone.len();
+        if !is_busy {
+            thread::yield_now();
+        }
+        true
+    }
+
+    fn finish(&mut self, mut line: Line) {
+        line.is_finished = true;
+        self.keep(line);
+    }
+
+    fn abandon(&mut self, line: Line) {
+        self.keep(line);
+    }
+}
+
+// The connections to come, the last one first, and where each that came was dealt to.
+#[derive(Drop)]
+struct Arrivals<'a, R> {
+    rt: &'a R,
+    watch: &'a Watch,
+    letters: &'a [Letters],
+    to_come: Vec<Line>,
+    held: Option<Line>,
+    dealt: Vec<Option<usize>>,
+    // How many waits it takes.
+    waits: u64,
+}
+
+impl<R: Wait + Abort> Accepts for Arrivals<'_, R> {
+    fn accept(&mut self) -> bool {
+        let gone = self.watch.gone();
+        if self.to_come.last().is_some_and(|line| line.from <= gone) {
+            self.held = self.to_come.pop();
+        }
+        self.held.is_some()
+    }
+
+    fn deal(&mut self, lane: usize) {
+        self.dealt.push(Some(lane)).expect(self.rt, "memory");
+        if let (Some(line), Some(letters)) = (self.held.take(), self.letters.get(lane)) {
+            let put = letters.lock(self.rt).push_back(line);
+            put.ok().expect(self.rt, "memory");
+        }
+    }
+
+    fn turn_away(&mut self) {
+        self.dealt.push(None).expect(self.rt, "memory");
+        self.held = None;
+        self.watch.goes();
+    }
+
+    fn wait(&mut self) -> bool {
+        thread::yield_now();
+        self.waits = self.waits.saturating_sub(1);
+        self.waits > 0
+    }
+}
+
+/// A server of two nodes, of one worker each or of two.
+#[derive(Clone, Copy)]
+pub(crate) struct Trial {
+    pub is_single: bool,
+    pub places: usize,
+    pub connections: usize,
+    /// Whose worker is held up.
+    pub held: Option<usize>,
+    /// After how many waits no connection can come any more.
+    pub waits: u64,
+}
+
+/// What came of connections: those that went, the lanes to which all were dealt, how many workers ended, and why; and whether it was waited for too long.
+#[derive(Drop)]
+pub(crate) struct Came {
+    pub gone: Vec<Line>,
+    pub dealt: Vec<Option<usize>>,
+    pub workers: usize,
+    pub ended: Result<(), ServeError>,
+    pub gave_up: bool,
+}
+
+fn size_of(trial: Trial) -> Size {
+    Size {
+        shape: Shape {
+            nodes: 2,
+            workers: if trial.is_single { 1 } else { 2 },
+        },
+        places: trial.places,
+        connections: trial.connections,
+        limit: 1_048_576,
+    }
+}
+
+// The doors of so many lanes, each with the clock of its worker.
+fn places_of<'a, R: Abort>(
+    rt: &'a R,
+    alloc: Global,
+    watch: &'a Watch,
+    letters: &'a [Letters],
+) -> Vec<Place<Door<'a, R>, MachineClock<'a, R>>> {
+    let mut places = Vec::new(alloc);
+    for (lane, letters) in letters.iter().enumerate() {
+        let device = Door {
+            rt,
+            watch,
+            letters,
+            lane,
+            gone: Vec::new(alloc),
+            told: 0,
+        };
+        let clock = MachineClock { runtime: rt };
+        let put = places.push(Place { device, clock });
+        put.ok().expect(rt, "memory");
+    }
+    places
+}
+
+/// Serves these connections by a new server, each worker on a thread of its own, until all went that don't stay, or none can come any more.
+pub(crate) fn serve<R>(rt: &R, alloc: Global, trial: Trial, mut lines: Vec<Line>) -> Came
+where
+    R: Clock + RandomSource + Threads + Wait + Abort + Sync,
+{
+    let size = size_of(trial);
+    let wanted = lines.iter().filter(|line| !line.stays).count();
+    let watch = Watch::new(wanted, trial.held);
+    let mut letters = Vec::new(alloc);
+    for _ in 0..4 {
+        let empty = Mutex::new(VecDeque::new(alloc));
+        letters.push(empty).ok().expect(rt, "memory");
+    }
+    lines.reverse();
+    let arrivals = Arrivals {
+        rt,
+        watch: &watch,
+        letters: &letters,
+        to_come: lines,
+        held: None,
+        dealt: Vec::new(alloc),
+        waits: trial.waits,
+    };
+    let places = places_of(rt, alloc, &watch, &letters);
+    let keys = RandomState::new(rt).ok().expect(rt, "random bytes");
+    let served = serve_nodes::<
+        R,
+        Line,
+        Door<'_, R>,
+        MachineClock<'_, R>,
+        Silent,
+        Watch,
+        Arrivals<'_, R>,
+    >(rt, alloc, keys, size, places, Silent, arrivals, &watch);
+    let (served, arrivals) = served.ok().expect(rt, "memory");
+    let workers = served.lefts.len();
+    let mut gone = Vec::new(alloc);
+    for mut left in served.lefts {
+        gone.append(&mut left.device.gone).expect(rt, "memory");
+    }
+    Came {
+        gone,
+        dealt: arrivals.dealt,
+        workers,
+        ended: served.ended,
+        gave_up: watch.gave_up(),
+    }
+}

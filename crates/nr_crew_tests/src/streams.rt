@@ -1,0 +1,209 @@
+// Connections in memory, at two nodes.
+use crate::asserted::holds;
+use crate::line::Line;
+use crate::places::{Came, Trial, serve};
+use nr_crew::ServeError;
+use nr_lane::Crew;
+use nr_service::Silent;
+use std::alloc::Global;
+use std::process::Abort;
+
+/// Two workers a node, and room for all.
+const TRIAL: Trial = Trial {
+    is_single: false,
+    places: 1_024,
+    connections: 256,
+    held: None,
+    waits: u64::MAX,
+};
+
+const PING: (&[u8], &[u8]) = (b"PING\r\n", b"+PONG\r\n");
+
+// A text so many times. Tens and ones of a number stand there for `#` and `@`.
+fn numbered<R: Abort>(rt: &R, alloc: Global, number: usize, text: &[u8], times: usize) -> Vec<u8> {
+    let mut bytes = text.repeat(alloc, times).ok().expect(rt, "memory");
+    for byte in &mut bytes {
+        if *byte == b'#' {
+            *byte = b'0' + (number / 10 % 10) as u8;
+        } else if *byte == b'@' {
+            *byte = b'0' + (number % 10) as u8;
+        }
+    }
+    bytes
+}
+
+// The client of this number, which sends this so many times, and wants that as often.
+fn client<R: Abort>(
+    rt: &R,
+    alloc: Global,
+    number: usize,
+    (input, wanted): (&[u8], &[u8]),
+    times: usize,
+) -> Line {
+    let input = numbered(rt, alloc, number, input, times);
+    let wanted = numbered(rt, alloc, number, wanted, times);
+    Line::new(alloc, input, wanted)
+}
+
+// Adds so many clients that send a PING, and come once so many went.
+fn add_pings<R: Abort>(rt: &R, alloc: Global, count: usize, from: usize, lines: &mut Vec<Line>) {
+    for _ in 0..count {
+        let mut ping = client(rt, alloc, 0, PING, 1);
+        ping.from = from;
+        lines.push(ping).ok().expect(rt, "memory");
+    }
+}
+
+// So many went, each served as its streams let it, and the server ended well. How many got all.
+fn served_well<R: Abort>(rt: &R, came: &Came, gone: usize) -> usize {
+    holds(rt, "each turn came in time", !came.gave_up);
+    holds(rt, "the server ends well", came.ended == Ok(()));
+    holds(rt, "all went", came.gone.len() == gone);
+    let mut count = 0usize;
+    for line in &came.gone {
+        holds(rt, "it is served", line.is_served());
+        count = count.saturating_add(usize::from(line.is_finished));
+    }
+    count
+}
+
+// Of two nodes of one worker each: the one takes no turn until the other has answered a PING, and then the other takes none until the one has. A thread that serves
+// both can't.
+#[test]
+fn gate(rt: HostRuntime) {
+    for held in [0, 1] {
+        let mut lines = Vec::new(rt.alloc());
+        add_pings(&rt, rt.alloc(), 2, 0, &mut lines);
+        let mut trial = TRIAL;
+        trial.is_single = true;
+        trial.held = Some(held);
+        let came = serve(&rt, rt.alloc(), trial, lines);
+        holds(&rt, "both answer", served_well(&rt, &came, 2) == 2);
+    }
+}
+
+// 64 clients of four workers, each with a key and values of its own, in pieces of one to seven bytes: each gets its own replies.
+#[test]
+fn bytes_never_cross(rt: HostRuntime) {
+    let mut lines = Vec::new(rt.alloc());
+    for number in 0..64 {
+        let input = b"SET k#@ a#@\r\nGET k#@\r\nSET k#@ b#@\r\nGET k#@\r\n".as_slice();
+        let wanted = b"+OK\r\n$3\r\na#@\r\n+OK\r\n$3\r\nb#@\r\n".as_slice();
+        let mut line = client(&rt, rt.alloc(), number, (input, wanted), 10);
+        line.piece = number % 7 + 1;
+        lines.push(line).ok().expect(&rt, "memory");
+    }
+    let came = serve(&rt, rt.alloc(), TRIAL, lines);
+    holds(&rt, "each gets its own", served_well(&rt, &came, 64) == 64);
+}
+
+// Each read fails once, and each write, in pieces of one byte and of all: the others are served, also those that come behind.
+#[test]
+fn others_are_served_on(rt: HostRuntime) {
+    let mut lines = Vec::new(rt.alloc());
+    for number in 0..96 {
+        let input = b"SET k#@ v#@\r\nGET k#@\r\n".as_slice();
+        let wanted = b"+OK\r\n$3\r\nv#@\r\n".as_slice();
+        let mut line = client(&rt, rt.alloc(), number, (input, wanted), 1);
+        if number < 48 {
+            line.piece = 1;
+        }
+        let calls = number / 2 % 24;
+        if number % 2 == 0 {
+            line.reads = calls;
+        } else {
+            line.writes = calls;
+        }
+        lines.push(line).ok().expect(&rt, "memory");
+    }
+    add_pings(&rt, rt.alloc(), 4, 96, &mut lines);
+    let came = serve(&rt, rt.alloc(), TRIAL, lines);
+    let finished = served_well(&rt, &came, 100);
+    // By bytes 23 reads and 14 writes are made, and else two reads, and one write or two.
+    holds(
+        &rt,
+        "all others are served",
+        finished == 59 || finished == 60,
+    );
+}
+
+// A node that nobody asks goes on passing what the other one puts into a log of two places.
+#[test]
+fn an_idle_node_holds_nobody_up(rt: HostRuntime) {
+    let mut lines = Vec::new(rt.alloc());
+    let set = (b"SET k v\r\n".as_slice(), b"+OK\r\n".as_slice());
+    let mut line = client(&rt, rt.alloc(), 0, set, 1_000);
+    line.piece = 9;
+    lines.push(line).ok().expect(&rt, "memory");
+    let mut trial = TRIAL;
+    trial.is_single = true;
+    trial.places = 2;
+    let came = serve(&rt, rt.alloc(), trial, lines);
+    holds(&rt, "all are set", served_well(&rt, &came, 1) == 1);
+}
+
+// Connections go to the nodes in turn, and to the workers of each.
+#[test]
+fn dealt_in_turn(rt: HostRuntime) {
+    let mut lines = Vec::new(rt.alloc());
+    add_pings(&rt, rt.alloc(), 8, 0, &mut lines);
+    let came = serve(&rt, rt.alloc(), TRIAL, lines);
+    holds(&rt, "all are answered", served_well(&rt, &came, 8) == 8);
+    let lanes = [0, 2, 1, 3, 0, 2, 1, 3].map(Some);
+    holds(
+        &rt,
+        "they go in turn",
+        came.dealt.as_slice() == lanes.as_slice(),
+    );
+}
+
+// Where each node takes one connection, the first two go to a node each; once the second went the third goes to its node, and the fourth is turned away.
+#[test]
+fn dealt_where_there_is_room(rt: HostRuntime) {
+    let mut lines = Vec::new(rt.alloc());
+    for number in 0..4 {
+        let mut ping = client(&rt, rt.alloc(), 0, PING, 1);
+        ping.from = number / 2;
+        ping.stays = number % 2 == 0;
+        lines.push(ping).ok().expect(&rt, "memory");
+    }
+    let mut trial = TRIAL;
+    trial.connections = 1;
+    let came = serve(&rt, rt.alloc(), trial, lines);
+    holds(
+        &rt,
+        "the second is answered",
+        served_well(&rt, &came, 1) == 1,
+    );
+    let lanes = [Some(0), Some(2), Some(3), None];
+    holds(
+        &rt,
+        "they go where room is",
+        came.dealt.as_slice() == lanes.as_slice(),
+    );
+}
+
+// Where no connection can come any more all workers end.
+#[test]
+fn ends_where_none_can_come(rt: HostRuntime) {
+    let mut lines = Vec::new(rt.alloc());
+    add_pings(&rt, rt.alloc(), 1, usize::MAX, &mut lines);
+    let mut trial = TRIAL;
+    trial.waits = 10_000;
+    let came = serve(&rt, rt.alloc(), trial, lines);
+    holds(&rt, "it is told", came.ended == Err(ServeError::Device));
+    holds(&rt, "all workers end", came.workers == 4 && !came.gave_up);
+}
+
+// A node that has fallen takes no connection, and the other one does; once both have, none does.
+#[test]
+fn a_fallen_node_takes_none(rt: HostRuntime) {
+    let crew = Crew::new(rt.alloc(), Silent, 2, 1, 2);
+    let crew = crew.ok().expect(&rt, "memory");
+    holds(&rt, "a node takes one", crew.admit(0));
+    crew.fall(0);
+    holds(&rt, "it has fallen", !crew.admit(0));
+    holds(&rt, "the other takes one", crew.admit(1) & !crew.are_down());
+    crew.fall(1);
+    holds(&rt, "both have", crew.are_down());
+}

@@ -1,0 +1,34 @@
+// Connections for which nothing more comes.
+ghost use Rattle.nr_worker.specs.Working.{unchanged, CutsOff, Goes};
+
+use crate::desk::Desk;
+use nr_blob::Memory;
+use nr_combiner::ServerName;
+use nr_entry::ConnId;
+use std::sync::Wait;
+
+impl<'a, R: Wait, B: ServerName> Desk<'a, R, B> {
+    /// Those of its connections for which nothing more comes, since their node cut their queues, and from which bytes are taken yet. A turn tells of a queue that is
+    /// cut beside the last bytes that it hands out for it; where none wait as it is cut, this alone tells. It takes the lock once. Linear in the connections, and
+    /// logarithmic for each.
+    ///
+    /// # Errors
+    ///
+    /// `Memory` where there is no room for them.
+    pub fn cut_ones(&self) -> Result<Vec<ConnId>, Memory> {
+        let conns = self
+            .seats
+            .open_ones(self.alloc, self.worker.shared().node())?;
+        let mut cut = Vec::new(self.alloc);
+        self.worker.shared().cut_among(self.rt, &conns, &mut cut)?;
+        Ok(cut)
+    }
+
+    /// Takes no more bytes from a connection. It is told of. Logarithmic.
+    pub fn stop(&mut self, serial: u64)
+        ensures stopped { CutsOff serial self.old self.new }
+        ensures goes { Goes unchanged self.old self.new }
+    {
+        self.seats.cut(serial);
+    }
+}
