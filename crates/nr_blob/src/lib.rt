@@ -13,3 +13,4 @@ mod memory;
 mod order;
 mod quoted;
 mod range;
+mod short;

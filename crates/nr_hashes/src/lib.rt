@@ -4,6 +4,7 @@
 pub use hash::Hash;
 pub use pairs::{Fields, Pairs, Values};
 
+mod block;
 mod form;
 mod hash;
 mod packed;

@@ -9,6 +9,7 @@ ghost use Rattle.nr_hashes.specs.Packed.{packed, word, entries_in};
 ghost use Rattle.nr_hashes.specs.Placed.{below, from, past, value_first};
 ghost use Rattle.nr_hashes.specs.Orders.{AreInOrder};
 
+use crate::block::Block;
 use nr_blob::Memory;
 use std::alloc::Global;
 use std::marker::Model;
@@ -22,9 +23,7 @@ const MOST_PAIRS: usize = 128;
 /// A few short pairs. They are seen as a list of fields with their values.
 #[derive(Debug, Drop)]
 pub(crate) struct Packed {
-    // How many there are.
-    pairs: usize,
-    bytes: Vec<u8>,
+    block: Block,
 }
 
 impl Model for Packed {
@@ -34,9 +33,9 @@ impl Model for Packed {
 
     ghost Value = { List (Bytes × Bytes) };
 
-    ghost view = { λ packed. entries_in packed.bytes.items };
+    ghost view = { λ packed. entries_in packed.block.1 };
 
-    ghost invariant = { λ packed. IsPacked packed.pairs packed.bytes.items };
+    ghost invariant = { λ packed. IsPacked packed.block.0 packed.block.1 };
 }
 
 impl Packed {
@@ -45,8 +44,7 @@ impl Packed {
         ensures { result ≡ [] }
     {
         Packed {
-            pairs: 0,
-            bytes: Vec::new(alloc),
+            block: Block::new(alloc),
         }
     }
 
@@ -55,14 +53,14 @@ impl Packed {
         ensures len { result ≡ length self.now }
         ensures few { result ≤ 128 }
     {
-        self.pairs
+        self.block.count()
     }
 
-    /// The block.
+    /// Their bytes.
     pub(crate) fn bytes(&self) -> &[u8]
         ensures { entries_in result.now ≡ self.now }
     {
-        &self.bytes
+        self.block.pairs()
     }
 
     /// The value at a field.
@@ -70,7 +68,7 @@ impl Packed {
         requires { AreInOrder self.now }
         ensures { option_map (λ value. value.now) result ≡ lookup (is_at (byte_cmp field.now)) self.now }
     {
-        place_of(&self.bytes, field).value
+        place_of(self.block.pairs(), field).value
     }
 
     /// Puts a value at a field, in the place of the one that was there, and says whether the field is new; `None` where the pairs would be
@@ -88,15 +86,14 @@ impl Packed {
         ensures room { IfOk result (λ done. is_some done ≡ packed.fits (length (insert_entry byte_cmp self.old field.now value.now)) field.now value.now) }
         ensures err { OnErr result (self.new ≡ self.old) }
     {
-        let place = place_of(&self.bytes, field);
+        let place = place_of(self.block.pairs(), field);
         let is_new = place.value.is_none();
-        let pairs = count_with(self.pairs, is_new);
-        if !fits(pairs, field, value) {
+        let count = count_with(self.block.count(), is_new);
+        if !fits(count, field, value) {
             return Ok(None);
         }
-        let bytes = joined(alloc, place.before, field, value, place.after)?;
-        self.bytes = bytes;
-        self.pairs = pairs;
+        let block = Block::joined(alloc, count, place.before, field, value, place.after)?;
+        self.block = block;
         Ok(Some(is_new))
     }
 
@@ -106,14 +103,13 @@ impl Packed {
         ensures there { result ≡ is_some (lookup (is_at (byte_cmp field.now)) self.old) }
         ensures removed { self.new ≡ remove_entry (is_at (byte_cmp field.now)) self.old }
     {
-        let place = place_of(&self.bytes, field);
+        let place = place_of(self.block.pairs(), field);
         if place.value.is_none() {
             return false;
         }
         let start = place.before.len();
-        let end = self.bytes.len() - place.after.len();
-        cut(&mut self.bytes, start, end);
-        self.pairs -= 1;
+        let end = self.block.pairs().len() - place.after.len();
+        self.block.cut(start, end);
         true
     }
 
@@ -122,8 +118,7 @@ impl Packed {
         ensures { IfOk result (λ copied. copied ≡ self.now) }
     {
         Ok(Packed {
-            pairs: self.pairs,
-            bytes: Vec::from_slice(alloc, &self.bytes)?,
+            block: self.block.copy(alloc)?,
         })
     }
 }
@@ -214,46 +209,4 @@ fn fits(pairs: usize, field: &[u8], value: &[u8]) -> bool
     ensures { result ≡ packed.fits pairs field.now value.now }
 {
     field.len() <= MOST_LEN && value.len() <= MOST_LEN && pairs <= MOST_PAIRS
-}
-
-// A pair between those in front of it and those behind it, in a block with room for no more.
-fn joined(
-    alloc: Global,
-    before: &[u8],
-    field: &[u8],
-    value: &[u8],
-    after: &[u8],
-) -> Result<Vec<u8>, Memory>
-    requires field { length field.now ≤ 64 }
-    requires value { length value.now ≤ 64 }
-    requires room { length before.now + length after.now < 2 ^ 63 }
-    ensures { IfOk result (λ bytes. bytes.items ≡ before.now ++ (word field.now ++ (word value.now ++ after.now))) }
-{
-    let len = before.len() + after.len() + field.len() + value.len() + 2;
-    let mut bytes = Vec::with_capacity(alloc, len)?;
-    bytes.extend_from_slice(before)?;
-    push_word(&mut bytes, field)?;
-    push_word(&mut bytes, value)?;
-    bytes.extend_from_slice(after)?;
-    Ok(bytes)
-}
-
-// Appends a word behind its length.
-fn push_word(bytes: &mut Vec<u8>, text: &[u8]) -> Result<(), Memory>
-    requires { length text.now ≤ 64 }
-    ensures { OnOk result (bytes.new.items ≡ bytes.old.items ++ word text.now) }
-{
-    bytes.push(text.len() as u8)?;
-    bytes.extend_from_slice(text)?;
-    Ok(())
-}
-
-// Takes the bytes of a range out, and lets go of their room.
-fn cut(bytes: &mut Vec<u8>, start: usize, end: usize)
-    requires range { start ≤ end }
-    requires within { end ≤ length bytes.old.items }
-    ensures { bytes.new.items ≡ take start bytes.old.items ++ drop end bytes.old.items }
-{
-    bytes.drain(start..end);
-    bytes.shrink_to_fit();
 }

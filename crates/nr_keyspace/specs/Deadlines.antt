@@ -1,11 +1,19 @@
 -- Deadlines with the names of their keys, the earliest first.
-use Rattle.std.specs.Prelude.{◌≡◌, ℤ, Bool, false, cond, Option, Some, None, List, map}
+use Rattle.std.specs.Prelude.{◌≡◌, ℤ, negsuc, ◌-◌, ◌^◌, Bool, false, cond, Option, Some, None, List, map}
 use Rattle.std.specs.declared.cmp.Ordering.{Ordering}
 use Rattle.std.specs.Ordering.{int_cmp, is_eq, eq_by_cmp, ordering_then}
 use Rattle.std.specs.FinSet as set
 use Rattle.std.specs.Coded.{Coded, coded×, coded_ℤ}
 use Rattle.nr_model.specs.Bytes.{Bytes}
 use Rattle.nr_model.specs.Keyspace.{byte_cmp, coded_bytes}
+
+-- the least number of milliseconds that a deadline may be
+abbrev pub least_moment : ℤ
+least_moment = negsuc (2 ^ 63 - 1)
+
+-- the deadline for which a number stands, if it does
+abbrev pub deadline_kept : ℤ → Option ℤ
+deadline_kept moment = cond (is_eq (int_cmp moment least_moment)) None (Some moment)
 
 -- a deadline, and the name of a key that has it
 abbrev pub Due : Type 0

@@ -14,7 +14,7 @@ ghost use Rattle.nr_keyspace.specs.Stores.{stored_of, deadline_of, bytes_of, sto
 
 use crate::deadlines::Deadlines;
 use crate::edit::Edit;
-use crate::moment::is_live;
+use crate::kept_deadline::KeptDeadline;
 use crate::value::Value;
 use nr_blob::{Blob, Memory};
 use nr_glob::matches;
@@ -30,7 +30,7 @@ const SWEPT_AT_ONCE: usize = 4;
 #[derive(Drop)]
 pub(crate) struct Entry {
     value: Value,
-    deadline: Option<i64>,
+    deadline: KeptDeadline,
 }
 
 #[derive(Drop)]
@@ -52,7 +52,7 @@ impl Model for Database {
 }
 
 // Writes another deadline to the entry at a name, if there is one.
-fn redate(by_name: &mut HashMap<Blob, Entry, RandomState>, name: &Blob, deadline: Option<i64>)
+fn redate(by_name: &mut HashMap<Blob, Entry, RandomState>, name: &Blob, deadline: KeptDeadline)
     ensures { let old = store_of bytes_of by_name.old.entries in store_of bytes_of by_name.new.entries ≡ redated old name.now (map.get old name.now) deadline }
 {
     if let Some(entry) = by_name.get_mut(name) {
@@ -97,7 +97,7 @@ fn edit_at<E: Edit>(
     let Some(entry) = by_name.get_mut(name) else {
         return Ok(None);
     };
-    if !is_live(now, entry.deadline) {
+    if !entry.deadline.is_live(now) {
         return Ok(None);
     }
     let given = edit.edit(&mut entry.value)?;
@@ -108,7 +108,7 @@ fn edit_at<E: Edit>(
 fn is_wanted(now: u64, pattern: &[u8], name: &Blob, entry: &Entry) -> bool
     ensures { result ≡ is_live_at now entry.now.deadline && matches pattern.now name.now }
 {
-    is_live(now, entry.deadline) && matches(pattern, name.bytes())
+    entry.deadline.is_live(now) && matches(pattern, name.bytes())
 }
 
 impl Database {
@@ -128,7 +128,7 @@ impl Database {
         let mut copy = Database::new(alloc, *self.by_name.hasher());
         for (name, entry) in self.by_name.iter() {
             let name = name.copy()?;
-            copy.put(name, entry.value.copy(alloc)?, entry.deadline)?;
+            copy.put(name, entry.value.copy(alloc)?, entry.deadline.get())?;
         }
         Ok(copy)
     }
@@ -138,7 +138,7 @@ impl Database {
         ensures { option_map (λ entry. stored_of entry.now) result ≡ only_live now (map.get self.now name.now) }
     {
         let entry = self.by_name.get(name)?;
-        if is_live(now, entry.deadline) {
+        if entry.deadline.is_live(now) {
             Some(entry)
         } else {
             None
@@ -150,7 +150,7 @@ impl Database {
         ensures { result ≡ deadline_of (map.get self.now name.now) }
     {
         let entry = self.by_name.get(name)?;
-        entry.deadline
+        entry.deadline.get()
     }
 
     /// The value at a live name.
@@ -166,7 +166,7 @@ impl Database {
         ensures { result ≡ option_map (λ stored. stored.deadline) (only_live now (map.get self.now name.now)) }
     {
         let entry = self.live(now, name)?;
-        Some(entry.deadline)
+        Some(entry.deadline.get())
     }
 
     /// How many names are live. Looks at the deadlines that have passed alone.
@@ -206,10 +206,15 @@ impl Database {
         ensures ok { OnOk result (self.new ≡ map.insert self.old name (record { value = value_of value; deadline = deadline })) }
         ensures err { OnErr result (self.new ≡ self.old) }
     {
+        let kept = KeptDeadline::new(deadline)?;
         let before = self.deadline_at(&name);
         self.by_name.reserve(1)?;
         let name = self.deadlines.replace(before, deadline, name)?;
-        self.by_name.insert(name, Entry { value, deadline })?;
+        let entry = Entry {
+            value,
+            deadline: kept,
+        };
+        self.by_name.insert(name, entry)?;
         Ok(())
     }
 
@@ -246,7 +251,7 @@ impl Database {
             return None;
         }
         let (name, entry) = self.by_name.remove_entry(name)?;
-        self.deadlines.take(entry.deadline, name);
+        self.deadlines.take(entry.deadline.get(), name);
         Some(entry.value)
     }
 
@@ -264,10 +269,11 @@ impl Database {
         if self.live(now, name).is_none() {
             return Ok(false);
         }
+        let kept = KeptDeadline::new(deadline)?;
         let before = self.deadline_at(name);
         let name_copy = name.copy()?;
         self.deadlines.replace(before, deadline, name_copy)?;
-        redate(&mut self.by_name, name, deadline);
+        redate(&mut self.by_name, name, kept);
         Ok(true)
     }
 

@@ -114,7 +114,7 @@ impl Keyspace {
     }
 
     /// Stores a value and its deadline in the place of whatever the key had. Where memory runs out nothing changes. With a deadline
-    /// that is not after the latest sweep it first takes out each key that is gone.
+    /// that is not after the latest sweep it first takes out each key that is gone. One of -2^63 milliseconds is answered as want of memory.
     pub fn put(
         &mut self,
         database: Db,
@@ -168,7 +168,8 @@ impl Keyspace {
     }
 
     /// Gives a live key another deadline, or none, and says whether there was one. Where memory runs out nothing changes. With a
-    /// deadline that is not after the latest sweep it first takes out each key that is gone.
+    /// deadline that is not after the latest sweep it first takes out each key that is gone. One of -2^63 milliseconds is answered as want of
+    /// memory.
     pub fn set_deadline(
         &mut self,
         now: u64,

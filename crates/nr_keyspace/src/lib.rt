@@ -19,6 +19,7 @@ mod db;
 mod deadlines;
 mod edit;
 mod emptied;
+mod kept_deadline;
 mod keyspace;
 mod moment;
 mod touched;

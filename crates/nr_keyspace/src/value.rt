@@ -16,8 +16,8 @@ use nr_strings::Str;
 use nr_zsets::Zset;
 use std::alloc::Global;
 
-/// The value of a key. Collections stand in blocks of their own, so that a string needs no more room than without them. To drop a
-/// value is linear in it.
+/// The value of a key. What is larger than a string stands in a block of its own, so that a string needs no more room than without it. To drop
+/// a value is linear in it.
 #[derive(Drop)]
 pub enum Value {
     /// A string of bytes.
@@ -25,9 +25,9 @@ pub enum Value {
     /// Items in order.
     List(Box<List>),
     /// Fields with their values.
-    Hash(Box<Hash>),
+    Hash(Hash),
     /// Members, each once.
-    Set(Box<Set>),
+    Set(Set),
     /// Members with their scores, in order.
     SortedSet(Box<Zset>),
 }
@@ -44,26 +44,36 @@ impl From<Str> for Value {
     }
 }
 
+impl From<Hash> for Value {
+    ghost use Rattle.std.specs.Prelude.{◌≡◌};
+    ghost use Rattle.nr_model.specs.Keyspace.{Fields};
+    ghost use Rattle.nr_keyspace.specs.Values.{value_of};
+
+    ghost from_gives = { λ hash value. value_of value ≡ Fields hash };
+
+    fn from(hash: Hash) -> Self {
+        Value::Hash(hash)
+    }
+}
+
+impl From<Set> for Value {
+    ghost use Rattle.std.specs.Prelude.{◌≡◌};
+    ghost use Rattle.nr_model.specs.Keyspace.{Members};
+    ghost use Rattle.nr_keyspace.specs.Values.{value_of};
+
+    ghost from_gives = { λ set value. value_of value ≡ Members set };
+
+    fn from(set: Set) -> Self {
+        Value::Set(set)
+    }
+}
+
 impl Value {
     /// A list as a value.
     pub fn list(alloc: Global, list: List) -> Result<Value, Memory>
         ensures { IfOk result (λ value. value_of value ≡ Items list) }
     {
         Ok(Value::List(Box::new(alloc, list)?))
-    }
-
-    /// A hash as a value.
-    pub fn hash(alloc: Global, hash: Hash) -> Result<Value, Memory>
-        ensures { IfOk result (λ value. value_of value ≡ Fields hash) }
-    {
-        Ok(Value::Hash(Box::new(alloc, hash)?))
-    }
-
-    /// A set as a value.
-    pub fn set(alloc: Global, set: Set) -> Result<Value, Memory>
-        ensures { IfOk result (λ value. value_of value ≡ Members set) }
-    {
-        Ok(Value::Set(Box::new(alloc, set)?))
     }
 
     /// A sorted set as a value.
@@ -80,8 +90,8 @@ impl Value {
         match self {
             Value::String(text) => Ok(Value::String(text.copy()?)),
             Value::List(list) => Value::list(alloc, list.copy()?),
-            Value::Hash(hash) => Value::hash(alloc, hash.copy()?),
-            Value::Set(set) => Value::set(alloc, set.copy()?),
+            Value::Hash(hash) => Ok(Value::Hash(hash.copy()?)),
+            Value::Set(set) => Ok(Value::Set(set.copy()?)),
             Value::SortedSet(zset) => Value::sorted_set(alloc, zset.copy()?),
         }
     }

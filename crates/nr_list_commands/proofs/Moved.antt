@@ -1,5 +1,12 @@
 -- An item that goes from one list to another.
-use Rattle.std.proofs.Common.{◌≡◌, ℕ, false, List, refl, ap, sym, ◌∙◌, subst}
+use Rattle.std.proofs.Common.{◌≡◌, ℕ, zero, suc, pos, negsuc, ◌+◌, ◌-◌, ◌<◌, min, false, List, [], ◌∷◌, ◌++◌, length, take, drop, get_or, refl, ap, sym, ◌∙◌, subst, arith, length-append}
+use Rattle.std.specs.Prelude.{slice_get, option_and_then, if◌then◌else◌}
+use Rattle.std.specs.Option.{unwrap_or}
+use Rattle.std.proofs.lemmas.Bool.{lt-ltb}
+use Rattle.std.proofs.lemmas.List.{take_rest, drop_min, take_all, take_more, take_at}
+use Rattle.nr_model.specs.Strings.{range}
+use Rattle.nr_model.specs.declared.command.End.TheVariants.{Left, Right}
+use Rattle.nr_list_commands.proofs.NoItems.{no_item}
 use Rattle.std.specs.Prelude.{bytes_eq, Option, Some, None, Result, Ok, Err, IfErr}
 use Rattle.std.specs.Result.{IsErr}
 use Rattle.nr_model.specs.Bytes.{Bytes}
@@ -73,3 +80,57 @@ not_refused after r new database told done read others was is refused =
     ended_by_memory after r new database told done is
     (refused_weaker r (λ error. read ≡ Err error) (λ _. ⊥)
     (λ error refused. let never : ◌≡◌ {A = Read (Option (List Bytes))} (Ok others) (Err error) = sym was ∙ refused in absurd (cc never)) refused)
+
+-- the item at an end dropped, as a range
+pub first_dropped : (items new : List Bytes) → new ≡ range (pos 1) (negsuc 0) items → new ≡ popped Left items
+first_dropped items new are =
+    let n = length items in
+    let less : n - 0 - min 1 n ≡ n - min 1 n = omega arith in
+    are ∙ ap (λ m. take m (drop (min 1 n) items)) less ∙ take_rest items (min 1 n) ∙ drop_min 1 items
+
+pub last_dropped : (items new : List Bytes) → new ≡ range (pos 0) (negsuc 1) items → new ≡ popped Right items
+last_dropped items new are =
+    let n = length items in
+    let none : min 0 n ≡ 0 = omega arith in
+    let less : n - 1 - 0 ≡ n - 1 = omega arith in
+    are ∙ ap (λ m. take (n - 1 - m) (drop m items)) none ∙ ap (λ m. take m items) less
+
+-- the item at an end is there
+some_at : {A : Type 0} (xs : List A) (place : ℕ) (d : A) → place < length xs → slice_get xs place ≡ Some (get_or xs place d)
+some_at [] place d within = absurd (omega (arith, within))
+some_at (x ∷ xs) zero d within = refl
+some_at (x ∷ xs) (suc place) d within = some_at xs place d (omega (arith, within))
+
+same_some : {A : Type 0} (a b : A) → Some a ≡ Some b → a ≡ b
+same_some a b e = ap (λ o. unwrap_or o a) e
+
+first_is : (item x : Bytes) (items : List Bytes) → Some x ≡ item_at (pos 0) (item ∷ items) → item ≡ x
+first_is item x items is =
+    let here : item_at (pos 0) (item ∷ items) ≡ Some item =
+    ap (λ b. option_and_then (slice_get (item ∷ items)) (if b then Some 0 else None)) (lt-ltb 0 (suc (length items)) (omega arith)) in
+    same_some item x (sym (is ∙ here))
+
+last_is_there : (items : List Bytes) (x : Bytes) → 0 < length items → Some x ≡ item_at (negsuc 0) items → items ≡ take (length items - 1) items ++ x ∷ []
+last_is_there items x some is =
+    let n = length items in
+    let place : n - 1 < n = omega (arith, some) in
+    let next : n - 1 + 1 ≡ n = omega (arith, some) in
+    let here : item_at (negsuc 0) items ≡ Some (get_or items (n - 1) x) =
+    ap (λ b. option_and_then (slice_get items) (if b then Some (n - 1) else None)) (lt-ltb 0 n some) ∙ some_at items (n - 1) x place in
+    let one : get_or items (n - 1) x ≡ x = same_some (get_or items (n - 1) x) x (sym (is ∙ here)) in
+    sym (take_all n items (omega arith)) ∙ ap (λ m. take m items) (sym next) ∙ take_more items (n - 1) x place
+    ∙ ap (λ y. take (n - 1) items ++ y ∷ []) one
+
+-- an item that is put in at an end and then goes at an end, and one that goes and is then put in
+pub rotated_item : (from to : End) (old new : List Bytes) (x : Bytes) → Some x ≡ item_at (index_of from) old → new ≡ popped from (pushed to x old)
+    → new ≡ pushed to x (popped from old)
+rotated_item from to [] new x is are = absurd (cc (is ∙ no_item (index_of from)))
+rotated_item Left Left (item ∷ items) new x is are = are ∙ ap (λ y. y ∷ items) (first_is item x items is)
+rotated_item Left Right (item ∷ items) new x is are = are
+rotated_item Right Left (item ∷ items) new x is are =
+    let fewer : length (x ∷ (item ∷ items)) - 1 ≡ suc (length (item ∷ items) - 1) = omega arith in
+    are ∙ ap (λ n. take n (x ∷ (item ∷ items))) fewer
+rotated_item Right Right (item ∷ items) new x is are =
+    let old = item ∷ items in
+    let fewer : length old ≡ length (old ++ x ∷ []) - 1 = omega (arith, length-append old (x ∷ [])) in
+    are ∙ take_at old (x ∷ []) (length (old ++ x ∷ []) - 1) fewer ∙ last_is_there old x (omega arith) is

@@ -78,7 +78,7 @@ fn item_or_null<'k>(list: Option<&'k List>, index: i64) -> Shown<'k>
         return Shown::Owned(Reply::NullBulk);
     };
     match list.get(index) {
-        Some(item) => Shown::Bulk(item.bytes()),
+        Some(item) => Shown::Bulk(item),
         None => Shown::Owned(Reply::NullBulk),
     }
 }
@@ -126,7 +126,7 @@ fn lent_range<'k>(
 {
     let mut items = Vec::new(alloc);
     for item in list.range(first, last) {
-        items.push(Item::Bulk(item.bytes()))?;
+        items.push(Item::Bulk(item))?;
     }
     Ok(items)
 }

@@ -1,7 +1,7 @@
 // The commands that take an item from an end of one list to an end of another, or of the same.
 ghost use Rattle.std.specs.Prelude.{◌≡◌, ◌∷◌, [], false, bytes_eq, None, Ok, Err, IfOk, IfErr, OnOk};
 ghost use Rattle.nr_model.specs.Keyspace.{live, key_of, Items as list_of};
-ghost use Rattle.nr_model.specs.Lists.{index_of};
+ghost use Rattle.nr_model.specs.Lists.{popped, index_of};
 ghost use Rattle.nr_model.specs.Commands.Shape.{performed, staying};
 ghost use Rattle.nr_model.specs.Commands.Reading.{fault};
 ghost use Rattle.nr_model.specs.Commands.Held.{items_at, kept_under};
@@ -31,7 +31,7 @@ struct MoveRequest<'k> {
     to: End,
 }
 
-/// `LMOVE source destination LEFT | RIGHT LEFT | RIGHT`. Constant.
+/// `LMOVE source destination LEFT | RIGHT LEFT | RIGHT`. Linear in the item.
 pub fn move_item<T: Touched>(
     alloc: Global,
     keyspace: &mut Keyspace,
@@ -48,7 +48,7 @@ pub fn move_item<T: Touched>(
     move_as(alloc, keyspace, now, database, request, touched)
 }
 
-/// `RPOPLPUSH source destination`. Constant.
+/// `RPOPLPUSH source destination`. Linear in the item.
 pub fn rpoplpush<T: Touched>(
     alloc: Global,
     keyspace: &mut Keyspace,
@@ -110,7 +110,7 @@ fn move_as<'k, T: Touched>(
         to,
     } = request;
     if source == target {
-        return rotate(keyspace, now, database, source, from, to, touched);
+        return rotate(alloc, keyspace, now, database, source, from, to, touched);
     }
     carry(
         alloc, keyspace, now, database, source, target, from, to, touched,
@@ -119,6 +119,7 @@ fn move_as<'k, T: Touched>(
 
 // From one end of a list to the other, or back.
 fn rotate<T: Touched>(
+    alloc: Global,
     keyspace: &mut Keyspace,
     now: u64,
     database: Db,
@@ -132,7 +133,8 @@ fn rotate<T: Touched>(
         (staying database
         (performed keyspace.old (items_at keyspace.old database name.now) (lists.rotated keyspace.old (key_of database name.now) from to))) }
 {
-    let Some(rotated) = edit_items(keyspace, now, database, name, Rotation { from, to })? else {
+    let Some(rotated) = edit_items(keyspace, now, database, name, Rotation { alloc, from, to })?
+    else {
         return Ok(Reply::NullBulk);
     };
     let Some(item) = rotated else {
@@ -142,9 +144,11 @@ fn rotate<T: Touched>(
     Ok(Reply::Bulk(item))
 }
 
-// Takes the item at an end to an end of the same list, and gives it once more.
+// Takes the item at an end to an end of the same list, and gives it once more. It is put in before it is taken out, so that it is there where
+// memory runs out.
 #[derive(Drop)]
 struct Rotation {
+    alloc: Global,
     from: End,
     to: End,
 }
@@ -162,12 +166,22 @@ impl Relisting for Rotation {
         let Some(first) = list.get(index_of(self.from)) else {
             return Ok(None);
         };
-        let shown = first.copy()?;
-        let Some(item) = list.pop(self.from) else {
-            return Ok(None);
-        };
+        let shown = Blob::from_slice(self.alloc, first)?;
+        let item = shown.copy()?;
         list.push(self.to, item)?;
+        drop_item(list, self.from);
         Ok(Some(shown))
+    }
+}
+
+// Takes the item at an end out, and lets go of it. It takes no memory.
+#[tactic(auto, using(crate::proofs::Moved::first_dropped, crate::proofs::Moved::last_dropped))]
+fn drop_item(list: &mut List, end: End)
+    ensures { list.new ≡ popped end list.old }
+{
+    match end {
+        End::Left => list.trim(1, -1),
+        End::Right => list.trim(0, -2),
     }
 }
 

@@ -114,7 +114,8 @@ impl Relisting for PopOne {
     ghost edits = { λ edit old new given. (new ≡ popped edit.end old) × (given ≡ item_at (index_of edit.end) old) };
 
     fn edit(self, list: &mut List) -> Result<Option<Blob>, Memory> {
-        Ok(list.pop(self.end))
+        let item = list.pop(self.end)?;
+        Ok(item)
     }
 }
 
@@ -208,7 +209,7 @@ fn take_items(alloc: Global, list: &mut List, end: End, count: usize) -> Result<
 {
     let mut items = Vec::with_capacity(alloc, count)?;
     for _ in 0..count {
-        let Some(item) = list.pop(end) else {
+        let Some(item) = list.pop(end)? else {
             return Ok(items);
         };
         items.push(Reply::Bulk(item))?;

@@ -61,7 +61,7 @@ impl Relisting for KeepRange {
     }
 }
 
-/// `LSET key index item`. Constant.
+/// `LSET key index item`. Linear in the blocks between the index and the nearer end, and in the bytes of its block.
 pub fn set<T: Touched>(
     keyspace: &mut Keyspace,
     now: u64,
@@ -121,7 +121,7 @@ impl Relisting for ReplaceItem {
     ghost edits = { λ edit old new _. new ≡ with_item_at edit.index edit.item old };
 
     fn edit(self, list: &mut List) -> Result<(), Memory> {
-        list.set(self.index, self.item);
+        list.set(self.index, self.item)?;
         Ok(())
     }
 }
@@ -216,7 +216,7 @@ impl<'k> Relisting for InsertBeside<'k> {
     }
 }
 
-/// `LREM key count item`. Linear in the items.
+/// `LREM key count item`. Linear in the items and their bytes.
 pub fn remove<T: Touched>(
     keyspace: &mut Keyspace,
     now: u64,

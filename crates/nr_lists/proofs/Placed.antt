@@ -1,8 +1,8 @@
 -- Where items stand, found one after another.
-use Rattle.std.proofs.Common.{◌≡◌, ℕ, zero, suc, ◌+◌, ◌-◌, ◌<◌, ◌≤◌, min, Bool, true, false, cond, List, [], ◌∷◌, ◌++◌, length, take, drop, get_or, map, ◌⊎◌, inl, inr, refl, ap, sym, ◌∙◌, subst, arith, append-nil, append_assoc}
+use Rattle.std.proofs.Common.{◌≡◌, ℕ, zero, suc, ◌+◌, ◌-◌, ◌<◌, ◌≤◌, min, Bool, true, false, cond, List, [], ◌∷◌, ◌++◌, length, take, drop, get_or, map, reverse, ◌⊎◌, inl, inr, refl, ap, sym, ◌∙◌, subst, arith, append-nil, append_assoc}
 use Rattle.std.specs.Prelude.{filter, bytes_eq, ℤ}
 use Rattle.std.specs.List.{enumerate_from}
-use Rattle.std.proofs.lemmas.List.{length_push, length-take, length-drop, take_all, drop_all, drop_more, get_or-take, get_or-reverse}
+use Rattle.std.proofs.lemmas.List.{length_push, length-take, length-drop, take_all, drop_all, drop_more, drop-drop, get_or-take, get_or-reverse}
 use Rattle.std.proofs.lemmas.List.FromFn.{length-enumerate_from, get_or-enumerate_from}
 use Rattle.std.proofs.lemmas.Bool.{cases_lt}
 use Rattle.nr_model.specs.Bytes.{Bytes}
@@ -160,3 +160,20 @@ all_places rank count most bytes items end to_pass limit looked_at end_is pass_i
 pub looked_at_all : (end : End) (items : List Bytes) (most : ℕ) → most ≤ length items → length (take most (seen_from end (enumerate_from 0 items))) ≡ most
 looked_at_all end items most few =
     omega (arith, few, length-take most (seen_from end (enumerate_from 0 items)), length_seen end (enumerate_from 0 items), length-enumerate_from 0 items)
+
+-- what is looked at next
+pub item_seen : (end : End) (items more : List Bytes) (at : ℕ) (item : Bytes) → at < length items → drop at (seen_from end items) ≡ item ∷ more
+    → item ≡ get_or items (place_from end (length items) at) item
+item_seen Left items more at item within is =
+    sym (ap (λ ys. get_or ys 0 item) (sym (drop_more items at item within) ∙ is))
+item_seen Right items more at item within is =
+    sym (sym (get_or-reverse items at item within)
+    ∙ ap (λ ys. get_or ys 0 item) (sym (drop_more (reverse items) at item (omega (arith, within, length_seen Right items))) ∙ is))
+
+pub seen_less : (end : End) (items left more : List Bytes) (at : ℕ) (item : Bytes) → seen_from end left ≡ drop at (seen_from end items) → seen_from end left ≡ item ∷ more
+    → more ≡ drop (at + 1) (seen_from end items)
+seen_less end items left more at item so_far is = ap (drop 1) (sym is ∙ so_far) ∙ drop-drop 1 at (seen_from end items)
+
+pub none_seen : (end : End) (items left : List Bytes) (at : ℕ) → left ≡ [] → seen_from end left ≡ drop at (seen_from end items) → length items ≤ at
+none_seen end items left at none so_far =
+    omega (arith, ap length so_far, length_seen end left, ap length none, length-drop at (seen_from end items), length_seen end items)

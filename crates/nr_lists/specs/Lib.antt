@@ -1,1 +1,3 @@
 pub mod Matches
+pub mod Packed
+pub mod Blocks

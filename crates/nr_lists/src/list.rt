@@ -1,35 +1,41 @@
 // A list: what the commands push, pop, read and cut, in place.
-ghost use Rattle.std.specs.Prelude.{◌≡◌, ◌↔◌, ◌+◌, ◌++◌, ◌^◌, ◌<◌, ◌≢◌, List as Items, [], length, slice_range, pos, All, IsTrue, IfNone, IfOk, OnOk, OnErr, is_some};
+ghost use Rattle.std.specs.Prelude.{◌≡◌, ◌↔◌, ◌+◌, ◌++◌, ◌^◌, ◌<◌, List as Items, [], length, All, IsTrue, IfNone, IfOk, OnOk, OnErr, is_some};
 ghost use Rattle.std.specs.Option.{option_map, option_to_list};
-ghost use Rattle.std.specs.Iterator.Runs.{YieldsRefsInOrder};
-ghost use Rattle.std.specs.VecDeque.Iter.{deque_iter_rest, deque_iter_steps};
-ghost use Rattle.nr_model.specs.Bytes.{Bytes};
 ghost use Rattle.nr_model.specs.Strings.{range};
-ghost use Rattle.nr_model.specs.Lists.{pushed, popped, item_at, index_of, place_of, with_item_at, pivot_of, inserted, seen_from, removed, places_of};
+ghost use Rattle.nr_model.specs.Lists.{pushed, popped, item_at, index_of, place_of, with_item_at, pivot_of, beside, inserted, seen_from, removed, places_of};
 
-use crate::matches;
+use crate::block::Block;
+use crate::items::{Items, Walk};
 use crate::places::place;
+use crate::{blocks, matches};
 use nr_blob::{Blob, Memory, end_of, start_of};
 use nr_model::command::{End, Side};
 use std::alloc::Global;
-use std::cmp;
 use std::collections::VecDeque;
-use std::collections::vec_deque::Iter;
 use std::marker::Model;
 
-/// A list, as a key holds it. It is seen as a list of byte lists. To drop it is linear in its items.
+/// The least number of items that a list can't have.
+const PAST_LEN: usize = 1 << 63;
+
+/// A list, as a key holds it, in blocks of a few items each. It is seen as a list of byte lists. To drop it is linear in its blocks.
 #[derive(Debug, Drop)]
 pub struct List {
-    items: VecDeque<Blob>,
+    blocks: VecDeque<Block>,
+    // How many items.
+    len: usize,
 }
 
 impl Model for List {
     ghost use Rattle.std.specs.Prelude.{List as Items};
     ghost use Rattle.nr_model.specs.Bytes.{Bytes};
+    ghost use Rattle.nr_lists.specs.Packed.{joined};
+    ghost use Rattle.nr_lists.specs.Blocks.{IsCounted};
 
     ghost Value = { Items Bytes };
 
-    ghost view = { λ list. list.items.items };
+    ghost view = { λ list. joined list.blocks.items };
+
+    ghost invariant = { λ list. IsCounted list.len list.blocks.items };
 }
 
 impl List {
@@ -38,7 +44,8 @@ impl List {
         ensures { result ≡ [] }
     {
         List {
-            items: VecDeque::new(alloc),
+            blocks: VecDeque::new(alloc),
+            len: 0,
         }
     }
 
@@ -47,106 +54,129 @@ impl List {
         ensures len { result ≡ length self.now }
         ensures small { result < 2 ^ 63 }
     {
-        self.items.len()
+        self.len
     }
 
     pub fn is_empty(&self) -> bool
         ensures { IsTrue result ↔ (self.now ≡ []) }
     {
-        self.items.is_empty()
+        self.len == 0
     }
 
-    /// Puts an item at an end. Constant, but for growth. Where memory runs out nothing is changed.
+    /// Puts an item at an end. Linear in it, but for growth. Where memory runs out nothing is changed.
     pub fn push(&mut self, end: End, item: Blob) -> Result<(), Memory>
         ensures ok { OnOk result (self.new ≡ pushed end item self.old) }
         ensures err { OnErr result (self.new ≡ self.old) }
     {
-        match end {
-            End::Left => self.items.push_front(item)?,
-            End::Right => self.items.push_back(item)?,
+        if self.len + 1 >= PAST_LEN {
+            return Err(Memory);
         }
+        blocks::push(&mut self.blocks, end, item)?;
+        self.len += 1;
         Ok(())
     }
 
-    /// Takes the item at an end out, if there is one. Constant.
-    pub fn pop(&mut self, end: End) -> Option<Blob>
-        ensures item { result ≡ item_at (index_of end) self.old }
-        ensures left { self.new ≡ popped end self.old }
-        ensures seen { seen_from end self.old ≡ option_to_list result ++ seen_from end self.new }
-        ensures none { IfNone result (length self.old ≡ 0) }
+    /// Takes the item at an end out, if there is one. Linear in it, and a long one is not copied. Where memory runs out nothing is changed.
+    pub fn pop(&mut self, end: End) -> Result<Option<Blob>, Memory>
+        ensures item { IfOk result (λ item. item ≡ item_at (index_of end) self.old) }
+        ensures left { OnOk result (self.new ≡ popped end self.old) }
+        ensures seen { IfOk result (λ item. seen_from end self.old ≡ option_to_list item ++ seen_from end self.new) }
+        ensures none { IfOk result (λ item. IfNone item (length self.old ≡ 0)) }
+        ensures err { OnErr result (self.new ≡ self.old) }
     {
-        match end {
-            End::Left => self.items.pop_front(),
-            End::Right => self.items.pop_back(),
+        let Some(item) = blocks::pop(&mut self.blocks, end)? else {
+            return Ok(None);
+        };
+        self.len -= 1;
+        Ok(Some(item))
+    }
+
+    /// The item at an index; an index below 0 counts from the end. Linear in the blocks between it and the nearer end.
+    pub fn get(&self, index: i64) -> Option<&[u8]>
+        ensures { option_map (λ item. item.now) result ≡ item_at index self.now }
+    {
+        let place = place(self.len, index)?;
+        let (block, place) = blocks::find(&self.blocks, self.len, place);
+        self.blocks[block].get(place)
+    }
+
+    /// Puts an item in the place of the one at an index, and says whether there is one; an index below 0 counts from the end. Linear in the
+    /// blocks between it and the nearer end, and in the bytes of its block. Where memory runs out nothing is changed.
+    pub fn set(&mut self, index: i64, item: Blob) -> Result<bool, Memory>
+        ensures found { IfOk result (λ found. found ≡ is_some (place_of (length self.old) index)) }
+        ensures items { OnOk result (self.new ≡ with_item_at index item self.old) }
+        ensures err { OnErr result (self.new ≡ self.old) }
+    {
+        match place(self.len, index) {
+            Some(place) => {
+                let (block, place) = blocks::find(&self.blocks, self.len, place);
+                blocks::replace(&mut self.blocks, block, place, item)?;
+                Ok(true)
+            }
+            None => Ok(false),
         }
     }
 
-    /// The item at an index; an index below 0 counts from the end. Constant.
-    pub fn get(&self, index: i64) -> Option<&Blob>
-        ensures { option_map (λ item. item.now) result ≡ item_at index self.now }
+    /// The items from one index to another, both counted, in order; an index below 0 counts from the end. Linear in the blocks between the
+    /// first and the nearer end; what is read is lent.
+    pub fn range(&self, first: i64, last: i64) -> Items<'_>
+        ensures { result ≡ range first last self.now }
     {
-        let place = place(self.items.len(), index)?;
-        self.items.get(place)
-    }
-
-    /// Puts an item in the place of the one at an index, and says whether there is one; an index below 0 counts from the end. Constant.
-    pub fn set(&mut self, index: i64, item: Blob) -> bool
-        ensures found { result ≡ is_some (place_of (length self.old) index) }
-        ensures items { self.new ≡ with_item_at index item self.old }
-    {
-        let Some(place) = place(self.items.len(), index) else {
-            return false;
-        };
-        self.items[place] = item;
-        true
-    }
-
-    /// The items from one index to another, both counted, in order; an index below 0 counts from the end. Constant; what is read is lent.
-    pub fn range(&self, first: i64, last: i64) -> Iter<'_, Blob>
-        ensures items { deque_iter_rest result ≡ range first last self.now }
-        ensures in_order { YieldsRefsInOrder (deque_iter_steps {X = Bytes}) deque_iter_rest }
-    {
-        let start = start_of(self.items.len(), first);
-        let end = end_of(self.items.len(), last);
-        self.items.range(start..cmp::max(start, end))
+        let start = start_of(self.len, first);
+        let end = end_of(self.len, last);
+        if end <= start {
+            return Items::new(Walk::new(&self.blocks), 0);
+        }
+        let (block, place) = blocks::find(&self.blocks, self.len, start);
+        Items::new(Walk::new_from(&self.blocks, block, place), end - start)
     }
 
     /// Keeps the items from one index to another, both counted; an index below 0 counts from the end. Linear in what is taken out.
     pub fn trim(&mut self, first: i64, last: i64)
         ensures { self.new ≡ range first last self.old }
     {
-        let start = start_of(self.items.len(), first);
-        let end = end_of(self.items.len(), last);
-        keep(&mut self.items, start, end);
+        let start = start_of(self.len, first);
+        let end = end_of(self.len, last);
+        if end <= start {
+            self.blocks.clear();
+            self.len = 0;
+            return;
+        }
+        blocks::truncate(&mut self.blocks, self.len, end);
+        blocks::skip(&mut self.blocks, end, start);
+        self.len = end - start;
     }
 
-    /// Puts an item beside the first pivot, and says whether there is one. Linear in what is looked at and moved. Where memory runs out
-    /// nothing is changed.
+    /// Puts an item beside the first pivot, and says whether there is one. Linear in what is looked at, in the bytes of the pivot's block and
+    /// in the blocks that move. Where memory runs out nothing is changed.
     pub fn insert(&mut self, side: Side, pivot: &[u8], item: Blob) -> Result<bool, Memory>
         ensures found { IfOk result (λ found. found ≡ is_some (pivot_of pivot.now self.old)) }
         ensures ok { OnOk result (self.new ≡ inserted side pivot.now item self.old) }
         ensures err { OnErr result (self.new ≡ self.old) }
     {
-        let Some(place) = matches::pivot(&self.items, pivot) else {
+        let Some(place) = matches::pivot(&self.blocks, self.len, pivot) else {
             return Ok(false);
         };
-        let place = match side {
-            Side::Before => place,
-            Side::After => place + 1,
-        };
-        self.items.insert(place, item)?;
+        if self.len + 1 >= PAST_LEN {
+            return Err(Memory);
+        }
+        let (block, place) = blocks::find(&self.blocks, self.len, place);
+        blocks::insert(&mut self.blocks, block, beside(side, place), item)?;
+        self.len += 1;
         Ok(true)
     }
 
     /// Takes out as many items with these bytes as a count says, and says how many there were: above 0 from the front, below 0 from the end,
-    /// and 0 takes all. Linear in the items.
+    /// and 0 takes all. Linear in the items and the bytes of the blocks.
     pub fn remove(&mut self, count: i64, bytes: &[u8]) -> usize
         ensures items { self.new ≡ removed count bytes.now self.old }
         ensures count { result + length self.new ≡ length self.old }
         ensures small { result < 2 ^ 63 }
     {
-        let most = matches::how_many(count, self.items.len());
-        matches::take_out(&mut self.items, matches::end_of(count), most, bytes)
+        let most = matches::how_many(count, self.len);
+        let taken = matches::take_out(&mut self.blocks, matches::end_of(count), most, bytes);
+        self.len -= taken;
+        taken
     }
 
     /// The places of the items with these bytes, counted from the front, in the order found: from the end for a rank below 0, beginning with
@@ -163,7 +193,7 @@ impl List {
         ensures places { IfOk result (λ places. places.items ≡ places_of rank count most bytes.now self.now) }
         ensures small { IfOk result (λ places. All (λ place. place < 2 ^ 63) places.items) }
     {
-        matches::places(&self.items, bytes, rank, count, most)
+        matches::places(&self.blocks, self.len, bytes, rank, count, most)
     }
 
     /// The same items once more. Linear in them and their bytes.
@@ -171,30 +201,19 @@ impl List {
         ensures { IfOk result (λ copied. copied ≡ self.now) }
     {
         Ok(List {
-            items: copy_each(&self.items)?,
+            blocks: blocks::copy_each(&self.blocks)?,
+            len: self.len,
         })
     }
 }
 
-// Keeps the items from one place to another, the last not counted.
-fn keep(items: &mut VecDeque<Blob>, start: usize, end: usize)
-    ensures { items.new.items ≡ slice_range items.old.items start end }
+// The place at a side of another.
+fn beside(side: Side, place: usize) -> usize
+    requires { place < 2 ^ 63 }
+    ensures { result ≡ beside side place }
 {
-    if end <= start {
-        return items.clear();
+    match side {
+        Side::Before => place,
+        Side::After => place + 1,
     }
-    items.truncate(end);
-    for _ in 0..start {
-        items.pop_front();
-    }
-}
-
-fn copy_each(items: &VecDeque<Blob>) -> Result<VecDeque<Blob>, Memory>
-    ensures { IfOk result (λ copied. copied.items ≡ items.now.items) }
-{
-    let mut copied = VecDeque::with_capacity(*items.allocator(), items.len())?;
-    for item in items.iter() {
-        copied.push_back(item.copy()?)?;
-    }
-    Ok(copied)
 }

@@ -70,6 +70,9 @@ const MOST_BYTES: u64 = 9_223_372_036_854_775_808;
 /// The most bytes that are copied out where all that waits is handed out: then the buffer stays for those that come next.
 const MOST_COPIED: usize = 1024;
 
+/// The most room that is taken at once for what comes next, where a buffer was moved out.
+const MOST_ROOM: usize = 65_536;
+
 impl Outbox {
     /// Nothing waits. At most `limit` bytes ever wait. It takes no memory.
     pub fn new(alloc: Global, conn: ConnId, limit: usize) -> Outbox
@@ -172,7 +175,8 @@ impl Outbox {
 
     /// Hands out at most so many of the first bytes that wait, and at least one, or `None` where nothing waits. Linear in them: they are
     /// copied into a piece of their own size, and the buffer keeps its room for those that come next. More than 1,024 bytes that are all
-    /// that waits are moved out with the buffer, and not copied. Where memory runs out nothing is changed.
+    /// that waits are moved out with the buffer, and not copied; room for as many is taken then, up to 64 KiB. Where memory runs out nothing
+    /// is changed.
     pub fn take_piece(&mut self, alloc: Global, most: usize) -> Result<Option<Piece>, Memory>
         requires { 0 < most }
         ensures piece { IfOk result (λ piece. IfSome piece (λ piece. (connection_of piece.conn ≡ self.old.connection) × (piece.from ≡ self.old.handed) × (piece.bytes.items ≡ take most self.old.waiting))) }
@@ -187,7 +191,7 @@ impl Outbox {
         }
         let from = self.handed;
         let bytes = if self.start == 0 && waiting <= most && waiting > MOST_COPIED {
-            mem::replace(&mut self.buffer, Vec::new(alloc))
+            mem::replace(&mut self.buffer, with_room(alloc, waiting))
         } else {
             let count = cmp::min(most, waiting);
             let copied = Vec::from_slice(alloc, &self.buffer[self.start..self.start + count])?;
@@ -221,6 +225,16 @@ impl Outbox {
         ensures { result ≡ self.now.cut }
     {
         self.is_cut
+    }
+}
+
+// No bytes, with room for those that come next: as many as came last. Without memory for it there is none.
+fn with_room(alloc: Global, last: usize) -> Vec<u8>
+    ensures { result.items ≡ [] }
+{
+    match Vec::with_capacity(alloc, cmp::min(last, MOST_ROOM)) {
+        Ok(room) => room,
+        Err(_) => Vec::new(alloc),
     }
 }
 

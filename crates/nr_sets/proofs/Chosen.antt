@@ -48,7 +48,7 @@ fewer_pass p (x ∷ xs) =
     let more = fewer_pass p xs in
     elim (p x) as (λ b. length (cond b (x ∷ filter p xs) (filter p xs)) ≤ length (x ∷ xs)) [ true ↦ omega (arith, more) | false ↦ omega (arith, more) ]
 
-pub within_limit : (p : Bytes → Bool) (xs : List Bytes) (n : ℕ) → length xs ≡ n → length (filter p xs) ≤ n
+pub within_limit : (p : Bytes → Bool) (xs : List Bytes) (n : ℕ) → length xs ≤ n → length (filter p xs) ≤ n
 within_limit p xs n long = omega (arith, long, fewer_pass p xs)
 
 -- a limit of 0 is none

@@ -3,3 +3,4 @@ mod Chosen
 pub mod Common
 mod Joined
 pub mod Gathered
+mod Paired

@@ -1,5 +1,5 @@
 // A set: what the commands add, look up and take out, member by member.
-ghost use Rattle.std.specs.Prelude.{◌≡◌, ◌↔◌, ◌<◌, ◌^◌, not, length, IsTrue, IfOk, OnOk, OnErr};
+ghost use Rattle.std.specs.Prelude.{◌≡◌, ◌↔◌, ◌<◌, ◌≤◌, ◌^◌, not, length, IsTrue, IfOk, OnOk, OnErr};
 ghost use Rattle.std.specs.FinSet as set;
 ghost use Rattle.std.specs.BTreeSet.{IsOrdered};
 ghost use Rattle.std.specs.Map.Iter.{ShowsInOrder, deref};
@@ -10,7 +10,7 @@ ghost use Rattle.nr_model.specs.Sets.{listed};
 use nr_blob::{Blob, Memory};
 use std::alloc::Global;
 use std::collections::BTreeSet;
-use std::collections::btree_set::Iter;
+use std::collections::btree_set::{Difference, Intersection, Iter, Union};
 use std::marker::Model;
 
 /// A set, as a key holds it. It is seen as a finite set of byte lists. To drop it is linear in its members.
@@ -92,6 +92,29 @@ impl Set {
         ensures in_order { ShowsInOrder (deref {X = Bytes}) }
     {
         self.members.iter()
+    }
+
+    /// What both have, in byte order. They are walked side by side, or the members of one are looked up in the other where that is many times
+    /// as large.
+    pub(crate) fn intersection<'a>(&'a self, other: &'a Set) -> Intersection<'a, Blob>
+        ensures members { result ≡ listed (set.intersection self.now other.now) }
+        ensures bound { length result ≤ set.len self.now }
+    {
+        self.members.intersection(&other.members)
+    }
+
+    /// What the other lacks, in byte order, found as in `intersection`.
+    pub(crate) fn difference<'a>(&'a self, other: &'a Set) -> Difference<'a, Blob>
+        ensures { result ≡ listed (set.difference self.now other.now) }
+    {
+        self.members.difference(&other.members)
+    }
+
+    /// What one of them has, in byte order. They are walked side by side.
+    pub(crate) fn union<'a>(&'a self, other: &'a Set) -> Union<'a, Blob>
+        ensures { result ≡ listed (set.union self.now other.now) }
+    {
+        self.members.union(&other.members)
     }
 
     /// The same members once more. O(n log n), and linear in their bytes.

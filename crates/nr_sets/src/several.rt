@@ -1,5 +1,5 @@
 // Several sets as one. A set that is missing is the empty one.
-ghost use Rattle.std.specs.Prelude.{◌≡◌, ◌<◌, ◌≤◌, ◌⊎◌, ◌&&◌, not, List, length, get_or, take, filter, fold, map, IfOk, OnOk, IfSome, IfNone};
+ghost use Rattle.std.specs.Prelude.{◌≡◌, ◌<◌, ◌≤◌, ◌⊎◌, ◌&&◌, not, List, [], ◌∷◌, length, get_or, take, filter, fold, map, IfOk, OnOk, IfSome, IfNone};
 ghost use Rattle.std.specs.List.{list_all, list_any, All};
 ghost use Rattle.std.specs.FinSet as set;
 ghost use Rattle.std.specs.Map.Iter.{deref};
@@ -15,8 +15,30 @@ use nr_blob::{Blob, Memory};
 use std::alloc::Global;
 use std::collections::BTreeSet;
 
-/// The members that one of the sets has, in byte order. O(n log n) in the members of all.
+// Both sets, where they are two and neither is missing.
+fn two<'a>(sets: &[Option<&'a Set>]) -> Option<(&'a Set, &'a Set)>
+    ensures { IfSome result (λ both. map lent sets.now ≡ both.0.now ∷ both.1.now ∷ []) }
+{
+    let [first, second] = sets else {
+        return None;
+    };
+    match (*first, *second) {
+        (Some(first), Some(second)) => Some((first, second)),
+        _ => None,
+    }
+}
+
+/// The members that one of the sets has, in byte order. O(n log n) in the members of all, and linear for two sets.
 pub fn union<'a>(alloc: Global, sets: &[Option<&'a Set>]) -> Result<Vec<&'a Blob>, Memory>
+    ensures { IfOk result (λ members. map deref members.items ≡ listed (union_of (map lent sets.now))) }
+{
+    if let Some((first, second)) = two(sets) {
+        return Ok(first.union(second).collect(alloc)?);
+    }
+    union_of_several(alloc, sets)
+}
+
+fn union_of_several<'a>(alloc: Global, sets: &[Option<&'a Set>]) -> Result<Vec<&'a Blob>, Memory>
     ensures { IfOk result (λ members. map deref members.items ≡ listed (union_of (map lent sets.now))) }
 {
     let mut joined = BTreeSet::new(alloc);
@@ -46,8 +68,8 @@ fn in_order<'a>(alloc: Global, joined: BTreeSet<&'a Blob>) -> Result<Vec<&'a Blo
     Ok(joined.into_iter().collect(alloc)?)
 }
 
-/// The members that all of the sets have, in byte order, and at most so many of them, 0 being no limit. It walks the smallest set, and looks
-/// its members up in the others.
+/// The members that all of the sets have, in byte order, and at most so many of them, 0 being no limit. It walks the smallest set beside another of
+/// like size, or looks its members up in that one, and looks what both have up in the others.
 pub fn intersection<'a>(
     alloc: Global,
     sets: &[Option<&'a Set>],
@@ -58,11 +80,31 @@ pub fn intersection<'a>(
     let Some((place, walked)) = smallest(sets) else {
         return Ok(Vec::new(alloc));
     };
-    common(alloc, walked, &sets[..place], &sets[place + 1..], most)
+    let (before, behind) = (&sets[..place], &sets[place + 1..]);
+    if let Some((beside, behind)) = first_held(behind) {
+        return common(alloc, walked, beside, before, behind, most);
+    }
+    if let Some((beside, before)) = first_held(before) {
+        return common(alloc, walked, beside, before, behind, most);
+    }
+    common(alloc, walked, walked, before, behind, most)
 }
 
-/// The members that the first set has and none of the others, in byte order. It walks the first, and looks its members up in the others.
+/// The members that the first set has and none of the others, in byte order. Of two sets of like size it walks both side by side; else it walks
+/// the first, and looks its members up in the others.
 pub fn difference<'a>(alloc: Global, sets: &[Option<&'a Set>]) -> Result<Vec<&'a Blob>, Memory>
+    ensures { IfOk result (λ members. map deref members.items ≡ listed (difference_of (map lent sets.now))) }
+{
+    if let Some((first, second)) = two(sets) {
+        return Ok(first.difference(second).collect(alloc)?);
+    }
+    difference_of_several(alloc, sets)
+}
+
+fn difference_of_several<'a>(
+    alloc: Global,
+    sets: &[Option<&'a Set>],
+) -> Result<Vec<&'a Blob>, Memory>
     ensures { IfOk result (λ members. map deref members.items ≡ listed (difference_of (map lent sets.now))) }
 {
     let Some((first, others)) = sets.split_first() else {
@@ -72,6 +114,20 @@ pub fn difference<'a>(alloc: Global, sets: &[Option<&'a Set>]) -> Result<Vec<&'a
         Some(first) => left_over(alloc, first, others),
         None => Ok(Vec::new(alloc)),
     }
+}
+
+// The first set, if there is one and it isn't missing, and the others.
+fn first_held<'s, 'a>(sets: &'s [Option<&'a Set>]) -> Option<(&'a Set, &'s [Option<&'a Set>])>
+    ensures { IfSome result (λ held. (m : Bytes) → list_all (λ s. set.contains (lent s) m) sets.now
+        ≡ (set.contains held.0.now m && list_all (λ s. set.contains (lent s) m) held.1.now)) }
+{
+    let Some((first, others)) = sets.split_first() else {
+        return None;
+    };
+    let Some(first) = *first else {
+        return None;
+    };
+    Some((first, others))
 }
 
 // The place of a set that has the fewest members, and the set, unless one is missing.
@@ -144,21 +200,23 @@ fn limit(most: usize, all: usize) -> usize
     if most == 0 { all } else { most }
 }
 
-// The members of one set that those before it and those behind it have, at most so many.
+// The members of one set that another has, those before it and those behind it, at most so many.
 fn common<'a>(
     alloc: Global,
     walked: &'a Set,
+    beside: &'a Set,
     before: &[Option<&'a Set>],
     behind: &[Option<&'a Set>],
     most: usize,
 ) -> Result<Vec<&'a Blob>, Memory>
     ensures { IfOk result (λ members.
         map deref members.items ≡ limited most (filter
-        (λ m. list_all (λ s. set.contains (lent s) m) before.now && list_all (λ s. set.contains (lent s) m) behind.now) (listed walked.now))) }
+        (λ m. list_all (λ s. set.contains (lent s) m) before.now && list_all (λ s. set.contains (lent s) m) behind.now)
+        (listed (set.intersection walked.now beside.now)))) }
 {
     let limit = limit(most, walked.len());
     let mut members = Vec::new(alloc);
-    for member in walked.members() {
+    for member in walked.intersection(beside) {
         if members.len() == limit {
             return Ok(members);
         }

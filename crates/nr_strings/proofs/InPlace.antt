@@ -1,10 +1,8 @@
 -- Bytes that are computed in place, from the first on.
-use Rattle.std.proofs.Common.{◌≡◌, ℕ, zero, suc, ◌+◌, ◌-◌, ◌<◌, ◌≤◌, List, [], ◌∷◌, ◌++◌, length, take, drop, get_or, set, map, zip, max, replicate, inl, inr, refl, ap, sym, ◌∙◌, arith, add-one, append-nil, length-append, take_all}
-use Rattle.std.proofs.lemmas.List.{length-replicate, drop_all, get_or_append_left, get_or-append_right, get_or-replicate, get_or_past}
+use Rattle.std.proofs.Common.{◌≡◌, ℕ, zero, suc, ◌+◌, ◌<◌, ◌≤◌, List, [], ◌∷◌, ◌++◌, length, take, drop, get_or, set, map, zip, refl, ap, sym, ◌∙◌, arith, add-one, append-nil, take_all}
+use Rattle.std.proofs.lemmas.List.{drop_all}
 use Rattle.std.proofs.lemmas.Slice.Zip.{get_or-zip, length-zip}
-use Rattle.std.proofs.lemmas.Bool.{cases_lt}
 use Rattle.nr_model.specs.Bytes.{Bytes}
-use Rattle.nr_model.specs.Strings.{padded, byte_at}
 
 -- the first bytes are computed, and the others are still there
 abbrev pub computed : {Z : Type 0} → (Z → ℕ) → List Z → Bytes → ℕ → Bytes
@@ -44,39 +42,12 @@ pub computed_all : {Z : Type 0} (g : Z → ℕ) (from : List Z) (text : Bytes) (
 computed_all g from text n same past =
     (λ i. map g (take_all n from (omega (arith, same, past)) i) ++ drop_all n text past i) ∙ append-nil (map g from)
 
--- two strings side by side, the shorter padded with zero bytes
-abbrev pub both : Bytes → Bytes → List (ℕ × ℕ)
-both text other = zip (padded (length other) text) (padded (length text) other)
-
 abbrev pub of_both : (ℕ → ℕ → ℕ) → ℕ × ℕ → ℕ
 of_both f bytes = f bytes.0 bytes.1
 
-none : (m n : ℕ) → m ≤ n → m - n ≡ 0
-none m n h = omega (arith, h)
+-- two strings of one length side by side
+pub length-both : (text others : Bytes) → length others ≡ length text → length (zip text others) ≡ length text
+length-both text others same = length-zip text others ∙ omega (arith, same)
 
-nothing_more : (n : ℕ) (text : Bytes) → n ≤ length text → padded n text ≡ text
-nothing_more n text enough = ap (λ k. text ++ replicate k 0) (none n (length text) enough) ∙ append-nil text
-
-length-padded : (n : ℕ) (text : Bytes) → length (padded n text) ≡ max n (length text)
-length-padded n text = length-append text (replicate (n - length text) 0) ∙ ap (λ k. length text + k) (length-replicate (n - length text) 0) ∙ omega arith
-
-pub length-both : (text other : Bytes) → length other ≤ length text → length (both text other) ≡ length text
-length-both text other shorter =
-    length-zip (padded (length other) text) (padded (length text) other)
-    ∙ omega (arith, shorter, length-padded (length other) text, length-padded (length text) other)
-
-byte_of_padded : (n : ℕ) (text : Bytes) (index : ℕ) → index < n → get_or (padded n text) index 0 ≡ get_or text index 0
-byte_of_padded n text index within =
-    elim (cases_lt index (length text)) [
-      | inl below ↦ get_or_append_left text (replicate (n - length text) 0) 0 index below
-      | inr above ↦
-          get_or-append_right text (replicate (n - length text) 0) (length text) index 0 refl above
-          ∙ get_or-replicate (n - length text) (index - length text) 0 0 (omega (arith, above, within))
-          ∙ sym (get_or_past text index 0 above)
-    ]
-
-pub both_at : (text other : Bytes) (index : ℕ) → length other ≤ length text → index < length text → get_or (both text other) index (0, 0) ≡ (get_or text index 0, byte_at other index)
-both_at text other index shorter within =
-    get_or-zip (padded (length other) text) (padded (length text) other) index (0, 0)
-    (omega (arith, within, length-padded (length other) text)) (omega (arith, within, length-padded (length text) other))
-    ∙ (λ i. (get_or (nothing_more (length other) text shorter i) index 0, byte_of_padded (length text) other index within i))
+pub both_at : (text others : Bytes) (index : ℕ) → length others ≡ length text → index < length text → get_or (zip text others) index (0, 0) ≡ (get_or text index 0, get_or others index 0)
+both_at text others index same within = get_or-zip text others index (0, 0) within (omega (arith, within, same))

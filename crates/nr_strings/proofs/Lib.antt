@@ -1,3 +1,4 @@
 mod Written
 mod Counted
 mod InPlace
+mod Joined

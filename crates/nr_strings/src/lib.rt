@@ -6,5 +6,7 @@ pub use string::{MAX_LEN, Str};
 
 mod bytes;
 mod counts;
+mod edits;
 mod joins;
+mod padding;
 mod string;

@@ -1,14 +1,15 @@
-// A string: what APPEND, SETRANGE and their like write into, in place.
+// A string: what APPEND, SETRANGE and their like write into, in place. Its bytes are taken out of the blob for that, and put back.
 ghost use Rattle.std.specs.Fmt.{signed_decimal};
-ghost use Rattle.std.specs.Prelude.{[], ◌≡◌, ◌++◌, ◌+◌, ◌<◌, ◌^◌, ◌≤◌, length, take, drop, IfOk, OnOk, OnErr};
-ghost use Rattle.nr_model.specs.Strings.{range, padded, overwritten, bit_at, with_bit, with_bit_at, bits_of, set_bits, ones, joined_two, inverted, max_len};
+ghost use Rattle.std.specs.Prelude.{[], ◌≡◌, ◌++◌, ◌+◌, ◌<◌, ◌^◌, length, IfOk, OnOk, OnErr};
+ghost use Rattle.nr_model.specs.Strings.{range, overwritten, bit_at, with_bit_at, bits_of, set_bits, ones, joined_two, inverted, max_len};
 ghost use Rattle.nr_strings.specs.Joins.{function_of};
 
 use crate::bytes::byte_or_zero;
 use crate::counts::{ones_between, ones_of};
+use crate::edits;
 use crate::joins::{self, BitOperation};
 use itoa::Buffer;
-use nr_blob::{Blob, Bytes, Memory, end_of, start_of};
+use nr_blob::{Blob, Memory, end_of, start_of};
 use std::alloc::Global;
 use std::marker::Model;
 
@@ -23,7 +24,7 @@ fn max_len_law()
 /// A string, as a key holds it. It is seen as a list of bytes.
 #[derive(Debug, Drop)]
 pub struct Str {
-    bytes: Bytes,
+    bytes: Blob,
 }
 
 impl Model for Str {
@@ -31,7 +32,7 @@ impl Model for Str {
 
     ghost Value = { List ℕ };
 
-    ghost view = { λ string. string.bytes.items };
+    ghost view = { λ string. string.bytes };
 }
 
 /// Takes the bytes over, without a copy of a block.
@@ -39,9 +40,7 @@ impl From<Blob> for Str {
     ghost from_gives = { λ blob string. string ≡ blob };
 
     fn from(blob: Blob) -> Self {
-        Str {
-            bytes: Bytes::from(blob),
-        }
+        Str { bytes: blob }
     }
 }
 
@@ -50,7 +49,7 @@ impl From<Str> for Blob {
     ghost from_gives = { λ string blob. blob ≡ string };
 
     fn from(string: Str) -> Self {
-        Blob::from(string.bytes)
+        string.bytes
     }
 }
 
@@ -60,7 +59,7 @@ impl Str {
         ensures { result ≡ [] }
     {
         Str {
-            bytes: Bytes::new(alloc),
+            bytes: Blob::from(Vec::new(alloc)),
         }
     }
 
@@ -68,7 +67,7 @@ impl Str {
         ensures { IfOk result (λ string. string ≡ bytes.now) }
     {
         Ok(Str {
-            bytes: Bytes::from_slice(alloc, bytes)?,
+            bytes: Blob::from_slice(alloc, bytes)?,
         })
     }
 
@@ -76,13 +75,15 @@ impl Str {
     pub fn copy(&self) -> Result<Str, Memory>
         ensures { IfOk result (λ string. string ≡ self.now) }
     {
-        Str::from_slice(*self.bytes.allocator(), self.bytes())
+        Ok(Str {
+            bytes: self.bytes.copy()?,
+        })
     }
 
     pub fn bytes(&self) -> &[u8]
         ensures { result.now ≡ self.now }
     {
-        self.bytes.as_slice()
+        self.bytes.bytes()
     }
 
     pub fn len(&self) -> usize
@@ -108,8 +109,10 @@ impl Str {
         ensures ok { OnOk result (self.new ≡ self.old ++ bytes.now) }
         ensures err { OnErr result (self.new ≡ self.old) }
     {
-        self.bytes.extend_from_slice(bytes)?;
-        Ok(())
+        let mut text = self.bytes.take();
+        let appended = edits::append(&mut text, bytes);
+        self.bytes = Blob::from(text);
+        appended
     }
 
     /// Writes bytes over these from an offset on, in place, with zero bytes between the end and the offset. Where memory runs out
@@ -119,9 +122,10 @@ impl Str {
         ensures ok { OnOk result (self.new ≡ overwritten offset written.now self.old) }
         ensures err { OnErr result (self.new ≡ self.old) }
     {
-        grow(&mut self.bytes, offset + written.len())?;
-        overwrite(self.bytes.as_mut_slice(), offset, written);
-        Ok(())
+        let mut text = self.bytes.take();
+        let done = edits::set_range(&mut text, offset, written);
+        self.bytes = Blob::from(text);
+        done
     }
 
     /// The bit at an offset, the highest of the first byte being at 0. Behind the end it is not set.
@@ -140,11 +144,12 @@ impl Str {
         ensures ok { OnOk result (self.new ≡ with_bit_at self.old offset value) }
         ensures err { OnErr result (self.new ≡ self.old) }
     {
-        let index = (offset / 8) as usize;
-        let byte = byte_or_zero(self.bytes(), index);
-        grow(&mut self.bytes, index + 1)?;
-        self.bytes.as_mut_slice()[index] = changed(byte, offset % 8, value);
-        Ok(byte & (0x80 >> (offset % 8)) != 0)
+        let was = self.bit(offset);
+        let mut text = self.bytes.take();
+        let done = edits::set_bit(&mut text, offset, value);
+        self.bytes = Blob::from(text);
+        done?;
+        Ok(was)
     }
 
     /// How many bits are set from one byte to another, both counted; an index below 0 counts from the end. Linear in these bytes.
@@ -179,16 +184,19 @@ impl Str {
         ensures ok { OnOk result (self.new ≡ joined_two (function_of operation) self.old other.now) }
         ensures err { OnErr result (self.new ≡ self.old) }
     {
-        grow(&mut self.bytes, other.len())?;
-        joins::join(self.bytes.as_mut_slice(), operation, other);
-        Ok(())
+        let mut text = self.bytes.take();
+        let done = edits::join_bits(&mut text, operation, other);
+        self.bytes = Blob::from(text);
+        done
     }
 
     /// Turns each bit, in place.
     pub fn invert(&mut self)
         ensures { self.new ≡ inverted self.old }
     {
-        joins::invert(self.bytes.as_mut_slice());
+        let mut text = self.bytes.take();
+        joins::invert(text.as_mut_slice());
+        self.bytes = Blob::from(text);
     }
 
     /// Becomes the text of an integer. Where memory runs out nothing is changed.
@@ -197,36 +205,7 @@ impl Str {
         ensures err { OnErr result (self.new ≡ self.old) }
     {
         let mut text = Buffer::new();
-        self.bytes = Bytes::from_slice(*self.bytes.allocator(), text.format(n).as_bytes())?;
+        self.bytes = Blob::from_slice(self.bytes.allocator(), text.format(n).as_bytes())?;
         Ok(())
     }
-}
-
-// Writes bytes over these from an offset on.
-fn overwrite(bytes: &mut [u8], offset: usize, written: &[u8])
-    requires { offset + length written.now ≤ length bytes.old }
-    ensures { bytes.new ≡ take offset bytes.old ++ written.now ++ drop (offset + length written.now) bytes.old }
-{
-    bytes[offset..offset + written.len()].copy_from_slice(written);
-}
-
-// The byte with one of its bits set or cleared, the highest being at 0.
-fn changed(byte: u8, bit: u64, value: bool) -> u8
-    requires { bit < 8 }
-    ensures { result ≡ with_bit byte bit value }
-{
-    let weight: u8 = 0x80 >> bit;
-    if value { byte | weight } else { byte & !weight }
-}
-
-// Zero bytes behind these, up to a length.
-fn grow(bytes: &mut Bytes, len: usize) -> Result<(), Memory>
-    requires { len < 2 ^ 63 }
-    ensures ok { OnOk result (bytes.new.items ≡ padded len bytes.old.items) }
-    ensures err { OnErr result (bytes.new.items ≡ bytes.old.items) }
-{
-    if bytes.len() < len {
-        bytes.resize(len, 0)?;
-    }
-    Ok(())
 }

@@ -1,5 +1,5 @@
 -- What a node of the tree is seen as, and what holds of it.
-use Rattle.std.specs.Prelude.{◌≡◌, ℕ, ◌+◌, ◌/◌, ◌^◌, ◌<◌, ◌≤◌, max, List, [], ◌∷◌, ◌++◌, length}
+use Rattle.std.specs.Prelude.{◌≡◌, ℕ, ◌+◌, ◌-◌, ◌/◌, ◌^◌, ◌<◌, ◌≤◌, min, max, List, [], ◌∷◌, ◌++◌, length}
 use Rattle.nr_model.specs.SortedSets.{Scored}
 use Rattle.nr_zsets.specs.declared.tree.Node.{Node}
 use Rattle.nr_zsets.specs.declared.tree.Link.{Link}
@@ -13,10 +13,10 @@ item_of node = (node.member, node.score)
 abbrev pub joined : List Scored × ℕ → Scored → List Scored × ℕ → List Scored
 joined left item right = left.0 ++ item ∷ right.0
 
--- the items in order, and the height that the node stores
+-- the items in order, and the height that is stored
 abbrev pub seen : Link → List Scored × ℕ
 seen Leaf = ([], 0)
-seen (Fork n) = (joined n.value.left (item_of n.value) n.value.right, n.value.height)
+seen (Fork height count n) = (joined n.value.left (item_of n.value) n.value.right, height)
 
 -- neither height is more than this above the other
 abbrev pub DifferByAtMost : ℕ → ℕ → ℕ → Type 0
@@ -26,13 +26,17 @@ DifferByAtMost by l r = (l ≤ r + by) × (r ≤ l + by)
 abbrev pub IsFull : ℕ → ℕ → Type 0
 IsFull height items = 2 ^ ((height + 1) / 2) ≤ items + 1
 
+-- the count that is kept of so many items: what doesn't fit 32 bits is the greatest number
+abbrev pub counted : ℕ → ℕ
+counted items = min items (2 ^ 32 - 1)
+
 -- the stored count and height are right, and the sides differ by at most one level
 abbrev pub IsBalanced : Link → Type 0
 IsBalanced Leaf = Unit {0}
-IsBalanced (Fork n) = (n.value.count ≡ length (joined n.value.left (item_of n.value) n.value.right))
-    × (n.value.height ≡ max n.value.left.1 n.value.right.1 + 1)
+IsBalanced (Fork height count n) = (count ≡ counted (length (joined n.value.left (item_of n.value) n.value.right)))
+    × (height ≡ max n.value.left.1 n.value.right.1 + 1)
     × DifferByAtMost 1 n.value.left.1 n.value.right.1
-    × IsFull n.value.height (length (joined n.value.left (item_of n.value) n.value.right))
+    × IsFull height (length (joined n.value.left (item_of n.value) n.value.right))
     × (length (joined n.value.left (item_of n.value) n.value.right) < 2 ^ 64)
 
 -- what a node over these sides becomes: balanced, of the same items, and as high as the higher side or one level higher

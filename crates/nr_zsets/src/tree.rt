@@ -1,6 +1,6 @@
-// An AVL tree of boxes in which each node knows how many items stand below it: a list that is read, cut and joined by places, in logarithmic
-// time. It knows no order: where an item belongs is for its owner to say.
-ghost use Rattle.std.specs.Prelude.{◌≡◌, ◌+◌, ◌≤◌, [], ◌∷◌, length, max, IfOk};
+// An AVL tree of boxes that knows of each side how many items stand there: a list that is read, cut and joined by places, in logarithmic time. It
+// knows no order: where an item belongs is for its owner to say.
+ghost use Rattle.std.specs.Prelude.{◌≡◌, ◌+◌, ◌<◌, ◌≤◌, ◌^◌, [], ◌∷◌, length, max, IfOk};
 ghost use Rattle.nr_zsets.specs.Trees.{seen, item_of, IsBalanced, IsFull};
 
 use nr_blob::{Blob, Memory};
@@ -24,7 +24,12 @@ pub(crate) struct Tree {
 #[derive(Drop)]
 enum Link {
     Leaf,
-    Fork(Box<Node>),
+    // Its height and the count of its items stand beside the pointer: there they take no room, and a side tells them without a look at its node.
+    Fork {
+        height: u8,
+        count: u32,
+        node: Box<Node>,
+    },
 }
 
 /// A member with its score, and what stands before it and behind it.
@@ -35,8 +40,6 @@ pub(crate) struct Node {
     right: Tree,
     pub(crate) member: Blob,
     pub(crate) score: i64,
-    count: usize,
-    height: u64,
 }
 
 impl Model for Tree {
@@ -67,8 +70,6 @@ impl Node {
             right: Tree::new(),
             member,
             score,
-            count: 1,
-            height: 1,
         };
         Ok(Box::new(alloc, node)?)
     }
@@ -84,31 +85,42 @@ impl Node {
 
 impl Tree {
     /// The empty tree. It takes no memory.
+    #[inline(always)]
     pub(crate) fn new() -> Tree
         ensures { result ≡ ([], 0) }
     {
         Tree { root: Link::Leaf }
     }
 
-    fn height(&self) -> u64
+    #[inline(always)]
+    fn height(&self) -> u8
         ensures height { result ≡ self.now.1 }
         ensures full { IsFull self.now.1 (length self.now.0) }
         ensures low { self.now.1 ≤ 128 }
     {
         match &self.root {
             Link::Leaf => 0,
-            Link::Fork(node) => node.height,
+            Link::Fork { height, .. } => *height,
         }
     }
 
-    /// How many items. Constant.
+    /// How many items. Constant while they are fewer than `u32::MAX`: a tree of more asks its sides, as do the few nodes in it that have as many
+    /// below them.
+    #[cycle(counting)]
+    #[inline(always)]
     pub(crate) fn len(&self) -> usize
         ensures len { result ≡ length self.now.0 }
         ensures full { IsFull self.now.1 (length self.now.0) }
     {
         match &self.root {
             Link::Leaf => 0,
-            Link::Fork(node) => node.count,
+            Link::Fork { count, node, .. } => {
+                if *count < u32::MAX {
+                    *count as usize
+                } else {
+                    sides_len(&node.left, &node.right)
+                }
+            }
         }
     }
 
@@ -116,7 +128,12 @@ impl Tree {
     pub(crate) fn copy(&self, alloc: Global) -> Result<Tree, Memory>
         ensures { IfOk result (λ copied. copied ≡ self.now) }
     {
-        let Link::Fork(node) = &self.root else {
+        let Link::Fork {
+            height,
+            count,
+            node,
+        } = &self.root
+        else {
             return Ok(Tree::new());
         };
         let copied = Node {
@@ -124,12 +141,15 @@ impl Tree {
             right: node.right.copy(alloc)?,
             member: node.member.copy()?,
             score: node.score,
-            count: node.count,
-            height: node.height,
         };
-        Ok(Tree::close(Link::Fork(Box::new(alloc, copied)?)))
+        Ok(Tree::close(Link::Fork {
+            height: *height,
+            count: *count,
+            node: Box::new(alloc, copied)?,
+        }))
     }
 
+    #[inline(always)]
     fn open(self) -> Link
         ensures same_view { seen result ≡ self }
         ensures balanced { IsBalanced result }
@@ -137,6 +157,7 @@ impl Tree {
         self.root
     }
 
+    #[inline(always)]
     fn close(root: Link) -> Tree
         requires { IsBalanced root }
         ensures { result ≡ seen root }
@@ -145,7 +166,18 @@ impl Tree {
     }
 }
 
+// How many items two sides have, with the one between them.
+#[cycle(counting)]
+#[cold]
+fn sides_len(left: &Tree, right: &Tree) -> usize
+    requires { length left.now.0 + length right.now.0 + 1 < 2 ^ 64 }
+    ensures { result ≡ length left.now.0 + length right.now.0 + 1 }
+{
+    left.len() + right.len() + 1
+}
+
 // A node without its sides.
+#[inline(always)]
 fn apart(mut node: Box<Node>) -> (Tree, Box<Node>, Tree)
     ensures left { result.0 ≡ node.value.left }
     ensures item { item_of result.1.value ≡ item_of node.value }

@@ -54,24 +54,17 @@ where
 {
     let mut hash = Hash::new(alloc);
     let given = edit.edit(&mut hash)??;
-    put(alloc, keyspace, database, name, hash)?;
+    put(keyspace, database, name, hash)?;
     Ok(given)
 }
 
 // A missing key holds a hash, and stays missing where that has no fields.
-fn put(
-    alloc: Global,
-    keyspace: &mut Keyspace,
-    database: Db,
-    name: &Blob,
-    hash: Hash,
-) -> Result<(), Memory>
+fn put(keyspace: &mut Keyspace, database: Db, name: &Blob, hash: Hash) -> Result<(), Memory>
     requires { map.get keyspace.old (key_of database name.now) ≡ None }
     ensures { OnOk result (keyspace.new ≡ kept keyspace.old (key_of database name.now) (record { value = Fields hash; deadline = None })) }
 {
     if hash.len() == 0 {
         return Ok(());
     }
-    let value = Value::hash(alloc, hash)?;
-    keyspace.put(database, name.copy()?, value, None)
+    keyspace.put(database, name.copy()?, Value::from(hash), None)
 }

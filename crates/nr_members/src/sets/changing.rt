@@ -132,7 +132,7 @@ fn put(
     if count == 0 {
         return Ok(0);
     }
-    keyspace.put(database, name.copy()?, Value::set(alloc, set)?, None)?;
+    keyspace.put(database, name.copy()?, Value::from(set), None)?;
     Ok(count)
 }
 

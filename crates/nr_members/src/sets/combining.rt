@@ -21,7 +21,8 @@ use nr_sets::{Set, difference, intersection, union};
 use std::alloc::Global;
 
 /// `SINTER key [key ..]`, `SUNION key [key ..]`, `SDIFF key [key ..]`. SINTER walks the smallest set and SDIFF the first, and they look its
-/// members up in the others; SUNION is O(n log n) in the members of all. The members are lent.
+/// members up in the others, or walk two of like size side by side; SUNION is linear for two sets, and O(n log n) in the members of all for
+/// more. The members are lent.
 pub fn combine<'k>(
     alloc: Global,
     combination: Combination,
@@ -113,7 +114,7 @@ pub fn combine_store<T: Touched>(
         return Err(Failure::Refused(Refused::Syntax));
     };
     let set = combined_set(alloc, combination, keyspace, now, database, names)?;
-    Ok(put_result(alloc, keyspace, now, database, target, set, touched)?)
+    Ok(put_result(keyspace, now, database, target, set, touched)?)
 }
 
 // What keys hold as sets, made one of its own.
@@ -137,7 +138,6 @@ fn combined_set(
 
 // The key holds the set, whatever it held, and has no deadline. An empty set is no key.
 fn put_result<T: Touched>(
-    alloc: Global,
     keyspace: &mut Keyspace,
     now: u64,
     database: Db,
@@ -153,7 +153,7 @@ fn put_result<T: Touched>(
     if len == 0 {
         return clear(keyspace, now, database, target, touched);
     }
-    keyspace.put(database, target.copy()?, Value::set(alloc, set)?, None)?;
+    keyspace.put(database, target.copy()?, Value::from(set), None)?;
     touched.touch(database, target)?;
     Ok(Reply::Int(len as i64))
 }

@@ -1,50 +1,63 @@
-// Nodes over sides of unequal heights, made even by rotations.
+// Nodes over sides of unequal heights, made even by rotations. Few of the nodes that are built need one: those calls stand apart, and the others
+// are inlined, so that sides aren't copied from call to call at each level of a tree.
 ghost use Rattle.std.specs.Prelude.{◌≡◌, ◌+◌, ◌^◌, ◌<◌, max, length};
-ghost use Rattle.nr_zsets.specs.Trees.{item_of, DifferByAtMost, IsFull, IsSettled};
+ghost use Rattle.nr_zsets.specs.Trees.{counted, item_of, DifferByAtMost, IsSettled};
 
 use super::{Link, Node, Tree, apart};
 
-// A node over these sides, with its count and its height.
-fn fork(left: Tree, mut node: Box<Node>, right: Tree) -> Box<Node>
-    requires fits { length left.0 + length right.0 + 1 < 2 ^ 64 }
+// The node over these sides.
+#[inline(always)]
+fn over(left: Tree, mut node: Box<Node>, right: Tree) -> Box<Node>
     ensures left { result.value.left ≡ left }
     ensures right { result.value.right ≡ right }
     ensures item { item_of result.value ≡ item_of node.value }
-    ensures count { result.value.count ≡ length left.0 + length right.0 + 1 }
-    ensures height { result.value.height ≡ max left.1 right.1 + 1 }
-    ensures full_left { IsFull left.1 (length left.0) }
-    ensures full_right { IsFull right.1 (length right.0) }
 {
-    node.count = left.len() + right.len() + 1;
-    node.height = left.height().max(right.height()) + 1;
     node.left = left;
     node.right = right;
     node
 }
 
 // A node over sides of which neither is more than one level higher.
+#[inline(always)]
 pub(super) fn even(left: Tree, node: Box<Node>, right: Tree) -> Link
     requires even { DifferByAtMost 1 left.1 right.1 }
     requires fits { length left.0 + length right.0 + 1 < 2 ^ 64 }
     ensures { IsSettled left (item_of node.value) right result }
 {
-    Link::Fork(fork(left, node, right))
+    let height = left.height().max(right.height()) + 1;
+    let count = counted(left.len() + right.len() + 1);
+    let node = over(left, node, right);
+    Link::Fork {
+        height,
+        count,
+        node,
+    }
+}
+
+// The count that is kept of so many items.
+#[inline(always)]
+fn counted(items: usize) -> u32
+    ensures { result ≡ counted items }
+{
+    items.min(u32::MAX as usize) as u32
 }
 
 // A node whose left side is two levels higher.
+#[cold]
+#[inline(never)]
 fn lean_left(left: Tree, node: Box<Node>, right: Tree) -> Link
     requires two_higher { left.1 ≡ right.1 + 2 }
     requires fits { length left.0 + length right.0 + 1 < 2 ^ 64 }
     ensures { IsSettled left (item_of node.value) right result }
 {
-    let Link::Fork(top) = left.open() else {
+    let Link::Fork { node: top, .. } = left.open() else {
         unreachable!()
     };
     let (outer, top, inner) = apart(top);
     if outer.height() >= inner.height() {
         return even(outer, top, Tree::close(even(inner, node, right)));
     }
-    let Link::Fork(middle) = inner.open() else {
+    let Link::Fork { node: middle, .. } = inner.open() else {
         unreachable!()
     };
     let (low, middle, high) = apart(middle);
@@ -53,19 +66,21 @@ fn lean_left(left: Tree, node: Box<Node>, right: Tree) -> Link
 }
 
 // A node whose right side is two levels higher.
+#[cold]
+#[inline(never)]
 fn lean_right(left: Tree, node: Box<Node>, right: Tree) -> Link
     requires two_higher { right.1 ≡ left.1 + 2 }
     requires fits { length left.0 + length right.0 + 1 < 2 ^ 64 }
     ensures { IsSettled left (item_of node.value) right result }
 {
-    let Link::Fork(top) = right.open() else {
+    let Link::Fork { node: top, .. } = right.open() else {
         unreachable!()
     };
     let (inner, top, outer) = apart(top);
     if outer.height() >= inner.height() {
         return even(Tree::close(even(left, node, inner)), top, outer);
     }
-    let Link::Fork(middle) = inner.open() else {
+    let Link::Fork { node: middle, .. } = inner.open() else {
         unreachable!()
     };
     let (low, middle, high) = apart(middle);

@@ -16,7 +16,7 @@ impl Tree {
         ensures not_lower { self.1 ≤ result.1 }
         ensures at_most_one_higher { result.1 ≤ self.1 + 1 }
     {
-        let Link::Fork(top) = self.open() else {
+        let Link::Fork { node: top, .. } = self.open() else {
             return Tree::close(even(Tree::new(), node, Tree::new()));
         };
         let (left, top, right) = apart(top);
@@ -37,7 +37,7 @@ impl Tree {
         ensures not_higher { result.1.1 ≤ self.1 }
         ensures at_most_one_lower { self.1 ≤ result.1.1 + 1 }
     {
-        let Link::Fork(top) = self.open() else {
+        let Link::Fork { node: top, .. } = self.open() else {
             unreachable!()
         };
         let (left, top, right) = apart(top);

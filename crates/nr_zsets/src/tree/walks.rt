@@ -59,7 +59,7 @@ impl Tree {
     {
         match &self.root {
             Link::Leaf => None,
-            Link::Fork(node) => {
+            Link::Fork { node, .. } => {
                 ticks.tick();
                 let before = node.left.len();
                 if place < before {
@@ -82,7 +82,7 @@ impl Tree {
     {
         match &self.root {
             Link::Leaf => 0,
-            Link::Fork(node) => {
+            Link::Fork { node, .. } => {
                 ticks.tick();
                 let node: &Node = node;
                 if cut.is_behind(&node.member, node.score) {
@@ -99,7 +99,7 @@ impl Tree {
         ensures count { result ≡ length (between (seen_bounds bounds.now) self.now.0) }
         ensures within { result ≤ length self.now.0 }
     {
-        let Link::Fork(node) = &self.root else {
+        let Link::Fork { node, .. } = &self.root else {
             return 0;
         };
         let node: &Node = node;
@@ -124,7 +124,7 @@ impl Tree {
         if from >= to || from >= self.len() {
             return;
         }
-        let Link::Fork(node) = &self.root else {
+        let Link::Fork { node, .. } = &self.root else {
             return;
         };
         let node: &Node = node;

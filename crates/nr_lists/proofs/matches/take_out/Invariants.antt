@@ -1,7 +1,7 @@
 use Rattle.nr_model.specs.Lists.{seen_from}
-use Rattle.nr_lists.proofs.TakenOut.{TakesOut}
+use Rattle.nr_lists.proofs.TakenOut.{TurnsOut}
 use Rattle.nr_lists.proofs.matches.take_out.Given as goal
 
--- the turns so far
+-- one turn through the blocks
 abbrev pub invariant-loop : goal.invariant-loop
-invariant-loop l = TakesOut l.most l.taken l.counter l.bytes (seen_from l.fn.end l.fn.items.items) (seen_from l.fn.end l.items.items)
+invariant-loop l = TurnsOut l.fn.end l.fn.most l.taken l.counter l.fn.bytes (seen_from l.fn.end l.fn.blocks.items) (seen_from l.fn.end l.blocks.items)

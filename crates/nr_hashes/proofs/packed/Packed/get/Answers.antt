@@ -6,5 +6,5 @@ use Rattle.nr_hashes.proofs.packed.Packed.get.Goals as goal
 
 pub returns : goal.returns
 returns c =
-    c.place_of.ensures.value ∙ ap (λ (es : Entries). value_first c.args.field.now (from c.args.field.now es)) (ap entries_in c.deref.ensures.value ∙ c.self.view_is)
+    c.place_of.ensures.value ∙ ap (λ (es : Entries). value_first c.args.field.now (from c.args.field.now es)) (ap entries_in c.pairs.ensures.pairs ∙ c.self.view_is)
     ∙ found c.args.field.now c.args.self.now c.requires

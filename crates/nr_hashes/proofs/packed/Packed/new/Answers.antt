@@ -1,9 +1,11 @@
-use Rattle.std.proofs.Common.{[]}
+use Rattle.std.proofs.Common.{ℕ, [], ap, refl, sym, subst}
+use Rattle.nr_hashes.specs.Packed.{IsPacked}
+use Rattle.nr_model.specs.Bytes.{Bytes}
 use Rattle.nr_hashes.proofs.Kept.{none_made, read_back}
 use Rattle.nr_hashes.proofs.packed.Packed.new.Goals as goal
 
 pub invariant_of-result : goal.invariant_of-result
-invariant_of-result c = none_made c.new.result.items c.new.ensures.items
+invariant_of-result c = subst (λ (b : ℕ × Bytes). IsPacked b.0 b.1) (sym c.new.ensures) (none_made [] refl)
 
 pub returns : goal.returns
-returns c = read_back c.new.result.items [] c.new.ensures.items
+returns c = read_back c.new.result.1 [] (ap (λ (b : ℕ × Bytes). b.1) c.new.ensures)

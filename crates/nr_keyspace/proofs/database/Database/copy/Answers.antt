@@ -20,6 +20,8 @@ loop-name-preserved c =
     (c.in-Some.name, c.in-Some.entry) c.in-Some.is c.next.ensures.steps in
     let stored : Value → Stored = λ value. record { value = value; deadline = c.in-Some.entry.now.deadline } in
     let put = c.in_ok-put.ensures.ok
+    ∙ ap (λ deadline. let kept : Stored = record { value = value_of c.in_ok-copy.field-0; deadline = deadline } in
+    map.insert c.loop-name.copy c.in_ok-name.name kept) c.get.ensures
     ∙ ap (λ (name : Bytes). map.insert c.loop-name.copy name (stored (value_of c.in_ok-copy.field-0))) c.in_ok-name.ensures.copied
     ∙ ap (λ value. map.insert c.loop-name.copy c.in-Some.name.now (stored value)) c.in_ok-copy.ensures in
     subst (λ copy. IsCopied c.args.self.now copy c.next.new.self) (sym put)

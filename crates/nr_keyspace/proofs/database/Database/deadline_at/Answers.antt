@@ -8,5 +8,5 @@ returns-in_err-entry c = c.from_residual.ensures
     ∙ sym (ap deadline_of (get-found bytes_of c.self.inside.by_name.entries c.args.self.now c.args.name.now None c.self.view_is c.in_err-entry.ensures.value))
 
 pub returns : goal.returns
-returns c = sym (ap deadline_of (get-found bytes_of c.self.inside.by_name.entries c.args.self.now c.args.name.now
+returns c = c.get-2.ensures ∙ sym (ap deadline_of (get-found bytes_of c.self.inside.by_name.entries c.args.self.now c.args.name.now
     (Some c.in_ok-entry.entry.now) c.self.view_is c.in_ok-entry.ensures.value))

@@ -3,6 +3,7 @@ use Rattle.std.specs.Option.{option_map}
 use Rattle.std.specs.Cmp.Lexicographic.{bytes_decides}
 use Rattle.std.specs.FinMap as map
 use Rattle.nr_model.specs.Keyspace.{Stored, only_live}
+use Rattle.nr_keyspace.specs.Deadlines.{without_deadline}
 use Rattle.nr_keyspace.specs.Stores.{stored_of, bytes_of}
 use Rattle.nr_keyspace.proofs.Named.{get-found, removed}
 use Rattle.nr_keyspace.proofs.Changes.{removed_indexed, shown}
@@ -19,7 +20,8 @@ invariant_of-self-2 c =
     removed_indexed c.self.inside.by_name.entries c.remove_entry.new.self.entries c.self.inside.deadlines c.take.new.self c.args.name.now
     c.in_ok-name.name c.in_ok-name.entry
     c.self.invariant c.in_ok-name.ensures.value
-    ((bytes_decides c.args.name.now c.in_ok-name.name).0 c.in_ok-name.ensures.same_key) changes.1 changes.3 c.take.ensures.taken
+    ((bytes_decides c.args.name.now c.in_ok-name.name).0 c.in_ok-name.ensures.same_key) changes.1 changes.3
+    (c.take.ensures.taken ∙ ap (λ deadline. without_deadline c.self.inside.deadlines deadline c.in_ok-name.name) c.get.ensures)
 
 pub returns-clause-value : goal.returns-clause-value
 returns-clause-value c =

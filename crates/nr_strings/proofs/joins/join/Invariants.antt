@@ -1,8 +1,0 @@
-use Rattle.std.proofs.Common.{◌≡◌}
-use Rattle.nr_strings.specs.Joins.{function_of}
-use Rattle.nr_strings.proofs.InPlace.{computed, of_both, both}
-use Rattle.nr_strings.proofs.joins.join.Given as goal
-
--- those before are joined
-abbrev pub invariant-loop-index : goal.invariant-loop-index
-invariant-loop-index l = l.bytes ≡ computed (of_both (function_of l.operation)) (both l.fn.bytes l.other) l.fn.bytes l.index
