@@ -2,5 +2,5 @@ mod Dealt
 mod Parting
 mod Remains
 mod Together
-mod Fresh
+pub mod Fresh
 mod Crossing

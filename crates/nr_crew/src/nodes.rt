@@ -67,8 +67,12 @@ fn add_lanes<B: ServerName, D: Drop, M: Drop>(
     Ok(())
 }
 
-// The lanes of all workers, so many a node, those of node 0 first, each with the place of its number.
-fn lanes_of<B: ServerName, D: Drop, M: Drop>(
+/// The lanes of all workers, so many a node, those of node 0 first, each with the place of its number.
+///
+/// # Errors
+///
+/// `Memory` where memory runs out, or there are fewer places than workers.
+pub fn lanes_of<B: ServerName, D: Drop, M: Drop>(
     alloc: Global,
     built: Vec<Vec<Worker<B>>>,
     count: usize,

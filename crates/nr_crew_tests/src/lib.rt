@@ -4,6 +4,10 @@
 #[cfg(test)]
 mod asserted;
 #[cfg(test)]
+mod doors;
+#[cfg(test)]
+mod falling;
+#[cfg(test)]
 mod line;
 #[cfg(test)]
 mod places;

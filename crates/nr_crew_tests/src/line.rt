@@ -11,10 +11,13 @@ pub(crate) struct Line {
     pub stays: bool,
     /// How many bytes a call gives or takes at most.
     pub piece: usize,
+    /// It takes none of its replies.
+    pub is_deaf: bool,
     /// So many reads, and so many writes, are made before one fails.
     pub reads: usize,
     pub writes: usize,
-    pub has_failed: bool,
+    /// It failed, or is one that isn't to be served to the end.
+    pub is_lost: bool,
     pub is_finished: bool,
     input: Vec<u8>,
     given: usize,
@@ -29,9 +32,10 @@ impl Line {
             from: 0,
             stays: false,
             piece: usize::MAX,
+            is_deaf: false,
             reads: usize::MAX,
             writes: usize::MAX,
-            has_failed: false,
+            is_lost: false,
             is_finished: false,
             input,
             given: 0,
@@ -45,11 +49,11 @@ impl Line {
         self.output.as_slice() == self.wanted.as_slice()
     }
 
-    /// Whether it got a beginning of them, all where it didn't fail; and where it did, it was let go of at once.
+    /// Whether it got a beginning of them, all where it isn't lost; and where it is, it was let go of at once.
     pub(crate) fn is_served(&self) -> bool {
         self.wanted.starts_with(&self.output)
-            & (self.has_failed | self.is_answered())
-            & (self.is_finished != self.has_failed)
+            & (self.is_lost | self.is_answered())
+            & (self.is_finished != self.is_lost)
     }
 }
 
@@ -69,7 +73,7 @@ impl Stream for Line {
 
     fn receive(&mut self, buffer: &mut [u8]) -> Received {
         if !passes(&mut self.reads) {
-            self.has_failed = true;
+            self.is_lost = true;
             return Received::Failed;
         }
         let left = self.input.get(self.given..).unwrap_or(b"");
@@ -87,10 +91,11 @@ impl Stream for Line {
 
     fn send(&mut self, bytes: &[u8]) -> Sent {
         if !passes(&mut self.writes) {
-            self.has_failed = true;
+            self.is_lost = true;
             return Sent::Failed;
         }
-        let count = bytes.len().min(self.piece);
+        let most = if self.is_deaf { 0 } else { self.piece };
+        let count = bytes.len().min(most);
         match self.output.extend_from_slice(&bytes[..count]) {
             Ok(()) if count > 0 => Sent::Bytes(count),
             _ => Sent::Nothing,

@@ -1,21 +1,31 @@
 // Workers over connections in memory: these come, are dealt into letter boxes, one a lane, and are kept once they went.
+use crate::falling::serve_falling;
 use crate::line::Line;
-use crate::watch::Watch;
+use crate::watch::{Held, Watch};
 use nr_blob::Memory;
-use nr_crew::{Place, ServeError, Shape, Size, serve_nodes};
-use nr_service::{Accepts, Device, MachineClock, Silent};
+use nr_crew::{Place, ServeError, Served, Shape, Size, serve_nodes};
+use nr_service::{Accepts, Device, Moments, Silent};
 use std::alloc::Global;
 use std::collections::VecDeque;
 use std::hash::RandomState;
 use std::process::Abort;
 use std::random::RandomSource;
-use std::rt::Clock;
 use std::sync::{Mutex, Wait};
 use std::thread;
 use std::thread::Threads;
 
 // Connections on their way to a lane.
 type Letters = Mutex<VecDeque<Line>>;
+
+/// A clock that stands still.
+#[derive(Clone, Copy, Debug, Drop)]
+pub(crate) struct Still;
+
+impl Moments for Still {
+    fn now(&mut self) -> Option<u64> {
+        Some(1_000_000_000_000)
+    }
+}
 
 // Where the connections of a lane come from, and go.
 #[derive(Drop)]
@@ -24,6 +34,8 @@ struct Door<'a, R> {
     watch: &'a Watch,
     letters: &'a Letters,
     lane: usize,
+    // So many connections it takes, and then memory is refused once.
+    room: usize,
     gone: Vec<Line>,
     // How many of these it told of.
     told: usize,
@@ -40,7 +52,13 @@ impl<R: Abort> Door<'_, R> {
 
 impl<R: Wait + Abort> Device<Line> for Door<'_, R> {
     fn accept(&mut self) -> Result<Option<Line>, Memory> {
-        Ok(self.letters.lock(self.rt).pop_front())
+        if self.room == 0 {
+            self.room = usize::MAX;
+            return Err(Memory);
+        }
+        let line = self.letters.lock(self.rt).pop_front();
+        self.room = self.room.saturating_sub(usize::from(line.is_some()));
+        Ok(line)
     }
 
     // A connection is gone once the turn is over in which it went: its room came back by then.
@@ -114,8 +132,15 @@ pub(crate) struct Trial {
     pub is_single: bool,
     pub places: usize,
     pub connections: usize,
-    /// Whose worker is held up.
-    pub held: Option<usize>,
+    /// How many bytes wait for a connection at most.
+    pub limit: usize,
+    /// How many of the connections stay to the end.
+    pub stay: usize,
+    pub held: Held,
+    /// Memory is refused to the first worker once it has taken a connection.
+    pub is_short: bool,
+    /// The first node falls over the first entry.
+    pub falls: bool,
     /// After how many waits no connection can come any more.
     pub waits: u64,
 }
@@ -138,7 +163,7 @@ fn size_of(trial: Trial) -> Size {
         },
         places: trial.places,
         connections: trial.connections,
-        limit: 1_048_576,
+        limit: trial.limit,
     }
 }
 
@@ -148,7 +173,8 @@ fn places_of<'a, R: Abort>(
     alloc: Global,
     watch: &'a Watch,
     letters: &'a [Letters],
-) -> Vec<Place<Door<'a, R>, MachineClock<'a, R>>> {
+    is_short: bool,
+) -> Vec<Place<Door<'a, R>, Still>> {
     let mut places = Vec::new(alloc);
     for (lane, letters) in letters.iter().enumerate() {
         let device = Door {
@@ -156,23 +182,49 @@ fn places_of<'a, R: Abort>(
             watch,
             letters,
             lane,
+            room: if is_short && lane == 0 { 1 } else { usize::MAX },
             gone: Vec::new(alloc),
             told: 0,
         };
-        let clock = MachineClock { runtime: rt };
-        let put = places.push(Place { device, clock });
+        let put = places.push(Place {
+            device,
+            clock: Still,
+        });
         put.ok().expect(rt, "memory");
     }
     places
 }
 
+// Serves by a new server, of which the first node falls where it is to.
+fn serve_by<'a, R>(
+    rt: &'a R,
+    alloc: Global,
+    keys: RandomState,
+    trial: Trial,
+    places: Vec<Place<Door<'a, R>, Still>>,
+    arrivals: Arrivals<'a, R>,
+    watch: &Watch,
+) -> Result<(Served<Line, Door<'a, R>, Still>, Arrivals<'a, R>), Memory>
+where
+    R: Threads + Wait + Abort + Sync,
+{
+    let size = size_of(trial);
+    if trial.falls {
+        return serve_falling::<R, Line, Door<'_, R>, Still, Watch, Arrivals<'_, R>>(
+            rt, alloc, keys, size, places, arrivals, watch,
+        );
+    }
+    serve_nodes::<R, Line, Door<'_, R>, Still, Silent, Watch, Arrivals<'_, R>>(
+        rt, alloc, keys, size, places, Silent, arrivals, watch,
+    )
+}
+
 /// Serves these connections by a new server, each worker on a thread of its own, until all went that don't stay, or none can come any more.
 pub(crate) fn serve<R>(rt: &R, alloc: Global, trial: Trial, mut lines: Vec<Line>) -> Came
 where
-    R: Clock + RandomSource + Threads + Wait + Abort + Sync,
+    R: RandomSource + Threads + Wait + Abort + Sync,
 {
-    let size = size_of(trial);
-    let wanted = lines.iter().filter(|line| !line.stays).count();
+    let wanted = lines.len().saturating_sub(trial.stay);
     let watch = Watch::new(wanted, trial.held);
     let mut letters = Vec::new(alloc);
     for _ in 0..4 {
@@ -189,17 +241,9 @@ where
         dealt: Vec::new(alloc),
         waits: trial.waits,
     };
-    let places = places_of(rt, alloc, &watch, &letters);
+    let places = places_of(rt, alloc, &watch, &letters, trial.is_short);
     let keys = RandomState::new(rt).ok().expect(rt, "random bytes");
-    let served = serve_nodes::<
-        R,
-        Line,
-        Door<'_, R>,
-        MachineClock<'_, R>,
-        Silent,
-        Watch,
-        Arrivals<'_, R>,
-    >(rt, alloc, keys, size, places, Silent, arrivals, &watch);
+    let served = serve_by(rt, alloc, keys, trial, places, arrivals, &watch);
     let (served, arrivals) = served.ok().expect(rt, "memory");
     let workers = served.lefts.len();
     let mut gone = Vec::new(alloc);

@@ -2,6 +2,7 @@
 use crate::asserted::holds;
 use crate::line::Line;
 use crate::places::{Came, Trial, serve};
+use crate::watch::Held;
 use nr_crew::ServeError;
 use nr_lane::Crew;
 use nr_service::Silent;
@@ -13,7 +14,11 @@ const TRIAL: Trial = Trial {
     is_single: false,
     places: 1_024,
     connections: 256,
-    held: None,
+    limit: 1_048_576,
+    stay: 0,
+    held: Held::Nobody,
+    is_short: false,
+    falls: false,
     waits: u64::MAX,
 };
 
@@ -54,6 +59,11 @@ fn add_pings<R: Abort>(rt: &R, alloc: Global, count: usize, from: usize, lines: 
     }
 }
 
+// These went to these lanes, in turn.
+fn went_to<R: Abort>(rt: &R, came: &Came, lanes: &[Option<usize>]) {
+    holds(rt, "they go in turn", came.dealt.as_slice() == lanes);
+}
+
 // So many went, each served as its streams let it, and the server ended well. How many got all.
 fn served_well<R: Abort>(rt: &R, came: &Came, gone: usize) -> usize {
     holds(rt, "each turn came in time", !came.gave_up);
@@ -76,7 +86,7 @@ fn gate(rt: HostRuntime) {
         add_pings(&rt, rt.alloc(), 2, 0, &mut lines);
         let mut trial = TRIAL;
         trial.is_single = true;
-        trial.held = Some(held);
+        trial.held = Held::Node(held);
         let came = serve(&rt, rt.alloc(), trial, lines);
         holds(&rt, "both answer", served_well(&rt, &came, 2) == 2);
     }
@@ -149,12 +159,21 @@ fn dealt_in_turn(rt: HostRuntime) {
     add_pings(&rt, rt.alloc(), 8, 0, &mut lines);
     let came = serve(&rt, rt.alloc(), TRIAL, lines);
     holds(&rt, "all are answered", served_well(&rt, &came, 8) == 8);
-    let lanes = [0, 2, 1, 3, 0, 2, 1, 3].map(Some);
-    holds(
-        &rt,
-        "they go in turn",
-        came.dealt.as_slice() == lanes.as_slice(),
-    );
+    went_to(&rt, &came, &[0, 2, 1, 3, 0, 2, 1, 3].map(Some));
+}
+
+// Each is served by the worker to which it was dealt: in its time no other takes a turn.
+#[test]
+fn served_where_they_are_dealt(rt: HostRuntime) {
+    let mut lines = Vec::new(rt.alloc());
+    for number in 0..4 {
+        add_pings(&rt, rt.alloc(), 1, number, &mut lines);
+    }
+    let mut trial = TRIAL;
+    trial.held = Held::Others;
+    let came = serve(&rt, rt.alloc(), trial, lines);
+    holds(&rt, "all are answered", served_well(&rt, &came, 4) == 4);
+    went_to(&rt, &came, &[0, 2, 1, 3].map(Some));
 }
 
 // Where each node takes one connection, the first two go to a node each; once the second went the third goes to its node, and the fourth is turned away.
@@ -169,18 +188,139 @@ fn dealt_where_there_is_room(rt: HostRuntime) {
     }
     let mut trial = TRIAL;
     trial.connections = 1;
+    trial.stay = 2;
     let came = serve(&rt, rt.alloc(), trial, lines);
     holds(
         &rt,
         "the second is answered",
         served_well(&rt, &came, 1) == 1,
     );
-    let lanes = [Some(0), Some(2), Some(3), None];
+    went_to(&rt, &came, &[Some(0), Some(2), Some(3), None]);
+}
+
+// The client that comes once so many went, sends this, and wants that.
+fn comes<R: Abort>(rt: &R, alloc: Global, (from, input, wanted): (usize, &[u8], &[u8])) -> Line {
+    let mut line = client(rt, alloc, 0, (input, wanted), 1);
+    line.from = from;
+    line
+}
+
+/// A key gets a deadline; behind that one quits at the other node, and one reads once; and then each node is asked for it.
+const WITH_A_DEADLINE: [(usize, &[u8], &[u8]); 5] = [
+    (0, b"SET k v PX 1000\r\n", b"+OK\r\n"),
+    (1, b"QUIT\r\n", b"+OK\r\n"),
+    (1, b"PING\r\n", b"+PONG\r\n"),
+    (3, b"PTTL k\r\n", b":1000\r\n"),
+    (3, b"PTTL k\r\n", b":1000\r\n"),
+];
+
+// The clock stands still: no client that goes, by its end, by QUIT or since its second read fails, takes time from a key, at either node.
+#[test]
+fn who_goes_takes_no_time(rt: HostRuntime) {
+    let mut lines = Vec::new(rt.alloc());
+    for (number, row) in WITH_A_DEADLINE.into_iter().enumerate() {
+        let mut line = comes(&rt, rt.alloc(), row);
+        if number == 2 {
+            line.reads = 1;
+        }
+        lines.push(line).ok().expect(&rt, "memory");
+    }
+    let mut trial = TRIAL;
+    trial.is_single = true;
+    let came = serve(&rt, rt.alloc(), trial, lines);
     holds(
         &rt,
-        "they go where room is",
-        came.dealt.as_slice() == lanes.as_slice(),
+        "all others are served",
+        served_well(&rt, &came, 5) == 4,
     );
+}
+
+/// Where 1,000 bytes wait for a connection at most: of two that take none 1,001 wait for one and 1,000 for the other, and a reply of 1,001 is for one that takes them.
+const AT_THE_LIMIT: [(usize, &[u8], &[u8]); 4] = [
+    (
+        0,
+        b"SETRANGE b 986 x\r\nSETRANGE c 987 x\r\nSETRANGE d 992 x\r\n",
+        b":987\r\n:988\r\n:993\r\n",
+    ),
+    (1, b"GET a\r\nGET c\r\n", b""),
+    (1, b"GET a\r\nGET b\r\n", b""),
+    (1, b"GET d\r\n", b""),
+];
+
+// For whom more waits than may is let go of, at once; and who is to get a reply of more gets the end. Where as much waits as may one stays, and gets a reply of so much.
+#[test]
+fn no_more_waits_than_may(rt: HostRuntime) {
+    let mut lines = Vec::new(rt.alloc());
+    for (number, row) in AT_THE_LIMIT.into_iter().enumerate() {
+        let mut line = comes(&rt, rt.alloc(), row);
+        line.piece = 7;
+        line.is_lost = number == 1;
+        line.is_deaf = number == 1 || number == 2;
+        line.stays = number >= 2;
+        lines.push(line).ok().expect(&rt, "memory");
+    }
+    let nil = (b"GET a\r\n".as_slice(), b"$-1\r\n".as_slice());
+    let mut line = client(&rt, rt.alloc(), 0, nil, 200);
+    line.from = 1;
+    lines.push(line).ok().expect(&rt, "memory");
+    // One comes to the node of each.
+    add_pings(&rt, rt.alloc(), 2, 4, &mut lines);
+    let mut trial = TRIAL;
+    trial.is_single = true;
+    trial.limit = 1_000;
+    trial.stay = 1;
+    let came = serve(&rt, rt.alloc(), trial, lines);
+    holds(&rt, "one is lost", served_well(&rt, &came, 6) == 5);
+}
+
+// Memory is refused to the worker of the first of two nodes: it lets go of its client, and of each that is dealt to it then, whose room comes back; and it passes what the
+// other one puts into a log of two places.
+#[test]
+fn a_worker_without_memory_holds_nobody_up(rt: HostRuntime) {
+    let mut lines = Vec::new(rt.alloc());
+    for number in 0..8 {
+        let set = (b"SET k v\r\n".as_slice(), b"+OK\r\n".as_slice());
+        let mut line = client(&rt, rt.alloc(), 0, set, 100);
+        line.from = number;
+        line.piece = 9;
+        line.is_lost = number % 2 == 0;
+        lines.push(line).ok().expect(&rt, "memory");
+    }
+    let mut trial = TRIAL;
+    trial.is_single = true;
+    trial.is_short = true;
+    trial.places = 2;
+    trial.connections = 2;
+    let came = serve(&rt, rt.alloc(), trial, lines);
+    holds(&rt, "half are served", served_well(&rt, &came, 8) == 4);
+    went_to(&rt, &came, &[0, 1, 0, 1, 0, 1, 0, 1].map(Some));
+}
+
+/// One that says nothing is at the node that falls; behind it one is answered there, and then a key is set at the other node, which all ask that come later.
+const BESIDE_A_FALL: [(usize, &[u8], &[u8]); 6] = [
+    (0, b"", b""),
+    (0, b"PING\r\n", b"+PONG\r\n"),
+    (0, b"PING\r\n", b"+PONG\r\n"),
+    (2, b"SET k v\r\n", b"+OK\r\n"),
+    (4, b"GET k\r\n", b"$1\r\nv\r\n"),
+    (4, b"GET k\r\n", b"$1\r\nv\r\n"),
+];
+
+// Of two nodes the first falls: its client gets the end, and whoever comes then is served by the other.
+#[test]
+fn a_fall_holds_nobody_up(rt: HostRuntime) {
+    let mut lines = Vec::new(rt.alloc());
+    for (number, row) in BESIDE_A_FALL.into_iter().enumerate() {
+        let mut line = comes(&rt, rt.alloc(), row);
+        line.stays = number == 0;
+        lines.push(line).ok().expect(&rt, "memory");
+    }
+    let mut trial = TRIAL;
+    trial.is_single = true;
+    trial.falls = true;
+    let came = serve(&rt, rt.alloc(), trial, lines);
+    holds(&rt, "all are served", served_well(&rt, &came, 6) == 6);
+    went_to(&rt, &came, &[0, 1, 0, 1, 1, 1].map(Some));
 }
 
 // Where no connection can come any more all workers end.

@@ -1,6 +1,6 @@
 // The server by TCP, over loopback, with two nodes of two workers.
 use crate::asserted::holds;
-use crate::watch::Watch;
+use crate::watch::{Held, Watch};
 use nr_config::Settings;
 use nr_server::{listen_on, serve_by_tcp};
 use std::alloc::Global;
@@ -52,11 +52,11 @@ fn number(reply: &str) -> Option<u64> {
     reply.strip_prefix(":")?.strip_suffix("\r\n")?.parse().ok()
 }
 
-// What a client is answered to 1,000 INCR n, in pipelines of 10.
+// What a client is answered to 1,000 INCR n, in pipelines of 10, each on a connection of its own.
 fn count_up(net: &impl Net, alloc: Global, address: SocketAddr) -> io::Result<Vec<u64>> {
-    let mut stream = TcpStream::connect(net, address)?;
     let mut numbers = Vec::new(alloc);
     for _ in 0..100 {
+        let mut stream = TcpStream::connect(net, address)?;
         stream.write_all(&b"INCR n\r\n".repeat(alloc, 10)?)?;
         let mut reader = BufReader::new(alloc, &mut stream)?;
         for _ in 0..10 {
@@ -83,7 +83,8 @@ fn rise<R: Abort>(rt: &R, numbers: Option<Vec<u64>>, all: &mut Vec<u64>) {
     all.extend_from_slice(&numbers).expect(rt, "memory");
 }
 
-// Four clients, each with 1,000 INCR n in pipelines of 10: each client's numbers rise, all 4,000 differ, and then all are counted.
+// Four clients, each with 1,000 INCR n in pipelines of 10, each on a connection of its own, of which a node has at most 16 at a time: each client's numbers rise, all 4,000
+// differ, and then all are counted.
 fn count<R: Loopback>(rt: &R, alloc: Global, address: SocketAddr) -> io::Result<bool> {
     let jobs = vec![in alloc; 0u8; 4]?;
     let counted = thread::map_vec(rt, jobs, &|_| count_up(rt, alloc, address).ok())?;
@@ -172,7 +173,7 @@ fn settings<R: Abort>(rt: &R, alloc: Global, listen: &str) -> Settings {
         nodes: 2,
         places: 1_024,
         workers: 2,
-        connections: 256,
+        connections: 16,
         queue_limit: 67_108_864,
     }
 }
@@ -189,7 +190,7 @@ fn serves<R: Loopback>(rt: &R, alloc: Global, listen: &str, clients: Clients, wh
     holds(rt, "it listens where it is told", is_there);
     let keys = RandomState::new(rt).ok().expect(rt, "random bytes");
     // All stop once one is said to have gone.
-    let watch = Watch::new(1, None);
+    let watch = Watch::new(1, Held::Nobody);
     let (served, is_so) = thread::join(
         rt,
         || serve_by_tcp(rt, alloc, keys, &settings, listening, &watch),

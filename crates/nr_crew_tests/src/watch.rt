@@ -1,4 +1,4 @@
-// The gate of the workers under test: it stops all once as many connections went as are to go, and may hold one node's worker up.
+// The gate of the workers under test: it stops all once as many connections went as are to go, and may hold workers up.
 use nr_service::{Gate, Go};
 use std::sync::atomic::{AtomicBool, AtomicU64, AtomicUsize, Ordering};
 use std::thread;
@@ -6,13 +6,23 @@ use std::thread;
 /// How often the gate gives the processor away while it waits for an answer.
 const MOST_YIELDS: u32 = 10_000_000;
 
+/// Whose turns wait for others.
+#[derive(Clone, Copy, Debug)]
+pub(crate) enum Held {
+    /// Nobody's.
+    Nobody,
+    /// The worker of this node takes none before that of the other has answered; then that one takes none before this one has.
+    Node(usize),
+    /// Of two nodes one worker alone takes turns, until one more connection went: the first of each node, then the second of each.
+    Others,
+}
+
 /// What the workers, and who deals connections out to them, share.
 #[derive(Drop)]
 pub(crate) struct Watch {
     // So many connections are to go.
     wanted: usize,
-    // The worker of this node takes no turn before that of the other has answered; then that one takes none before this one has.
-    held: Option<usize>,
+    held: Held,
     gone: AtomicUsize,
     // A bit for each lane that answered a connection, lane 0's the lowest.
     answered: AtomicU64,
@@ -20,7 +30,7 @@ pub(crate) struct Watch {
 }
 
 impl Watch {
-    pub(crate) fn new(wanted: usize, held: Option<usize>) -> Watch {
+    pub(crate) fn new(wanted: usize, held: Held) -> Watch {
         Watch {
             wanted,
             held,
@@ -67,11 +77,31 @@ impl Watch {
         false
     }
 
-    // Whether a node's worker is let on, once it is.
-    fn lets_on(&self, node: usize, turn: u64) -> bool {
-        let Some(held) = self.held else {
-            return turn < 4_000_000;
-        };
+    // Waits until just so many connections went, or all. Whether they did.
+    fn waits_until(&self, count: usize) -> bool {
+        for _ in 0..MOST_YIELDS {
+            let gone = self.gone();
+            if (gone == count) | (gone >= self.wanted) | self.gave_up() {
+                return true;
+            }
+            thread::yield_now();
+        }
+        false
+    }
+
+    // Whether a worker is let on, once it is.
+    fn lets_on(&self, node: usize, worker: usize, turn: u64) -> bool {
+        match self.held {
+            Held::Nobody => turn < 4_000_000,
+            Held::Node(held) => self.lets_node_on(held, node, turn),
+            Held::Others => {
+                turn < 1_000_000 && self.waits_until(worker.saturating_mul(2).saturating_add(node))
+            }
+        }
+    }
+
+    // The same, where the worker of a node is held up.
+    fn lets_node_on(&self, held: usize, node: usize, turn: u64) -> bool {
         if node == held {
             return self.waits_for(1 - node.min(1));
         }
@@ -83,8 +113,8 @@ impl Watch {
 }
 
 impl Gate for Watch {
-    fn turn(&self, node: usize, _: usize, turn: u64) -> Go {
-        if !self.lets_on(node, turn) {
+    fn turn(&self, node: usize, worker: usize, turn: u64) -> Go {
+        if !self.lets_on(node, worker, turn) {
             self.gave_up.store(true, Ordering::SeqCst);
         }
         if self.gave_up() || self.gone() >= self.wanted {

@@ -8,5 +8,4 @@ mod Nourished
 mod Awaited
 mod Admitted
 mod Departed
-mod Emptied
-mod Stopped
+mod Altered

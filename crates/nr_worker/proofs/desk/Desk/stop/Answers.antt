@@ -1,4 +1,4 @@
-use Rattle.nr_worker.proofs.Stopped.{stopped_by}
+use Rattle.nr_worker.proofs.Altered.{stopped_by}
 use Rattle.nr_worker.proofs.desk.Desk.stop.Goals as goal
 
 pub returns-clause-goes : goal.returns-clause-goes

@@ -1,4 +1,4 @@
-use Rattle.nr_worker.proofs.Emptied.{written_by}
+use Rattle.nr_worker.proofs.Altered.{written_by}
 use Rattle.nr_worker.proofs.desk.Desk.written.Goals as goal
 
 pub returns-clause-goes : goal.returns-clause-goes
