@@ -8,7 +8,7 @@ use Rattle.nr_model.specs.Bytes.{Bytes}
 use Rattle.nr_model.specs.Items.{Connection, same_connection}
 use Rattle.nr_model.specs.Connections.{Setup, Handed, Feeding, Closing, handed_to, fed_to, is_some_bytes}
 use Rattle.nr_model.specs.Nodes.{Client, fresh_client, Node, World, no_node, node_at, client_of, with_node, log_of, tail_of}
-use Rattle.nr_model.specs.Nodes.Steps.{Step, Open, Feed, Post, Lift, Reserve, Fill, Fetch, Apply, Look, Answer, Collect, Close, Refuse, Outcome, Refused, idle_where, is_worker, is_client, in_use, collected, opened, outcome, advanced_by, effect, effect_by, after_step}
+use Rattle.nr_model.specs.Nodes.Steps.{Step, Open, Feed, Post, Lift, Reserve, Fill, Fetch, Apply, Look, Answer, Collect, Close, Refuse, Revive, Outcome, Refused, idle_where, is_worker, is_client, in_use, is_overrun, collected, opened, came_to, advanced_by, effect, effect_by, after_step}
 use Rattle.nr_model.specs.declared.reason.Reason.{Reason}
 use Rattle.nr_model.specs.declared.reason.Reason.TheVariants.{NoSuch, Ended, TooMany, Down}
 use Rattle.nr_model.specs.Nodes.Pasts.{handed_by}
@@ -178,6 +178,7 @@ handed_apart world (Collect n w) c own absent =
     none_collected c w n 0 (node_at n world).clients (own n) (λ t below. other_there world c n t absent (omega arith))
 handed_apart world (Close d time) c own absent = refl
 handed_apart world (Refuse n) c own absent = refl
+handed_apart world (Revive n f) c own absent = refl
 
 -- the bytes fed, where a step is none of this connection's feeds
 abbrev pub is_feed : Step → Bool
@@ -204,11 +205,12 @@ effect_fed setup world (Answer n w) refused is = refl
 effect_fed setup world (Collect n w) refused is = refl
 effect_fed setup world (Close c time) refused is = refl
 effect_fed setup world (Refuse n) refused is = refl
+effect_fed setup world (Revive n f) refused is = refl
 
 pub step_fed : (setup : Setup) (world : World) (step : Step) (refused : Refused) → is_feed step ≡ false
     → (after_step setup world step refused).fed ≡ world.fed
 step_fed setup world step refused is =
-    by_outcome (λ (w : World). w.fed ≡ world.fed) (outcome setup world step) setup world step refused refl (effect_fed setup world step refused is)
+    by_outcome (λ (w : World). w.fed ≡ world.fed) (came_to setup world step refused) setup world step refused refl (effect_fed setup world step refused is)
 
 -- the connections closed, where a step is no close
 abbrev pub is_close : Step → Bool
@@ -236,11 +238,12 @@ effect_closed setup world (Answer n w) refused is = refl
 effect_closed setup world (Collect n w) refused is = refl
 effect_closed setup world (Close c time) refused is = absurd (cc is)
 effect_closed setup world (Refuse n) refused is = refl
+effect_closed setup world (Revive n f) refused is = refl
 
 pub step_closed : (setup : Setup) (world : World) (step : Step) (refused : Refused) → is_close step ≡ false
     → (after_step setup world step refused).closed ≡ world.closed
 step_closed setup world step refused is =
-    by_outcome (λ (w : World). w.closed ≡ world.closed) (outcome setup world step) setup world step refused refl (effect_closed setup world step refused is)
+    by_outcome (λ (w : World). w.closed ≡ world.closed) (came_to setup world step refused) setup world step refused refl (effect_closed setup world step refused is)
 
 -- a feed that is enabled is of a connection that is there
 pub idle_told : (P : World → Type 0) (setup : Setup) (world : World) (step : Step) (refused : Refused) (holds : Bool) (reason : Reason) (otherwise : Outcome)
@@ -261,8 +264,9 @@ feed_by P setup world c time bytes refused idle done =
     let client = client_of c world in
     let down = (node_at c.node world).down in
     idle_by P setup world step refused (not (is_client world c)) NoSuch _ idle (λ here.
-    idle_by P setup world step refused (client.ended || (client.closed || client.queue.cut)) Ended _ idle (λ on.
-    idle_by P setup world step refused down Down _ idle (λ up. done (not-false (is_client world c) here))))
+    idle_by P setup world step refused (client.ended || (client.closed || is_overrun client)) Ended _ idle (λ on.
+    idle_by P setup world step refused down Down _ idle (λ up.
+    idle_by P setup world step refused client.queue.cut Ended _ idle (λ uncut. done (not-false (is_client world c) here)))))
 
 -- and an open that is enabled is at a node that is there
 pub open_by : (P : World → Type 0) (setup : Setup) (world : World) (n w : ℕ) (refused : Refused) → P world

@@ -10,7 +10,7 @@ use Rattle.nr_model.specs.Servers.{emitted_all}
 use Rattle.nr_model.specs.Entries.{entry_items, read_jobs}
 use Rattle.nr_model.specs.Connections.{Setup}
 use Rattle.nr_model.specs.Nodes.{Client, fresh_client, Node, World, Taken, Logged, no_node, node_at, client_at, with_node, log_of, tail_of}
-use Rattle.nr_model.specs.Nodes.Steps.{Step, Open, Feed, Post, Lift, Reserve, Fill, Fetch, Apply, Look, Answer, Collect, Close, Refuse, Outcome, Opened, Done, Idle, Refused, Cut, outcome, fed_client, closed_client, delivered_to, cut_of, texts_for, emptied, fallen, falls_at, with_entry, with_reads, advanced, advanced_by, effect, effect_by, after_step}
+use Rattle.nr_model.specs.Nodes.Steps.{Step, Open, Feed, Post, Lift, Reserve, Fill, Fetch, Apply, Look, Answer, Collect, Close, Refuse, Revive, Outcome, Opened, Done, Idle, Refused, Cut, came_to, fed_client, closed_client, delivered_to, cut_of, texts_for, emptied, dropped_jobs, fallen_client, fallen, falls_at, cut_client, with_entry, with_reads, advanced, advanced_by, effect, effect_by, after_step}
 
 -- the name of a connection, and those of a node's connections
 abbrev pub name_of : Client → Connection
@@ -59,7 +59,7 @@ advanced_named refused n log node =
     elim node.down as (λ down. names (cond down node (cond (node.refused || falls_at refused.falls node.passed) (fallen node) moved)) ≡ names node) [
       | true ↦ refl
       | false ↦ elim (node.refused || falls_at refused.falls node.passed) as (λ falls. names (cond falls (fallen node) moved) ≡ names node) [
-        | true ↦ refl
+        | true ↦ each_named (fallen_client (dropped_jobs node)) (λ client. refl) node.clients
         | false ↦ with_entry_named refused.cuts n entry node
       ]
     ]
@@ -143,9 +143,11 @@ effect_alike setup world (Close c time) refused is =
     alike_set world.nodes c.node _
     (map-set_same name_of node.clients c.serial (closed_client client) (fresh_client 0 0 (record { node = 0; serial = 0 })) refl)
 effect_alike setup world (Refuse n) refused is = alike_set world.nodes n _ refl
+effect_alike setup world (Revive n f) refused is =
+    alike_set world.nodes n _ (each_named cut_client (λ client. refl) (node_at n world).clients)
 
 pub step_alike : (setup : Setup) (world : World) (step : Step) (refused : Refused) → is_open step ≡ false
     → AreAlike world.nodes (after_step setup world step refused).nodes
 step_alike setup world step refused is =
-    by_outcome (λ (w : World). AreAlike world.nodes w.nodes) (outcome setup world step) setup world step refused (alike_same world.nodes)
+    by_outcome (λ (w : World). AreAlike world.nodes w.nodes) (came_to setup world step refused) setup world step refused (alike_same world.nodes)
     (effect_alike setup world step refused is)

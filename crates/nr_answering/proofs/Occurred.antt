@@ -7,7 +7,7 @@ use Rattle.nr_model.specs.Keyspace.{moment}
 use Rattle.nr_model.specs.Items.{Connection}
 use Rattle.nr_model.specs.Connections.{Setup, Feeding, Closing}
 use Rattle.nr_model.specs.Nodes.{World, node_at}
-use Rattle.nr_model.specs.Nodes.Steps.{Step, Open, Feed, Post, Lift, Reserve, Fill, Fetch, Apply, Look, Answer, Collect, Close, Refuse, Outcome, Opened, Done, Idle, Refused, idle_where, is_worker, is_client, in_use, outcome, opened, effect_by, after_step}
+use Rattle.nr_model.specs.Nodes.Steps.{Step, Open, Feed, Post, Lift, Reserve, Fill, Fetch, Apply, Look, Answer, Collect, Close, Refuse, Revive, Outcome, Opened, Done, Idle, Refused, idle_where, is_worker, is_client, in_use, outcome, came_to, opened, effect_by, after_step}
 use Rattle.nr_model.specs.declared.reason.Reason.TheVariants.{NoSuch, TooMany, Down}
 use Rattle.nr_model.specs.Nodes.Pasts.{Event, is_done, handed_in}
 use Rattle.nr_service.specs.Stories as stories
@@ -38,6 +38,7 @@ told_cases P none opens feeds closes (Look n) o = none
 told_cases P none opens feeds closes (Answer n w) o = none
 told_cases P none opens feeds closes (Collect n w) o = none
 told_cases P none opens feeds closes (Refuse n) o = none
+told_cases P none opens feeds closes (Revive n f) o = none
 
 -- what was handed out is what happened so
 handed_none : (step : Step) (o : Outcome) → stories.handed_in (told_by step o) ≡ []
@@ -85,6 +86,7 @@ fed_none (Look n) o is = refl
 fed_none (Answer n w) o is = refl
 fed_none (Collect n w) o is = refl
 fed_none (Refuse n) o is = refl
+fed_none (Revive n f) o is = refl
 
 plain_fed : (setup : Setup) (world : World) (step : Step) (refused : Refused) (o : Outcome) → is_feed step ≡ false
     → (effect_by o setup world step refused).fed ≡ world.fed ++ fed_in (told_by step o)
@@ -109,8 +111,9 @@ fed_told setup world (Answer n w) refused o = plain_fed setup world (Answer n w)
 fed_told setup world (Collect n w) refused o = plain_fed setup world (Collect n w) refused o refl
 fed_told setup world (Close c time) refused o = plain_fed setup world (Close c time) refused o refl
 fed_told setup world (Refuse n) refused o = plain_fed setup world (Refuse n) refused o refl
+fed_told setup world (Revive n f) refused o = plain_fed setup world (Revive n f) refused o refl
 
-pub event_fed : (setup : Setup) (world : World) (e : Event) → e.outcome ≡ outcome setup world e.step
+pub event_fed : (setup : Setup) (world : World) (e : Event) → e.outcome ≡ came_to setup world e.step e.refused
     → (after_step setup world e.step e.refused).fed ≡ world.fed ++ fed_in (told_of e)
 event_fed setup world e is =
     ap (λ (o : Outcome). (effect_by o setup world e.step e.refused).fed) (sym is) ∙ fed_told setup world e.step e.refused e.outcome
@@ -138,6 +141,7 @@ closed_none (Look n) o is = refl
 closed_none (Answer n w) o is = refl
 closed_none (Collect n w) o is = refl
 closed_none (Refuse n) o is = refl
+closed_none (Revive n f) o is = refl
 
 plain_closed : (setup : Setup) (world : World) (step : Step) (refused : Refused) (o : Outcome) → is_close step ≡ false
     → closings (effect_by o setup world step refused) ≡ closings world ++ closed_in (told_by step o)
@@ -163,8 +167,9 @@ closed_told setup world (Look n) refused o = plain_closed setup world (Look n) r
 closed_told setup world (Answer n w) refused o = plain_closed setup world (Answer n w) refused o refl
 closed_told setup world (Collect n w) refused o = plain_closed setup world (Collect n w) refused o refl
 closed_told setup world (Refuse n) refused o = plain_closed setup world (Refuse n) refused o refl
+closed_told setup world (Revive n f) refused o = plain_closed setup world (Revive n f) refused o refl
 
-pub event_closed : (setup : Setup) (world : World) (e : Event) → e.outcome ≡ outcome setup world e.step
+pub event_closed : (setup : Setup) (world : World) (e : Event) → e.outcome ≡ came_to setup world e.step e.refused
     → closings (after_step setup world e.step e.refused) ≡ closings world ++ closed_in (told_of e)
 event_closed setup world e is =
     ap (λ (o : Outcome). closings (effect_by o setup world e.step e.refused)) (sym is) ∙ closed_told setup world e.step e.refused e.outcome
@@ -209,7 +214,7 @@ AreThere world [] = Unit {0}
 AreThere world (c ∷ connections) = (is_client world c ≡ true) × AreThere world connections
 
 there_told : (setup : Setup) (world : World) (step : Step) (refused : Refused) (o : Outcome) → length world.nodes ≡ setup.nodes
-    → o ≡ outcome setup world step → AreThere (after_step setup world step refused) (opened_in (told_by step o))
+    → o ≡ came_to setup world step refused → AreThere (after_step setup world step refused) (opened_in (told_by step o))
 there_told setup world (Open n w) refused (Opened c) many is = ((open_there setup world n w c refused many is).1, tt)
 there_told setup world (Open n w) refused Done many is = tt
 there_told setup world (Open n w) refused (Idle reason) many is = tt
@@ -229,6 +234,7 @@ there_told setup world (Look n) refused o many is = tt
 there_told setup world (Answer n w) refused o many is = tt
 there_told setup world (Collect n w) refused o many is = tt
 there_told setup world (Refuse n) refused o many is = tt
+there_told setup world (Revive n f) refused o many is = tt
 
 absent_among : (world : World) (c : Connection) (connections : List Connection) → is_client world c ≡ false → AreThere world connections
     → stories.is_among c connections ≡ false
@@ -238,7 +244,7 @@ absent_among world c (d ∷ connections) absent there =
 
 -- so one that isn't there was not opened
 pub event_opened : (setup : Setup) (world : World) (e : Event) (c : Connection) → length world.nodes ≡ setup.nodes
-    → e.outcome ≡ outcome setup world e.step → is_client (after_step setup world e.step e.refused) c ≡ false
+    → e.outcome ≡ came_to setup world e.step e.refused → is_client (after_step setup world e.step e.refused) c ≡ false
     → stories.is_among c (opened_in (told_of e)) ≡ false
 event_opened setup world e c many is absent =
     ap (stories.is_among c) (one_opened e)
@@ -266,3 +272,4 @@ inner_told (Look n) o is = refl
 inner_told (Answer n w) o is = refl
 inner_told (Collect n w) o is = refl
 inner_told (Refuse n) o is = refl
+inner_told (Revive n f) o is = refl

@@ -11,7 +11,7 @@ use Rattle.nr_model.specs.Keyspace.{moment}
 use Rattle.nr_model.specs.Items.{Connection, same_connection}
 use Rattle.nr_model.specs.Connections.{Setup, Handed, Feeding, handed_to, fed_to}
 use Rattle.nr_model.specs.Nodes.{Node, World, fresh, fresh_node, no_node, node_at}
-use Rattle.nr_model.specs.Nodes.Steps.{Step, Open, Feed, Post, Lift, Reserve, Fill, Fetch, Apply, Look, Answer, Collect, Close, Refuse, Refused, is_client, after_step}
+use Rattle.nr_model.specs.Nodes.Steps.{Step, Open, Feed, Post, Lift, Reserve, Fill, Fetch, Apply, Look, Answer, Collect, Close, Refuse, Revive, Refused, is_client, after_step}
 use Rattle.nr_model.specs.Nodes.Pasts.{Event, AreEvents, IsEvent, IsPast, is_done, handed_by, after_event, handed_in}
 use Rattle.nr_model.specs.Nodes.Settling.{IsRound, AreRounds, after_events, for_workers, lifting, reserving, in_turn, applying, answering, round_of}
 use Rattle.nr_nodes.specs.Settles.{events_of}
@@ -37,6 +37,7 @@ by_open P opens others (Answer n w) = others (Answer n w) refl
 by_open P opens others (Collect n w) = others (Collect n w) refl
 by_open P opens others (Close c time) = others (Close c time) refl
 by_open P opens others (Refuse n) = others (Refuse n) refl
+by_open P opens others (Revive n f) = others (Revive n f) refl
 
 -- feeds, and the other steps
 by_feed : (P : Step → Type 0) → ((c : Connection) (time : ℕ) (bytes : Bytes) → P (Feed c time bytes)) → ((step : Step) → is_feed step ≡ false → P step)
@@ -54,6 +55,7 @@ by_feed P feeds others (Answer n w) = others (Answer n w) refl
 by_feed P feeds others (Collect n w) = others (Collect n w) refl
 by_feed P feeds others (Close c time) = others (Close c time) refl
 by_feed P feeds others (Refuse n) = others (Refuse n) refl
+by_feed P feeds others (Revive n f) = others (Revive n f) refl
 
 grows_same : (world : World) → Grows world world
 grows_same world = record { many = refl; counts = λ m. omega arith }

@@ -1,6 +1,6 @@
 -- Each step that a service asks for, as one by which the nodes go on.
 use Rattle.std.proofs.Common.{◌≡◌, ℕ, ◌<◌, Bool, true, false, not, cond, inl, inr, List, [], ◌∷◌, ◌++◌, length, map, refl, ap, sym, ◌∙◌, subst, arith, append-nil, ltb}
-use Rattle.std.specs.Prelude.{◌||◌, nat_le, Option, Some, None, IfNone, is_some, option_map}
+use Rattle.std.specs.Prelude.{◌&&◌, ◌||◌, nat_le, Option, Some, None, IfNone, is_some, option_map}
 use Rattle.std.proofs.lemmas.Bool.{cases_Bool, and_parts, or_parts, ltb-true, not-false}
 use Rattle.std.proofs.lemmas.List.{get_or-set_same}
 use Rattle.std.proofs.lemmas.Grind.{flat_map-append}
@@ -9,7 +9,7 @@ use Rattle.nr_model.specs.Keyspace.{moment}
 use Rattle.nr_model.specs.Items.{Connection}
 use Rattle.nr_model.specs.Connections.{Setup, Handed}
 use Rattle.nr_model.specs.Nodes.{Client, fresh_client, Node, no_node, World, node_at, client_at, client_of}
-use Rattle.nr_model.specs.Nodes.Steps.{Step, Open, Feed, Close, Outcome, Opened, Done, Idle, Refused, idle_where, is_worker, is_client, in_use, outcome, closed_client, closed_node, closed, effect_by, after_step}
+use Rattle.nr_model.specs.Nodes.Steps.{Step, Open, Feed, Close, Outcome, Opened, Done, Idle, Refused, idle_where, is_worker, is_client, in_use, is_overrun, came_to, closed_client, closed_node, closed, effect_by, after_step}
 use Rattle.nr_model.specs.declared.reason.Reason.TheVariants.{NoSuch, Ended, TooMany, Down}
 use Rattle.nr_model.specs.Nodes.Pasts.{Event, IsPast}
 use Rattle.nr_model.specs.Nodes.Settling.{after_events}
@@ -32,7 +32,8 @@ use Rattle.nr_answering.proofs.Pasts.{past_led, each_led, past_then, both_are, a
 
 -- a step that hands out nothing
 step_moves : (old new : WorldState) (step : Step) (o : Outcome) (more : List Occurrence) → Steps old new step o
-    → ((events : List Event) (world : World) (refused : Refused) → IsPast old.setup events world → Shows old world → o ≡ outcome old.setup world step
+    → ((events : List Event) (world : World) (refused : Refused) → IsPast old.setup events world → Shows old world
+    → o ≡ came_to old.setup world step refused
     → (told_by step o ≡ more) × AreNew world (after_step old.setup world step refused) (opened_in more))
     → Moves old new more
 step_moves old new step o more steps is = record {
@@ -55,8 +56,16 @@ stands_open true over e = absurd (cc e)
 stands_open false true e = absurd (cc e)
 stands_open false false e = (refl, refl)
 
-feed_path : (a b d : Bool) → a ≡ false → b ≡ false → d ≡ false → idle_where a NoSuch (idle_where b Ended (idle_where d Down Done)) ≡ Done
-feed_path a b d e f g = rw (e, f, g)
+-- it asked for no end, was not closed, and its queue isn't cut, so that it was not overrun either
+takes_path : (ended closed cut fell : Bool) → (ended || (closed || cut)) ≡ false → ((ended || (closed || (cut && not fell))) ≡ false) × (cut ≡ false)
+takes_path true closed cut fell e = absurd (cc e)
+takes_path false true cut fell e = absurd (cc e)
+takes_path false false true fell e = absurd (cc e)
+takes_path false false false fell e = (refl, refl)
+
+feed_path : (a b d k : Bool) → a ≡ false → b ≡ false → d ≡ false → k ≡ false
+    → idle_where a NoSuch (idle_where b Ended (idle_where d Down (idle_where k Ended Done))) ≡ Done
+feed_path a b d k e f g h = rw (e, f, g, h)
 
 pub feed_moves : (old new : WorldState) (c : Connection) (time : ℕ) (bytes : Bytes) (o : Outcome) → StandsIn old c standings.Open
     → Steps old new (Feed c time bytes) o → Moves old new (stories.Fed (record { connection = c; moment = moment time; bytes = bytes }) ∷ [])
@@ -67,7 +76,9 @@ feed_moves old new c time bytes o stands steps =
     let over = client.ended || (client.closed || client.queue.cut) in
     let takes = stands_open (node_at c.node world).down (has_ended world c) (stands world shows) in
     let on = or_parts (not (is_client world c)) over takes.1 in
-    let done = feed_path (not (is_client world c)) over (node_at c.node world).down on.0 on.1 takes.0 in
+    let still = takes_path client.ended client.closed client.queue.cut client.fell on.1 in
+    let done = feed_path (not (is_client world c)) (client.ended || (client.closed || is_overrun client)) (node_at c.node world).down client.queue.cut
+    on.0 still.0 takes.0 still.1 in
     (ap (told_by (Feed c time bytes)) (e ∙ done), tt))
 
 -- an open that opened a connection

@@ -2,11 +2,13 @@
 //! a thousand connections, keys with a deadline. With one it measures: `nodes` how many commands a second nodes behind their locks execute, each worker on a
 //! thread of its own, beside one thread over the server of several nodes in one value; `messages` how long a PUBLISH takes beside as many replies of its size;
 //! `expiry` how long a SET takes before a million keys are gone, and after. `memory BYTES KEYS` stores so many keys with values of so many bytes, a million
-//! where no number is given, and waits for a line. `connections COUNT` lets so many connections come and go at a node, and waits for a line.
+//! where no number is given, and waits for a line. `copy KEYS` stores so many at two nodes, of which one falls and comes back with a copy, and says how long that
+//! takes. `connections COUNT` lets so many connections come and go at a node, and waits for a line.
 #![tactic(auto)]
 
 mod bench;
 mod connections;
+mod copies;
 mod expiry;
 mod held;
 mod keys;
@@ -46,7 +48,8 @@ fn say_counts(
     let alloc = rt.alloc();
     nodes::say_counts(threads, alloc, RandomState::new(rt)?)?;
     messages::say_count(rt, alloc, RandomState::new(rt)?)?;
-    held::say_counts(rt, alloc, RandomState::new(rt)?)
+    held::say_counts(rt, alloc, RandomState::new(rt)?)?;
+    copies::say_count(rt, alloc, RandomState::new(rt)?)
 }
 
 // The runtime lends its threads to `main` alone, which hands them on.
@@ -64,6 +67,11 @@ fn perform(rt: &HostRuntime, threads: &(impl Runtime + Threads + Wait + Sync)) -
         Some(word) if word.as_str() == "connections" => {
             connections::hold(rt, threads, hasher, first.unwrap_or(MANY_CONNECTIONS))
         }
+        Some(word) if word.as_str() == "copy" => copies::hold(
+            rt,
+            hasher,
+            first.unwrap_or(MANY_KEYS),
+        ),
         Some(word) if word.as_str() == "memory" => held::hold(
             rt,
             hasher,

@@ -5,3 +5,4 @@ pub mod Changes
 pub mod Fronts
 pub mod Choosing
 pub mod Lending
+pub mod FirstNumber

@@ -1,6 +1,7 @@
 // Which jobs of runs lead, and how they are lent and taken back.
 ghost use Rattle.std.specs.Prelude.{◌≡◌, ◌≤◌, ◌<◌, ◌+◌, ◌++◌, ◌||◌, ◌&&◌, ℕ, nat_lt, cond, [], length, take, vec_len, vec_capacity, IfOk, OnOk, OnErr, IsTrue};
 ghost use Rattle.std.specs.List.{filter};
+ghost use Rattle.nr_model.specs.Asked.{own_jobs, first_number};
 ghost use Rattle.nr_model.specs.Items.{same_connection};
 ghost use Rattle.nr_model.specs.Entries.{leading, left_after};
 ghost use Rattle.nr_entry.specs.Jobs.{connection_of, items_of};
@@ -43,6 +44,32 @@ pub(crate) fn lend_leading(
     let mut taken = Vec::with_capacity(alloc, total)?;
     lend(runs, counts, &mut taken);
     Ok(taken)
+}
+
+/// The number of the first job of a connection, where there is one. Linear in the runs.
+pub(crate) fn first_number(runs: &[Run], conn: ConnId) -> Option<u64>
+    ensures { result ≡ first_number (own_jobs (connection_of conn) (items_of (jobs_in runs.now))) }
+{
+    for run in runs {
+        if let Some(number) = number_in(run, conn) {
+            return Some(number);
+        }
+    }
+    None
+}
+
+// The number of the first job of a run, where the run is of a connection and has one.
+fn number_in(run: &Run, conn: ConnId) -> Option<u64>
+    ensures { result ≡ first_number (own_jobs (connection_of conn) (items_of run.now.jobs.items)) }
+{
+    if run.conn == conn {
+        match run.jobs.front() {
+            Some(job) => Some(job.number),
+            None => None,
+        }
+    } else {
+        None
+    }
 }
 
 // Whether a run begins with a job of a kind. Where none does, none leads.

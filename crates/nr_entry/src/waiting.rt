@@ -1,15 +1,17 @@
 // The jobs that wait at a node, in the order lifted.
 ghost use Rattle.std.specs.Prelude.{◌≡◌, ◌≤◌, ◌++◌, ℕ, IfOk, IfErr, OnOk, OnErr, IsTrue, not, [], length};
 ghost use Rattle.nr_model.specs.Entries.{entry_jobs, left_by_entry, read_jobs, left_by_reads, most_entry_jobs};
-ghost use Rattle.nr_entry.specs.Jobs.{items_of};
+ghost use Rattle.nr_model.specs.Asked.{own_jobs, first_number};
+ghost use Rattle.nr_entry.specs.Jobs.{connection_of, items_of};
 ghost use Rattle.nr_entry.specs.Entry.{are_updates, are_of};
 ghost use Rattle.nr_entry.specs.Waiting.{belong, filled, has_some};
 
+use crate::conn::ConnId;
 use crate::entry::MOST_JOBS;
 use crate::job::Job;
 use crate::lifting::add_all;
 use crate::run::Run;
-use crate::runs::{any_leads, lend_leading, settle, take_back};
+use crate::runs::{any_leads, first_number, lend_leading, settle, take_back};
 use nr_blob::Memory;
 use std::alloc::Global;
 use std::marker::Model;
@@ -156,6 +158,13 @@ impl Waiting {
         ensures { result ≡ has_some (read_jobs (items_of self.now.jobs)) }
     {
         any_leads(&self.runs, false)
+    }
+
+    /// The number of the first job of a connection that is here, where there is one. Linear in the runs.
+    pub fn first_of(&self, conn: ConnId) -> Option<u64>
+        ensures { result ≡ first_number (own_jobs (connection_of conn) (items_of self.now.jobs)) }
+    {
+        first_number(&self.runs, conn)
     }
 
     /// Whether no job is here. Jobs may be lent.

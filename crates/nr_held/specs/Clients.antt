@@ -1,5 +1,5 @@
 -- What contracts see of a connection and of its worker.
-use Rattle.std.specs.Prelude.{◌≡◌, ◌↔◌, ℕ, ◌+◌, ◌<◌, ◌≤◌, Bool, true, false, [], length}
+use Rattle.std.specs.Prelude.{◌≡◌, ◌↔◌, ℕ, ◌+◌, ◌<◌, ◌≤◌, Bool, true, false, None, [], length}
 use Rattle.nr_model.specs.Items.{Connection}
 use Rattle.nr_model.specs.Modes.{plain}
 use Rattle.nr_entry.specs.declared.batch.Outcome.{Outcome}
@@ -12,7 +12,7 @@ use Rattle.nr_held.specs.declared.client.Offered.TheVariants.{Nothing, Accepted,
 
 -- a session of a connection that was fed nothing
 abbrev pub fresh_session : Connection → SessionState
-fresh_session c = record { connection = c; rest = []; mode = plain; next = 0; fed = 0; ended = false; gave_end = false }
+fresh_session c = record { connection = c; rest = []; mode = plain; next = 0; fed = 0; ended = false; gave_end = false; lost = None; fell = false }
 
 -- a piece was accepted, of one byte at least and so many at most, or nothing changed
 abbrev pub HasOffered : ℕ → Offered → TapState → TapState → Type 0

@@ -18,6 +18,7 @@ pub mod Exchanged
 pub mod Asked
 pub mod Emitted
 pub mod NodesSteps
+pub mod NodesAlone
 pub mod NodesAccounts
 pub mod NodesAccountsApplied
 pub mod NodesAccountsCollected

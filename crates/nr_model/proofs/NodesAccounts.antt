@@ -8,7 +8,7 @@ use Rattle.nr_model.specs.Items.{Connection}
 use Rattle.nr_model.specs.Sequential.{emitted_for}
 use Rattle.nr_model.specs.Connections.{Setup, Handed, handed_to}
 use Rattle.nr_model.specs.Nodes.{World, fresh, fresh_node, node_at, client_of, sequence_of, part_of}
-use Rattle.nr_model.specs.Nodes.Steps.{Outcome, is_client, outcome}
+use Rattle.nr_model.specs.Nodes.Steps.{Outcome, is_client, came_to}
 use Rattle.nr_model.specs.Nodes.Pasts.{Event, IsEvent, is_done, handed_by, after_event, world_after, AreEvents, handed_in}
 use Rattle.nr_model.specs.Nodes.Explained.{IsWhole, waiting_for, account_of, IsAccounted}
 use Rattle.nr_model.proofs.NodesSteps.{a_client, each_step, each_sized, fresh_at, are_first, are_last, world_after-append}
@@ -46,7 +46,7 @@ kept_more : (setup : Setup) (events : List Event) (e : Event) → IsKnown (world
 kept_more setup events e known is k =
     let world = world_after setup events in
     let next = after_event setup world e in
-    let given = cond (is_done (outcome setup world e.step)) (handed_by world e.step) [] in
+    let given = cond (is_done (came_to setup world e.step e.refused)) (handed_by world e.step) [] in
     let now : AreKept (handed_in events ++ given) next.taken next =
     each_step setup Gives (moves_kept setup) world e.step e.refused (each_sized setup events) known (handed_in events) k in
     let handed : handed_in events ++ given ≡ handed_in (events ++ e ∷ []) =
@@ -103,13 +103,16 @@ account_begins events world c known k =
           let at = a_client world c here in
           let kept = k.each c.node at.there in
           let node = node_at c.node world in
+          let part = emitted_for c (part_of c.node world) in
+          let waiting = (client_of c world).queue.waiting in
           subst (λ (w : Bytes). IsBeginningOf (given ++ w) all) (sym (waits world c here))
           (elim (cases_Bool node.down) [
-            | inl down ↦ ((kept.fallen down).accounts c.serial at.stands).begins
+            | inl down ↦
+                let f = kept.fallen down in
+                begins_on (given ++ waiting) part all (f.accounts c.serial at.stands).begins (part_emits c node.applied world.taken f.within known.run)
             | inr up ↦
                 let u = kept.up up in
-                begins_on (given ++ (client_of c world).queue.waiting) (emitted_for c (part_of c.node world)) all
-                (u.accounts c.serial at.stands).begun.begins (part_emits c node.applied world.taken u.within known.run)
+                begins_on (given ++ waiting) part all (u.accounts c.serial at.stands).begun.begins (part_emits c node.applied world.taken u.within known.run)
           ])
       | inr absent ↦
           let none : account_of events world c ≡ [] =

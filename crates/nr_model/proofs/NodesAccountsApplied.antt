@@ -1,6 +1,6 @@
 -- A node that applies entries, or runs reads behind all of them, keeps what holds of it.
-use Rattle.std.proofs.Common.{◌≡◌, ℕ, zero, suc, ◌+◌, ◌<◌, ◌≤◌, false, List, [], ◌∷◌, ◌++◌, length, map, refl, ap, sym, ◌∙◌, subst, arith}
-use Rattle.std.specs.Prelude.{◌==◌, ◌||◌, slice_index_or}
+use Rattle.std.proofs.Common.{◌≡◌, ℕ, zero, suc, ◌+◌, ◌-◌, ◌<◌, ◌≤◌, true, false, List, [], ◌∷◌, ◌++◌, length, map, refl, ap, sym, ◌∙◌, subst, arith}
+use Rattle.std.specs.Prelude.{◌||◌, slice_index_or}
 use Rattle.std.proofs.lemmas.Bool.{cond_both, eq-eqb}
 use Rattle.std.proofs.lemmas.List.{length-map, get_or-map}
 use Rattle.nr_model.specs.Items.{Sequence}
@@ -9,14 +9,15 @@ use Rattle.nr_model.specs.Sequential.Events.{Emission}
 use Rattle.nr_model.specs.Servers as servers
 use Rattle.nr_model.specs.Servers.{after_all, emitted_all}
 use Rattle.nr_model.specs.Entries.{entry_items, read_jobs}
+use Rattle.nr_model.specs.Queues.{cut_off}
 use Rattle.nr_model.specs.Connections.{Handed, handed_to}
 use Rattle.nr_model.specs.Nodes.{Client, fresh_client, Node, Taken, Reads, Logged, log_of, part_from}
-use Rattle.nr_model.specs.Nodes.Steps.{Cut, Refused, delivered_to, with_executed, passing, fallen, with_entry, falls_at, advanced, advanced_by, with_reads}
+use Rattle.nr_model.specs.Nodes.Steps.{Cut, Refused, is_owed, delivered_to, with_executed, passing, dropped_jobs, fallen_client, fallen, with_entry, falls_at, advanced, advanced_by, with_reads, cut_client, revived}
 use Rattle.nr_model.proofs.Choices.{look_reads}
 use Rattle.nr_model.proofs.Emitted.{after_all-append, emitted_for-more}
-use Rattle.nr_model.proofs.NodesParts.{ReadsWithin, part_of_own, part_applied, within_own, within_applied}
-use Rattle.nr_model.proofs.NodesPartsEmitted.{AreRun, after_reads}
-use Rattle.nr_model.proofs.NodesAccountsQueues.{IsReceived, delivered_received, delivered_connection}
+use Rattle.nr_model.proofs.NodesParts.{ReadsWithin, part_of_own, part_applied, within_own, within_applied, within_later}
+use Rattle.nr_model.proofs.NodesPartsEmitted.{AreRun, after_reads, begins_on, part_grows, same_server}
+use Rattle.nr_model.proofs.NodesAccountsQueues.{IsReceived, cut_received, delivered_received, delivered_connection}
 use Rattle.nr_model.proofs.NodesAccountsKept.{connection_at, client_in, queue_in, IsUp, IsFallen, IsKept, kept_fallen}
 
 -- a node's clients are numbered
@@ -77,7 +78,8 @@ same_kept r taken handed node node' clients applied server down k = record {
   up = λ up. subst (λ (x : List Client). IsUp r taken handed x node'.applied node'.server) (sym clients)
       (subst (λ (x : ℕ). IsUp r taken handed node.clients x node'.server) (sym applied)
       (subst (λ (x : servers.Server). IsUp r taken handed node.clients node.applied x) (sym server) (k.up (sym down ∙ up))));
-  fallen = λ fell. subst (λ (x : List Client). IsFallen r taken handed x) (sym clients) (k.fallen (sym down ∙ fell));
+  fallen = λ fell. subst (λ (x : List Client). IsFallen r taken handed x node'.applied) (sym clients)
+      (subst (λ (x : ℕ). IsFallen r taken handed node.clients x) (sym applied) (k.fallen (sym down ∙ fell)));
   absent = λ s past.
       let past' : length node.clients ≤ s = omega (arith, ap length clients) in
       k.absent s past';
@@ -117,7 +119,7 @@ level_entry r taken handed cuts node on below l =
       level = λ e. ap suc (level ∙ sym passed);
       numbered = numbered_delivered r cuts node.passed es node.clients l.numbered;
     } in
-    cond_both (entry.node == r) (with_executed entry.jobs node) node (λ (x : Node). IsLevel r taken handed (passing (record x {
+    cond_both (is_owed r entry node) (with_executed entry.jobs node) node (λ (x : Node). IsLevel r taken handed (passing (record x {
       applied = suc node.applied;
       server = after_all node.server items;
       clients = map (delivered_to cuts node.passed es) node.clients;
@@ -126,9 +128,9 @@ level_entry r taken handed cuts node on below l =
     (λ others. done node on refl)
 
 -- the next entry is passed
-pub level_advanced : (r : ℕ) (taken : List Taken) (handed : List Handed) (refused : Refused) (node : Node) → AreRun taken
+pub level_advanced : (r : ℕ) (taken : List Taken) (handed : List Handed) (refused : Refused) (node : Node)
     → node.passed < length (log_of taken) → IsLevel r taken handed node → IsLevel r taken handed (advanced refused r (log_of taken) node)
-level_advanced r taken handed refused node run below l =
+level_advanced r taken handed refused node below l =
     let entry = slice_index_or (log_of taken) node.passed (record { node = 0; jobs = [] }) in
     cond_both node.down node _ (λ (x : Node). IsLevel r taken handed (passing x))
     (λ down. record {
@@ -138,10 +140,14 @@ level_advanced r taken handed refused node run below l =
     })
     (λ on. cond_both (node.refused || falls_at refused.falls node.passed) (fallen node) (with_entry refused.cuts r entry node)
     (λ (x : Node). IsLevel r taken handed (passing x))
-    (λ falls. record {
-      kept = kept_fallen r taken handed node (passing (fallen node)) on refl refl run l.kept;
+    (λ falls.
+    let fell = fallen_client (dropped_jobs node) in
+    record {
+      kept = kept_fallen r taken handed node (passing (fallen node)) fell (λ x. refl) on refl refl refl l.kept;
       level = λ up. absurd (cc up);
-      numbered = l.numbered;
+      numbered = λ s below'.
+          let below : s < length node.clients = omega (arith, length-map node.clients fell) in
+          ap (λ (x : Client). x.queue.connection) (get_or-map fell node.clients s none none below) ∙ l.numbered s below;
     })
     (λ stays. level_entry r taken handed refused.cuts node on below l))
 
@@ -152,7 +158,7 @@ passed_more refused r log node =
     cond_both node.down node _ (λ (x : Node). (passing x).passed ≡ suc node.passed) (λ down. refl)
     (λ on. cond_both (node.refused || falls_at refused.falls node.passed) (fallen node) (with_entry refused.cuts r entry node)
     (λ (x : Node). (passing x).passed ≡ suc node.passed) (λ falls. refl)
-    (λ stays. cond_both (entry.node == r) (with_executed entry.jobs node) node (λ (x : Node). suc x.passed ≡ suc node.passed) (λ own. refl) (λ other. refl)))
+    (λ stays. cond_both (is_owed r entry node) (with_executed entry.jobs node) node (λ (x : Node). suc x.passed ≡ suc node.passed) (λ own. refl) (λ other. refl)))
 
 -- so many entries are passed
 pub passed_by : (count : ℕ) (refused : Refused) (r : ℕ) (log : List Logged) (node : Node)
@@ -164,16 +170,16 @@ passed_by (suc count) refused r log node =
     let more = passed_by count refused r log next in
     omega arith
 
-pub level_advanced_by : (count r : ℕ) (taken : List Taken) (handed : List Handed) (refused : Refused) (node : Node) → AreRun taken
+pub level_advanced_by : (count r : ℕ) (taken : List Taken) (handed : List Handed) (refused : Refused) (node : Node)
     → node.passed + count ≤ length (log_of taken) → IsLevel r taken handed node
     → IsLevel r taken handed (advanced_by count refused r (log_of taken) node)
-level_advanced_by zero r taken handed refused node run within l = l
-level_advanced_by (suc count) r taken handed refused node run within l =
+level_advanced_by zero r taken handed refused node within l = l
+level_advanced_by (suc count) r taken handed refused node within l =
     let next = advanced refused r (log_of taken) node in
     let one = passed_more refused r (log_of taken) node in
     let below : node.passed < length (log_of taken) = omega arith in
     let rest : next.passed + count ≤ length (log_of taken) = omega arith in
-    level_advanced_by count r taken handed refused next run rest (level_advanced r taken handed refused node run below l)
+    level_advanced_by count r taken handed refused next rest (level_advanced r taken handed refused node below l)
 
 -- the reads that lead are run behind all entries
 pub kept_reads : (r : ℕ) (taken : List Taken) (handed : List Handed) (cuts : List Cut) (tail : ℕ) (node : Node) → node.down ≡ false
@@ -197,4 +203,40 @@ kept_reads r taken handed cuts tail node on all l =
       absent = λ s past.
           let past' : length node.clients ≤ s = omega arith in
           l.kept.absent s past';
+    }
+
+-- A node comes back with the server of another that has applied as many entries as it has passed. What its connections received begins what is emitted
+-- along its part, which has grown.
+pub kept_revived : (r f tail : ℕ) (taken : List Taken) (handed : List Handed) (node donor : Node) → node.down ≡ true → donor.down ≡ false
+    → node.passed ≡ donor.passed → donor.applied ≡ donor.passed → node.applied ≤ node.passed → node.passed ≤ length (log_of taken) → AreRun taken
+    → IsKept f taken handed donor → IsKept r taken handed node → IsKept r taken handed (revived tail donor.server node)
+kept_revived r f tail taken handed node donor down up even level behind below run kf k =
+    let fell = k.fallen down in
+    let from = kf.up up in
+    let count = node.passed - node.applied in
+    let reach : count + node.applied ≡ node.passed = omega arith in
+    let long = length-map node.clients cut_client in
+    record {
+      up = λ on. record {
+        within = subst (λ (x : ℕ). ReadsWithin r x taken) reach (within_later r node.applied count taken fell.within);
+        server_is =
+            from.server_is ∙ ap (λ (x : ℕ). after_all servers.fresh (part_from f x taken)) (level ∙ sym even)
+            ∙ same_server f r node.passed taken servers.fresh run;
+        accounts = λ s below'.
+            let stands : s < length node.clients = omega arith in
+            let c = connection_at r s in
+            let given = handed_to c handed in
+            let q = queue_in node.clients s in
+            let grown = part_grows c node.applied count taken (omega arith) fell.within in
+            let begun = begins_on (given ++ q.waiting) (emitted_for c (part_from r node.applied taken)) (emitted_for c (part_from r (count + node.applied) taken))
+            (fell.accounts s stands).begins grown in
+            subst (λ (x : Client). IsReceived given x.queue (emitted_for c (part_from r node.passed taken)))
+            (sym (get_or-map cut_client node.clients s none none stands))
+            (subst (λ (x : ℕ). IsReceived given (cut_off q) (emitted_for c (part_from r x taken))) reach
+            (cut_received given q (emitted_for c (part_from r (count + node.applied) taken)) (record { begins = begun })));
+      };
+      fallen = λ fallen. absurd (cc fallen);
+      absent = λ s past.
+          let past' : length node.clients ≤ s = omega arith in
+          k.absent s past';
     }

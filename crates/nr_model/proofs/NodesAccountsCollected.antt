@@ -12,7 +12,7 @@ use Rattle.nr_model.specs.Nodes.Steps.{collected, emptied}
 use Rattle.nr_model.proofs.JobLists.{same_self}
 use Rattle.nr_model.proofs.Exchanged.{handed_to-append}
 use Rattle.nr_model.proofs.NodesAccountsQueues.{IsBegun, IsReceived, taken_from, emptied_is_begun, emptied_received}
-use Rattle.nr_model.proofs.NodesAccountsKept.{connection_at, client_in, queue_in, all_taken, IsKept}
+use Rattle.nr_model.proofs.NodesAccountsKept.{connection_at, client_in, queue_in, IsKept}
 use Rattle.nr_model.proofs.NodesAccountsApplied.{AreNumbered}
 
 -- what the first client is handed
@@ -127,10 +127,11 @@ kept_collected r w taken handed node workers numbered k =
       fallen = λ down.
           let f = k.fallen down in
           record {
+            within = f.within;
             accounts = λ s below'.
                 let below : s < length clients = omega arith in
                 let c = connection_at r s in
-                let emitted = emitted_for c (all_taken taken) in
+                let emitted = emitted_for c (part_from r node.applied taken) in
                 subst (λ (x : Client). IsBegun (handed_to c now) x.queue emitted) (sym (at s below))
                 (subst (λ (bs : Bytes). IsBegun bs (emptied w (client_in clients s)).queue emitted) (given s below)
                 (emptied_is_begun (handed_to c handed) emitted w (client_in clients s) (f.accounts s below)));

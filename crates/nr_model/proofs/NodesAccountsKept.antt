@@ -1,10 +1,9 @@
 -- What holds of a node: its replica is the server after its part, and each of its connections received what was emitted for it.
-use Rattle.std.proofs.Common.{◌≡◌, ℕ, ◌+◌, ◌<◌, ◌≤◌, true, false, inl, inr, List, [], ◌∷◌, ◌++◌, length, refl, ap, sym, ◌∙◌, subst, arith, slice_set}
-use Rattle.std.specs.Prelude.{◌==◌, flat_map, slice_index_or}
+use Rattle.std.proofs.Common.{◌≡◌, ℕ, ◌+◌, ◌<◌, ◌≤◌, true, false, inl, inr, List, [], ◌∷◌, ◌++◌, length, map, refl, ap, sym, ◌∙◌, subst, arith, slice_set}
+use Rattle.std.specs.Prelude.{◌==◌, slice_index_or}
 use Rattle.std.proofs.lemmas.Bool.{cases_lt}
 use Rattle.std.proofs.lemmas.Bool.Decides.{eqb_tells}
-use Rattle.std.proofs.lemmas.List.{append-nil, length-append, length-set, get_or_append_left, get_or_at, get_or-set_same, get_or-set_other}
-use Rattle.std.proofs.lemmas.List.Concat.{flat_map-append}
+use Rattle.std.proofs.lemmas.List.{length-append, length-map, length-set, get_or_append_left, get_or_at, get_or-map, get_or-set_same, get_or-set_other}
 use Rattle.nr_model.specs.Bytes.{Bytes}
 use Rattle.nr_model.specs.Items.{Connection, Sequence}
 use Rattle.nr_model.specs.Sequential.{emitted_for}
@@ -13,11 +12,9 @@ use Rattle.nr_model.specs.Servers.{after_all, emitted_all}
 use Rattle.nr_model.specs.Entries.{Jobs}
 use Rattle.nr_model.specs.Queues.{Queue}
 use Rattle.nr_model.specs.Connections.{Handed, handed_to}
-use Rattle.nr_model.specs.Nodes.{Client, fresh_client, Node, Taken, Entry, Reads, log_of, items_taken, part_from, Worker}
-use Rattle.nr_model.proofs.Emitted.{emitted_for-more}
+use Rattle.nr_model.specs.Nodes.{Client, fresh_client, Node, Taken, Entry, Reads, log_of, part_from, Worker}
 use Rattle.nr_model.proofs.NodesParts.{ReadsWithin, part_of_entry, part_of_other, within_entry, within_other}
-use Rattle.nr_model.proofs.NodesPartsEmitted.{AreRun, begins_on, part_emits}
-use Rattle.nr_model.proofs.NodesAccountsQueues.{IsBegun, IsReceived, begun_more, all_begun}
+use Rattle.nr_model.proofs.NodesAccountsQueues.{IsBegun, IsReceived, all_begun}
 
 -- connection number s of node r
 abbrev pub connection_at : ℕ → ℕ → Connection
@@ -30,10 +27,6 @@ client_in clients s = slice_index_or clients s (fresh_client 0 0 (record { node 
 abbrev pub queue_in : List Client → ℕ → Queue
 queue_in clients s = (client_in clients s).queue
 
--- the sequence of all that was taken
-abbrev pub all_taken : List Taken → Sequence
-all_taken taken = flat_map items_taken taken
-
 -- a node that is up
 pub record IsUp (r : ℕ) (taken : List Taken) (handed : List Handed) (clients : List Client) (applied : ℕ) (server : servers.Server) : Type 0 where
   pub within : ReadsWithin r applied taken
@@ -41,33 +34,29 @@ pub record IsUp (r : ℕ) (taken : List Taken) (handed : List Handed) (clients :
   pub accounts : (s : ℕ) → s < length clients
       → IsReceived (handed_to (connection_at r s) handed) (queue_in clients s) (emitted_for (connection_at r s) (part_from r applied taken))
 
--- one that is down
-pub record IsFallen (r : ℕ) (taken : List Taken) (handed : List Handed) (clients : List Client) : Type 0 where
+-- one that is down: it stays at what it had applied
+pub record IsFallen (r : ℕ) (taken : List Taken) (handed : List Handed) (clients : List Client) (applied : ℕ) : Type 0 where
+  pub within : ReadsWithin r applied taken
   pub accounts : (s : ℕ) → s < length clients
-      → IsBegun (handed_to (connection_at r s) handed) (queue_in clients s) (emitted_for (connection_at r s) (all_taken taken))
+      → IsBegun (handed_to (connection_at r s) handed) (queue_in clients s) (emitted_for (connection_at r s) (part_from r applied taken))
 
 -- any node; a connection that it hasn't was handed nothing
 pub record IsKept (r : ℕ) (taken : List Taken) (handed : List Handed) (node : Node) : Type 0 where
   pub up : node.down ≡ false → IsUp r taken handed node.clients node.applied node.server
-  pub fallen : node.down ≡ true → IsFallen r taken handed node.clients
+  pub fallen : node.down ≡ true → IsFallen r taken handed node.clients node.applied
   pub absent : (s : ℕ) → length node.clients ≤ s → handed_to (connection_at r s) handed ≡ []
 
--- more was taken
-taken_more : (taken : List Taken) (more : Taken) → all_taken (taken ++ more ∷ []) ≡ all_taken taken ++ items_taken more
-taken_more taken more =
-    flat_map-append items_taken taken (more ∷ []) ∙ ap (λ (items : Sequence). all_taken taken ++ items) (append-nil (items_taken more))
-
-fallen_more : (r : ℕ) (taken : List Taken) (more : Taken) (handed : List Handed) (clients : List Client) → IsFallen r taken handed clients
-    → IsFallen r (taken ++ more ∷ []) handed clients
-fallen_more r taken more handed clients f = record {
+-- the part stays as it is
+fallen_same : (r : ℕ) (taken taken' : List Taken) (handed : List Handed) (clients : List Client) (applied : ℕ)
+    → part_from r applied taken' ≡ part_from r applied taken → (ReadsWithin r applied taken → ReadsWithin r applied taken')
+    → IsFallen r taken handed clients applied → IsFallen r taken' handed clients applied
+fallen_same r taken taken' handed clients applied same within f = record {
+  within = within f.within;
   accounts = λ s below.
       let c = connection_at r s in
-      subst (IsBegun (handed_to c handed) (queue_in clients s))
-      (sym (ap (emitted_for c) (taken_more taken more) ∙ emitted_for-more c (all_taken taken) (items_taken more)))
-      (begun_more (handed_to c handed) (queue_in clients s) (emitted_for c (all_taken taken)) _ (f.accounts s below));
+      subst (λ (items : Sequence). IsBegun (handed_to c handed) (queue_in clients s) (emitted_for c items)) (sym same) (f.accounts s below);
 }
 
--- the part stays as it is
 up_same : (r : ℕ) (taken taken' : List Taken) (handed : List Handed) (clients : List Client) (applied : ℕ) (server : servers.Server)
     → part_from r applied taken' ≡ part_from r applied taken → (ReadsWithin r applied taken → ReadsWithin r applied taken')
     → IsUp r taken handed clients applied server → IsUp r taken' handed clients applied server
@@ -80,13 +69,15 @@ up_same r taken taken' handed clients applied server same within u = record {
 }
 
 -- an entry was reserved
-pub kept_entry : (r n : ℕ) (jobs : Jobs) (taken : List Taken) (handed : List Handed) (node : Node) → (node.down ≡ false → node.applied ≤ length (log_of taken))
+pub kept_entry : (r n : ℕ) (jobs : Jobs) (taken : List Taken) (handed : List Handed) (node : Node) → node.applied ≤ length (log_of taken)
     → IsKept r taken handed node → IsKept r (taken ++ Entry n jobs ∷ []) handed node
 kept_entry r n jobs taken handed node within k = record {
   up = λ up.
-      up_same r taken (taken ++ Entry n jobs ∷ []) handed node.clients node.applied node.server (part_of_entry r node.applied n jobs taken (within up))
+      up_same r taken (taken ++ Entry n jobs ∷ []) handed node.clients node.applied node.server (part_of_entry r node.applied n jobs taken within)
       (within_entry r node.applied n jobs taken) (k.up up);
-  fallen = λ down. fallen_more r taken (Entry n jobs) handed node.clients (k.fallen down);
+  fallen = λ down.
+      fallen_same r taken (taken ++ Entry n jobs ∷ []) handed node.clients node.applied (part_of_entry r node.applied n jobs taken within)
+      (within_entry r node.applied n jobs taken) (k.fallen down);
   absent = k.absent;
 }
 
@@ -97,7 +88,9 @@ kept_other r n count jobs taken handed node other k = record {
   up = λ up.
       up_same r taken (taken ++ Reads n count jobs ∷ []) handed node.clients node.applied node.server (part_of_other r node.applied n count jobs taken other)
       (within_other r node.applied n count jobs taken other) (k.up up);
-  fallen = λ down. fallen_more r taken (Reads n count jobs) handed node.clients (k.fallen down);
+  fallen = λ down.
+      fallen_same r taken (taken ++ Reads n count jobs ∷ []) handed node.clients node.applied (part_of_other r node.applied n count jobs taken other)
+      (within_other r node.applied n count jobs taken other) (k.fallen down);
   absent = k.absent;
 }
 
@@ -115,9 +108,11 @@ kept_handed r taken handed handed' node same k = record {
         ((k.up up).accounts s below);
   };
   fallen = λ down. record {
+    within = (k.fallen down).within;
     accounts = λ s below.
         let c = connection_at r s in
-        subst (λ (bs : Bytes). IsBegun bs (queue_in node.clients s) (emitted_for c (all_taken taken))) (sym (same s)) ((k.fallen down).accounts s below);
+        subst (λ (bs : Bytes). IsBegun bs (queue_in node.clients s) (emitted_for c (part_from r node.applied taken))) (sym (same s))
+        ((k.fallen down).accounts s below);
   };
   absent = λ s past. same s ∙ k.absent s past;
 }
@@ -196,23 +191,28 @@ kept_opened r taken handed node client on nothing silent k =
           k.absent s past';
     }
 
--- the node falls: what its connections received begins what is emitted along all
-pub kept_fallen : (r : ℕ) (taken : List Taken) (handed : List Handed) (node node' : Node) → node.down ≡ false
-    → node'.down ≡ true → node'.clients ≡ node.clients
-    → AreRun taken → IsKept r taken handed node → IsKept r taken handed node'
-kept_fallen r taken handed node node' on fell same run k =
+-- the node falls: what its connections received stays
+pub kept_fallen : (r : ℕ) (taken : List Taken) (handed : List Handed) (node node' : Node) (f : Client → Client) → ((x : Client) → (f x).queue ≡ x.queue)
+    → node.down ≡ false → node'.down ≡ true → node'.clients ≡ map f node.clients → node'.applied ≡ node.applied
+    → IsKept r taken handed node → IsKept r taken handed node'
+kept_fallen r taken handed node node' f queues on fell same applied k =
     let u = k.up on in
-    let now : IsFallen r taken handed node.clients = record {
-      accounts = λ s below.
+    let none = fresh_client 0 0 (record { node = 0; serial = 0 }) in
+    let long = length-map node.clients f in
+    let now : IsFallen r taken handed (map f node.clients) node.applied = record {
+      within = u.within;
+      accounts = λ s below'.
+          let below : s < length node.clients = omega arith in
           let c = connection_at r s in
-          let b = (u.accounts s below).begun in
-          record {
-            begins = begins_on (handed_to c handed ++ (queue_in node.clients s).waiting) _ _ b.begins (part_emits c node.applied taken u.within run);
-          };
+          let queue : queue_in (map f node.clients) s ≡ queue_in node.clients s =
+          ap (λ (x : Client). x.queue) (get_or-map f node.clients s none none below) ∙ queues (client_in node.clients s) in
+          subst (λ (q : Queue). IsBegun (handed_to c handed) q (emitted_for c (part_from r node.applied taken))) (sym queue) (u.accounts s below).begun;
     } in
     record {
       up = λ up. absurd (cc (up, fell));
-      fallen = λ down. subst (IsFallen r taken handed) (sym same) now;
+      fallen = λ down.
+          subst (λ (x : List Client). IsFallen r taken handed x node'.applied) (sym same)
+          (subst (λ (x : ℕ). IsFallen r taken handed (map f node.clients) x) (sym applied) now);
       absent = λ s past.
           let past' : length node.clients ≤ s = omega (arith, ap length same) in
           k.absent s past';

@@ -72,6 +72,7 @@ pub is_known : (setup : Setup) (world : World) → ArePlaced world → AreTaken 
 is_known setup world places taken shaped = record {
   numbered = λ n there s below. ((shaped.shaped n there).named s below).connection;
   applied = λ n there. (places n there).applied;
+  behind = λ n there. (places n there).behind;
   within = λ n there. (places n there).within;
   held = λ n there. (places n there).held;
   run = all_run world.nodes 0 world.taken taken shaped.taken;

@@ -11,7 +11,7 @@ use Rattle.nr_model.specs.Entries.{Jobs, entry_moment, entry_items, entry_jobs, 
 use Rattle.nr_model.specs.Connections.{Setup, Handed, handed_to}
 use Rattle.nr_model.specs.Asked.{own_jobs}
 use Rattle.nr_model.specs.Nodes.{Client, fresh_client, Worker, Answered, Node, Taken, Entry, Reads, World, node_at, worker_at, client_at, with_node, with_worker, jobs_taken, part_from, log_of, tail_of}
-use Rattle.nr_model.specs.Nodes.Steps.{Step, Outcome, Refused, is_client, collected, emptied, posted_worker, lifted_node, fed_client, fed_node, closed_client, closed_node, collected_node, advanced, advanced_by, with_reads, looked}
+use Rattle.nr_model.specs.Nodes.Steps.{Step, Outcome, Refused, is_client, collected, emptied, posted_worker, lifted_node, fed_client, fed_node, closed_client, closed_node, collected_node, advanced, advanced_by, with_reads, looked, revived}
 use Rattle.nr_model.specs.Nodes.Pasts.{is_done, handed_by}
 use Rattle.nr_model.specs.Nodes.Explained.{jobs_executed}
 use Rattle.nr_model.proofs.JobLists.{filter-keeps, filter-drops}
@@ -20,15 +20,16 @@ use Rattle.nr_model.proofs.NodesSteps.{Moves, node_here, node_other, by_look}
 use Rattle.nr_model.proofs.NodesPartsEmitted.{AreRun}
 use Rattle.nr_model.proofs.NodesAccountsQueues.{closed_received}
 use Rattle.nr_model.proofs.NodesAccountsKept.{connection_at, IsKept, kept_entry, kept_other, kept_handed, kept_client, kept_opened}
-use Rattle.nr_model.proofs.NodesAccountsApplied.{AreNumbered, IsLevel, same_kept, level_advanced, level_advanced_by, passed_by, kept_reads}
+use Rattle.nr_model.proofs.NodesAccountsApplied.{AreNumbered, IsLevel, same_kept, level_advanced, level_advanced_by, passed_by, kept_reads, kept_revived}
 use Rattle.nr_model.proofs.NodesAccountsCollected.{collected_other, kept_collected}
 use Rattle.nr_model.proofs.Exchanged.{handed_to-append}
 
--- What is known of every world that events lead to: clients are numbered; a node that is up has applied what it passed, and no node passed more than was
--- reserved; looks ran reads of their node's connections; and of a connection that there isn't nothing was executed.
+-- What is known of every world that events lead to: clients are numbered; a node that is up has applied what it passed, any other no more, and no node
+-- passed more than was reserved; looks ran reads of their node's connections; and of a connection that there isn't nothing was executed.
 pub record IsKnown (world : World) : Type 0 where
   pub numbered : (n : ℕ) → n < length world.nodes → AreNumbered n (node_at n world).clients
   pub applied : (n : ℕ) → n < length world.nodes → (node_at n world).down ≡ false → (node_at n world).applied ≡ (node_at n world).passed
+  pub behind : (n : ℕ) → n < length world.nodes → (node_at n world).applied ≤ (node_at n world).passed
   pub within : (n : ℕ) → n < length world.nodes → (node_at n world).passed ≤ tail_of world
   pub held : (n : ℕ) → n < length world.nodes → (node_at n world).fetched ≡ true → (node_at n world).passed < tail_of world
   pub run : AreRun world.taken
@@ -139,7 +140,7 @@ reserved_gives : (world : World) (n : ℕ) (jobs : Jobs) (node : Node) → n < l
 reserved_gives world n jobs node there clients applied server down known handed k =
     let all : (m : ℕ) → m < length world.nodes → IsKept m (world.taken ++ Entry n jobs ∷ []) handed (node_at m world) =
     λ m at. kept_entry m n jobs world.taken handed (node_at m world)
-    (λ up. let level = known.applied m at up in let below = known.within m at in omega arith) (k.each m at) in
+    (let behind = known.behind m at in let below = known.within m at in omega arith) (k.each m at) in
     subst (λ (hs : List Handed). AreKept hs (world.taken ++ Entry n jobs ∷ []) (with_node n node world)) (sym (append-nil handed))
     (put_node handed (world.taken ++ Entry n jobs ∷ []) world n node there
     (same_kept n (world.taken ++ Entry n jobs ∷ []) handed (node_at n world) node clients applied server down (all n there)) (λ m at apart. all m at) k.beyond)
@@ -155,7 +156,7 @@ looked_gives world n refused there known handed k =
     let ahead = advanced_by count refused n log node in
     let below = known.within n there in
     let within : node.passed + count ≤ length log = omega arith in
-    let l = level_advanced_by count n world.taken handed refused node known.run within (level_at handed world n there known k) in
+    let l = level_advanced_by count n world.taken handed refused node within (level_at handed world n there known k) in
     let passed = passed_by count refused n log node in
     let all : length log ≤ ahead.passed = omega arith in
     by_look (λ after. AreKept (handed ++ []) after.taken after) refused n world ahead refl
@@ -222,7 +223,7 @@ moves_kept setup = record {
       put_still handed world n (record node { fetched = true }) may.there k (same_kept n world.taken handed node _ refl refl refl refl);
   applies = λ world n refused may known handed k.
       put_still handed world n (advanced refused n (log_of world.taken) (node_at n world)) may.there k
-      (λ before. (level_advanced n world.taken handed refused (node_at n world) known.run (known.held n may.there may.holds)
+      (λ before. (level_advanced n world.taken handed refused (node_at n world) (known.held n may.there may.holds)
       (level_at handed world n may.there known k)).kept);
   looks = λ world n refused may known handed k. looked_gives world n refused may.there known handed k;
   answers = λ world n w refused may known handed k.
@@ -238,6 +239,12 @@ moves_kept setup = record {
       (kept_client c.node c.serial world.taken handed node (closed_client client) (closed_node c time node).workers may.up
       (λ given emitted r. closed_received given emitted client r)) in
       record { each = now.each; beyond = now.beyond };
+  revives = λ world n f refused may known handed k.
+      let node = node_at n world in
+      let donor = node_at f world in
+      put_still handed world n (revived (tail_of world) donor.server node) may.there k
+      (kept_revived n f (tail_of world) world.taken handed node donor may.down may.up may.even (known.applied f may.donor may.up) (known.behind n may.there)
+      (known.within n may.there) known.run (k.each f may.donor));
   refuses = λ world n refused may known handed k.
       put_still handed world n (record (node_at n world) { refused = true }) may.there k
       (same_kept n world.taken handed (node_at n world) _ refl refl refl refl);

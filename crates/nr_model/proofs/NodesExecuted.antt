@@ -5,7 +5,7 @@ use Rattle.std.proofs.lemmas.List.Elements.{Contains-append_left}
 use Rattle.nr_model.specs.Items.{Item}
 use Rattle.nr_model.specs.Connections.{Setup}
 use Rattle.nr_model.specs.Nodes.{Slot, Empty, Posted, Lifted, Answered, Batch, World, fresh, node_at, worker_at, log_of}
-use Rattle.nr_model.specs.Nodes.Steps.{Outcome, outcome}
+use Rattle.nr_model.specs.Nodes.Steps.{Outcome, came_to}
 use Rattle.nr_model.specs.Nodes.Pasts.{Answering, Event, answer_in, is_done, answer_by, AreEvents, world_after}
 use Rattle.nr_model.specs.Nodes.Explained.{jobs_executed, IsBatchOf, AreExecuted}
 use Rattle.nr_model.proofs.NodesSteps.{Moves, each_step, each_sized, are_last}
@@ -81,6 +81,7 @@ answer_moves setup = record {
   collects = λ world n w refused may fit a e whole. collected_batch world n w may.worker.there fit a e whole;
   closes = λ world c time refused may fit a e whole. absurd (cc e);
   refuses = λ world n refused may fit a e whole. absurd (cc e);
+  revives = λ world n f refused may fit a e whole. absurd (cc e);
 }
 
 -- the answer that an event took
@@ -89,7 +90,7 @@ answered_batch : (setup : Setup) (front : List Event) (e : Event) (back : List E
 answered_batch setup front e back are a took whole =
     let world = world_after setup front in
     let now = (are_last setup (fresh setup) front (e ∷ back) are).0 in
-    let is : e.answer ≡ cond (is_done (outcome setup world e.step)) (answer_by world e.step) None =
+    let is : e.answer ≡ cond (is_done (came_to setup world e.step e.refused)) (answer_by world e.step) None =
     now.answer_is ∙ ap (λ (o : Outcome). cond (is_done o) (answer_by world e.step) None) now.outcome_is in
     each_step setup (λ world step refused outcome after. AreFit world → (a : Answering)
     → cond (is_done outcome) (answer_by world step) None ≡ Some a → a.executed ≡ true → IsFound a world) (answer_moves setup)

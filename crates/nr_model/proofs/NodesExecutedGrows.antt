@@ -7,7 +7,7 @@ use Rattle.nr_model.specs.Entries.{read_jobs}
 use Rattle.nr_model.specs.Connections.{Setup}
 use Rattle.nr_model.specs.Bytes.{IsBeginningOf}
 use Rattle.nr_model.specs.Nodes.{Reads, World, fresh, node_at, with_node, log_of, tail_of, items_taken, jobs_taken, sequence_of}
-use Rattle.nr_model.specs.Nodes.Steps.{Step, Open, Feed, Post, Lift, Reserve, Fill, Fetch, Apply, Look, Answer, Collect, Close, Refuse, Outcome, Opened, Done, Idle, Refused, advanced_by, with_reads, effect, effect_by, outcome, after_step}
+use Rattle.nr_model.specs.Nodes.Steps.{Step, Open, Feed, Post, Lift, Reserve, Fill, Fetch, Apply, Look, Answer, Collect, Close, Refuse, Revive, Outcome, Opened, Done, Idle, Refused, advanced_by, with_reads, effect, effect_by, came_to, after_step}
 use Rattle.nr_model.specs.Nodes.Pasts.{Event, after_event, world_after}
 use Rattle.nr_model.specs.Nodes.Explained.{jobs_executed}
 use Rattle.nr_model.proofs.NodesSteps.{world_after-append}
@@ -65,6 +65,7 @@ effect_grows setup world (Answer n w) refused = record { taken = begins_itself w
 effect_grows setup world (Collect n w) refused = record { taken = begins_itself world.taken; batches = begins_itself world.batches }
 effect_grows setup world (Close c time) refused = record { taken = begins_itself world.taken; batches = begins_itself world.batches }
 effect_grows setup world (Refuse n) refused = record { taken = begins_itself world.taken; batches = begins_itself world.batches }
+effect_grows setup world (Revive n f) refused = record { taken = begins_itself world.taken; batches = begins_itself world.batches }
 
 -- by the outcome
 by_outcome : (o : Outcome) (setup : Setup) (world : World) (step : Step) (refused : Refused) → Grows world (effect_by o setup world step refused)
@@ -73,7 +74,7 @@ by_outcome Done setup world step refused = effect_grows setup world step refused
 by_outcome (Idle reason) setup world step refused = grows_itself world
 
 pub step_grows : (setup : Setup) (world : World) (step : Step) (refused : Refused) → Grows world (after_step setup world step refused)
-step_grows setup world step refused = by_outcome (outcome setup world step) setup world step refused
+step_grows setup world step refused = by_outcome (came_to setup world step refused) setup world step refused
 
 -- by any events
 pub events_grow : (setup : Setup) (world : World) (events : List Event) → Grows world (fold (after_event setup) world events)

@@ -1,20 +1,20 @@
 -- What each change of a node keeps of what its workers' slots say.
 use Rattle.std.proofs.Common.{◌≡◌, ◌≢◌, ℕ, zero, suc, ◌+◌, ◌<◌, ◌≤◌, Bool, true, false, cond, ◌⊎◌, inl, inr, List, [], ◌∷◌, ◌++◌, length, map, drop, get_or, set, refl, ap, sym, ◌∙◌, subst, arith, Contains}
-use Rattle.std.specs.Prelude.{◌==◌, flat_map}
-use Rattle.std.proofs.lemmas.Bool.{cond_both, eq-eqb, ne_eqb}
+use Rattle.std.specs.Prelude.{◌==◌, ◌&&◌, nat_le, flat_map}
+use Rattle.std.proofs.lemmas.Bool.{cases_Bool, cond_both, and_parts, leb-true, leb-false, le-leb, eq-eqb, ne_eqb}
 use Rattle.std.proofs.lemmas.Bool.Decides.{eqb_tells}
-use Rattle.std.proofs.lemmas.List.{append-nil, length-append, length-map, length-set, get_or-set_same, get_or-set_other, get_or_past, get_or_default, get_or_append_left, drop-append-le}
+use Rattle.std.proofs.lemmas.List.{append-nil, length-append, length-map, length-set, get_or-set_same, get_or-set_other, get_or_past, get_or_default, get_or_append_left, drop-append-le, drop_all}
 use Rattle.std.proofs.lemmas.List.Elements.{Contains-append_left, Contains-append_right}
 use Rattle.std.proofs.lemmas.Grind.{flat_map-append}
 use Rattle.nr_model.specs.Items.{Item}
 use Rattle.nr_model.specs.Entries.{Jobs, entry_items, read_jobs, left_by_reads, entry_jobs, left_by_entry}
-use Rattle.nr_model.specs.Servers.{after_all, emitted_all}
-use Rattle.nr_model.specs.Nodes.{Client, fresh_client, Slot, Worker, fresh_worker, worker_at, Node, Logged, Batch}
-use Rattle.nr_model.specs.Nodes.Steps.{Cut, Refused, owing_less, jobs_of_worker, executed_from, with_executed, delivered_to, fallen, with_entry, with_reads, advanced, advanced_by, emptied}
+use Rattle.nr_model.specs.Servers.{Server, after_all, emitted_all}
+use Rattle.nr_model.specs.Nodes.{Client, fresh_client, Slot, Empty, Posted, Lifted, Answered, Worker, fresh_worker, worker_at, Node, Logged, Batch}
+use Rattle.nr_model.specs.Nodes.Steps.{Cut, Refused, owing_less, jobs_of_worker, executed_from, is_owed, with_executed, delivered_to, dropped_jobs, fallen_client, fallen, with_entry, with_reads, advanced, advanced_by, emptied, owed_in, has_batch, revived}
 use Rattle.nr_model.proofs.NodesOwnAdvance.{next_entry, by_advance, entry_passed}
 use Rattle.nr_model.proofs.NodesOwnShape.{executed_at, fallen_at}
 use Rattle.nr_model.proofs.NodesExecutedLists.{lt_or_le, count, Parts, entry_parts, reads_parts}
-use Rattle.nr_model.proofs.NodesExecutedFits.{Standing, worker_of, serves, WorkerFits, fits_on, fits_less, count_same, count-append}
+use Rattle.nr_model.proofs.NodesExecutedFits.{Standing, worker_of, serves, owing, SlotFits, WorkerFits, fits_on, fits_less, count_same, count-append}
 
 -- what holds of each element, behind a write
 pub at_set : {A : Type 0} (P : ℕ → A → Type 0) (xs : List A) (n : ℕ) (x d : A) → (n < length xs → P n x) → (length xs ≤ n → P n (get_or xs n d))
@@ -34,16 +34,20 @@ at_set P xs n x d here past other m =
 abbrev pub own_entry : ℕ → Logged → Jobs
 own_entry r entry = cond (entry.node == r) entry.jobs []
 
--- the jobs of its entries that it hasn't applied
+-- the jobs of its entries from one on
 abbrev pub unapplied : ℕ → ℕ → List Logged → Jobs
 unapplied r applied log = flat_map (own_entry r) (drop applied log)
+
+-- the number of the first entry that it hasn't applied and may have reserved since it came back
+abbrev pub first_owed : ℕ → ℕ → ℕ
+first_owed resumed applied = cond (nat_le resumed applied) applied resumed
 
 abbrev pub standing_of : ℕ → List Logged → Jobs → Node → Standing
 standing_of r log executed node = record {
   down = node.down;
   clients = node.clients;
   waiting = node.waiting;
-  behind = unapplied r node.applied log;
+  behind = unapplied r (first_owed node.resumed node.applied) log;
   executed = executed;
 }
 
@@ -234,6 +238,50 @@ other_step r applied passed log same other =
     ∙ ap (λ (k : ℕ). own_entry r (get_or log k no_entry) ++ unapplied r (suc applied) log) same
     ∙ ap (λ (b : Bool). cond b (get_or log passed no_entry).jobs [] ++ unapplied r (suc applied) log) other
 
+-- an entry that was owed, and one that wasn't
+owed_step : (r resumed applied passed : ℕ) (log : List Logged) → applied ≡ passed → (nat_le resumed applied && (get_or log passed no_entry).node == r) ≡ true
+    → unapplied r (first_owed resumed applied) log ≡ (get_or log passed no_entry).jobs ++ unapplied r (first_owed resumed (suc applied)) log
+owed_step r resumed applied passed log same owed =
+    let both = and_parts (nat_le resumed applied) ((get_or log passed no_entry).node == r) owed in
+    let below = leb-true resumed applied both.0 in
+    let next : nat_le resumed (suc applied) ≡ true = le-leb resumed (suc applied) (omega arith) in
+    ap (λ (b : Bool). unapplied r (cond b applied resumed) log) both.0
+    ∙ own_step r applied passed log same both.1
+    ∙ ap (λ (b : Bool). (get_or log passed no_entry).jobs ++ unapplied r (cond b (suc applied) resumed) log) (sym next)
+
+unowed_step : (r resumed applied passed : ℕ) (log : List Logged) → applied ≡ passed → (nat_le resumed applied && (get_or log passed no_entry).node == r) ≡ false
+    → unapplied r (first_owed resumed applied) log ≡ unapplied r (first_owed resumed (suc applied)) log
+unowed_step r resumed applied passed log same unowed =
+    elim (cases_Bool (nat_le resumed applied)) [
+      | inl e ↦
+          let below = leb-true resumed applied e in
+          let next : nat_le resumed (suc applied) ≡ true = le-leb resumed (suc applied) (omega arith) in
+          let other : ((get_or log passed no_entry).node == r) ≡ false =
+          ap (λ (b : Bool). b && (get_or log passed no_entry).node == r) (sym e) ∙ unowed in
+          ap (λ (b : Bool). unapplied r (cond b applied resumed) log) e
+          ∙ other_step r applied passed log same other
+          ∙ ap (λ (b : Bool). unapplied r (cond b (suc applied) resumed) log) (sym next)
+      | inr e ↦
+          let past = leb-false resumed applied e in
+          let now : first_owed resumed (suc applied) ≡ resumed =
+          cond_both (nat_le resumed (suc applied)) (suc applied) resumed (λ (k : ℕ). k ≡ resumed)
+          (λ h. let below = leb-true resumed (suc applied) h in omega arith) (λ h. refl) in
+          ap (λ (b : Bool). unapplied r (cond b applied resumed) log) e ∙ ap (λ (k : ℕ). unapplied r k log) (sym now)
+    ]
+
+-- it isn't before what was applied, and within the log
+pub owed_from : (resumed applied : ℕ) → applied ≤ first_owed resumed applied
+owed_from resumed applied =
+    cond_both (nat_le resumed applied) applied resumed (λ (k : ℕ). applied ≤ k) (λ h. omega arith)
+    (λ h. let past = leb-false resumed applied h in omega arith)
+
+pub owed_since : (resumed applied : ℕ) → resumed ≤ first_owed resumed applied
+owed_since resumed applied =
+    cond_both (nat_le resumed applied) applied resumed (λ (k : ℕ). resumed ≤ k) (λ h. leb-true resumed applied h) (λ h. omega arith)
+
+pub owed_within : (resumed applied tail : ℕ) → resumed ≤ tail → applied ≤ tail → first_owed resumed applied ≤ tail
+owed_within resumed applied tail a b = cond_both (nat_le resumed applied) applied resumed (λ (k : ℕ). k ≤ tail) (λ h. b) (λ h. a)
+
 -- an entry more, of another node
 unapplied_other : (r k : ℕ) (log : List Logged) (e : Logged) → own_entry r e ≡ [] → unapplied r k (log ++ e ∷ []) ≡ unapplied r k log
 unapplied_other r zero log e silent =
@@ -261,8 +309,11 @@ IsGoing n log executed batches node = NodeFits n log executed batches node × (n
 fallen_fits : (n : ℕ) (log : List Logged) (executed : Jobs) (batches : List Batch) (node : Node) → NodeFits n log executed batches node
     → NodeFits n log executed batches (fallen node)
 fallen_fits n log executed batches node fits v =
+    let fell = fallen_client (dropped_jobs node) in
+    let s : Standing = record (standing_of n log executed node) { down = true; waiting = [] } in
     subst (λ (x : Worker). WorkerFits n v batches (standing_of n log executed (fallen node)) x.slot x.batches) (sym (fallen_at node.workers v))
-    (fits_fallen n v batches (standing_of n log executed node) (worker_at v node).slot (worker_at v node).batches (fits v))
+    (fits_clients n v batches s (worker_at v node).slot (worker_at v node).batches (map fell node.clients) (keeps_map fell (λ c. refl) node.clients)
+    (fits_fallen n v batches (standing_of n log executed node) (worker_at v node).slot (worker_at v node).batches (fits v)))
 
 -- one that applied its next entry
 entry_fits : (cuts : List Cut) (n : ℕ) (log : List Logged) (executed : Jobs) (batches : List Batch) (node : Node) → node.applied ≡ node.passed
@@ -272,9 +323,9 @@ entry_fits cuts n log executed batches node even fits =
     let s = standing_of n log executed node in
     let deliver = delivered_to cuts node.passed (emitted_all node.server (entry_items entry.jobs)) in
     let keeps = keeps_map deliver (λ c. refl) node.clients in
-    let behind = unapplied n (suc node.applied) log in
+    let behind = unapplied n (first_owed node.resumed (suc node.applied)) log in
     let t : Standing = record s { behind = behind } in
-    cond_both (entry.node == n) (with_executed entry.jobs node) node
+    cond_both (is_owed n entry node) (with_executed entry.jobs node) node
     (λ (x : Node). NodeFits n log executed batches (record x {
       applied = suc node.applied;
       server = after_all node.server (entry_items entry.jobs);
@@ -285,11 +336,11 @@ entry_fits cuts n log executed batches node even fits =
     (map deliver node.clients) keeps
     (fits_executed n v batches t node.clients entry.jobs node.workers
     (fits_applied n v batches s (worker_at v node).slot (worker_at v node).batches entry.jobs behind
-    (own_step n node.applied node.passed log even own) (fits v))))
+    (owed_step n node.resumed node.applied node.passed log even own) (fits v))))
     (λ other v.
     fits_clients n v batches t (worker_at v node).slot (worker_at v node).batches (map deliver node.clients) keeps
     (subst (λ (js : Jobs). WorkerFits n v batches (record s { behind = js }) (worker_at v node).slot (worker_at v node).batches)
-    (other_step n node.applied node.passed log even other) (fits v)))
+    (unowed_step n node.resumed node.applied node.passed log even other) (fits v)))
 
 -- the next entry
 pub advanced_going : (refused : Refused) (n : ℕ) (log : List Logged) (executed : Jobs) (batches : List Batch) (node : Node)
@@ -329,7 +380,7 @@ emptied_worker w c = cond_both (c.worker == w) _ _ (λ (x : Client). x.worker �
 
 -- an entry was reserved by the node
 pub reserve_fits : (n : ℕ) (log : List Logged) (executed : Jobs) (batches : List Batch) (node : Node) (at : ℕ) (unfilled : List Bool)
-    → node.applied ≤ length log → NodeFits n log executed batches node
+    → first_owed node.resumed node.applied ≤ length log → NodeFits n log executed batches node
     → NodeFits n (log ++ record { node = n; jobs = entry_jobs node.waiting } ∷ []) (executed ++ entry_jobs node.waiting) batches
     (record node { waiting = left_by_entry node.waiting; at = at; unfilled = unfilled })
 reserve_fits n log executed batches node at unfilled within fits v =
@@ -337,7 +388,7 @@ reserve_fits n log executed batches node at unfilled within fits v =
     let s = standing_of n log executed node in
     subst (λ (js : Jobs). WorkerFits n v batches (record s { waiting = left_by_entry node.waiting; behind = js; executed = executed ++ jobs })
     (worker_at v node).slot (worker_at v node).batches)
-    (sym (unapplied_own n node.applied log jobs within))
+    (sym (unapplied_own n (first_owed node.resumed node.applied) log jobs within))
     (fits_reserve n v batches s (worker_at v node).slot (worker_at v node).batches jobs (left_by_entry node.waiting) (entry_parts node.waiting) (fits v))
 
 -- and by another
@@ -347,7 +398,7 @@ reserve_beside r n log executed batches node jobs other fits v =
     let s = standing_of r log executed node in
     let silent = ap (λ (b : Bool). cond b jobs []) (ne_eqb n r (λ e. other (sym e))) in
     subst (λ (js : Jobs). WorkerFits r v batches (record s { behind = js; executed = executed ++ jobs }) (worker_at v node).slot (worker_at v node).batches)
-    (sym (unapplied_other r node.applied log (record { node = n; jobs = jobs }) silent))
+    (sym (unapplied_other r (first_owed node.resumed node.applied) log (record { node = n; jobs = jobs }) silent))
     (fits_grown r v batches s (worker_at v node).slot (worker_at v node).batches jobs (fits v))
 
 -- jobs of another were run
@@ -355,3 +406,45 @@ pub reads_beside : (r : ℕ) (log : List Logged) (executed : Jobs) (batches : Li
     → NodeFits r log executed batches node → NodeFits r log (executed ++ jobs) batches node
 reads_beside r log executed batches node jobs fits v =
     fits_grown r v batches (standing_of r log executed node) (worker_at v node).slot (worker_at v node).batches jobs (fits v)
+
+-- a slot without a batch owes nothing, and says the same of every standing with as much executed
+none_owed : (worker : Worker) (slot : Slot) → has_batch (record worker { slot = slot }) ≡ false → owed_in slot ≡ 0
+none_owed worker Empty e = refl
+none_owed worker (Posted jobs) e = absurd (cc e)
+none_owed worker (Lifted owed) e = absurd (cc e)
+none_owed worker (Answered whole) e = refl
+
+slot_back : (w : ℕ) (s t : Standing) (jobs : Jobs) (worker : Worker) (slot : Slot) → has_batch (record worker { slot = slot }) ≡ false → t.executed ≡ s.executed
+    → SlotFits w s jobs slot → SlotFits w t jobs slot
+slot_back w s t jobs worker Empty e same p = tt
+slot_back w s t jobs worker (Posted posted) e same p = absurd (cc e)
+slot_back w s t jobs worker (Lifted owed) e same p = absurd (cc e)
+slot_back w s t jobs worker (Answered whole) e same p = λ is x h. subst (λ (js : Jobs). Contains js x) (sym same) (p is x h)
+
+-- a node that comes back: none of its entries so far is owed
+pub revived_fits : (n : ℕ) (log : List Logged) (executed : Jobs) (batches : List Batch) (server : Server) (node : Node) → node.waiting ≡ []
+    → ((w : ℕ) → has_batch (worker_at w node) ≡ false) → NodeFits n log executed batches node
+    → NodeFits n log executed batches (revived (length log) server node)
+revived_fits n log executed batches server node waiting idle fits v =
+    let worker = worker_at v node in
+    let s = standing_of n log executed node in
+    let t = standing_of n log executed (revived (length log) server node) in
+    let from = first_owed (length log) node.passed in
+    let past = owed_since (length log) node.passed in
+    let none : drop from log ≡ [] = drop_all from log past in
+    let test = serves v t.clients in
+    let owing_none : owing v t ≡ 0 = λ i. count test (waiting i) + count test (flat_map (own_entry n) (none i)) in
+    let p = fits v in
+    record {
+      owed = λ up. none_owed worker worker.slot (idle v) ∙ sym owing_none;
+      below = p.below;
+      last = λ some.
+          let l = p.last some in
+          record {
+            batch = l.batch;
+            stands = l.stands;
+            own = l.own;
+            number = l.number;
+            fits = slot_back v s t l.batch.jobs worker worker.slot (idle v) refl l.fits;
+          };
+    }

@@ -19,7 +19,9 @@ use Rattle.nr_model.proofs.NodesOwnShaped.{fresh_worker_at}
 use Rattle.nr_model.proofs.NodesExecutedLists.{first_in, later_in}
 use Rattle.nr_model.proofs.NodesExecutedServed.{IsServed, AreServed, each_served}
 use Rattle.nr_model.proofs.NodesExecutedFits.{Standing, IsAt, IsOf, WorkerFits, fits_beside, fits_post, with_lifted, fits_lift, fits_lift_beside, fits_answer, fits_refusal, fits_taken}
-use Rattle.nr_model.proofs.NodesExecutedNodes.{at_set, own_entry, unapplied, standing_of, NodeFits, KeepsWorkers, keeps_map, keeps_set, fits_clients, fits_open, advanced_going, ahead_going, reads_fit, emptied_worker, reserve_fits, reserve_beside, reads_beside}
+use Rattle.nr_model.proofs.NodesExecutedNodes.{at_set, own_entry, unapplied, first_owed, owed_within, standing_of, NodeFits, KeepsWorkers, keeps_map, keeps_set, fits_clients, fits_open, advanced_going, ahead_going, reads_fit, emptied_worker, reserve_fits, reserve_beside, reads_beside, revived_fits}
+use Rattle.nr_model.proofs.NodesOwnLeft.{none_batch}
+use Rattle.nr_model.proofs.NodesSettledDropped.{AreDropped, each_dropped}
 
 -- where an element of what was put together stands
 in_parts : {A B : Type 0} (f : A → List B) (xs : List A) (y : B) → Contains (flat_map f xs) y → (x : A) × Contains xs x × Contains (f x) y
@@ -198,17 +200,17 @@ taken_fit world n node t log there logged here each fit = record {
 }
 
 -- each step keeps it
-fit_moves : (setup : Setup) → Moves setup (λ world step refused outcome after. AreServed world → ArePlaced world → AreFit world → AreFit after)
+fit_moves : (setup : Setup) → Moves setup (λ world step refused outcome after. AreServed world → ArePlaced world → AreDropped world → AreFit world → AreFit after)
 fit_moves setup = record {
-  idles = λ world step refused reason served placed fit. fit;
-  opens = λ world n w refused may served placed fit.
+  idles = λ world step refused reason served placed dropped fit. fit;
+  opens = λ world n w refused may served placed dropped fit.
       let there = may.worker.there in
       let node = node_at n world in
       let s = served n there in
       fit_with n _ world there (λ v.
       fits_open n v world.batches (standing_of n (log_of world.taken) (jobs_executed world) node) (worker_at v node).slot (worker_at v node).batches _
-      s.waiting (behind_served n (log_of world.taken) node s node.applied) (fit.nodes n there v)) fit;
-  feeds = λ world c time bytes refused may served placed fit.
+      s.waiting (behind_served n (log_of world.taken) node s (first_owed node.resumed node.applied)) (fit.nodes n there v)) fit;
+  feeds = λ world c time bytes refused may served placed dropped fit.
       let there = may.client.there in
       let node = node_at c.node world in
       let client = client_at c.serial node in
@@ -217,7 +219,7 @@ fit_moves setup = record {
       (keeps_set node.clients c.serial (fed_client client bytes) (fresh_client 0 0 (record { node = 0; serial = 0 })) may.client.stands refl)
       (fit.nodes c.node there)) fit in
       record { nodes = now.nodes; one = now.one };
-  posts = λ world n w refused may served placed fit.
+  posts = λ world n w refused may served placed dropped fit.
       let there = may.worker.there in
       let node = node_at n world in
       let worker = worker_at w node in
@@ -232,30 +234,31 @@ fit_moves setup = record {
             fits_beside m v world.batches new (standing_of m log executed (node_at m world)) x.slot x.batches (λ own. other (sym own.node)) (fit.nodes m at v));
         one = posted_one n w worker.batches new.jobs world (fit.nodes n there w).below fit;
       };
-  lifts = λ world n w refused may served placed fit.
+  lifts = λ world n w refused may served placed dropped fit.
       let there = may.worker.there in
       let node = node_at n world in
       let jobs = posted_jobs (worker_at w node).slot in
       fit_with n _ world there
       (lift_fits n w (log_of world.taken) (jobs_executed world) world.batches node jobs may.worker.stands may.posted
       ((served n there).posted w jobs may.posted) (fit.nodes n there)) fit;
-  reserves = λ world n refused may served placed fit.
+  reserves = λ world n refused may served placed dropped fit.
       let node = node_at n world in
       let log = log_of world.taken in
       let executed = jobs_executed world in
       let jobs = entry_jobs node.waiting in
       taken_fit world n _ (Entry n jobs) (log ++ record { node = n; jobs = jobs } ∷ []) may.there (log_of-append world.taken (Entry n jobs ∷ []))
       (reserve_fits n log executed world.batches node (tail_of world) (replicate setup.nodes true)
-      (applied_within (tail_of world) node (placed n may.there) may.up) (fit.nodes n may.there))
+      (owed_within node.resumed node.applied (tail_of world) (placed n may.there).resumed (applied_within (tail_of world) node (placed n may.there)))
+      (fit.nodes n may.there))
       (λ m at other. reserve_beside m n log executed world.batches (node_at m world) jobs other (fit.nodes m at)) fit;
-  fills = λ world n t refused may served placed fit. fit_with n _ world may.there (fit.nodes n may.there) fit;
-  fetches = λ world n refused may served placed fit. fit_with n _ world may.there (fit.nodes n may.there) fit;
-  applies = λ world n refused may served placed fit.
+  fills = λ world n t refused may served placed dropped fit. fit_with n _ world may.there (fit.nodes n may.there) fit;
+  fetches = λ world n refused may served placed dropped fit. fit_with n _ world may.there (fit.nodes n may.there) fit;
+  applies = λ world n refused may served placed dropped fit.
       let there = may.there in
       let going = advanced_going refused n (log_of world.taken) (jobs_executed world) world.batches (node_at n world)
       (fit.nodes n there, (placed n there).applied) in
       fit_with n _ world there going.0 fit;
-  looks = λ world n refused may served placed fit.
+  looks = λ world n refused may served placed dropped fit.
       let there = may.there in
       let node = node_at n world in
       let log = log_of world.taken in
@@ -269,7 +272,7 @@ fit_moves setup = record {
       (log_of-append world.taken (Reads n ahead.applied jobs ∷ []) ∙ append-nil log)
       (reads_fit refused.cuts (tail_of world) n log executed world.batches ahead going.0)
       (λ m at other. reads_beside m log executed world.batches (node_at m world) jobs (fit.nodes m at)) fit);
-  answers = λ world n w refused may served placed fit.
+  answers = λ world n w refused may served placed dropped fit.
       let there = may.worker.there in
       let node = node_at n world in
       let worker = worker_at w node in
@@ -277,7 +280,7 @@ fit_moves setup = record {
       fit_with n _ world there
       (slot_fits n w (log_of world.taken) (jobs_executed world) world.batches node (Answered (not node.down)) may.worker.stands
       (answer_fits n w world.batches s worker.slot worker.batches node.down refl may.full may.owed (fit.nodes n there w)) (fit.nodes n there)) fit;
-  collects = λ world n w refused may served placed fit.
+  collects = λ world n w refused may served placed dropped fit.
       let there = may.worker.there in
       let node = node_at n world in
       let worker = worker_at w node in
@@ -290,7 +293,7 @@ fit_moves setup = record {
       fit_with n _ world there (λ v.
       fits_clients n v world.batches s (worker_at v after).slot (worker_at v after).batches (map (emptied w) node.clients)
       (keeps_map (emptied w) (emptied_worker w) node.clients) (taken v)) fit;
-  closes = λ world c time refused may served placed fit.
+  closes = λ world c time refused may served placed dropped fit.
       let there = may.client.there in
       let node = node_at c.node world in
       let client = client_at c.serial node in
@@ -299,7 +302,13 @@ fit_moves setup = record {
       (keeps_set node.clients c.serial (closed_client client) (fresh_client 0 0 (record { node = 0; serial = 0 })) may.client.stands refl)
       (fit.nodes c.node there)) fit in
       record { nodes = now.nodes; one = now.one };
-  refuses = λ world n refused may served placed fit. fit_with n _ world may.there (fit.nodes n may.there) fit;
+  revives = λ world n f refused may served placed dropped fit.
+      let there = may.there in
+      let node = node_at n world in
+      fit_with n _ world there
+      (revived_fits n (log_of world.taken) (jobs_executed world) world.batches (node_at f world).server node (dropped n there may.down).waiting
+      (none_batch node.workers may.idle) (fit.nodes n there)) fit;
+  refuses = λ world n refused may served placed dropped fit. fit_with n _ world may.there (fit.nodes n may.there) fit;
 }
 
 -- at first
@@ -326,8 +335,8 @@ fit_from setup before (e ∷ events) fit =
     let world = world_after setup before in
     let next = after_event setup world e in
     let here : AreFit next =
-    each_step setup (λ world step refused outcome after. AreServed world → ArePlaced world → AreFit world → AreFit after) (fit_moves setup)
-    world e.step e.refused (each_sized setup before) (each_served setup before) (each_placed setup before) fit in
+    each_step setup (λ world step refused outcome after. AreServed world → ArePlaced world → AreDropped world → AreFit world → AreFit after) (fit_moves setup)
+    world e.step e.refused (each_sized setup before) (each_served setup before) (each_placed setup before) (each_dropped setup before) fit in
     let is : world_after setup (before ++ e ∷ []) ≡ next = world_after-append setup (fresh setup) before (e ∷ []) in
     subst (λ (w : World). AreFit (fold (after_event setup) w events)) is
     (fit_from setup (before ++ e ∷ []) events (subst AreFit (sym is) here))

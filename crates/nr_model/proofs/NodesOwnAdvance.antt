@@ -1,9 +1,9 @@
 -- What a node's next entry changes, and what many do.
 use Rattle.std.proofs.Common.{◌≡◌, ℕ, zero, suc, ◌+◌, true, false, cond, inl, inr, List, [], refl, ap, ◌∙◌, arith}
-use Rattle.std.specs.Prelude.{◌||◌, ◌==◌, slice_index_or}
+use Rattle.std.specs.Prelude.{◌||◌, slice_index_or}
 use Rattle.std.proofs.lemmas.Bool.{cases_Bool, cond_both}
 use Rattle.nr_model.specs.Nodes.{Logged, Node}
-use Rattle.nr_model.specs.Nodes.Steps.{Cut, Refused, advanced, advanced_by, passing, fallen, falls_at, with_entry}
+use Rattle.nr_model.specs.Nodes.Steps.{Cut, Refused, is_owed, advanced, advanced_by, passing, fallen, falls_at, with_entry}
 
 -- the entry that a node applies next
 abbrev pub next_entry : List Logged → Node → Logged
@@ -22,10 +22,10 @@ advanced_on refused n log node e on =
 
 -- an entry leaves what waits, and how many were passed
 pub entry_waiting : (cuts : List Cut) (n : ℕ) (entry : Logged) (node : Node) → (with_entry cuts n entry node).waiting ≡ node.waiting
-entry_waiting cuts n entry node = cond_both (entry.node == n) _ _ (λ (x : Node). x.waiting ≡ node.waiting) (λ own. refl) (λ other. refl)
+entry_waiting cuts n entry node = cond_both (is_owed n entry node) _ _ (λ (x : Node). x.waiting ≡ node.waiting) (λ own. refl) (λ other. refl)
 
 pub entry_passed : (cuts : List Cut) (n : ℕ) (entry : Logged) (node : Node) → (with_entry cuts n entry node).passed ≡ node.passed
-entry_passed cuts n entry node = cond_both (entry.node == n) _ _ (λ (x : Node). x.passed ≡ node.passed) (λ own. refl) (λ other. refl)
+entry_passed cuts n entry node = cond_both (is_owed n entry node) _ _ (λ (x : Node). x.passed ≡ node.passed) (λ own. refl) (λ other. refl)
 
 -- what holds after the next entry, by what becomes of the node
 pub by_advance : (P : Node → Type 0) (refused : Refused) (n : ℕ) (log : List Logged) (node : Node)
@@ -42,6 +42,19 @@ pub advanced_passed : (refused : Refused) (n : ℕ) (log : List Logged) (node : 
 advanced_passed refused n log node =
     by_advance (λ x. x.passed ≡ suc node.passed) refused n log node (λ e. refl) (λ e. refl)
     (λ e. ap suc (entry_passed refused.cuts n (next_entry log node) node))
+
+-- a node keeps when it came back
+pub advanced_resumed : (refused : Refused) (n : ℕ) (log : List Logged) (node : Node) → (advanced refused n log node).resumed ≡ node.resumed
+advanced_resumed refused n log node =
+    let entry = next_entry log node in
+    by_advance (λ x. x.resumed ≡ node.resumed) refused n log node (λ e. refl) (λ e. refl)
+    (λ e. cond_both (is_owed n entry node) _ _ (λ (x : Node). x.resumed ≡ node.resumed) (λ own. refl) (λ other. refl))
+
+pub advanced_since : (refused : Refused) (n : ℕ) (log : List Logged) (node : Node) → (advanced refused n log node).since ≡ node.since
+advanced_since refused n log node =
+    let entry = next_entry log node in
+    by_advance (λ x. x.since ≡ node.since) refused n log node (λ e. refl) (λ e. refl)
+    (λ e. cond_both (is_owed n entry node) _ _ (λ (x : Node). x.since ≡ node.since) (λ own. refl) (λ other. refl))
 
 -- a node that is up afterwards was up, and applied it
 pub advanced_was_up : (refused : Refused) (n : ℕ) (log : List Logged) (node : Node) → (advanced refused n log node).down ≡ false → node.down ≡ false

@@ -1,7 +1,7 @@
 -- The sequence of what was taken holds every connection's jobs in their order, numbered on, its updates by entry and its reads where looks ran them.
-use Rattle.std.proofs.Common.{◌≡◌, ℕ, ◌<◌, true, false, inl, inr, List, [], ◌++◌, length, map, ap, sym, ◌∙◌, subst, ltb}
+use Rattle.std.proofs.Common.{◌≡◌, ℕ, ◌<◌, ◌≤◌, true, false, inl, inr, List, [], ◌++◌, length, map, ap, sym, ◌∙◌, subst, ltb}
 use Rattle.std.specs.List.{range_with_len}
-use Rattle.std.proofs.lemmas.Bool.{cases_Bool, and_from, lt-ltb}
+use Rattle.std.proofs.lemmas.Bool.{cases_Bool, and_from, lt-ltb, le-ltb}
 use Rattle.std.proofs.lemmas.List.{append-nil, length-map}
 use Rattle.nr_model.specs.Items.{Connection, Item}
 use Rattle.nr_model.specs.Connections.{Setup, fed_to}
@@ -21,9 +21,10 @@ use Rattle.nr_model.proofs.NodesOwnLeft.{at_worker}
 use Rattle.nr_model.proofs.NodesOwnOwned.{IsThere, is_shut, Owned, each_owned, none_absent, asked_open}
 
 -- How it stands with a connection that is there: its executed jobs, and those that wait at its node and at its worker, are those that were asked for;
--- where its node is down, its executed jobs are the first of them. They count up from 0. Until its close its session is what all its bytes left.
+-- where its node is down, or came back since, its executed jobs are the first of them. They count up from 0. Until its close its session is what all its
+-- bytes left.
 pub record IsOwn (world : World) (c : Connection) : Type 0 where
-  pub whole : (node_at c.node world).down ≡ false
+  pub whole : (node_at c.node world).down ≡ false → (node_at c.node world).since ≤ c.serial
       → own_jobs c (jobs_executed world) ++ (own_jobs c (node_at c.node world).waiting
       ++ (own_jobs c (posted_jobs (worker_at (client_of c world).worker (node_at c.node world)).slot)
       ++ own_jobs c (worker_at (client_of c world).worker (node_at c.node world)).pending)) ≡ asked_jobs world c
@@ -37,7 +38,7 @@ is_own : (world : World) (c : Connection) → Owned world → IsClient world c �
 is_own world c p is =
     let s = p.stands c.node is.there c.serial is.stands in
     record {
-      whole = s.own;
+      whole = λ up recent. s.own up (le-ltb c.serial (node_at c.node world).since recent);
       begun = s.begun;
       numbers = s.numbers;
       shut = s.shut_is;

@@ -1,8 +1,8 @@
 -- In every world the jobs of each connection, executed and left over, are those that were asked for, and one that isn't there has none.
 use Rattle.std.proofs.Common.{◌≡◌, ◌≢◌, ℕ, ◌-◌, ◌<◌, Bool, true, false, not, inl, inr, List, [], ◌∷◌, ◌++◌, length, drop, replicate, slice_set, refl, ap, sym, ◌∙◌, subst, arith}
-use Rattle.std.specs.Prelude.{◌&&◌, ◌||◌, flat_map, Option}
+use Rattle.std.specs.Prelude.{◌&&◌, ◌||◌, flat_map, nat_lt, Option}
 use Rattle.std.specs.List.{AllByRecursion, list_any}
-use Rattle.std.proofs.lemmas.Bool.{false_from_ne_true, or_left, or_right}
+use Rattle.std.proofs.lemmas.Bool.{cases_Bool, ltb-true, false_from_ne_true, or_left, or_right}
 use Rattle.std.proofs.lemmas.Bool.Decides.{eqb_tells}
 use Rattle.std.proofs.lemmas.List.{append-nil, length-append, length-map, length-set, drop_at, get_or-set_same, get_or-set_other}
 use Rattle.std.proofs.lemmas.List.Concat.{flat_map-append}
@@ -18,19 +18,20 @@ use Rattle.nr_model.specs.Servers.{emitted_all}
 use Rattle.nr_model.specs.Connections.{Setup, Feeding, Closing, fed_to}
 use Rattle.nr_model.specs.Asked.{own_jobs, jobs_from, jobs_of_feeds, cut_by, closing_job}
 use Rattle.nr_model.specs.Nodes.{Client, fresh_client, Slot, Empty, Posted, Lifted, Answered, Node, Taken, Entry, Reads, Logged, World, fresh, no_node, node_at, worker_at, client_at, log_of, tail_of, jobs_taken}
-use Rattle.nr_model.specs.Nodes.Steps.{Cut, Refused, fed_client, closed_client, emptied, advanced, advanced_by, with_reads, delivered_to, asked_next, fed_node, closed_node, close_job, dropped_at, posted_jobs, is_lifted, is_posted}
+use Rattle.nr_model.specs.Nodes.Steps.{Cut, Refused, fed_client, closed_client, emptied, advanced, advanced_by, with_reads, delivered_to, asked_next, fed_node, closed_node, close_job, dropped_at, posted_jobs, is_lifted, is_posted, cut_client}
 use Rattle.nr_model.specs.Nodes.Pasts.{Event, world_after}
 use Rattle.nr_model.proofs.Ordered.{or_false}
 use Rattle.nr_model.proofs.JobLists.{same_is, same_self}
 use Rattle.nr_model.proofs.Exchanged.{fed_to-append, own_bytes, other_bytes}
 use Rattle.nr_model.proofs.Asked.{jobs_of_feeds-append, own_feed, other_feed, closing_none, closing_first, closing_other}
-use Rattle.nr_model.proofs.NodesSteps.{fresh_at, Moves, Beside, each_beside, by_look}
+use Rattle.nr_model.proofs.NodesSteps.{fresh_at, Moves, Beside, keeps_both, each_beside, by_look}
 use Rattle.nr_model.proofs.NodesOwnLists.{All-entry, All-reads}
 use Rattle.nr_model.proofs.NodesOwnAdvance.{by_advance, each_advance, ahead_waiting}
-use Rattle.nr_model.proofs.NodesOwnShape.{of_at, connection_at, IsOf, IsShaped, client_new}
+use Rattle.nr_model.proofs.NodesOwnShape.{of_at, connection_at, IsOf, IsShaped, client_new, next_advanced}
 use Rattle.nr_model.proofs.NodesOwnShaped.{node_in, Goes, AreOf, IsShapedWorld, fresh_shaped, keeps_shaped, moves_going, worker_stands}
+use Rattle.nr_model.proofs.NodesSettledDropped.{AreDropped, fresh_dropped, keeps_dropped}
 use Rattle.nr_model.proofs.NodesOwnSessions.{IsSession, session_fed, fresh_stands, stands_same, jobs_next}
-use Rattle.nr_model.proofs.NodesOwnLeft.{others, bare, left_of, StandsAt, none_where, none_elsewhere, stands_still, stands_opened, stands_posted, stands_slot, stands_lifted, stands_reserved, stands_advanced, stands_read, stands_collected, stands_at_fed, stands_at_fed_other, stands_at_closed, stands_at_closed_other}
+use Rattle.nr_model.proofs.NodesOwnLeft.{others, bare, left_of, StandsAt, none_where, none_elsewhere, stands_still, stands_opened, stands_posted, stands_slot, stands_lifted, stands_reserved, stands_advanced, stands_read, stands_collected, stands_at_fed, stands_at_fed_other, stands_at_closed, stands_at_closed_other, stands_back}
 
 -- a connection's executed jobs, those asked for, and whether it was closed
 abbrev pub done_of : Connection → List Taken → Jobs
@@ -110,7 +111,7 @@ others_taken : (n s : ℕ) (node : Node) (taken : List Taken) (fed : List Feedin
 others_taken n s node taken fed closed t none is =
     let c = connection_at n s in
     let client = bare (client_at s node) in
-    stands_same client client node.down (left_of n s node) (done_of c taken) (asked_of c fed closed) (fed_to c fed) (is_shut c closed)
+    stands_same client client node.down (nat_lt s node.since) (left_of n s node) (done_of c taken) (asked_of c fed closed) (fed_to c fed) (is_shut c closed)
     (left_of n s node) (done_of c (taken ++ t ∷ [])) (asked_of c fed closed) (fed_to c fed) (is_shut c closed)
     refl refl (done_other c taken t none) refl refl refl is
 
@@ -119,7 +120,7 @@ others_fed : (n s : ℕ) (node : Node) (taken : List Taken) (fed : List Feeding)
 others_fed n s node taken fed closed f other is =
     let c = connection_at n s in
     let client = bare (client_at s node) in
-    stands_same client client node.down (left_of n s node) (done_of c taken) (asked_of c fed closed) (fed_to c fed) (is_shut c closed)
+    stands_same client client node.down (nat_lt s node.since) (left_of n s node) (done_of c taken) (asked_of c fed closed) (fed_to c fed) (is_shut c closed)
     (left_of n s node) (done_of c taken) (asked_of c (fed ++ f ∷ []) closed) (fed_to c (fed ++ f ∷ [])) (is_shut c closed)
     refl refl refl (ap (cut_by (closing_job c closed)) (jobs_other c fed f other)) (text_other c fed f other) refl is
 
@@ -128,7 +129,7 @@ others_closed : (n s : ℕ) (node : Node) (taken : List Taken) (fed : List Feedi
 others_closed n s node taken fed closed k other is =
     let c = connection_at n s in
     let client = bare (client_at s node) in
-    stands_same client client node.down (left_of n s node) (done_of c taken) (asked_of c fed closed) (fed_to c fed) (is_shut c closed)
+    stands_same client client node.down (nat_lt s node.since) (left_of n s node) (done_of c taken) (asked_of c fed closed) (fed_to c fed) (is_shut c closed)
     (left_of n s node) (done_of c taken) (asked_of c fed (closed ++ k ∷ [])) (fed_to c fed) (is_shut c (closed ++ k ∷ []))
     refl refl refl (ap (λ (o : Option Item). cut_by o (jobs_of_feeds c [] fed)) (closing_other c closed k other)) refl (shut_other c closed k other) is
 
@@ -205,10 +206,10 @@ new_at setup n w node taken fed closed shaped u =
     λ i. none node.waiting shaped.waiting i
     ++ (none (posted_jobs worker.slot) (of_at n (client_at s after).worker node.clients (posted_jobs worker.slot) at.posted) i
     ++ none worker.pending (of_at n (client_at s after).worker node.clients worker.pending at.pending) i) in
-    stands_same (bare client) (bare (client_at s after)) node.down [] [] [] [] false
+    stands_same (bare client) (bare (client_at s after)) node.down (nat_lt s node.since) [] [] [] [] false
     (left_of n s after) (done_of c taken) (asked_of c fed closed) (fed_to c fed) (is_shut c closed)
     (ap bare (client_new node.clients client)) left u.done (asked_open c fed closed u.shut ∙ u.asked) u.text u.shut
-    (fresh_stands 0 w (connection_at 0 0) node.down)
+    (fresh_stands 0 w (connection_at 0 0) node.down (nat_lt s node.since))
 
 owned_opened : (setup : Setup) (n w : ℕ) (node : Node) (taken : List Taken) (fed : List Feeding) (closed : List Closing) → IsShaped setup n node
     → IsUntouched (connection_at n (length node.clients)) taken fed closed → AllAt n node taken fed closed
@@ -246,10 +247,10 @@ asked_more c client fed closed time bytes on going session =
 
 -- a feed
 all_fed : (n s time : ℕ) (bytes : Bytes) (node : Node) (taken : List Taken) (fed : List Feeding) (closed : List Closing) → s < length node.clients
-    → (client_at s node).worker < length node.workers → node.down ≡ false → (client_at s node).ended ≡ false → (client_at s node).closed ≡ false
-    → AllAt n node taken fed closed
+    → (client_at s node).worker < length node.workers → node.down ≡ false → nat_lt s node.since ≡ false → (client_at s node).ended ≡ false
+    → (client_at s node).closed ≡ false → AllAt n node taken fed closed
     → AllAt n (fed_node (connection_at n s) time bytes node) taken (fed ++ record { connection = connection_at n s; moment = moment time; bytes = bytes } ∷ []) closed
-all_fed n s time bytes node taken fed closed there stands up going unclosed all r at =
+all_fed n s time bytes node taken fed closed there stands up recent going unclosed all r at =
     let d = connection_at n s in
     let client = client_at s node in
     let f : Feeding = record { connection = d; moment = moment time; bytes = bytes } in
@@ -260,9 +261,9 @@ all_fed n s time bytes node taken fed closed there stands up going unclosed all 
       | inl e ↦ let is = all s there in
           let on : is_shut d closed ≡ false = is.shut_is ∙ unclosed in
           let new = jobs_next d client time bytes in
-          let now = stands_at_fed n s time bytes node (done_of d taken) (asked_of d fed closed) (fed_to d fed) (is_shut d closed) there stands up going unclosed is in
+          let now = stands_at_fed n s time bytes node (done_of d taken) (asked_of d fed closed) (fed_to d fed) (is_shut d closed) there stands up recent going unclosed is in
           subst (λ (k : ℕ). OwnAt n k after taken (fed ++ f ∷ []) closed) (sym e.1)
-          (stands_same (bare (client_at s after)) (bare (client_at s after)) node.down (left_of n s after) (done_of d taken) (asked_of d fed closed ++ new)
+          (stands_same (bare (client_at s after)) (bare (client_at s after)) node.down (nat_lt s node.since) (left_of n s after) (done_of d taken) (asked_of d fed closed ++ new)
           (fed_to d fed ++ bytes) (is_shut d closed)
           (left_of n s after) (done_of d taken) (asked_of d (fed ++ f ∷ []) closed) (fed_to d (fed ++ f ∷ [])) (is_shut d closed)
           refl refl refl (asked_more d (bare client) fed closed time bytes on going (is.session unclosed)) (text_more d fed f (same_self d)) refl now)
@@ -311,7 +312,7 @@ all_closed n s time node taken fed closed there stands up unclosed all r at =
           ap (λ (o : Option Item). cut_by o (jobs_of_feeds d [] fed)) (closing_first d closed k on (same_self d))
           ∙ ap (cut_by job) (sym (asked_open d fed closed on)) in
           subst (λ (j : ℕ). OwnAt n j after taken fed (closed ++ k ∷ [])) (sym e.1)
-          (stands_same (bare (client_at s after)) (bare (client_at s after)) node.down (left_of n s after) (done_of d taken) (cut_by job (asked_of d fed closed))
+          (stands_same (bare (client_at s after)) (bare (client_at s after)) node.down (nat_lt s node.since) (left_of n s after) (done_of d taken) (cut_by job (asked_of d fed closed))
           (fed_to d fed) true
           (left_of n s after) (done_of d taken) (asked_of d fed (closed ++ k ∷ [])) (fed_to d fed) (is_shut d (closed ++ k ∷ []))
           refl refl refl asked refl (shut_now d closed k (same_self d)) now)
@@ -339,20 +340,23 @@ owned_closed setup nodes taken fed closed n s node k is there g here p =
 -- the next entries
 many_advanced : (refused : Refused) (n : ℕ) (log : List Logged) (node : Node) → length (advanced refused n log node).clients ≡ length node.clients
 many_advanced refused n log node =
-    by_advance (λ after. length after.clients ≡ length node.clients) refused n log node (λ e. refl) (λ e. refl) (λ e. length-map node.clients _)
+    by_advance (λ after. length after.clients ≡ length node.clients) refused n log node (λ e. refl) (λ e. length-map node.clients _)
+    (λ e. length-map node.clients _)
 
-all_advanced : (refused : Refused) (n : ℕ) (log : List Logged) (node : Node) (taken : List Taken) (fed : List Feeding) (closed : List Closing)
-    → AllAt n node taken fed closed → AllAt n (advanced refused n log node) taken fed closed
-all_advanced refused n log node taken fed closed all s at =
+all_advanced : (setup : Setup) (refused : Refused) (n : ℕ) (log : List Logged) (node : Node) (taken : List Taken) (fed : List Feeding) (closed : List Closing)
+    → IsShaped setup n node → AllAt n node taken fed closed → AllAt n (advanced refused n log node) taken fed closed
+all_advanced setup refused n log node taken fed closed shaped all s at =
     let c = connection_at n s in
     let many = many_advanced refused n log node in
     let was : s < length node.clients = omega arith in
-    stands_advanced refused n s log node (done_of c taken) (asked_of c fed closed) (fed_to c fed) (is_shut c closed) was (all s was)
+    stands_advanced setup refused n s log node (done_of c taken) (asked_of c fed closed) (fed_to c fed) (is_shut c closed) was shaped (all s was)
 
-all_ahead : (count : ℕ) (refused : Refused) (n : ℕ) (log : List Logged) (node : Node) (taken : List Taken) (fed : List Feeding) (closed : List Closing)
-    → AllAt n node taken fed closed → AllAt n (advanced_by count refused n log node) taken fed closed
-all_ahead count refused n log node taken fed closed all =
-    each_advance (λ x. AllAt n x taken fed closed) refused n log (λ x. all_advanced refused n log x taken fed closed) count node all
+all_ahead : (setup : Setup) (count : ℕ) (refused : Refused) (n : ℕ) (log : List Logged) (node : Node) (taken : List Taken) (fed : List Feeding) (closed : List Closing)
+    → IsShaped setup n node → AllAt n node taken fed closed → AllAt n (advanced_by count refused n log node) taken fed closed
+all_ahead setup count refused n log node taken fed closed shaped all =
+    let both = each_advance (λ x. IsShaped setup n x × AllAt n x taken fed closed) refused n log
+    (λ x p. ((next_advanced setup refused n log x p.0).shaped, all_advanced setup refused n log x taken fed closed p.0 p.1)) count node (shaped, all) in
+    both.1
 
 -- a look's reads
 all_read : (cuts : List Cut) (tail n count : ℕ) (node : Node) (taken : List Taken) (fed : List Feeding) (closed : List Closing) → node.down ≡ false
@@ -364,31 +368,32 @@ all_read cuts tail n count node taken fed closed up all s at =
     let long = length-map node.clients (delivered_to cuts tail (emitted_all node.server (read_jobs node.waiting))) in
     let was : s < length node.clients = omega arith in
     let client = bare (client_at s after) in
-    stands_same client client node.down (left_of n s after) (done_of c taken ++ own_jobs c (read_jobs node.waiting)) (asked_of c fed closed) (fed_to c fed) (is_shut c closed)
+    stands_same client client node.down (nat_lt s after.since) (left_of n s after) (done_of c taken ++ own_jobs c (read_jobs node.waiting)) (asked_of c fed closed) (fed_to c fed) (is_shut c closed)
     (left_of n s after) (done_of c (taken ++ t ∷ [])) (asked_of c fed closed) (fed_to c fed) (is_shut c closed)
     refl refl (done_more c taken t) refl refl refl
     (stands_read cuts tail n s node (done_of c taken) (asked_of c fed closed) (fed_to c fed) (is_shut c closed) was up (all s was))
 
 -- a reserve
 all_reserved : (n : ℕ) (node after : Node) (taken : List Taken) (fed : List Feeding) (closed : List Closing)
-    → after.clients ≡ node.clients → after.workers ≡ node.workers → after.waiting ≡ left_by_entry node.waiting → after.down ≡ node.down → node.down ≡ false
-    → AllAt n node taken fed closed → AllAt n after (taken ++ Entry n (entry_jobs node.waiting) ∷ []) fed closed
-all_reserved n node after taken fed closed clients workers waiting down up all s at =
+    → after.clients ≡ node.clients → after.workers ≡ node.workers → after.waiting ≡ left_by_entry node.waiting → after.down ≡ node.down
+    → after.since ≡ node.since → node.down ≡ false → AllAt n node taken fed closed → AllAt n after (taken ++ Entry n (entry_jobs node.waiting) ∷ []) fed closed
+all_reserved n node after taken fed closed clients workers waiting down since up all s at =
     let c = connection_at n s in
     let t = Entry n (entry_jobs node.waiting) in
     let was : s < length node.clients = subst (λ (cs : List Client). s < length cs) clients at in
     let client = bare (client_at s after) in
-    stands_same client client after.down (left_of n s after) (done_of c taken ++ own_jobs c (entry_jobs node.waiting)) (asked_of c fed closed) (fed_to c fed) (is_shut c closed)
+    stands_same client client after.down (nat_lt s after.since) (left_of n s after) (done_of c taken ++ own_jobs c (entry_jobs node.waiting)) (asked_of c fed closed) (fed_to c fed) (is_shut c closed)
     (left_of n s after) (done_of c (taken ++ t ∷ [])) (asked_of c fed closed) (fed_to c fed) (is_shut c closed)
     refl refl (done_more c taken t) refl refl refl
-    (stands_reserved n s node after (done_of c taken) (asked_of c fed closed) (fed_to c fed) (is_shut c closed) clients workers waiting down up (all s was))
+    (stands_reserved n s node after (done_of c taken) (asked_of c fed closed) (fed_to c fed) (is_shut c closed) clients workers waiting down since up (all s was))
 
 -- a step that leaves a node's clients, its workers and what waits
 all_still : (n : ℕ) (node after : Node) (taken : List Taken) (fed : List Feeding) (closed : List Closing) → after.clients ≡ node.clients
-    → after.workers ≡ node.workers → after.waiting ≡ node.waiting → after.down ≡ node.down → AllAt n node taken fed closed → AllAt n after taken fed closed
-all_still n node after taken fed closed clients workers waiting down all s at =
+    → after.workers ≡ node.workers → after.waiting ≡ node.waiting → after.down ≡ node.down → after.since ≡ node.since → AllAt n node taken fed closed
+    → AllAt n after taken fed closed
+all_still n node after taken fed closed clients workers waiting down since all s at =
     let c = connection_at n s in
-    stands_still n s node after (done_of c taken) (asked_of c fed closed) (fed_to c fed) (is_shut c closed) clients workers waiting down
+    stands_still n s node after (done_of c taken) (asked_of c fed closed) (fed_to c fed) (is_shut c closed) clients workers waiting down since
     (all s (subst (λ (cs : List Client). s < length cs) clients at))
 
 -- a batch of a node that is up is answered only where it was lifted
@@ -399,11 +404,23 @@ answered_lifted false (Posted jobs) full up = absurd (cc full)
 answered_lifted down (Lifted owed) full up = refl
 answered_lifted down (Answered executed) full up = refl
 
+-- a connection that takes something isn't from before its node came back
+is_recent : (setup : Setup) (n s : ℕ) (node : Node) → IsShaped setup n node → (client_at s node).queue.cut ≡ false → nat_lt s node.since ≡ false
+is_recent setup n s node shaped uncut =
+    elim (cases_Bool (nat_lt s node.since)) [
+      | inl e ↦ absurd (cc (shaped.cut s (ltb-true s node.since e), uncut))
+      | inr e ↦ e
+    ]
+
 -- what each world owns
 abbrev pub Owned : World → Type 0
 Owned world = IsOwned world.nodes world.taken world.fed world.closed
 
-moves_owned : (setup : Setup) → Moves setup (Beside setup (IsShapedWorld setup) Owned)
+-- what is known of it beside
+abbrev Stable : Setup → World → Type 0
+Stable setup world = IsShapedWorld setup world × AreDropped world
+
+moves_owned : (setup : Setup) → Moves setup (Beside setup (Stable setup) Owned)
 moves_owned setup =
     let g = moves_going setup in
     record {
@@ -412,60 +429,61 @@ moves_owned setup =
           let there = may.worker.there in
           let node = node_at n world in
           let new = connection_at n (length node.clients) in
-          owned_node setup world.nodes world.taken world.fed world.closed n _ there (g.opens world n w refused may sized b.shaped)
-          (owned_opened setup n w node world.taken world.fed world.closed (b.shaped n there)
+          owned_node setup world.nodes world.taken world.fed world.closed n _ there (g.opens world n w refused may sized b.0.shaped)
+          (owned_opened setup n w node world.taken world.fed world.closed (b.0.shaped n there)
           (p.untouched new (λ is. let h = is.stands in absurd (omega arith))) (p.stands n there)) p;
       feeds = λ world c time bytes refused may sized b p.
           let there = may.client.there in
           let stands = may.client.stands in
           let node = node_at c.node world in
-          let worker = worker_stands setup c.node c.serial node (sized.each c.node there) (b.shaped c.node there) stands in
+          let worker = worker_stands setup c.node c.serial node (sized.each c.node there) (b.0.shaped c.node there) stands in
           owned_fed setup world.nodes world.taken world.fed world.closed c.node c.serial _ _ refl (record { node = there; stands = stands })
-          (g.feeds world c time bytes refused may sized b.shaped)
-          (all_fed c.node c.serial time bytes node world.taken world.fed world.closed stands worker may.up may.on may.unclosed (p.stands c.node there)) p;
+          (g.feeds world c time bytes refused may sized b.0.shaped)
+          (all_fed c.node c.serial time bytes node world.taken world.fed world.closed stands worker may.up
+          (is_recent setup c.node c.serial node (b.0.shaped c.node there) may.uncut) may.on may.unclosed (p.stands c.node there)) p;
       posts = λ world n w refused may sized b p.
           let there = may.worker.there in
           let node = node_at n world in
-          owned_node setup world.nodes world.taken world.fed world.closed n _ there (g.posts world n w refused may sized b.shaped)
+          owned_node setup world.nodes world.taken world.fed world.closed n _ there (g.posts world n w refused may sized b.0.shaped)
           (λ s at. let c = connection_at n s in
           stands_posted n s w node (done_of c world.taken) (asked_of c world.fed world.closed) (fed_to c world.fed) (is_shut c world.closed) may.worker.stands may.free
           (p.stands n there s at)) p;
       lifts = λ world n w refused may sized b p.
           let there = may.worker.there in
           let node = node_at n world in
-          owned_node setup world.nodes world.taken world.fed world.closed n _ there (g.lifts world n w refused may sized b.shaped)
+          owned_node setup world.nodes world.taken world.fed world.closed n _ there (g.lifts world n w refused may sized b.0.shaped)
           (λ s at. let c = connection_at n s in
           stands_lifted n s w node (done_of c world.taken) (asked_of c world.fed world.closed) (fed_to c world.fed) (is_shut c world.closed) may.worker.stands
-          ((b.shaped n there).each w).posted (p.stands n there s at)) p;
+          ((b.0.shaped n there).each w).posted (p.stands n there s at)) p;
       reserves = λ world n refused may sized b p.
           let there = may.there in
           let node = node_at n world in
           owned_taken setup world.nodes world.taken world.fed world.closed n _ (Entry n (entry_jobs node.waiting)) there
-          (g.reserves world n refused may sized b.shaped)
-          (record { there = there; of = All-entry (IsOf n node.clients) node.waiting (b.shaped n there).waiting })
+          (g.reserves world n refused may sized b.0.shaped)
+          (record { there = there; of = All-entry (IsOf n node.clients) node.waiting (b.0.shaped n there).waiting })
           (all_reserved n node (record node { waiting = left_by_entry node.waiting; at = tail_of world; unfilled = replicate setup.nodes true })
-          world.taken world.fed world.closed refl refl refl refl may.up (p.stands n there)) p;
+          world.taken world.fed world.closed refl refl refl refl refl may.up (p.stands n there)) p;
       fills = λ world n t refused may sized b p.
           let there = may.there in
           let node = node_at n world in
-          owned_node setup world.nodes world.taken world.fed world.closed n _ there (g.fills world n t refused may sized b.shaped)
-          (all_still n node (record node { unfilled = slice_set node.unfilled t false }) world.taken world.fed world.closed refl refl refl refl (p.stands n there)) p;
+          owned_node setup world.nodes world.taken world.fed world.closed n _ there (g.fills world n t refused may sized b.0.shaped)
+          (all_still n node (record node { unfilled = slice_set node.unfilled t false }) world.taken world.fed world.closed refl refl refl refl refl (p.stands n there)) p;
       fetches = λ world n refused may sized b p.
           let there = may.there in
           let node = node_at n world in
-          owned_node setup world.nodes world.taken world.fed world.closed n _ there (g.fetches world n refused may sized b.shaped)
-          (all_still n node (record node { fetched = true }) world.taken world.fed world.closed refl refl refl refl (p.stands n there)) p;
+          owned_node setup world.nodes world.taken world.fed world.closed n _ there (g.fetches world n refused may sized b.0.shaped)
+          (all_still n node (record node { fetched = true }) world.taken world.fed world.closed refl refl refl refl refl (p.stands n there)) p;
       applies = λ world n refused may sized b p.
           let there = may.there in
-          owned_node setup world.nodes world.taken world.fed world.closed n _ there (g.applies world n refused may sized b.shaped)
-          (all_advanced refused n (log_of world.taken) (node_at n world) world.taken world.fed world.closed (p.stands n there)) p;
+          owned_node setup world.nodes world.taken world.fed world.closed n _ there (g.applies world n refused may sized b.0.shaped)
+          (all_advanced setup refused n (log_of world.taken) (node_at n world) world.taken world.fed world.closed (b.0.shaped n there) (p.stands n there)) p;
       looks = λ world n refused may sized b p.
           let there = may.there in
           let node = node_at n world in
           let tail = tail_of world in
           let count = tail - node.passed in
           let ahead = advanced_by count refused n (log_of world.taken) node in
-          let all = all_ahead count refused n (log_of world.taken) node world.taken world.fed world.closed (p.stands n there) in
+          let all = all_ahead setup count refused n (log_of world.taken) node world.taken world.fed world.closed (b.0.shaped n there) (p.stands n there) in
           by_look (λ after. Goes setup world.nodes after.nodes → Owned after) refused n world ahead refl
           (λ down go. owned_node setup world.nodes world.taken world.fed world.closed n ahead there go all p)
           (λ up go. owned_taken setup world.nodes world.taken world.fed world.closed n (with_reads refused.cuts tail ahead)
@@ -473,20 +491,20 @@ moves_owned setup =
           (record {
             there = there;
             of = subst (λ (js : Jobs). AllByRecursion (IsOf n node.clients) (read_jobs js)) (sym (ahead_waiting count refused n (log_of world.taken) node up))
-                (All-reads (IsOf n node.clients) node.waiting (b.shaped n there).waiting);
+                (All-reads (IsOf n node.clients) node.waiting (b.0.shaped n there).waiting);
           }) (all_read refused.cuts tail n ahead.applied ahead world.taken world.fed world.closed up all) p)
-          (g.looks world n refused may sized b.shaped);
+          (g.looks world n refused may sized b.0.shaped);
       answers = λ world n w refused may sized b p.
           let there = may.worker.there in
           let node = node_at n world in
-          owned_node setup world.nodes world.taken world.fed world.closed n _ there (g.answers world n w refused may sized b.shaped)
+          owned_node setup world.nodes world.taken world.fed world.closed n _ there (g.answers world n w refused may sized b.0.shaped)
           (λ s at. let c = connection_at n s in
           stands_slot n s w (Answered (not node.down)) node (done_of c world.taken) (asked_of c world.fed world.closed) (fed_to c world.fed) (is_shut c world.closed)
           may.worker.stands (answered_lifted node.down (worker_at w node).slot may.full) (p.stands n there s at)) p;
       collects = λ world n w refused may sized b p.
           let there = may.worker.there in
           let node = node_at n world in
-          owned_node setup world.nodes world.taken world.fed world.closed n _ there (g.collects world n w refused may sized b.shaped)
+          owned_node setup world.nodes world.taken world.fed world.closed n _ there (g.collects world n w refused may sized b.0.shaped)
           (λ s at. let c = connection_at n s in
           let long = length-map node.clients (emptied w) in
           let was : s < length node.clients = omega arith in
@@ -496,15 +514,25 @@ moves_owned setup =
           let there = may.client.there in
           let stands = may.client.stands in
           let node = node_at c.node world in
-          let worker = worker_stands setup c.node c.serial node (sized.each c.node there) (b.shaped c.node there) stands in
+          let worker = worker_stands setup c.node c.serial node (sized.each c.node there) (b.0.shaped c.node there) stands in
           owned_closed setup world.nodes world.taken world.fed world.closed c.node c.serial _ _ refl (record { node = there; stands = stands })
-          (g.closes world c time refused may sized b.shaped)
+          (g.closes world c time refused may sized b.0.shaped)
           (all_closed c.node c.serial time node world.taken world.fed world.closed stands worker may.up may.unclosed (p.stands c.node there)) p;
+      revives = λ world n f refused may sized b p.
+          let there = may.there in
+          let node = node_at n world in
+          let dropped = b.1 n there may.down in
+          owned_node setup world.nodes world.taken world.fed world.closed n _ there (g.revives world n f refused may sized b.0.shaped)
+          (λ s at. let c = connection_at n s in
+          let long = length-map node.clients cut_client in
+          let was : s < length node.clients = omega arith in
+          stands_back n s (tail_of world) (node_at f world).server node (done_of c world.taken) (asked_of c world.fed world.closed) (fed_to c world.fed)
+          (is_shut c world.closed) was may.down dropped.waiting dropped.pending may.idle (p.stands n there s was)) p;
       refuses = λ world n refused may sized b p.
           let there = may.there in
           let node = node_at n world in
-          owned_node setup world.nodes world.taken world.fed world.closed n _ there (g.refuses world n refused may sized b.shaped)
-          (all_still n node (record node { refused = true }) world.taken world.fed world.closed refl refl refl refl (p.stands n there)) p;
+          owned_node setup world.nodes world.taken world.fed world.closed n _ there (g.refuses world n refused may sized b.0.shaped)
+          (all_still n node (record node { refused = true }) world.taken world.fed world.closed refl refl refl refl refl (p.stands n there)) p;
     }
 
 -- at first
@@ -518,4 +546,6 @@ fresh_owned setup = record {
 
 -- each world is so
 pub each_owned : (setup : Setup) (events : List Event) → Owned (world_after setup events)
-each_owned setup events = each_beside setup (IsShapedWorld setup) Owned (fresh_shaped setup) (keeps_shaped setup) (fresh_owned setup) (moves_owned setup) events
+each_owned setup events =
+    each_beside setup (Stable setup) Owned (fresh_shaped setup, fresh_dropped setup) (keeps_both setup (IsShapedWorld setup) AreDropped (keeps_shaped setup) (keeps_dropped setup))
+    (fresh_owned setup) (moves_owned setup) events

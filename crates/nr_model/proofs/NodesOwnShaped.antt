@@ -14,7 +14,7 @@ use Rattle.nr_model.proofs.JobLists.{All-append, All-take}
 use Rattle.nr_model.proofs.NodesSteps.{keeps_of, sized_moves, fresh_sized, AreSized, IsSized, Moves, Keeps, each_world, by_look, fresh_at}
 use Rattle.nr_model.proofs.NodesOwnLists.{All-weaker, All-entry, All-left_by_entry, All-reads}
 use Rattle.nr_model.proofs.NodesOwnAdvance.{ahead_waiting}
-use Rattle.nr_model.proofs.NodesOwnShape.{AreAt, IsOf, IsAt, IsShaped, IsNext, Grows, grows_same, of_grown, at_grown, next_opened, next_fed, next_posted, next_lifted, next_slot, next_collected, next_waiting, next_advanced, next_ahead, next_on, next_read, next_closed}
+use Rattle.nr_model.proofs.NodesOwnShape.{AreAt, IsOf, IsAt, IsShaped, IsNext, Grows, grows_same, of_grown, at_grown, next_opened, next_fed, next_posted, next_lifted, next_slot, next_collected, next_waiting, next_advanced, next_ahead, next_on, next_read, next_closed, next_revived}
 
 -- a node of some
 abbrev pub node_in : List Node → ℕ → Node
@@ -86,17 +86,17 @@ moves_going setup = record {
       let there = may.there in
       let node = node_at n world in
       goes_with setup world.nodes n _ there (next_waiting setup n node
-      (record node { waiting = left_by_entry node.waiting; at = tail_of world; unfilled = replicate setup.nodes true }) refl refl
+      (record node { waiting = left_by_entry node.waiting; at = tail_of world; unfilled = replicate setup.nodes true }) refl refl refl
       (All-left_by_entry (IsOf n node.clients) node.waiting (s n there).waiting) (s n there)) s;
   fills = λ world n t refused may sized s.
       let there = may.there in
       let node = node_at n world in
       goes_with setup world.nodes n _ there
-      (next_waiting setup n node (record node { unfilled = slice_set node.unfilled t false }) refl refl (s n there).waiting (s n there)) s;
+      (next_waiting setup n node (record node { unfilled = slice_set node.unfilled t false }) refl refl refl (s n there).waiting (s n there)) s;
   fetches = λ world n refused may sized s.
       let there = may.there in
       let node = node_at n world in
-      goes_with setup world.nodes n _ there (next_waiting setup n node (record node { fetched = true }) refl refl (s n there).waiting (s n there)) s;
+      goes_with setup world.nodes n _ there (next_waiting setup n node (record node { fetched = true }) refl refl refl (s n there).waiting (s n there)) s;
   applies = λ world n refused may sized s.
       let there = may.there in
       goes_with setup world.nodes n _ there (next_advanced setup refused n (log_of world.taken) (node_at n world) (s n there)) s;
@@ -123,10 +123,13 @@ moves_going setup = record {
       let stands = may.client.stands in
       goes_with setup world.nodes c.node _ there (next_closed setup c.node c.serial time (node_at c.node world) stands
       (worker_stands setup c.node c.serial (node_at c.node world) (sized.each c.node there) (s c.node there) stands) (s c.node there)) s;
+  revives = λ world n f refused may sized s.
+      let there = may.there in
+      goes_with setup world.nodes n _ there (next_revived setup n (tail_of world) (node_at f world).server (node_at n world) (s n there)) s;
   refuses = λ world n refused may sized s.
       let there = may.there in
       let node = node_at n world in
-      goes_with setup world.nodes n _ there (next_waiting setup n node (record node { refused = true }) refl refl (s n there).waiting (s n there)) s;
+      goes_with setup world.nodes n _ there (next_waiting setup n node (record node { refused = true }) refl refl refl (s n there).waiting (s n there)) s;
 }
 
 -- what was taken and posted: of connections that are there
@@ -260,6 +263,8 @@ moves_shaped setup =
           shaped_still setup world _ s (z.collects world n w refused may s.sized) (g.collects world n w refused may s.sized s.shaped) refl refl;
       closes = λ world c time refused may s.
           shaped_still setup world _ s (z.closes world c time refused may s.sized) (g.closes world c time refused may s.sized s.shaped) refl refl;
+      revives = λ world n f refused may s.
+          shaped_still setup world _ s (z.revives world n f refused may s.sized) (g.revives world n f refused may s.sized s.shaped) refl refl;
       refuses = λ world n refused may s.
           shaped_still setup world _ s (z.refuses world n refused may s.sized) (g.refuses world n refused may s.sized s.shaped) refl refl;
     }
@@ -284,6 +289,8 @@ fresh_shaped setup = record {
   sized = fresh_sized setup;
   shaped = λ n there. subst (IsShaped setup n) (sym (fresh_at setup n there)) (record {
     named = λ s none. absurd (omega (arith, none));
+    since = omega arith;
+    cut = λ s none. absurd (omega (arith, none));
     waiting = tt;
     each = λ w. subst (AreAt n w []) (sym (fresh_worker_at setup.workers w)) (record { pending = tt; posted = tt });
   });

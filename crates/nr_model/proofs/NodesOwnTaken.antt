@@ -160,6 +160,7 @@ moves_taken setup = record {
   collects = λ world n w refused may sized b p. p;
   closes = λ world c time refused may sized b p. p;
   refuses = λ world n refused may sized b p. p;
+  revives = λ world n f refused may sized b p. p;
 }
 
 pub each_taken : (setup : Setup) (events : List Event) → AreAllTaken (world_after setup events)

@@ -1,5 +1,5 @@
 -- A node's part of what was taken: how it grows, and that no reads stand behind the entries that it has applied.
-use Rattle.std.proofs.Common.{◌≡◌, ℕ, zero, suc, ◌<◌, ◌≤◌, Bool, true, false, cond, List, [], ◌∷◌, ◌++◌, length, refl, ap, sym, ◌∙◌, arith, append_assoc}
+use Rattle.std.proofs.Common.{◌≡◌, ℕ, zero, suc, ◌+◌, ◌<◌, ◌≤◌, Bool, true, false, cond, List, [], ◌∷◌, ◌++◌, length, refl, ap, sym, ◌∙◌, arith, subst, append_assoc}
 use Rattle.std.specs.Prelude.{◌==◌, slice_index_or}
 use Rattle.std.proofs.lemmas.List.{append-nil}
 use Rattle.nr_model.specs.Items.{Sequence}
@@ -150,3 +150,12 @@ within_applied r zero (Entry n jobs ∷ taken) within = none_within r zero taken
 within_applied r (suc applied) (Entry n jobs ∷ taken) within = within_applied r applied taken within
 within_applied r zero (Reads n count jobs ∷ taken) within = within_applied r zero taken within
 within_applied r (suc applied) (Reads n count jobs ∷ taken) within = within_applied r (suc applied) taken within
+
+-- and so many
+pub within_later : (r applied count : ℕ) (taken : List Taken) → ReadsWithin r applied taken → ReadsWithin r (count + applied) taken
+within_later r applied zero taken within =
+    let same : applied ≡ 0 + applied = omega arith in
+    subst (λ (k : ℕ). ReadsWithin r k taken) same within
+within_later r applied (suc count) taken within =
+    let same : suc (count + applied) ≡ suc count + applied = omega arith in
+    subst (λ (k : ℕ). ReadsWithin r k taken) same (within_applied r (count + applied) taken (within_later r applied count taken within))

@@ -1,6 +1,6 @@
 -- What the sequential Redis emits for a node's connection along the node's part begins what it emits along the whole sequence.
-use Rattle.std.proofs.Common.{◌≡◌, ℕ, zero, suc, Bool, true, false, cond, inl, inr, List, [], ◌∷◌, ◌++◌, refl, ap, sym, ◌∙◌, subst, append_assoc}
-use Rattle.std.specs.Prelude.{◌==◌, flat_map, filter}
+use Rattle.std.proofs.Common.{◌≡◌, ℕ, zero, suc, ◌+◌, ◌≤◌, Bool, true, false, cond, inl, inr, List, [], ◌∷◌, ◌++◌, length, refl, ap, sym, ◌∙◌, subst, arith, append_assoc}
+use Rattle.std.specs.Prelude.{◌==◌, flat_map, filter, slice_index_or}
 use Rattle.std.specs.List.{AllByRecursion}
 use Rattle.std.proofs.Common.{eqb}
 use Rattle.std.proofs.lemmas.Bool.{cases_Bool, not-true, and_left, ne_eqb, eqb-false}
@@ -17,11 +17,11 @@ use Rattle.nr_model.specs.Sequential.{Found, Progress, start, done_by, acted, by
 use Rattle.nr_model.specs.Servers as servers
 use Rattle.nr_model.specs.Servers.{Server, found_in, now_in, progress_in, stepped, emitted_in, after_all, emitted_all}
 use Rattle.nr_model.specs.Entries.{Jobs, entry_items}
-use Rattle.nr_model.specs.Nodes.{Taken, Entry, Reads, items_taken, part_from}
+use Rattle.nr_model.specs.Nodes.{Taken, Entry, Reads, log_of, items_taken, part_from}
 use Rattle.nr_model.proofs.Serving.{server_is_redis}
 use Rattle.nr_model.proofs.Logged.{none_kept, AreReads}
-use Rattle.nr_model.proofs.Emitted.{emitted_all-append, bytes_for-append, emitted_for-is, emitted_for-more, replies_to, to_others}
-use Rattle.nr_model.proofs.NodesParts.{ReadsWithin, part_none}
+use Rattle.nr_model.proofs.Emitted.{after_all-append, emitted_all-append, bytes_for-append, emitted_for-is, emitted_for-more, replies_to, to_others}
+use Rattle.nr_model.proofs.NodesParts.{ReadsWithin, part_none, part_applied, within_later}
 
 -- jobs of connections of a node
 abbrev pub AreOfNode : ℕ → Jobs → Type 0
@@ -166,6 +166,46 @@ part_emits c applied taken within run =
 -- more emits more behind
 pub more_emits : (c : Connection) (items more : Sequence) → IsBeginningOf (emitted_for c items) (emitted_for c (items ++ more))
 more_emits c items more = (bytes_for c (emitted_all (after_all servers.fresh items) more), sym (emitted_for-more c items more))
+
+-- a part emits more behind, as further entries are applied
+pub part_grows : (c : Connection) (applied count : ℕ) (taken : List Taken) → count + applied ≤ length (log_of taken) → ReadsWithin c.node applied taken
+    → IsBeginningOf (emitted_for c (part_from c.node applied taken)) (emitted_for c (part_from c.node (count + applied) taken))
+part_grows c applied zero taken below within =
+    let same : applied ≡ 0 + applied = omega arith in
+    let emitted = emitted_for c (part_from c.node applied taken) in
+    subst (λ (k : ℕ). IsBeginningOf emitted (emitted_for c (part_from c.node k taken))) same (begins_itself emitted)
+part_grows c applied (suc count) taken below within =
+    let part = part_from c.node (count + applied) taken in
+    let items = entry_items (slice_index_or (log_of taken) (count + applied) (record { node = 0; jobs = [] })).jobs in
+    let same : suc (count + applied) ≡ suc count + applied = omega arith in
+    let next : part_from c.node (suc count + applied) taken ≡ part ++ items =
+    ap (λ (k : ℕ). part_from c.node k taken) (sym same)
+    ∙ part_applied c.node (count + applied) taken (record { node = 0; jobs = [] }) (omega arith) (within_later c.node applied count taken within) in
+    begins_on (emitted_for c (part_from c.node applied taken)) (emitted_for c part) (emitted_for c (part_from c.node (suc count + applied) taken))
+    (part_grows c applied count taken (omega arith) within)
+    (subst (λ (more : Sequence). IsBeginningOf (emitted_for c part) (emitted_for c more)) (sym next) (more_emits c part items))
+
+-- reads in front of a part leave its server
+reads_leave : (b : Bool) (s : Server) (jobs items : Sequence) → AreReads jobs → after_all s (cond b (jobs ++ items) items) ≡ after_all s items
+reads_leave true s jobs items reads = after_all-append s jobs items ∙ ap (λ (t : Server). after_all t items) (after_reads s jobs reads)
+reads_leave false s jobs items reads = refl
+
+-- so the parts of two nodes that have applied as many entries lead to the same server
+pub same_server : (r f applied : ℕ) (taken : List Taken) (s : Server) → AreRun taken
+    → after_all s (part_from r applied taken) ≡ after_all s (part_from f applied taken)
+same_server r f zero [] s run = refl
+same_server r f (suc applied) [] s run = refl
+same_server r f zero (Entry n jobs ∷ taken) s run = same_server r f zero taken s run.1
+same_server r f (suc applied) (Entry n jobs ∷ taken) s run =
+    let items = entry_items jobs in
+    after_all-append s items (part_from r applied taken) ∙ same_server r f applied taken (after_all s items) run.1
+    ∙ sym (after_all-append s items (part_from f applied taken))
+same_server r f zero (Reads n count jobs ∷ taken) s run =
+    reads_leave (n == r) s jobs (part_from r zero taken) run.0.0 ∙ same_server r f zero taken s run.1
+    ∙ sym (reads_leave (n == f) s jobs (part_from f zero taken) run.0.0)
+same_server r f (suc applied) (Reads n count jobs ∷ taken) s run =
+    reads_leave (n == r) s jobs (part_from r (suc applied) taken) run.0.0 ∙ same_server r f (suc applied) taken s run.1
+    ∙ sym (reads_leave (n == f) s jobs (part_from f (suc applied) taken) run.0.0)
 
 -- the updates of a sequence
 abbrev pub updates_of : Sequence → Sequence

@@ -14,7 +14,7 @@ use Rattle.nr_model.proofs.NodesSteps.{AreSized, each_sized, world_after-append}
 use Rattle.nr_model.proofs.NodesOwnPlaces.{ArePlaced, each_placed}
 use Rattle.nr_model.proofs.NodesExecutedLists.{count, lt_or_le}
 use Rattle.nr_model.proofs.NodesExecutedFits.{serves}
-use Rattle.nr_model.proofs.NodesExecutedNodes.{unapplied, own_entry}
+use Rattle.nr_model.proofs.NodesExecutedNodes.{unapplied, own_entry, first_owed, owed_from}
 use Rattle.nr_model.proofs.NodesExecutedWorlds.{AreFit, each_fit}
 use Rattle.nr_model.proofs.NodesRoundsLeft.{step_left}
 use Rattle.nr_model.proofs.NodesRoundsRuns.{sized_run, leads_one}
@@ -50,10 +50,12 @@ none_owed setup world n w fit placed there passed waits up =
     let node = node_at n world in
     let log = log_of world.taken in
     let even = (placed n there).applied up in
-    let behind : unapplied n node.applied log ≡ [] = ap (flat_map (own_entry n)) (drop_all node.applied log (omega arith)) in
+    let from = first_owed node.resumed node.applied in
+    let past = owed_from node.resumed node.applied in
+    let behind : unapplied n from log ≡ [] = ap (flat_map (own_entry n)) (drop_all from log (omega arith)) in
     let test = serves w node.clients in
     let first : count test node.waiting ≡ 0 = ap (count test) waits in
-    let second : count test (unapplied n node.applied log) ≡ 0 = ap (count test) behind in
+    let second : count test (unapplied n from log) ≡ 0 = ap (count test) behind in
     let owed = (fit.nodes n there w).owed up in
     owed ∙ (λ i. first i + second i)
 

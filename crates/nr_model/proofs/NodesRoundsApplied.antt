@@ -8,11 +8,11 @@ use Rattle.std.proofs.Math.Bool.{and-false}
 use Rattle.nr_model.specs.Entries.{Jobs, read_jobs}
 use Rattle.nr_model.specs.Connections.{Setup}
 use Rattle.nr_model.specs.Nodes.{Client, Slot, Empty, Posted, Lifted, Answered, Worker, Node, no_node, Logged, World, Reads, node_at, worker_at, logged_at, with_node, log_of, tail_of}
-use Rattle.nr_model.specs.Nodes.Steps.{Step, Fetch, Apply, Look, Done, Refused, is_node, is_posted, is_filled, outcome, owing_less, executed_from, jobs_of_worker, with_executed, with_reads, advanced, advanced_by, after_step}
+use Rattle.nr_model.specs.Nodes.Steps.{Step, Fetch, Apply, Look, Done, Refused, is_node, is_posted, is_filled, outcome, came_to, owing_less, executed_from, jobs_of_worker, is_owed, with_executed, with_reads, advanced, advanced_by, after_step}
 use Rattle.nr_model.specs.declared.reason.Reason.TheVariants.{NoSuch, Down, Busy, Nothing, NotYet}
 use Rattle.nr_model.specs.Nodes.Pasts.{Event, is_done, IsEvent, AreEvents, after_event}
 use Rattle.nr_model.specs.Nodes.Settling.{in_turn, applying, is_idle, after_events}
-use Rattle.nr_model.proofs.NodesSteps.{by_look, are_last, world_after-append}
+use Rattle.nr_model.proofs.NodesSteps.{came_idle, by_look, are_last, world_after-append}
 use Rattle.nr_model.proofs.NodesOwnPlaces.{log_of-append}
 use Rattle.nr_model.proofs.NodesOwnAdvance.{by_advance, next_entry}
 use Rattle.nr_model.proofs.NodesOwnShape.{worker_in, executed_at}
@@ -39,14 +39,14 @@ advanced_taken v refused n log node p =
     let entry = next_entry log node in
     by_advance (IsTaken v) refused n log node (λ down up. absurd (cc (down, up))) (λ up still. absurd (cc still))
     (λ up still.
-    cond_both (entry.node == n) (with_executed entry.jobs node) node (λ (x : Node). is_posted (worker_at v x).slot ≡ false)
+    cond_both (is_owed n entry node) (with_executed entry.jobs node) node (λ (x : Node). is_posted (worker_at v x).slot ≡ false)
     (λ own. executed_taken node.clients entry.jobs node.workers v (p up)) (λ other. p up))
 
 advanced_filled : (s : ℕ) (refused : Refused) (n : ℕ) (log : List Logged) (node : Node) → cell node s ≡ false → cell (advanced refused n log node) s ≡ false
 advanced_filled s refused n log node p =
     let entry = next_entry log node in
     by_advance (λ (x : Node). cell x s ≡ false) refused n log node (λ down. p) (λ up. p)
-    (λ up. cond_both (entry.node == n) (with_executed entry.jobs node) node (λ (x : Node). cell x s ≡ false) (λ own. p) (λ other. p))
+    (λ up. cond_both (is_owed n entry node) (with_executed entry.jobs node) node (λ (x : Node). cell x s ≡ false) (λ own. p) (λ other. p))
 
 -- the nodes before one have passed the whole log
 pub record InTurn (setup : Setup) (n : ℕ) (world : World) : Type 0 where
@@ -146,13 +146,14 @@ fetch_idle setup n world hn free filled idle =
 pub idle_still : (setup : Setup) (world : World) (step : Step) (refused : Refused) → is_done (outcome setup world step) ≡ false
     → after_step setup world step refused ≡ world
 idle_still setup world step refused idle =
-    by_outcome (λ (x : World). x ≡ world) (outcome setup world step) setup world step refused (λ h. refl) (λ done. absurd (cc (idle, done)))
+    let none = came_idle setup world step refused idle in
+    by_outcome (λ (x : World). x ≡ world) (came_to setup world step refused) setup world step refused (λ h. refl) (λ done. absurd (cc (none, done)))
 
 -- an event that isn't done
 idle_outcome : (setup : Setup) (world : World) (e : Event) (step : Step) → IsEvent setup world e → e.step ≡ step → is_idle e.outcome ≡ true
-    → is_done (outcome setup world step) ≡ false
+    → is_done (came_to setup world step e.refused) ≡ false
 idle_outcome setup world e step is here idle =
-    ap (λ (s : Step). is_done (outcome setup world s)) (sym here) ∙ ap is_done (sym is.outcome_is) ∙ not-true (is_done e.outcome) idle
+    ap (λ (s : Step). is_done (came_to setup world s e.refused)) (sym here) ∙ ap is_done (sym is.outcome_is) ∙ not-true (is_done e.outcome) idle
 
 -- a node that had nothing to apply and nothing to fetch has passed the whole log
 passed_from : (setup : Setup) (n : ℕ) (world : World) (apply fetch : Event) (back : List Event) → n < setup.nodes

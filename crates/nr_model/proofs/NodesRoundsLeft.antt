@@ -1,13 +1,12 @@
 -- How many jobs are left: no step of a round makes them more, and an entry that is reserved and reads that are run make them fewer.
 use Rattle.std.proofs.Common.{◌≡◌, ℕ, zero, suc, ◌+◌, ◌-◌, ◌≤◌, true, false, not, List, [], ◌∷◌, length, map, take, drop, replicate, slice_set, refl, ap, sym, arith}
-use Rattle.std.specs.Prelude.{◌==◌}
 use Rattle.std.proofs.lemmas.Bool.{cond_both}
 use Rattle.std.proofs.lemmas.List.{length-append, length-take, length-drop}
 use Rattle.nr_model.specs.Items.{Item}
 use Rattle.nr_model.specs.Entries.{Jobs, entry_jobs, left_by_entry, read_jobs, left_by_reads}
 use Rattle.nr_model.specs.Connections.{Setup}
 use Rattle.nr_model.specs.Nodes.{Client, Slot, Empty, Posted, Lifted, Answered, Worker, Node, Logged, World, node_at, worker_at, with_worker, log_of, tail_of}
-use Rattle.nr_model.specs.Nodes.Steps.{Step, Open, Feed, Post, Lift, Reserve, Fill, Fetch, Apply, Look, Answer, Collect, Close, Refuse, Outcome, Opened, Done, Idle, Cut, Refused, outcome, posted_jobs, posted_worker, most_batch_jobs, lifted_node, owing_less, jobs_of_worker, executed_from, with_executed, with_entry, with_reads, advanced, advanced_by, looked, reserved, cleared, effect, effect_by, after_step}
+use Rattle.nr_model.specs.Nodes.Steps.{Step, Open, Feed, Post, Lift, Reserve, Fill, Fetch, Apply, Look, Answer, Collect, Close, Refuse, Revive, Outcome, Opened, Done, Idle, Cut, Refused, came_to, posted_jobs, posted_worker, most_batch_jobs, lifted_node, owing_less, jobs_of_worker, executed_from, is_owed, with_executed, with_entry, with_reads, advanced, advanced_by, looked, reserved, cleared, effect, effect_by, after_step}
 use Rattle.nr_model.specs.Nodes.Pasts.{is_done}
 use Rattle.nr_model.specs.Nodes.Settling.{posted_count, left_at_workers, left_in}
 use Rattle.nr_model.proofs.NodesSteps.{by_look}
@@ -56,7 +55,7 @@ fallen_left (worker ∷ workers) = let more = fallen_left workers in omega arith
 entry_left : (cuts : List Cut) (n : ℕ) (entry : Logged) (node : Node) → left_of (with_entry cuts n entry node) ≤ left_of node
 entry_left cuts n entry node =
     let same = executed_left 0 node.clients entry.jobs node.workers in
-    cond_both (entry.node == n) (with_executed entry.jobs node) node
+    cond_both (is_owed n entry node) (with_executed entry.jobs node) node
     (λ (x : Node). length x.waiting + left_at_workers x.workers ≤ left_of node) (λ own. omega arith) (λ other. omega arith)
 
 pub advanced_left : (refused : Refused) (n : ℕ) (log : List Logged) (node : Node) → left_of (advanced refused n log node) ≤ left_of node
@@ -117,12 +116,13 @@ IsInner (Answer n w) = Unit {0}
 IsInner (Collect n w) = Unit {0}
 IsInner (Close c time) = ⊥
 IsInner (Refuse n) = ⊥
+IsInner (Revive n f) = ⊥
 
 -- a step that does this
 step_less : (setup : Setup) (world : World) (step : Step) (refused : Refused) → left_in (effect setup world step refused).nodes ≤ left_in world.nodes
     → left_in (after_step setup world step refused).nodes ≤ left_in world.nodes
 step_less setup world step refused h =
-    by_outcome (λ (x : World). left_in x.nodes ≤ left_in world.nodes) (outcome setup world step) setup world step refused (λ idle. omega arith) (λ done. h)
+    by_outcome (λ (x : World). left_in x.nodes ≤ left_in world.nodes) (came_to setup world step refused) setup world step refused (λ idle. omega arith) (λ done. h)
 
 -- another node in its place
 node_less : (n : ℕ) (node : Node) (world : World) → left_of node ≤ left_of (node_at n world) → left_in (slice_set world.nodes n node) ≤ left_in world.nodes
@@ -158,6 +158,7 @@ step_left setup world (Open n w) refused is = absurd is
 step_left setup world (Feed c time bytes) refused is = absurd is
 step_left setup world (Close c time) refused is = absurd is
 step_left setup world (Refuse n) refused is = absurd is
+step_left setup world (Revive n f) refused is = absurd is
 step_left setup world (Post n w) refused is = step_less setup world (Post n w) refused
     (let node = node_at n world in
     let worker = worker_at w node in

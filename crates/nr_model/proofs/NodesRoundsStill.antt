@@ -6,10 +6,10 @@ use Rattle.std.specs.List.{range_with_len}
 use Rattle.std.proofs.lemmas.List.Folds.{list_any-append}
 use Rattle.nr_model.specs.Connections.{Setup}
 use Rattle.nr_model.specs.Nodes.{World}
-use Rattle.nr_model.specs.Nodes.Steps.{Step, Refused, outcome, after_step}
+use Rattle.nr_model.specs.Nodes.Steps.{Step, Refused, outcome, came_to, after_step}
 use Rattle.nr_model.specs.Nodes.Pasts.{Event, is_done}
 use Rattle.nr_model.specs.Nodes.Settling.{does, for_workers, after_events}
-use Rattle.nr_model.proofs.NodesSteps.{AreSized, step_sized, world_after-append}
+use Rattle.nr_model.proofs.NodesSteps.{AreSized, came_idle, step_sized, world_after-append}
 use Rattle.nr_model.proofs.NodesRoundsRuns.{IsRun, cut, sized_run, Leads, leads_none, leads_on, leads_one}
 use Rattle.nr_model.proofs.NodesRoundsApplied.{idle_still}
 
@@ -70,7 +70,7 @@ still_one setup P F R step one world (e ∷ []) run p f =
     let here : e.step ≡ step = cc in
     let o = one world e.refused p (subst (λ (s : Step). F (after_step setup world s e.refused)) here f) in
     let idle : is_done e.outcome ≡ false =
-    ap is_done run.are.0.outcome_is ∙ ap (λ (s : Step). is_done (outcome setup world s)) here ∙ o.0 in
+    ap is_done run.are.0.outcome_is ∙ ap (λ (s : Step). is_done (came_to setup world s e.refused)) here ∙ came_idle setup world step e.refused o.0 in
     record {
       same = ap (λ (s : Step). after_step setup world s e.refused) here ∙ idle_still setup world step e.refused o.0;
       idle = ap (λ (b : Bool). b || false) idle;

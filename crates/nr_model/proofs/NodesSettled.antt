@@ -40,8 +40,9 @@ is_quiet setup events still =
 -- each job that was asked for was executed
 all_executed : (setup : Setup) (events : List Event) → 1 ≤ setup.places → IsStill setup (world_after setup events) → (c : Connection)
     → is_client (world_after setup events) c ≡ true → (node_at c.node (world_after setup events)).down ≡ false
+    → (node_at c.node (world_after setup events)).since ≤ c.serial
     → own_jobs c (jobs_executed (world_after setup events)) ≡ asked_jobs (world_after setup events) c
-all_executed setup events places still c here up =
+all_executed setup events places still c here up recent =
     let world = world_after setup events in
     let q = is_quiet setup events still in
     let is = a_client world c here in
@@ -56,7 +57,7 @@ all_executed setup events places still c here up =
     let pending = quiet_pending setup world q places c.node w (omega arith) within in
     let none : executed ++ (own_jobs c node.waiting ++ (own_jobs c (posted_jobs (worker_at w node).slot) ++ own_jobs c (worker_at w node).pending)) ≡ executed ++ [] =
     λ i. executed ++ (own_jobs c (waiting i) ++ (own_jobs c (posted_jobs (slot i)) ++ own_jobs c (pending i))) in
-    sym (none ∙ append-nil executed) ∙ (each_own setup events c is).whole up
+    sym (none ∙ append-nil executed) ∙ (each_own setup events c is).whole up recent
 
 -- and all that is emitted was handed out
 all_handed : (setup : Setup) (events : List Event) → AreEvents setup (fresh setup) events → IsStill setup (world_after setup events) → (c : Connection)

@@ -1,11 +1,10 @@
 -- A node that is down has dropped its jobs: none waits, and none is pending at its workers.
 use Rattle.std.proofs.Common.{◌≡◌, ℕ, ◌-◌, ◌<◌, true, false, not, List, [], length, replicate, refl, ap, sym, ◌∙◌, slice_set}
-use Rattle.std.specs.Prelude.{◌==◌}
 use Rattle.std.proofs.lemmas.Bool.{both_ways, cond_both}
 use Rattle.nr_model.specs.Entries.{left_by_entry}
 use Rattle.nr_model.specs.Connections.{Setup}
 use Rattle.nr_model.specs.Nodes.{Worker, fresh_worker, Answered, Node, Logged, World, fresh, node_at, worker_at, with_node, with_worker, log_of, tail_of}
-use Rattle.nr_model.specs.Nodes.Steps.{Cut, Refused, fed_node, posted_worker, lifted_node, fallen, passing, advanced, advanced_by, with_entry, with_reads, cleared, collected_node, closed_node}
+use Rattle.nr_model.specs.Nodes.Steps.{Cut, Refused, is_owed, fed_node, posted_worker, lifted_node, fallen, passing, advanced, advanced_by, with_entry, with_reads, cleared, collected_node, closed_node, revived}
 use Rattle.nr_model.specs.Nodes.Pasts.{Event, world_after}
 use Rattle.nr_model.proofs.NodesSteps.{Keeps, each_world, each_with, by_look, fresh_at}
 use Rattle.nr_model.proofs.NodesOwnAdvance.{next_entry, by_advance, each_advance}
@@ -45,7 +44,7 @@ dropped_fallen : (node : Node) → IsDropped (passing (fallen node))
 dropped_fallen node = record { waiting = refl; pending = λ w. ap (λ (x : Worker). x.pending) (fallen_at node.workers w) }
 
 entry_down : (cuts : List Cut) (n : ℕ) (entry : Logged) (node : Node) → (with_entry cuts n entry node).down ≡ node.down
-entry_down cuts n entry node = cond_both (entry.node == n) _ _ (λ (x : Node). x.down ≡ node.down) (λ own. refl) (λ other. refl)
+entry_down cuts n entry node = cond_both (is_owed n entry node) _ _ (λ (x : Node). x.down ≡ node.down) (λ own. refl) (λ other. refl)
 
 drops_advanced : (refused : Refused) (n : ℕ) (log : List Logged) (node : Node) → DropsDown node → DropsDown (advanced refused n log node)
 drops_advanced refused n log node d =
@@ -55,8 +54,8 @@ drops_advanced refused n log node d =
     (λ up f. let same = entry_down refused.cuts n (next_entry log node) node in absurd (both_ways node.down up (sym same ∙ f)))
 
 -- each step
-dropped_keeps : (setup : Setup) → Keeps setup AreDropped
-dropped_keeps setup = record {
+pub keeps_dropped : (setup : Setup) → Keeps setup AreDropped
+keeps_dropped setup = record {
   opens = λ world n w may p. up_with n _ world may.worker.there may.up p;
   feeds = λ world c time bytes may p. up_with c.node (fed_node c time bytes (node_at c.node world)) world may.client.there may.up p;
   posts = λ world n w may p.
@@ -93,11 +92,14 @@ dropped_keeps setup = record {
       let d = dropped_worker w (record worker { slot = cleared worker.slot }) node refl (p n may.worker.there down) in
       record { waiting = d.waiting; pending = d.pending }) p;
   closes = λ world c time may p. up_with c.node (closed_node c time (node_at c.node world)) world may.client.there may.up p;
+  revives = λ world n f may p. up_with n (revived (tail_of world) (node_at f world).server (node_at n world)) world may.there refl p;
   refuses = λ world n may p. up_with n (record (node_at n world) { refused = true }) world may.there may.up p;
 }
 
+-- at first
+pub fresh_dropped : (setup : Setup) → AreDropped (fresh setup)
+fresh_dropped setup n there down = absurd (both_ways (node_at n (fresh setup)).down (ap (λ (x : Node). x.down) (fresh_at setup n there)) down)
+
 -- so it holds of each world
 pub each_dropped : (setup : Setup) (events : List Event) → AreDropped (world_after setup events)
-each_dropped setup events =
-    each_world setup AreDropped
-    (λ n there down. absurd (both_ways (node_at n (fresh setup)).down (ap (λ (x : Node). x.down) (fresh_at setup n there)) down)) (dropped_keeps setup) events
+each_dropped setup events = each_world setup AreDropped (fresh_dropped setup) (keeps_dropped setup) events

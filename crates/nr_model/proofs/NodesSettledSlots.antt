@@ -17,7 +17,7 @@ use Rattle.nr_model.proofs.NodesOwnPlaces.{ArePlaced}
 use Rattle.nr_model.proofs.NodesOwnShaped.{AreShaped}
 use Rattle.nr_model.proofs.NodesExecutedLists.{count}
 use Rattle.nr_model.proofs.NodesExecutedFits.{serves, owing}
-use Rattle.nr_model.proofs.NodesExecutedNodes.{own_entry, standing_of}
+use Rattle.nr_model.proofs.NodesExecutedNodes.{own_entry, first_owed, owed_from, standing_of}
 use Rattle.nr_model.proofs.NodesExecutedWorlds.{AreFit}
 use Rattle.nr_model.proofs.NodesSettledDropped.{AreDropped}
 use Rattle.nr_model.proofs.NodesSettledStill.{IsStill}
@@ -43,7 +43,8 @@ none_owing : (r w : ℕ) (log : List Logged) (executed : Jobs) (node : Node) →
     → owing w (standing_of r log executed node) ≡ 0
 none_owing r w log executed node waiting applied =
     let test = serves w node.clients in
-    let none : drop node.applied log ≡ [] = drop_all node.applied log (omega arith) in
+    let from = owed_from node.resumed node.applied in
+    let none : drop (first_owed node.resumed node.applied) log ≡ [] = drop_all (first_owed node.resumed node.applied) log (omega arith) in
     λ i. count test (waiting i) + count test (flat_map (own_entry r) (none i))
 
 -- nothing that a step would do

@@ -8,7 +8,7 @@ use Rattle.std.proofs.lemmas.List.FromFn.{get_or-range_with_len, length-range_wi
 use Rattle.std.proofs.lemmas.List.Elements.{Contains-append_left, Contains-append_right}
 use Rattle.nr_model.specs.Connections.{Setup}
 use Rattle.nr_model.specs.Nodes.{World}
-use Rattle.nr_model.specs.Nodes.Steps.{Step, Post, Lift, Reserve, Fill, Fetch, Apply, Look, Answer, Collect, Outcome, Opened, Done, Idle, Refused, outcome, effect_by}
+use Rattle.nr_model.specs.Nodes.Steps.{Step, Post, Lift, Reserve, Fill, Fetch, Apply, Look, Answer, Collect, Outcome, Opened, Done, Idle, Refused, outcome, came_to, effect_by}
 use Rattle.nr_model.specs.Nodes.Pasts.{Event, AreEvents, after_event, is_done}
 use Rattle.nr_model.specs.Nodes.Settling.{for_workers, lifting, reserving, in_turn, applying, answering, round_of, IsRound, does, after_events, AreRounds}
 use Rattle.nr_model.proofs.NodesSteps.{world_after-append}
@@ -83,19 +83,19 @@ still_by (Idle reason) setup world step refused e = refl
 -- events of which none was done
 record AreIdle (setup : Setup) (world : World) (events : List Event) : Type 0 where
   same : after_events setup world events ≡ world
-  idle : (e : Event) → Contains events e → is_done (outcome setup world e.step) ≡ false
+  idle : (e : Event) → Contains events e → is_done (came_to setup world e.step e.refused) ≡ false
 
 are_idle : (setup : Setup) (world : World) (events : List Event) → AreEvents setup world events → does events ≡ false → AreIdle setup world events
 are_idle setup world [] are none = record { same = refl; idle = λ e h. let below : h.0 < 0 = h.1 in absurd (omega arith) }
 are_idle setup world (e ∷ events) are none =
     let both = or_parts (is_done e.outcome) (does events) none in
-    let idle : is_done (outcome setup world e.step) ≡ false = ap is_done (sym (are.0.outcome_is)) ∙ both.0 in
-    let same : after_event setup world e ≡ world = still_by (outcome setup world e.step) setup world e.step e.refused idle in
+    let idle : is_done (came_to setup world e.step e.refused) ≡ false = ap is_done (sym (are.0.outcome_is)) ∙ both.0 in
+    let same : after_event setup world e ≡ world = still_by (came_to setup world e.step e.refused) setup world e.step e.refused idle in
     let more = are_idle setup world events (subst (λ (w : World). AreEvents setup w events) same are.1) both.1 in
     record {
       same = ap (λ (w : World). after_events setup w events) same ∙ more.same;
       idle = λ f h. elim (in_cases f e events h) [
-        | inl first ↦ subst (λ (g : Event). is_done (outcome setup world g.step) ≡ false) first idle
+        | inl first ↦ subst (λ (g : Event). is_done (came_to setup world g.step g.refused) ≡ false) first idle
         | inr behind ↦ more.idle f behind
       ];
     }
@@ -125,10 +125,10 @@ in_looks setup turns n below =
 
 -- a step of a round in which nothing was done isn't enabled
 idle_step : (setup : Setup) (world : World) (events : List Event) (step : Step) → AreIdle setup world events
-    → Contains (map (λ (e : Event). e.step) events) step → is_done (outcome setup world step) ≡ false
+    → Contains (map (λ (e : Event). e.step) events) step → (refused : Refused) × (is_done (came_to setup world step refused) ≡ false)
 idle_step setup world events step idle h =
     let p = in_map (λ (e : Event). e.step) events step h in
-    subst (λ (s : Step). is_done (outcome setup world s) ≡ false) p.2 (idle.idle p.0 p.1)
+    (p.0.refused, subst (λ (s : Step). is_done (came_to setup world s p.0.refused) ≡ false) p.2 (idle.idle p.0 p.1))
 
 -- a look comes behind an apply and a fetch
 record ArePaired (setup : Setup) (world : World) (n : ℕ) : Type 0 where
@@ -150,8 +150,8 @@ idle_pair setup world events n idle round h =
     subst (λ (es : List Event). Contains es p.2) whole
     (Contains-append_left front behind p.2 (Contains-append_right p.0 (p.1 ∷ p.2 ∷ []) p.2 (later_in p.2 p.1 (p.2 ∷ []) (first_in p.2 [])))) in
     record {
-      apply = subst (λ (t : Step). is_done (outcome setup world t) ≡ false) p.4 (idle.idle p.1 apply_in);
-      fetch = subst (λ (t : Step). is_done (outcome setup world t) ≡ false) p.5 (idle.idle p.2 fetch_in);
+      apply = subst (λ (t : Step). is_done (came_to setup world t p.1.refused) ≡ false) p.4 (idle.idle p.1 apply_in);
+      fetch = subst (λ (t : Step). is_done (came_to setup world t p.2.refused) ≡ false) p.5 (idle.idle p.2 fetch_in);
     }
 
 -- so none is
@@ -161,7 +161,7 @@ reserve_steps setup n = Reserve n ∷ map (Fill n) (range_with_len 0 setup.nodes
 still_round : (setup : Setup) (world : World) (events : List Event) → IsRound setup world events → AreIdle setup world events → IsStill setup world
 still_round setup world events round idle =
     let turns = round.turns in
-    let each : (step : Step) → Contains (round_of setup turns) step → is_done (outcome setup world step) ≡ false =
+    let each : (step : Step) → Contains (round_of setup turns) step → (refused : Refused) × (is_done (came_to setup world step refused) ≡ false) =
     λ step h. idle_step setup world events step idle (subst (λ ss. Contains ss step) (sym round.steps) h) in
     let look : (n : ℕ) → n < setup.nodes → Contains (round_of setup turns) (Look n) =
     λ n there. let many = round.nodes in in_looks setup turns n (omega arith) in
@@ -169,24 +169,24 @@ still_round setup world events round idle =
     λ n there. idle_pair setup world events n idle round (subst (λ ss. Contains ss (Look n)) (sym round.steps) (look n there)) in
     let nodes = range_with_len 0 setup.nodes in
     record {
-      posts = λ n w there within. each (Post n w) (in_lifting setup turns (Post n w)
-          (for_worker setup (λ m v. Post m v ∷ Lift m v ∷ []) n w (Post n w) there within (first_in (Post n w) (Lift n w ∷ []))));
-      lifts = λ n w there within. each (Lift n w) (in_lifting setup turns (Lift n w)
+      posts = λ n w there within. (each (Post n w) (in_lifting setup turns (Post n w)
+          (for_worker setup (λ m v. Post m v ∷ Lift m v ∷ []) n w (Post n w) there within (first_in (Post n w) (Lift n w ∷ []))))).1;
+      lifts = λ n w there within. (each (Lift n w) (in_lifting setup turns (Lift n w)
           (for_worker setup (λ m v. Post m v ∷ Lift m v ∷ []) n w (Lift n w) there within
-          (later_in (Lift n w) (Post n w) (Lift n w ∷ []) (first_in (Lift n w) []))));
-      reserves = λ n there. each (Reserve n) (in_reserving setup turns (Reserve n)
-          (of_parts (reserve_steps setup) nodes n (Reserve n) (in_range setup.nodes n there) (first_in (Reserve n) (map (Fill n) nodes))));
-      fills = λ n t there cell. each (Fill n t) (in_reserving setup turns (Fill n t)
+          (later_in (Lift n w) (Post n w) (Lift n w ∷ []) (first_in (Lift n w) []))))).1;
+      reserves = λ n there. (each (Reserve n) (in_reserving setup turns (Reserve n)
+          (of_parts (reserve_steps setup) nodes n (Reserve n) (in_range setup.nodes n there) (first_in (Reserve n) (map (Fill n) nodes))))).1;
+      fills = λ n t there cell. (each (Fill n t) (in_reserving setup turns (Fill n t)
           (of_parts (reserve_steps setup) nodes n (Fill n t) (in_range setup.nodes n there)
-          (later_in (Fill n t) (Reserve n) (map (Fill n) nodes) (of_map (Fill n) nodes t (in_range setup.nodes t cell)))));
+          (later_in (Fill n t) (Reserve n) (map (Fill n) nodes) (of_map (Fill n) nodes t (in_range setup.nodes t cell)))))).1;
       fetches = λ n there. (pair n there).fetch;
       applies = λ n there. (pair n there).apply;
-      looks = λ n there. each (Look n) (look n there);
-      answers = λ n w there within. each (Answer n w) (in_answering setup turns (Answer n w)
-          (for_worker setup (λ m v. Answer m v ∷ Collect m v ∷ []) n w (Answer n w) there within (first_in (Answer n w) (Collect n w ∷ []))));
-      collects = λ n w there within. each (Collect n w) (in_answering setup turns (Collect n w)
+      looks = λ n there. (each (Look n) (look n there)).1;
+      answers = λ n w there within. (each (Answer n w) (in_answering setup turns (Answer n w)
+          (for_worker setup (λ m v. Answer m v ∷ Collect m v ∷ []) n w (Answer n w) there within (first_in (Answer n w) (Collect n w ∷ []))))).1;
+      collects = λ n w there within. (each (Collect n w) (in_answering setup turns (Collect n w)
           (for_worker setup (λ m v. Answer m v ∷ Collect m v ∷ []) n w (Collect n w) there within
-          (later_in (Collect n w) (Answer n w) (Collect n w ∷ []) (first_in (Collect n w) []))));
+          (later_in (Collect n w) (Answer n w) (Collect n w ∷ []) (first_in (Collect n w) []))))).1;
     }
 
 -- events and more

@@ -2,7 +2,7 @@
 use Rattle.std.proofs.Common.{◌≡◌, ◌≢◌, ℕ, ◌<◌, ◌-◌, Bool, true, false, not, cond, inl, inr, List, [], ◌∷◌, ◌++◌, length, replicate, map, suc, zero, refl, ap, sym, ◌∙◌, subst, ltb, arith, append_assoc}
 use Rattle.std.specs.Prelude.{◌&&◌, ◌||◌, ◌==◌, nat_le, fold, slice_index_or, None}
 use Rattle.std.specs.List.{list_any}
-use Rattle.std.proofs.lemmas.Bool.{not-false, or_parts, and_parts, ltb-true, cond_both}
+use Rattle.std.proofs.lemmas.Bool.{not-false, or_parts, and_parts, ltb-true, eqb-true, cond_both}
 use Rattle.std.proofs.lemmas.Bool.Decides.{eqb_tells}
 use Rattle.std.proofs.lemmas.List.{append-nil, length-map, length-set, length-replicate, get_or-replicate, get_or-set_same, get_or-set_other}
 use Rattle.nr_model.specs.Bytes.{Bytes}
@@ -11,9 +11,10 @@ use Rattle.nr_model.specs.Entries.{Jobs, entry_items, entry_jobs, left_by_entry,
 use Rattle.nr_model.specs.Servers.{after_all, emitted_all}
 use Rattle.nr_model.specs.Connections.{Setup}
 use Rattle.nr_model.specs.Nodes.{Client, Worker, Logged, Slot, Empty, Posted, Lifted, Answered, Node, World, fresh, fresh_node, no_node, fresh_worker, Reads, node_at, worker_at, client_of, with_node, with_worker, log_of, tail_of}
-use Rattle.nr_model.specs.Nodes.Steps.{Step, Open, Feed, Post, Lift, Reserve, Fill, Fetch, Apply, Look, Answer, Collect, Close, Refuse, Outcome, Opened, Done, Idle, Refused, idle_where, is_node, is_worker, is_client, in_use, is_empty, is_free, is_posted, is_lifted, is_answered, owed_in, is_true, has_place, is_filled, are_filled, next_fetch, collected, outcome, posted_jobs, executed_from, advanced, advanced_by, passing, falls_at, opened, fed_node, posted_worker, reserved, looked, with_reads, closed_node, closed, nothing_refused, delivered_to, effect, effect_by, after_step}
+use Rattle.nr_model.specs.Nodes.Steps.{Step, Open, Feed, Post, Lift, Reserve, Fill, Fetch, Apply, Look, Answer, Collect, Close, Refuse, Revive, Outcome, Opened, Done, Idle, Refused, idle_where, is_node, is_worker, is_client, in_use, is_empty, is_free, is_posted, is_lifted, is_answered, owed_in, is_true, has_place, is_filled, are_filled, next_fetch, collected, has_batch, is_busy, outcome, with_copy, came_to, posted_jobs, executed_from, is_owed, is_overrun, advanced, advanced_by, passing, opened, fed_node, posted_worker, reserved, looked, with_reads, closed_node, closed, nothing_refused, delivered_to, effect, effect_by, after_step}
 use Rattle.nr_model.specs.declared.reason.Reason.{Reason}
-use Rattle.nr_model.specs.declared.reason.Reason.TheVariants.{NoSuch, Ended, TooMany, Down, Busy, Nothing, Full, NotYet}
+use Rattle.nr_model.specs.declared.reason.Reason.TheVariants.{NoSuch, Ended, TooMany, Down, Busy, Nothing, Full, NotYet, NoMemory}
+use Rattle.nr_model.proofs.NodesOwnAdvance.{next_entry, by_advance}
 use Rattle.nr_model.specs.Nodes.Pasts.{Event, is_done, handed_by, answer_by, after_event, world_after, AreEvents}
 
 -- how large a node is: its workers, and its cells of an entry
@@ -107,6 +108,16 @@ pub record MayRefuse (world : World) (n : ℕ) : Type 0 where
   pub there : n < length world.nodes
   pub up : (node_at n world).down ≡ false
 
+pub record MayRevive (world : World) (n f : ℕ) : Type 0 where
+  pub there : n < length world.nodes
+  pub donor : f < length world.nodes
+  pub up : (node_at f world).down ≡ false
+  pub free : (node_at n world).fetched ≡ false
+  pub filled : list_any is_true (node_at n world).unfilled ≡ false
+  pub idle : list_any has_batch (node_at n world).workers ≡ false
+  pub down : (node_at n world).down ≡ true
+  pub even : (node_at n world).passed ≡ (node_at f world).passed
+
 -- Q holds between the world before, the step, what was refused in it, its outcome and the world after
 pub record Moves (setup : Setup) (Q : World → Step → Refused → Outcome → World → Type 0) : Type 0 where
   pub idles : (world : World) (step : Step) (refused : Refused) (reason : Reason) → Q world step refused (Idle reason) world
@@ -136,6 +147,8 @@ pub record Moves (setup : Setup) (Q : World → Step → Refused → Outcome →
       → Q world (Close c time) refused Done (effect setup world (Close c time) refused)
   pub refuses : (world : World) (n : ℕ) (refused : Refused) → MayRefuse world n
       → Q world (Refuse n) refused Done (effect setup world (Refuse n) refused)
+  pub revives : (world : World) (n f : ℕ) (refused : Refused) → MayRevive world n f
+      → Q world (Revive n f) refused Done (effect setup world (Revive n f) refused)
 
 -- a step that is not enabled changes nothing
 unless : (setup : Setup) (world : World) (step : Step) (refused : Refused) (R : Outcome → World → Type 0) (holds : Bool) (reason : Reason) (otherwise : Outcome)
@@ -143,6 +156,12 @@ unless : (setup : Setup) (world : World) (step : Step) (refused : Refused) (R : 
     → R (idle_where holds reason otherwise) (effect_by (idle_where holds reason otherwise) setup world step refused)
 unless setup world step refused R true reason otherwise p q = p
 unless setup world step refused R false reason otherwise p q = q refl
+
+-- the same of what a step comes to
+unless_it : (R : Outcome → Type 0) (holds : Bool) (reason : Reason) (otherwise : Outcome) → R (Idle reason) → (holds ≡ false → R otherwise)
+    → R (idle_where holds reason otherwise)
+unless_it R true reason otherwise p q = p
+unless_it R false reason otherwise p q = q refl
 
 -- a node that there is
 is_there : (setup : Setup) (world : World) (n : ℕ) → AreSized setup world → not (is_node setup n) ≡ false → n < length world.nodes
@@ -183,7 +202,7 @@ posted_is (Answered executed) e = absurd (cc e)
 
 -- any step moves so
 pub each_step : (setup : Setup) (Q : World → Step → Refused → Outcome → World → Type 0) → Moves setup Q → (world : World) (step : Step) (refused : Refused)
-    → AreSized setup world → Q world step refused (outcome setup world step) (after_step setup world step refused)
+    → AreSized setup world → Q world step refused (came_to setup world step refused) (after_step setup world step refused)
 each_step setup Q moves world (Open n w) refused sized =
     let step = Open n w in
     let idle = moves.idles world step refused in
@@ -196,17 +215,18 @@ each_step setup Q moves world (Feed c time bytes) refused sized =
     let client = client_of c world in
     let idle = moves.idles world step refused in
     unless setup world step refused (Q world step refused) (not (is_client world c)) NoSuch _ (idle NoSuch) (λ here.
-    unless setup world step refused (Q world step refused) (client.ended || (client.closed || client.queue.cut)) Ended _ (idle Ended) (λ on.
+    unless setup world step refused (Q world step refused) (client.ended || (client.closed || is_overrun client)) Ended _ (idle Ended) (λ on.
     unless setup world step refused (Q world step refused) (node_at c.node world).down Down _ (idle Down) (λ up.
-    let first = or_parts client.ended (client.closed || client.queue.cut) on in
-    let second = or_parts client.closed client.queue.cut first.1 in
+    unless setup world step refused (Q world step refused) client.queue.cut Ended _ (idle Ended) (λ uncut.
+    let first = or_parts client.ended (client.closed || is_overrun client) on in
+    let second = or_parts client.closed (is_overrun client) first.1 in
     moves.feeds world c time bytes refused (record {
       client = a_client world c (not-false (is_client world c) here);
       on = first.0;
       unclosed = second.0;
-      uncut = second.1;
+      uncut = uncut;
       up = up;
-    }))))
+    })))))
 each_step setup Q moves world (Post n w) refused sized =
     let step = Post n w in
     let worker = worker_at w (node_at n world) in
@@ -314,6 +334,79 @@ each_step setup Q moves world (Refuse n) refused sized =
     unless setup world step refused (Q world step refused) (not (is_node setup n)) NoSuch _ (idle NoSuch) (λ here.
     unless setup world step refused (Q world step refused) (node_at n world).down Down _ (idle Down) (λ up.
     moves.refuses world n refused (record { there = is_there setup world n sized here; up = up })))
+each_step setup Q moves world (Revive n f) refused sized =
+    let step = Revive n f in
+    let node = node_at n world in
+    let donor = node_at f world in
+    let idle = moves.idles world step refused in
+    let holds = list_any is_true node.unfilled in
+    let batch = list_any has_batch node.workers in
+    let came = λ (o : Outcome). Q world step refused o (effect_by o setup world step refused) in
+    let R = λ (o : Outcome). came (with_copy refused o) in
+    unless_it R (not (is_node setup n && is_node setup f)) NoSuch _ (idle NoSuch) (λ here.
+    unless_it R donor.down Down _ (idle Down) (λ up.
+    unless_it R (is_busy node) Busy _ (idle Busy) (λ free.
+    unless_it R (not node.down) Nothing _ (idle Nothing) (λ down.
+    unless_it R (not (node.passed == donor.passed)) NotYet _ (idle NotYet) (λ even.
+    let both = and_parts (is_node setup n) (is_node setup f) (not-false (is_node setup n && is_node setup f) here) in
+    let first = or_parts node.fetched (holds || batch) free in
+    let second = or_parts holds batch first.1 in
+    cond_both refused.copy (Idle NoMemory) Done came (λ copy. idle NoMemory)
+    (λ made. moves.revives world n f refused (record {
+      there = is_there setup world n sized (ap not both.0);
+      donor = is_there setup world f sized (ap not both.1);
+      up = up;
+      free = first.0;
+      filled = second.0;
+      idle = second.1;
+      down = not-false node.down down;
+      even = eqb-true node.passed donor.passed (not-false (node.passed == donor.passed) even);
+    })))))))
+
+-- a step that isn't enabled came to nothing, whatever was refused
+copy_idle : (refused : Refused) (o : Outcome) → is_done o ≡ false → is_done (with_copy refused o) ≡ false
+copy_idle refused (Opened c) e = absurd (cc e)
+copy_idle refused Done e = absurd (cc e)
+copy_idle refused (Idle reason) e = refl
+
+pub came_idle : (setup : Setup) (world : World) (step : Step) (refused : Refused) → is_done (outcome setup world step) ≡ false
+    → is_done (came_to setup world step refused) ≡ false
+came_idle setup world (Open n w) refused e = e
+came_idle setup world (Feed c time bytes) refused e = e
+came_idle setup world (Post n w) refused e = e
+came_idle setup world (Lift n w) refused e = e
+came_idle setup world (Reserve n) refused e = e
+came_idle setup world (Fill n t) refused e = e
+came_idle setup world (Fetch n) refused e = e
+came_idle setup world (Apply n) refused e = e
+came_idle setup world (Look n) refused e = e
+came_idle setup world (Answer n w) refused e = e
+came_idle setup world (Collect n w) refused e = e
+came_idle setup world (Close c time) refused e = e
+came_idle setup world (Refuse n) refused e = e
+came_idle setup world (Revive n f) refused e = copy_idle refused (outcome setup world (Revive n f)) e
+
+-- and where nothing was refused, each came to its outcome
+copy_made : (o : Outcome) → with_copy nothing_refused o ≡ o
+copy_made (Opened c) = refl
+copy_made Done = refl
+copy_made (Idle reason) = refl
+
+pub came_plainly : (setup : Setup) (world : World) (step : Step) → came_to setup world step nothing_refused ≡ outcome setup world step
+came_plainly setup world (Open n w) = refl
+came_plainly setup world (Feed c time bytes) = refl
+came_plainly setup world (Post n w) = refl
+came_plainly setup world (Lift n w) = refl
+came_plainly setup world (Reserve n) = refl
+came_plainly setup world (Fill n t) = refl
+came_plainly setup world (Fetch n) = refl
+came_plainly setup world (Apply n) = refl
+came_plainly setup world (Look n) = refl
+came_plainly setup world (Answer n w) = refl
+came_plainly setup world (Collect n w) = refl
+came_plainly setup world (Close c time) = refl
+came_plainly setup world (Refuse n) = refl
+came_plainly setup world (Revive n f) = copy_made (outcome setup world (Revive n f))
 
 -- a node that was put in its place, and the others
 pub node_here : (n : ℕ) (node : Node) (world : World) → n < length world.nodes → node_at n (with_node n node world) ≡ node
@@ -351,17 +444,16 @@ as_executed w clients jobs (worker ∷ workers) = ap suc (as_executed (suc w) cl
 -- a node keeps its size when it passes an entry
 sized_advanced : (setup : Setup) (refused : Refused) (n : ℕ) (log : List Logged) (node : Node) → IsSized setup node → IsSized setup (advanced refused n log node)
 sized_advanced setup refused n log node s =
-    let entry = slice_index_or log node.passed (record { node = 0; jobs = [] }) in
-    cond_both node.down _ _ (λ (x : Node). IsSized setup (passing x)) (λ e. record { workers = s.workers; cells = s.cells })
-    (λ e. cond_both (node.refused || falls_at refused.falls node.passed) _ _ (λ (x : Node). IsSized setup (passing x))
-    (λ falls. record { workers = length-map node.workers _ ∙ s.workers; cells = s.cells })
-    (λ up. cond_both (entry.node == n) _ _ (λ (x : Node). IsSized setup (passing (record x {
+    let entry = next_entry log node in
+    by_advance (IsSized setup) refused n log node (λ down. record { workers = s.workers; cells = s.cells })
+    (λ up. record { workers = length-map node.workers _ ∙ s.workers; cells = s.cells })
+    (λ up. cond_both (is_owed n entry node) _ _ (λ (x : Node). IsSized setup (passing (record x {
       applied = suc node.applied;
       server = after_all node.server (entry_items entry.jobs);
       clients = map (delivered_to refused.cuts node.passed (emitted_all node.server (entry_items entry.jobs))) node.clients;
     })))
     (λ own. record { workers = as_executed 0 node.clients entry.jobs node.workers ∙ s.workers; cells = s.cells })
-    (λ other. record { workers = s.workers; cells = s.cells })))
+    (λ other. record { workers = s.workers; cells = s.cells }))
 
 sized_advanced_by : (setup : Setup) (count : ℕ) (refused : Refused) (n : ℕ) (log : List Logged) (node : Node) → IsSized setup node
     → IsSized setup (advanced_by count refused n log node)
@@ -440,6 +532,9 @@ sized_moves setup = record {
   refuses = λ world n refused may sized.
       let s = sized.each n may.there in
       sized_with setup n _ world may.there sized (record { workers = s.workers; cells = s.cells });
+  revives = λ world n f refused may sized.
+      let s = sized.each n may.there in
+      sized_with setup n _ world may.there sized (record { workers = s.workers; cells = s.cells });
 }
 
 -- at first
@@ -477,6 +572,7 @@ pub record Keeps (setup : Setup) (P : World → Type 0) : Type 0 where
   pub collects : (world : World) (n w : ℕ) → MayCollect setup world n w → P world → P (effect setup world (Collect n w) nothing_refused)
   pub closes : (world : World) (c : Connection) (time : ℕ) → MayClose world c → P world → P (closed c time world)
   pub refuses : (world : World) (n : ℕ) → MayRefuse world n → P world → P (effect setup world (Refuse n) nothing_refused)
+  pub revives : (world : World) (n f : ℕ) → MayRevive world n f → P world → P (effect setup world (Revive n f) nothing_refused)
 
 -- an invariant of worlds as a relation of a step
 pub moves_of : (setup : Setup) (P : World → Type 0) → Keeps setup P → Moves setup (λ world step refused outcome after. P world → P after)
@@ -495,6 +591,7 @@ moves_of setup P keeps = record {
   collects = λ world n w refused may. keeps.collects world n w may;
   closes = λ world c time refused may. keeps.closes world c time may;
   refuses = λ world n refused may. keeps.refuses world n may;
+  revives = λ world n f refused may. keeps.revives world n f may;
 }
 
 -- and a relation of each step as an invariant of worlds
@@ -513,6 +610,26 @@ keeps_of setup P moves = record {
   collects = λ world n w may. moves.collects world n w nothing_refused may;
   closes = λ world c time may. moves.closes world c time nothing_refused may;
   refuses = λ world n may. moves.refuses world n nothing_refused may;
+  revives = λ world n f may. moves.revives world n f nothing_refused may;
+}
+
+-- two invariants at once
+pub keeps_both : (setup : Setup) (P Q : World → Type 0) → Keeps setup P → Keeps setup Q → Keeps setup (λ world. P world × Q world)
+keeps_both setup P Q p q = record {
+  opens = λ world n w may b. (p.opens world n w may b.0, q.opens world n w may b.1);
+  feeds = λ world c time bytes may b. (p.feeds world c time bytes may b.0, q.feeds world c time bytes may b.1);
+  posts = λ world n w may b. (p.posts world n w may b.0, q.posts world n w may b.1);
+  lifts = λ world n w may b. (p.lifts world n w may b.0, q.lifts world n w may b.1);
+  reserves = λ world n may b. (p.reserves world n may b.0, q.reserves world n may b.1);
+  fills = λ world n t may b. (p.fills world n t may b.0, q.fills world n t may b.1);
+  fetches = λ world n may b. (p.fetches world n may b.0, q.fetches world n may b.1);
+  applies = λ world n refused may b. (p.applies world n refused may b.0, q.applies world n refused may b.1);
+  looks = λ world n refused may b. (p.looks world n refused may b.0, q.looks world n refused may b.1);
+  answers = λ world n w may b. (p.answers world n w may b.0, q.answers world n w may b.1);
+  collects = λ world n w may b. (p.collects world n w may b.0, q.collects world n w may b.1);
+  closes = λ world c time may b. (p.closes world c time may b.0, q.closes world c time may b.1);
+  refuses = λ world n may b. (p.refuses world n may b.0, q.refuses world n may b.1);
+  revives = λ world n f may b. (p.revives world n f may b.0, q.revives world n f may b.1);
 }
 
 -- any events keep it

@@ -21,6 +21,11 @@ abbrev pub close_number : ℕ → Jobs → ℕ
 close_number next [] = next
 close_number next (job ∷ jobs) = job.number
 
+-- the number of the first job, where there is one
+abbrev pub first_number : Jobs → Option ℕ
+first_number [] = None
+first_number (job ∷ jobs) = Some job.number
+
 -- the jobs that the bytes fed to a connection ask for, those of each feed at its moment; the bytes before these feeds were fed already
 abbrev pub jobs_of_feeds : Connection → Bytes → List Feeding → Jobs
 jobs_of_feeds c before [] = []

@@ -3,7 +3,7 @@ pub mod Steps
 pub mod Pasts
 pub mod Explained
 pub mod Settling
-use Rattle.std.specs.Prelude.{ℕ, Bool, true, false, List, [], length, map, filter, flat_map, slice_index_or, slice_set, replicate, ◌++◌, ◌∷◌, ◌==◌, cond, suc, zero}
+use Rattle.std.specs.Prelude.{ℕ, Bool, true, false, Option, None, List, [], length, map, filter, flat_map, slice_index_or, slice_set, replicate, ◌++◌, ◌∷◌, ◌==◌, cond, suc, zero}
 use Rattle.nr_model.specs.Bytes.{Bytes}
 use Rattle.nr_model.specs.Items.{Connection, Sequence}
 use Rattle.nr_model.specs.Modes.{Mode, plain}
@@ -13,7 +13,8 @@ use Rattle.nr_model.specs.Queues.{Queue}
 use Rattle.nr_model.specs.Connections.{Setup, Feeding, Closing}
 
 -- A connection of a node: the worker that serves it, the bytes behind its last whole request, the mode that its requests left, the number of its
--- next job, whether its bytes asked for its end, whether it was closed, and what waits for it
+-- next job, whether its bytes asked for its end, whether it was closed; the number of the first of its jobs that a fall of its node dropped, if one was
+-- dropped; whether its node fell while its queue wasn't cut; and what waits for it
 pub record Client : Type 0 where
   pub worker : ℕ
   pub rest : Bytes
@@ -21,6 +22,8 @@ pub record Client : Type 0 where
   pub next : ℕ
   pub ended : Bool
   pub closed : Bool
+  pub lost : Option ℕ
+  pub fell : Bool
   pub queue : Queue
 
 abbrev pub fresh_client : ℕ → ℕ → Connection → Client
@@ -32,6 +35,8 @@ fresh_client limit worker c =
       next = 0;
       ended = false;
       closed = false;
+      lost = None;
+      fell = false;
       queue = record { connection = c; waiting = []; handed = 0; limit = limit; cut = false };
     }
 
@@ -51,7 +56,8 @@ pub record Worker : Type 0 where
 
 -- A node: its connections by serial, its workers, the jobs that it has lifted and neither reserved an entry for nor run, the number of the entry
 -- that it reserved last and, for each node, whether the cell of that entry isn't filled yet, how many entries it has applied, how many passed, whether
--- it holds one that it has fetched, its replica of the server, whether it is down, and whether the next entry that it applies is refused
+-- it holds one that it has fetched, its replica of the server, whether it is down, and whether the next entry that it applies is refused; and, when it
+-- came back last, how many connections it had, which are those from before, and how many entries were reserved. Both are 0 until it comes back.
 pub record Node : Type 0 where
   pub clients : List Client
   pub workers : List Worker
@@ -64,6 +70,8 @@ pub record Node : Type 0 where
   pub server : servers.Server
   pub down : Bool
   pub refused : Bool
+  pub since : ℕ
+  pub resumed : ℕ
 
 -- what was taken from the jobs that wait: those of a node's entry, when it was reserved, or the reads that a node ran behind so many entries
 pub data Taken : Type 0 where
@@ -102,6 +110,8 @@ fresh_node setup =
       server = servers.fresh;
       down = false;
       refused = false;
+      since = 0;
+      resumed = 0;
     }
 
 abbrev pub fresh : Setup → World

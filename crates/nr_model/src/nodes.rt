@@ -11,8 +11,8 @@ fn nodes_law()
 {}
 
 /// Rounds of steps, taken until nothing is done in one, settle several nodes: nothing waits or is held any more, every node has passed the
-/// whole log, and each connection of a node that is up was answered all that it asked for. The rounds are at most three more than the jobs
-/// that were left.
+/// whole log, and each connection of a node that is up was answered all that it asked for, unless it is from before the node came back. The
+/// rounds are at most three more than the jobs that were left.
 fn settling_law()
     ensures { SettlingLaw }
 {}

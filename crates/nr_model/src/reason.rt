@@ -19,4 +19,6 @@ pub enum Reason {
     Full,
     /// What it waits for hasn't happened yet.
     NotYet,
+    /// Memory was refused for what it needs.
+    NoMemory,
 }

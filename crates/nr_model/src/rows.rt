@@ -25,7 +25,7 @@ fn sequential_rows()
     ensures { SequentialRows }
 {}
 
-/// Steps of several nodes: why they are idle, reads off the log, a full circle, a node that falls, and a close.
+/// Steps of several nodes: why they are idle, reads off the log, a full circle, a node that falls, one that comes back, and closes.
 fn nodes_rows()
     ensures { NodesRows }
 {}

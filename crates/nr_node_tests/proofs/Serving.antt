@@ -46,7 +46,7 @@ asked_once c sent got =
 
 -- they are the jobs of a new session
 pub fed_first : (c : Connection) (sent : Bytes) (s : SessionState) (old new : List Job)
-    → s ≡ record { connection = c; rest = []; mode = plain; next = 0; fed = 0; ended = false; gave_end = false } → old ≡ []
+    → s ≡ record { connection = c; rest = []; mode = plain; next = 0; fed = 0; ended = false; gave_end = false; lost = None; fell = false } → old ≡ []
     → items_of new ≡ items_of old ++ jobs_from s.connection s.next 0 (asked s.mode s.rest sent).deeds
     → items_of new ≡ asked_of (served_one c sent [])
 fed_first c sent s old new fresh none fed =

@@ -1,6 +1,6 @@
 -- A node applies an entry, falls by it, or runs reads.
-use Rattle.std.proofs.Common.{◌≡◌, ℕ, suc, Bool, true, false, cond, inl, inr, List, [], length, refl, ap, sym, ◌∙◌, arith, Some, None, eq-eqb}
-use Rattle.std.specs.Prelude.{map, ◌==◌, ◌||◌}
+use Rattle.std.proofs.Common.{◌≡◌, ℕ, suc, Bool, true, false, cond, inl, inr, List, [], length, refl, ap, sym, ◌∙◌, subst, Some, None, eq-eqb}
+use Rattle.std.specs.Prelude.{map, nat_le, ◌==◌, ◌&&◌, ◌||◌}
 use Rattle.nr_model.specs.Servers.{Server, after_all, emitted_all}
 use Rattle.nr_model.specs.Entries.{Jobs, entry_items, read_jobs}
 use Rattle.nr_model.specs.Nodes as nodes
@@ -10,15 +10,14 @@ use Rattle.nr_entry.specs.declared.entry.Entry.{Entry}
 use Rattle.nr_replica.specs.Members.{AreNumbered}
 use Rattle.nr_replica.specs.Replicas as replicas
 use Rattle.nr_replica.specs.Replicas.{ReplicaState}
-use Rattle.nr_nodes.specs.declared.worker.Worker.{Worker}
 use Rattle.nr_nodes.specs.declared.node.Node.{Node}
-use Rattle.nr_nodes.specs.Served.{clients_seen, workers_seen, node_seen, entry_seen}
-use Rattle.nr_nodes.specs.Forgotten.{AreForgotten}
+use Rattle.nr_nodes.specs.Served.{clients_seen, workers_seen, node_seen, entry_seen, dropped_node}
+use Rattle.nr_nodes.specs.Whole.{IsWhole}
 use Rattle.nr_nodes.specs.Advanced.{IsAdvanced, IsApplied, HasRun}
 use Rattle.nr_nodes.proofs.Changed.{seen_by}
 use Rattle.nr_nodes.proofs.Cuts.{has_cuts, are_of}
 use Rattle.nr_nodes.proofs.Executed.{executed_is}
-use Rattle.nr_nodes.proofs.Forgotten.{forgotten_all}
+use Rattle.nr_nodes.proofs.Batches.{whole_kept}
 
 pub not_true : (b : Bool) → (b ≡ true → ⊥) → b ≡ false
 not_true true h = absurd (h refl)
@@ -28,39 +27,67 @@ pub or_true : (b : Bool) → (b || true) ≡ true
 or_true true = refl
 or_true false = refl
 
--- by whether the entry is the node's own
-by_owner : (own : Bool) (node : Node) (jobs : Jobs) (clients : List nodes.Client) (server : Server) → length node.sessions ≡ length node.replica.members
-    → record (node_seen node) { clients = clients; workers = workers_seen node.workers.items (cond own (replicas.owed_from 0 node.replica.members jobs node.replica.owed) node.replica.owed); applied = suc node.replica.applied; server = server }
-    ≡ record (cond own (steps.with_executed jobs (node_seen node)) (node_seen node)) { applied = suc node.replica.applied; server = server; clients = clients }
-by_owner true node jobs clients server h =
+-- by whether the entry is the node's own, and counts
+by_owner : (counted own : Bool) (node : Node) (jobs : Jobs) (clients : List nodes.Client) (server : Server) → length node.sessions ≡ length node.replica.members
+    → record (node_seen node) {
+      clients = clients;
+      workers = workers_seen node.workers.items
+          (cond counted (cond own (replicas.owed_from 0 node.replica.members jobs node.replica.owed) node.replica.owed) node.replica.owed);
+      applied = suc node.replica.applied;
+      server = server;
+    }
+    ≡ record (cond (counted && own) (steps.with_executed jobs (node_seen node)) (node_seen node)) {
+      applied = suc node.replica.applied;
+      server = server;
+      clients = clients;
+    }
+by_owner true true node jobs clients server h =
     ap (λ (workers : List nodes.Worker). record (node_seen node) { clients = clients; workers = workers; applied = suc node.replica.applied; server = server })
     (executed_is 0 node.sessions node.replica.members jobs node.workers.items node.replica.owed h)
-by_owner false node jobs clients server h = refl
+by_owner true false node jobs clients server h = refl
+by_owner false own node jobs clients server h = refl
 
-pub advanced_is : (node : Node) (entry : Entry) (replica : ReplicaState) → length node.sessions ≡ length node.replica.members → AreNumbered node.replica.node 0 node.replica.members
-    → node.replica.refused ≡ false → replicas.IsApplied entry node.replica replica → IsAdvanced node.replica.node (entry_seen entry) (node_seen node) (seen_by node replica node.workers.items)
-advanced_is node entry replica h numbered still applied =
+pub advanced_is : (node : Node) (counted : Bool) (entry : Entry) (replica : ReplicaState) → length node.sessions ≡ length node.replica.members
+    → AreNumbered node.replica.node 0 node.replica.members
+    → node.replica.refused ≡ false → counted ≡ nat_le node.resumed node.replica.applied → replicas.IsAppliedAs counted entry node.replica replica
+    → IsAdvanced node.replica.node (entry_seen entry) (node_seen node) (seen_by node replica node.workers.items)
+advanced_is node counted entry replica h numbered still counts applied =
     let jobs = items_of entry.jobs.items in
     let es = emitted_all node.replica.server (entry_items jobs) in
     let cuts = has_cuts es node.passed node.replica.node 0 node.sessions node.replica.members replica.members numbered applied.delivered in
     let server = after_all node.replica.server (entry_items jobs) in
+    let own : Bool = entry.node == node.replica.node in
+    let owed = cond counted (cond own (replicas.owed_from 0 node.replica.members jobs node.replica.owed) node.replica.owed) node.replica.owed in
+    let all = map (steps.delivered_to cuts.cuts node.passed es) (clients_seen node.sessions node.replica.members) in
     record {
-      refused = record { falls = None; cuts = cuts.cuts };
+      refused = record { falls = None; cuts = cuts.cuts; copy = false };
       of_entry = record { falls = inl refl; cuts = are_of node.passed 0 cuts.cuts cuts.from };
       state = ap (λ (r : ReplicaState). seen_by node r node.workers.items) applied.state
-          ∙ ap (λ (clients : List nodes.Client). record (node_seen node) { clients = clients; workers = workers_seen node.workers.items (cond (entry.node == node.replica.node) (replicas.owed_from 0 node.replica.members jobs node.replica.owed) node.replica.owed); applied = suc node.replica.applied; server = server }) cuts.clients
-          ∙ by_owner (entry.node == node.replica.node) node jobs (map (steps.delivered_to cuts.cuts node.passed es) (clients_seen node.sessions node.replica.members)) server h
+          ∙ ap (λ (clients : List nodes.Client). record (node_seen node) { clients = clients; workers = workers_seen node.workers.items owed; applied = suc node.replica.applied; server = server }) cuts.clients
+          ∙ by_owner counted own node jobs all server h
+          ∙ ap (λ (b : Bool). record (cond (b && own) (steps.with_executed jobs (node_seen node)) (node_seen node)) { applied = suc node.replica.applied; server = server; clients = all }) counts
           ∙ ap (λ (b : Bool). cond (b || false) (steps.fallen (node_seen node)) (steps.with_entry cuts.cuts node.replica.node (entry_seen entry) (node_seen node))) (sym still);
     }
 
-pub fallen_is : (node : Node) (entry : Entry) (replica : ReplicaState) (workers : List Worker) → replica ≡ replicas.fallen node.replica → AreForgotten (length node.workers.items) node.workers.items workers
-    → IsAdvanced node.replica.node (entry_seen entry) (node_seen node) (seen_by node replica workers)
-fallen_is node entry replica workers e forgotten =
+-- a node that stopped has the same connections
+pub stopped_numbered : (n : ℕ) (old new : ReplicaState) → new ≡ replicas.stopped old → AreNumbered n 0 old.members → AreNumbered n 0 new.members
+stopped_numbered n old new e k = subst (λ (r : ReplicaState). AreNumbered n 0 r.members) (sym e) k
+
+pub stopped_whole : (n : ℕ) (old new : Node) → new.replica ≡ replicas.stopped old.replica → new.sessions ≡ old.sessions
+    → length new.workers.items ≡ length old.workers.items → new.in_use ≡ old.in_use → IsWhole n old → IsWhole n new
+stopped_whole n old new e sessions workers used w =
+    whole_kept n old new (ap (λ (r : ReplicaState). r.node) e) sessions (ap (λ (r : ReplicaState). r.members) e)
+    (ap (λ (r : ReplicaState). length r.owed) e) workers used w
+
+-- and what it has to do is dropped: it fell
+pub fallen_is : (node : Node) (entry : Entry) (replica : ReplicaState) (new : nodes.Node) → replica ≡ replicas.stopped node.replica
+    → new ≡ dropped_node (seen_by node replica node.workers.items)
+    → IsAdvanced node.replica.node (entry_seen entry) (node_seen node) new
+fallen_is node entry replica new e dropped =
     record {
-      refused = record { falls = Some node.passed; cuts = [] };
+      refused = record { falls = Some node.passed; cuts = []; copy = false };
       of_entry = record { falls = inr refl; cuts = tt };
-      state = ap (λ (r : ReplicaState). seen_by node r workers) e
-          ∙ ap (λ (ws : List nodes.Worker). record (steps.fallen (node_seen node)) { workers = ws }) (forgotten_all (length node.workers.items) node.workers.items workers node.replica.owed (omega arith) forgotten)
+      state = dropped ∙ ap (λ (r : ReplicaState). dropped_node (seen_by node r node.workers.items)) e
           ∙ ap (λ (b : Bool). cond b (steps.fallen (node_seen node)) (steps.with_entry [] node.replica.node (entry_seen entry) (node_seen node)))
           (sym (ap (λ (b : Bool). node.replica.refused || b) (eq-eqb node.passed node.passed refl) ∙ or_true node.replica.refused));
     }

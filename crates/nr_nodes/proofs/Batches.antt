@@ -59,13 +59,21 @@ same_closed : (w : ℕ) (m : Member) → (emptied_member w m).is_closed ≡ m.is
 same_closed w m =
     elim (m.worker == w) as (λ b. (cond b (emptied m) m).is_closed ≡ m.is_closed) [ true ↦ refl | false ↦ refl ]
 
+same_cut : (w : ℕ) (m : Member) → (emptied_member w m).outbox.cut ≡ m.outbox.cut
+same_cut w m =
+    elim (m.worker == w) as (λ b. (cond b (emptied m) m).outbox.cut ≡ m.outbox.cut) [ true ↦ refl | false ↦ refl ]
+
 paired_emptied : (n s w : ℕ) (sessions : List SessionState) (members : List Member) → ArePaired n s sessions members
     → ArePaired n s sessions (map (emptied_member w) members)
 paired_emptied n s w [] [] h = tt
 paired_emptied n s w [] (m ∷ members) h = absurd h
 paired_emptied n s w (x ∷ sessions) [] h = absurd h
 paired_emptied n s w (x ∷ sessions) (m ∷ members) h = (
-  record { named = λ open_one. h.0.named (sym (same_closed w m) ∙ open_one); ended = h.0.ended ∙ ap (λ (b : Bool). x.gave_end || b) (sym (same_closed w m)) },
+  record {
+    named = λ open_one. h.0.named (sym (same_closed w m) ∙ open_one);
+    ended = h.0.ended ∙ ap (λ (b : Bool). x.gave_end || b) (sym (same_closed w m));
+    shut = λ is. same_cut w m ∙ h.0.shut (sym (same_closed w m) ∙ is);
+  },
   paired_emptied n (suc s) w sessions members h.1,
 )
 

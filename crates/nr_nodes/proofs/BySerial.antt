@@ -79,6 +79,12 @@ pub now_at : (count s : ℕ) (session : SessionState) (old new : Entries) (now :
 now_at count s session old new now d is within put =
     sym (ap (λ (xs : List SessionState). get_or xs s d) (now_put count s (Some session) old new now is within put) ∙ get_or-set_same now s session d within)
 
+pub now_changed : (change : SessionState → SessionState) (count s : ℕ) (session x : SessionState) (old new : Entries) (now : List SessionState) (d : SessionState)
+    → sessions_of count old ≡ now → s < length now → IsPut s (Some x) old new → session ≡ get_or now s d → x ≡ change session
+    → sessions_of count new ≡ set now s (change (get_or now s d))
+now_changed change count s session x old new now d is within put at changed =
+    now_put count s (Some x) old new now is within put ∙ ap (set now s) (changed ∙ ap change at)
+
 pub now_more : (count more s : ℕ) (session : SessionState) (old new : Entries) (now : List SessionState) → sessions_of count old ≡ now → s ≡ length now
     → more ≡ count + 1 → IsPut s (Some session) old new → sessions_of more new ≡ now ++ session ∷ []
 now_more count more s session old new now is next counts put =

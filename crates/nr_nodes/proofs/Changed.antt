@@ -38,6 +38,8 @@ seen_from node replica sessions workers =
       server = replica.server;
       down = replica.down;
       refused = replica.refused;
+      since = node.since;
+      resumed = node.resumed;
     }
 
 abbrev pub seen_by : Node → ReplicaState → List Worker → nodes.Node
@@ -105,7 +107,7 @@ posted_at node w old h k at =
 pub opened_is : (node : Node) (replica : ReplicaState) (session : SessionState) (sessions : List SessionState) (limit w : ℕ) (conn : ConnId)
     → length node.sessions ≡ length node.replica.members
     → replica ≡ record node.replica { members = node.replica.members ++ fresh_member (record { node = node.replica.node; serial = length node.replica.members }) w limit ∷ [] }
-    → session ≡ record { connection = connection_of conn; rest = []; mode = plain; next = 0; fed = 0; ended = false; gave_end = false }
+    → session ≡ record { connection = connection_of conn; rest = []; mode = plain; next = 0; fed = 0; ended = false; gave_end = false; lost = None; fell = false }
     → sessions ≡ node.sessions ++ session ∷ []
     → seen_of node replica sessions ≡ opened_node limit node.replica.node w (node_seen node)
 opened_is node replica session sessions limit w conn h r s p =

@@ -12,7 +12,7 @@ use Rattle.nr_model.specs.declared.reason.Reason.TheVariants as reasons
 use Rattle.nr_model.specs.Nodes.Steps.{Opened, Done, Idle}
 use Rattle.nr_model.specs.Nodes.Pasts.{Event, IsPast, is_done, may_refuse, handed_by, answer_by}
 use Rattle.nr_model.specs.Modes.{plain}
-use Rattle.nr_model.proofs.NodesSteps.{AreSized, each_sized}
+use Rattle.nr_model.proofs.NodesSteps.{AreSized, each_sized, came_plainly}
 use Rattle.nr_model.proofs.NodesOwnShaped.{IsShapedWorld, each_shaped}
 use Rattle.nr_entry.specs.Jobs.{connection_of}
 use Rattle.nr_entry.specs.declared.conn.ConnId.{ConnId}
@@ -25,7 +25,7 @@ use Rattle.nr_replica.specs.Members.{Member, fresh_member}
 use Rattle.nr_nodes.specs.WorldState.{WorldState, Shows}
 use Rattle.nr_nodes.specs.Whole.{ArePaired, IsWhole, AreWhole, IsHeld}
 use Rattle.nr_nodes.specs.Taken.{idle_or, Steps}
-use Rattle.nr_nodes.specs.Connected.{seen_world, takes_none}
+use Rattle.nr_nodes.specs.Connected.{seen_world, is_over, takes_none}
 use Rattle.nr_nodes.proofs.Sides.{length-both}
 use Rattle.nr_nodes.proofs.Paired.{paired_many, pair_at, some_in_use, client_of_pair, or_false, not_either}
 use Rattle.nr_nodes.proofs.Shown.{seen_at, node_is, nodes_many, shows_changed, whole_at, whole_set, held_on, takes_nothing}
@@ -58,7 +58,7 @@ pub clients_many : (n : ℕ) (node : Node) → IsWhole n node → length (node_s
 clients_many n node w = length-both client_seen node.sessions node.replica.members (paired_many n 0 node.sessions node.replica.members w.pairs)
 
 abbrev pub no_session : SessionState
-no_session = record { connection = record { node = 0; serial = 0 }; rest = []; mode = plain; next = 0; fed = 0; ended = false; gave_end = false }
+no_session = record { connection = record { node = 0; serial = 0 }; rest = []; mode = plain; next = 0; fed = 0; ended = false; gave_end = false; lost = None; fell = false }
 
 -- the worker of a connection is one of its node's
 pub worker_within : (v : WorldState) (n serial : ℕ) (node : Node) (d : Member) → IsHeld v → n < length v.nodes → node ≡ get_or v.nodes n node
@@ -152,6 +152,44 @@ ended_second node serial n s m b cut pairs h at is fails atm cut_is =
     ∙ sym (ap (λ (x : Bool). x || (get_or node.replica.members serial m).outbox.cut) ended)
     ∙ ended_is node serial n s m pairs h
 
+-- or whatever becomes of its node
+pub overrun_is : (node : Node) (serial : ℕ) (s : SessionState) (m : Member) → length node.sessions ≡ length node.replica.members → serial < length node.sessions
+    → ((get_or node.replica.members serial m).outbox.cut && not (get_or node.sessions serial s).fell) ≡ steps.is_overrun (nodes.client_at serial (node_seen node))
+overrun_is node serial s m many h =
+    ap steps.is_overrun (sym (client_of_pair node serial s m (nodes.fresh_client 0 0 (record { node = 0; serial = 0 })) h many))
+
+pub over_first : (node : Node) (serial n : ℕ) (s : SessionState) (m : Member) (b : Bool) → ArePaired n 0 node.sessions node.replica.members
+    → serial < length node.sessions → b ≡ (get_or node.sessions serial s).ended → b ≡ true → b ≡ is_over (nodes.client_at serial (node_seen node))
+over_first node serial n s m b pairs h is holds =
+    let session = get_or node.sessions serial s in
+    let member = get_or node.replica.members serial m in
+    let overrun = member.outbox.cut && not session.fell in
+    let pair = pair_at n 0 serial node.sessions node.replica.members s m h pairs in
+    let either : (session.gave_end || member.is_closed) ≡ true = sym pair.ended ∙ sym is ∙ holds in
+    holds ∙ sym (or_left (session.gave_end || member.is_closed) overrun either) ∙ or_other session.gave_end member.is_closed overrun
+    ∙ ap is_over (sym (client_of_pair node serial s m (nodes.fresh_client 0 0 (record { node = 0; serial = 0 })) h
+    (paired_many n 0 node.sessions node.replica.members pairs)))
+
+pub over_second : (node : Node) (serial n : ℕ) (s : SessionState) (m : Member) (b r : Bool) → ArePaired n 0 node.sessions node.replica.members
+    → serial < length node.sessions → b ≡ (get_or node.sessions serial s).ended → b ≡ false → r ≡ steps.is_overrun (nodes.client_at serial (node_seen node))
+    → r ≡ is_over (nodes.client_at serial (node_seen node))
+over_second node serial n s m b r pairs h is fails over =
+    let session = get_or node.sessions serial s in
+    let member = get_or node.replica.members serial m in
+    let pair = pair_at n 0 serial node.sessions node.replica.members s m h pairs in
+    let client = client_of_pair node serial s m (nodes.fresh_client 0 0 (record { node = 0; serial = 0 })) h
+    (paired_many n 0 node.sessions node.replica.members pairs) in
+    let neither = or_parts session.gave_end member.is_closed (sym pair.ended ∙ sym is ∙ fails) in
+    over ∙ ap steps.is_overrun client
+    ∙ sym (λ i. neither.0 i || (neither.1 i || (member.outbox.cut && not session.fell)))
+    ∙ ap is_over (sym client)
+
+-- whether it was cut
+pub cut_is_so : (node : Node) (serial : ℕ) (s : SessionState) (m : Member) → length node.sessions ≡ length node.replica.members → serial < length node.sessions
+    → (get_or node.replica.members serial m).outbox.cut ≡ (nodes.client_at serial (node_seen node)).queue.cut
+cut_is_so node serial s m many h =
+    ap (λ (client : nodes.Client). client.queue.cut) (sym (client_of_pair node serial s m (nodes.fresh_client 0 0 (record { node = 0; serial = 0 })) h many))
+
 pub closed_is_so : (node : Node) (serial : ℕ) (s : SessionState) (m : Member) → length node.sessions ≡ length node.replica.members → serial < length
     node.sessions
     → (get_or node.replica.members serial m).is_closed ≡ (nodes.client_at serial (node_seen node)).closed
@@ -186,15 +224,19 @@ pub feed_none : (setup : traffic.Setup) (xs : List Node) (c : Connection) (time 
     → steps.outcome setup (seen_world xs) (steps.Feed c time bytes) ≡ steps.Idle reasons.NoSuch
 feed_none setup xs c time bytes e = cond-true (not (steps.is_client (seen_world xs) c)) _ _ (not_from_false _ e)
 
-pub feed_some : (setup : traffic.Setup) (xs : List Node) (c : Connection) (time : ℕ) (bytes : Bytes) (d : Node) (ended down : Bool) → steps.is_client
-    (seen_world xs) c ≡ true
-    → d ≡ get_or xs c.node d → takes_none (nodes.client_at c.serial (node_seen d)) ≡ ended → d.replica.down ≡ down
-    → steps.outcome setup (seen_world xs) (steps.Feed c time bytes) ≡ steps.idle_where ended reasons.Ended (steps.idle_where down reasons.Down steps.Done)
-feed_some setup xs c time bytes d ended down is at e p =
+pub feed_some : (setup : traffic.Setup) (xs : List Node) (c : Connection) (time : ℕ) (bytes : Bytes) (d : Node) (over down cut : Bool)
+    → steps.is_client (seen_world xs) c ≡ true → d ≡ get_or xs c.node d → is_over (nodes.client_at c.serial (node_seen d)) ≡ over → d.replica.down ≡ down
+    → (nodes.client_at c.serial (node_seen d)).queue.cut ≡ cut
+    → steps.outcome setup (seen_world xs) (steps.Feed c time bytes)
+    ≡ steps.idle_where over reasons.Ended (steps.idle_where down reasons.Down (steps.idle_where cut reasons.Ended steps.Done))
+feed_some setup xs c time bytes d over down cut is at e p q =
     let seen = seen_in xs c.node d (there_node xs c is) at in
+    let asked : nodes.Node → steps.Outcome = λ (node : nodes.Node).
+    steps.idle_where (is_over (nodes.client_at c.serial node)) reasons.Ended
+    (steps.idle_where node.down reasons.Down (steps.idle_where (nodes.client_at c.serial node).queue.cut reasons.Ended steps.Done)) in
     cond-false (not (steps.is_client (seen_world xs) c)) _ _ (not_from_true _ is)
-    ∙ (λ i. steps.idle_where (takes_none (nodes.client_at c.serial (seen i))) reasons.Ended (steps.idle_where (seen i).down reasons.Down steps.Done))
-    ∙ (λ i. steps.idle_where (e i) reasons.Ended (steps.idle_where (p i) reasons.Down steps.Done))
+    ∙ ap asked seen
+    ∙ (λ i. steps.idle_where (e i) reasons.Ended (steps.idle_where (p i) reasons.Down (steps.idle_where (q i) reasons.Ended steps.Done)))
 
 pub close_none : (setup : traffic.Setup) (xs : List Node) (c : Connection) (time : ℕ) → steps.is_client (seen_world xs) c ≡ false
     → steps.outcome setup (seen_world xs) (steps.Close c time) ≡ steps.Idle reasons.NoSuch
@@ -227,6 +269,13 @@ may_open setup xs n w c e =
     let b = not_idle _ reasons.TooMany _ (steps.Opened c) refl a.1 in
     record { worker = not-false _ a.0; room = b.0 }
 
+-- one that isn't over and isn't cut takes bytes
+goes_on : (client : nodes.Client) → is_over client ≡ false → client.queue.cut ≡ false → takes_none client ≡ false
+goes_on client over cut =
+    let first = or_parts client.ended (client.closed || steps.is_overrun client) over in
+    let second = or_parts client.closed (steps.is_overrun client) first.1 in
+    (λ i. first.0 i || (second.0 i || cut i))
+
 pub record MayFeed (world : nodes.World) (c : Connection) : Type 0 where
   pub there : steps.is_client world c ≡ true
   pub going : takes_none (nodes.client_of c world) ≡ false
@@ -237,7 +286,9 @@ pub may_feed : (setup : traffic.Setup) (xs : List Node) (c : Connection) (time :
 may_feed setup xs c time bytes e =
     let a = not_idle _ reasons.NoSuch _ steps.Done refl e in
     let b = not_idle _ reasons.Ended _ steps.Done refl a.1 in
-    record { there = not-false _ a.0; going = b.0 }
+    let d = not_idle _ reasons.Down _ steps.Done refl b.1 in
+    let cut = (not_idle _ reasons.Ended steps.Done steps.Done refl d.1).0 in
+    record { there = not-false _ a.0; going = goes_on (nodes.client_of c (seen_world xs)) b.0 cut }
 
 pub record MayClose (world : nodes.World) (c : Connection) : Type 0 where
   pub there : steps.is_client world c ≡ true
@@ -289,7 +340,7 @@ pub changes : (v : WorldState) (step : steps.Step) (o : steps.Outcome) (n : ℕ)
 changes v step o n old x change blind done free same none h at e seen passed nodes_are taken_are = record {
   setup = refl;
   taken = λ events world past s.
-      let out = outcome_in v world step blind s ∙ e in
+      let out = came_plainly v.setup world step ∙ outcome_in v world step blind s ∙ e in
       let is : nodes.node_at n world ≡ node_seen old = node_is v world n old s h ∙ ap node_seen (sym at) in
       let after = steps.effect v.setup world step steps.nothing_refused in
       let many = nodes_many v world s in

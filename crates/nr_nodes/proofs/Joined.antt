@@ -7,7 +7,7 @@ use Rattle.nr_model.specs.Servers.{after_all, emitted_all}
 use Rattle.nr_model.specs.Entries.{entry_items, read_jobs, left_by_reads}
 use Rattle.nr_model.specs.Queues.{received}
 use Rattle.nr_model.specs.Nodes.{Client, Logged, Node}
-use Rattle.nr_model.specs.Nodes.Steps.{Cut, Refused, nothing_refused, cut_of, texts_for, falls_at, fallen, passing, with_executed, with_entry, with_reads, advanced, advanced_by}
+use Rattle.nr_model.specs.Nodes.Steps.{Cut, Refused, nothing_refused, cut_of, texts_for, falls_at, fallen, passing, is_owed, with_executed, with_entry, with_reads, advanced, advanced_by}
 use Rattle.nr_model.proofs.NodesOwnAdvance.{next_entry, advanced_falls, advanced_passed}
 use Rattle.nr_nodes.specs.Advanced.{AreOf, HasRun}
 use Rattle.nr_nodes.specs.Replayed.{AreBefore, IsNext, IsAhead, HasLooked}
@@ -67,7 +67,7 @@ same_once a b n log node same =
     let cuts = same.cuts in
     λ i. passing (cond node.down node
     (cond (node.refused || falls i) (fallen node)
-    (record (cond (entry.node == n) (with_executed entry.jobs node) node) {
+    (record (cond (is_owed n entry node) (with_executed entry.jobs node) node) {
       applied = suc node.applied;
       server = after_all node.server (entry_items entry.jobs);
       clients = map
@@ -125,12 +125,12 @@ before_both m bound (x ∷ xs) ys h before of = let below : x.entry < m = before
 
 joined_with : (n count : ℕ) (log : List Logged) (old mid new : Node) (ahead : IsAhead n count log old mid) (next : IsNext n log mid new) (falls : Option ℕ)
     → ((x : ℕ) → x < mid.passed → falls_at ahead.refused.falls x ≡ falls_at falls x)
-    → advanced next.refused n log mid ≡ advanced (record { falls = falls; cuts = ahead.refused.cuts ++ next.refused.cuts }) n log mid
+    → advanced next.refused n log mid ≡ advanced (record { falls = falls; cuts = ahead.refused.cuts ++ next.refused.cuts; copy = false }) n log mid
     → (falls ≡ None) ⊎ (new.down ≡ true)
     → IsAhead n (suc count) log old new
 joined_with n count log old mid new ahead next falls front last down =
     let r = next.refused in
-    let both : Refused = record { falls = falls; cuts = ahead.refused.cuts ++ r.cuts } in
+    let both : Refused = record { falls = falls; cuts = ahead.refused.cuts ++ r.cuts; copy = false } in
     let one : new.passed ≡ suc mid.passed = ap (λ (x : Node). x.passed) next.state ∙ advanced_passed r n log mid in
     let far = ahead.passed in
     let others : (x : ℕ) → x < mid.passed → AreOthers x r.cuts = λ x h. of_others x mid.passed r.cuts (λ e. omega (arith, e, h)) next.of_entry.cuts in
@@ -161,7 +161,7 @@ one_more n count log old mid new ahead next =
     elim ahead.falls [
       | inl none ↦ joined_with n count log old mid new ahead next r.falls
           (λ x h. ap (λ (f : Option ℕ). falls_at f x) none ∙ sym (of_next mid.passed x r.falls next.of_entry.falls h))
-          (same_once r (record { falls = r.falls; cuts = ahead.refused.cuts ++ r.cuts }) n log mid (record {
+          (same_once r (record { falls = r.falls; cuts = ahead.refused.cuts ++ r.cuts; copy = false }) n log mid (record {
             falls = refl;
             cuts = λ c. sym
                 (cut_behind mid.passed ahead.refused.cuts r.cuts c (before_others mid.passed mid.passed ahead.refused.cuts (omega arith) ahead.cuts));
@@ -171,7 +171,7 @@ one_more n count log old mid new ahead next =
             | inr e ↦ inr (ap (λ (x : Node). x.down) next.state ∙ falls_down r n log mid e)
           ])
       | inr down ↦ joined_with n count log old mid new ahead next ahead.refused.falls (λ x h. refl)
-          (passes_down r n log mid down ∙ sym (passes_down (record { falls = ahead.refused.falls; cuts = ahead.refused.cuts ++ r.cuts }) n log mid down))
+          (passes_down r n log mid down ∙ sym (passes_down (record { falls = ahead.refused.falls; cuts = ahead.refused.cuts ++ r.cuts; copy = false }) n log mid down))
           (inr (ap (λ (x : Node). x.down) (next.state ∙ passes_down r n log mid down) ∙ down))
     ]
 
@@ -188,7 +188,7 @@ looked_down n tail log old ahead a down = record {
 pub looked_up : (n tail : ℕ) (log : List Logged) (old ahead new : Node) → IsAhead n (tail - old.passed) log old ahead → old.passed ≤ tail → ahead.down ≡ false
     → HasRun tail ahead new → HasLooked n tail log old new
 looked_up n tail log old ahead new a within up run =
-    let both : Refused = record { falls = a.refused.falls; cuts = a.refused.cuts ++ run.cuts } in
+    let both : Refused = record { falls = a.refused.falls; cuts = a.refused.cuts ++ run.cuts; copy = false } in
     let far = a.passed in
     record {
       refused = both;

@@ -1,8 +1,10 @@
 -- What is delivered to a node's connections leaves the node whole.
-use Rattle.std.proofs.Common.{◌≡◌, ℕ, suc, Bool, true, false, cond, List, [], ◌∷◌, length, refl, ap, sym, ◌∙◌, subst, Option}
-use Rattle.std.specs.Prelude.{filter, not, ◌||◌, ◌==◌}
+use Rattle.std.proofs.Common.{◌≡◌, ℕ, suc, Bool, true, false, cond, List, [], ◌∷◌, length, take, refl, ap, sym, ◌∙◌, Option, Some, None}
+use Rattle.std.specs.Prelude.{filter, not, ◌||◌, ◌==◌, nat_lt}
+use Rattle.std.proofs.lemmas.Bool.{cond_both}
 use Rattle.nr_model.specs.Bytes.{Bytes}
 use Rattle.nr_model.specs.Items.{Connection}
+use Rattle.nr_model.specs.Queues.{Queue, takes, with_bytes, cut_off, put, puts, received}
 use Rattle.nr_model.specs.Servers.{emitted_all}
 use Rattle.nr_model.specs.Entries.{Jobs, entry_items, read_jobs}
 use Rattle.nr_model.specs.Nodes as nodes
@@ -11,13 +13,25 @@ use Rattle.nr_entry.specs.declared.entry.Entry.{Entry}
 use Rattle.nr_entry.specs.Jobs.{items_of}
 use Rattle.nr_session.specs.SessionState.{SessionState}
 use Rattle.nr_replica.specs.Members.{Member, AreReceived, AreNumbered}
-use Rattle.nr_replica.specs.Replicas.{ReplicaState, owed_from, IsApplied, fallen, HasRead}
+use Rattle.nr_replica.specs.Replicas.{ReplicaState, owed_from, IsAppliedAs, HasRead}
 use Rattle.nr_replica.proofs.Received.{received_connection}
 use Rattle.nr_nodes.specs.declared.worker.Worker.{Worker}
 use Rattle.nr_nodes.specs.declared.node.Node.{Node}
 use Rattle.nr_nodes.specs.Served.{client_seen, clients_seen}
 use Rattle.nr_nodes.specs.Whole.{ArePaired, IsWhole}
 use Rattle.nr_nodes.proofs.Changed.{seen_by}
+
+-- a queue that is cut stays so
+puts_cut : (q : Queue) (texts : List Bytes) → q.cut ≡ true → (puts q texts).cut ≡ true
+puts_cut q [] e = e
+puts_cut q (text ∷ texts) e =
+    puts_cut (put q text) texts (cond_both (takes q text) (with_bytes q text) (cut_off q) (λ (x : Queue). x.cut ≡ true) (λ fits. e) (λ full. refl))
+
+received_cut : (at : Option ℕ) (q : Queue) (texts : List Bytes) → q.cut ≡ true → (received at q texts).cut ≡ true
+received_cut None q texts e = puts_cut q texts e
+received_cut (Some n) q texts e =
+    cond_both (nat_lt n (length texts)) (cut_off (puts q (take n texts))) (puts q texts) (λ (x : Queue). x.cut ≡ true) (λ few. refl)
+    (λ many. puts_cut q texts e)
 
 pub pairs_kept : (texts : Connection → List Bytes) (n serial : ℕ) (sessions : List SessionState) (olds news : List Member) → AreReceived texts olds news
     → ArePaired n serial sessions olds → ArePaired n serial sessions news
@@ -28,7 +42,11 @@ pairs_kept texts n serial (s ∷ sessions) [] news r p = absurd p
 pairs_kept texts n serial (s ∷ sessions) (old ∷ olds) [] r p = absurd r
 pairs_kept texts n serial (s ∷ sessions) (old ∷ olds) (new ∷ news) r p =
     let closed : old.is_closed ≡ new.is_closed = ap (λ (m : Member). m.is_closed) (sym r.0.1) in (
-      record { named = λ open_one. p.0.named (closed ∙ open_one); ended = p.0.ended ∙ ap (λ (b : Bool). s.gave_end || b) closed },
+      record {
+        named = λ open_one. p.0.named (closed ∙ open_one);
+        ended = p.0.ended ∙ ap (λ (b : Bool). s.gave_end || b) closed;
+        shut = λ is. ap (λ (m : Member). m.outbox.cut) r.0.1 ∙ received_cut r.0.0 old.outbox (texts old.outbox.connection) (p.0.shut (closed ∙ is));
+      },
       pairs_kept texts n (suc serial) sessions olds news r.1 p.1,
     )
 
@@ -73,6 +91,11 @@ owed_by : (own : Bool) (members : List Member) (jobs : Jobs) (owed : List (Optio
 owed_by true members jobs owed = owed_long 0 members jobs owed
 owed_by false members jobs owed = refl
 
+owed_as : (counted own : Bool) (members : List Member) (jobs : Jobs) (owed : List (Option ℕ))
+    → length (cond counted (cond own (owed_from 0 members jobs owed) owed) owed) ≡ length owed
+owed_as true own members jobs owed = owed_by own members jobs owed
+owed_as false own members jobs owed = refl
+
 -- a node with another replica and other workers is whole
 pub record IsKept (n : ℕ) (node : Node) (replica : ReplicaState) (workers : List Worker) : Type 0 where
   pub number : replica.node ≡ n
@@ -80,32 +103,18 @@ pub record IsKept (n : ℕ) (node : Node) (replica : ReplicaState) (workers : Li
   pub owed : length replica.owed ≡ length workers
   pub counted : node.in_use ≡ in_use (seen_by node replica workers)
 
-pub kept_applied : (n : ℕ) (node : Node) (entry : Entry) (replica : ReplicaState) → IsApplied entry node.replica replica → IsWhole n node
+pub kept_applied : (n : ℕ) (counted : Bool) (node : Node) (entry : Entry) (replica : ReplicaState)
+    → IsAppliedAs counted entry node.replica replica → IsWhole n node
     → IsKept n node replica node.workers.items
-kept_applied n node entry replica a w =
+kept_applied n counted node entry replica a w =
     let es = emitted_all node.replica.server (entry_items (items_of entry.jobs.items)) in
     record {
       number = ap (λ (r : ReplicaState). r.node) a.state ∙ w.number;
       pairs = pairs_kept (λ c. texts_for c es) n 0 node.sessions node.replica.members replica.members a.delivered w.pairs;
       owed = ap (λ (r : ReplicaState). length r.owed) a.state
-          ∙ owed_by (entry.node == node.replica.node) node.replica.members (items_of entry.jobs.items) node.replica.owed ∙ w.owed;
+          ∙ owed_as counted (entry.node == node.replica.node) node.replica.members (items_of entry.jobs.items) node.replica.owed ∙ w.owed;
       counted = w.counted ∙ sym (open_kept (λ c. texts_for c es) node.sessions node.replica.members replica.members a.delivered);
     }
-
-pub kept_fallen : (n : ℕ) (node : Node) (replica : ReplicaState) (workers : List Worker) → replica ≡ fallen node.replica
-    → length workers ≡ length node.workers.items → IsWhole n node → IsKept n node replica workers
-kept_fallen n node replica workers e as_many w = record {
-  number = ap (λ (r : ReplicaState). r.node) e ∙ w.number;
-  pairs = subst (λ (r : ReplicaState). ArePaired n 0 node.sessions r.members) (sym e) w.pairs;
-  owed = ap (λ (r : ReplicaState). length r.owed) e ∙ w.owed ∙ sym as_many;
-  counted = w.counted ∙ ap (λ (r : ReplicaState). count_open (clients_seen node.sessions r.members)) (sym e);
-}
-
--- with the workers as they are written back
-pub kept_refilled : (n : ℕ) (node : Node) (replica : ReplicaState) (workers back : List Worker) → replica ≡ fallen node.replica
-    → length workers ≡ length node.workers.items → back ≡ workers → IsWhole n node → IsKept n node replica back
-kept_refilled n node replica workers back e as_many is w =
-    subst (λ (ws : List Worker). IsKept n node replica ws) (sym is) (kept_fallen n node replica workers e as_many w)
 
 pub kept_read : (n : ℕ) (node : Node) (replica : ReplicaState) → HasRead node.replica replica → IsWhole n node → IsKept n node replica node.workers.items
 kept_read n node replica a w =
@@ -119,12 +128,10 @@ kept_read n node replica a w =
     }
 
 -- its connections have their names
-pub numbered_applied : (n : ℕ) (old new : ReplicaState) (entry : Entry) → IsApplied entry old new → AreNumbered n 0 old.members → AreNumbered n 0 new.members
-numbered_applied n old new entry a k =
+pub numbered_applied : (n : ℕ) (counted : Bool) (old new : ReplicaState) (entry : Entry) → IsAppliedAs counted entry old new → AreNumbered n 0 old.members
+    → AreNumbered n 0 new.members
+numbered_applied n counted old new entry a k =
     numbered_kept (λ c. texts_for c (emitted_all old.server (entry_items (items_of entry.jobs.items)))) n 0 old.members new.members a.delivered k
-
-pub numbered_fallen : (n : ℕ) (old new : ReplicaState) → new ≡ fallen old → AreNumbered n 0 old.members → AreNumbered n 0 new.members
-numbered_fallen n old new e k = subst (λ (r : ReplicaState). AreNumbered n 0 r.members) (sym e) k
 
 -- as many sessions as members
 pub paired_long : (n serial : ℕ) (sessions : List SessionState) (members : List Member) → ArePaired n serial sessions members → length sessions ≡ length members

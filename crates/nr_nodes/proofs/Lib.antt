@@ -22,3 +22,5 @@ pub mod Joined
 pub mod Kept
 pub mod BySerial
 pub mod Replayed
+pub mod Falling
+pub mod Revived

@@ -126,6 +126,7 @@ whole_opened n old new session member w replica sessions workers counted named e
           (record {
             named = λ open_one. named ∙ (λ i. record { node = w.number i; serial = last i });
             ended = ended ∙ sym (or_false session.gave_end member.is_closed closed ∙ gave);
+            shut = λ is. absurd (let no : true ≡ false = sym is ∙ closed in cc no);
           }) w.pairs));
       owed = ap (λ (r : ReplicaState). length r.owed) replica ∙ w.owed ∙ sym workers;
       counted = counted ∙ ap (λ k. k + 1) w.counted ∙ sym count;
@@ -161,6 +162,7 @@ whole_fed n old new i session before d w replica sessions workers counted h at g
           (record {
             named = λ open_one. named ∙ ap (λ (s : SessionState). s.connection) at ∙ pair.named open_one;
             ended = ended ∙ sym (or_false session.gave_end member.is_closed unclosed);
+            shut = pair.shut;
           }) w.pairs));
       owed = ap (λ (r : ReplicaState). length r.owed) replica ∙ w.owed ∙ sym workers;
       counted = counted ∙ w.counted ∙ (let e : length (filter is_open seen) ≡ length (filter is_open (clients_seen new.sessions new.replica.members))
@@ -197,6 +199,7 @@ whole_closed n old new i session before d w replica sessions workers counted h a
           (record {
             named = λ open_one. absurd (cc open_one);
             ended = ap (λ (s : SessionState). s.ended) ended ∙ or_true session.gave_end true refl;
+            shut = λ is. refl;
           }) w.pairs));
       owed = ap (λ (r : ReplicaState). length r.owed) replica ∙ w.owed ∙ sym workers;
       counted = let e : new.in_use ≡ length (filter is_open (clients_seen new.sessions new.replica.members)) = omega arith in e;

@@ -49,7 +49,7 @@ pub as_many_nodes : (v : WorldState) → IsHeld v → length v.nodes ≡ v.setup
 as_many_nodes v held = nodes_many v held.world held.shows ∙ (sized_of v.setup held.events held.world held.past).nodes
 
 -- the first reason that holds
-idle_done : (holds : Bool) (reason : Reason) (otherwise : steps.Outcome) → steps.idle_where holds reason otherwise ≡ steps.Done
+pub idle_done : (holds : Bool) (reason : Reason) (otherwise : steps.Outcome) → steps.idle_where holds reason otherwise ≡ steps.Done
     → (holds ≡ false) × (otherwise ≡ steps.Done)
 idle_done true reason otherwise e = absurd (cc e)
 idle_done false reason otherwise e = (refl, e)

@@ -7,7 +7,7 @@ use Rattle.nr_model.specs.Connections as traffic
 use Rattle.nr_model.specs.Nodes as nodes
 use Rattle.nr_model.specs.Nodes.Steps as steps
 use Rattle.nr_model.specs.Nodes.Pasts.{Answering, Event, IsEvent, IsPast, AreEvents, after_event, handed_by, answer_by, may_refuse}
-use Rattle.nr_model.proofs.NodesSteps.{world_after-append}
+use Rattle.nr_model.proofs.NodesSteps.{world_after-append, came_plainly}
 use Rattle.nr_nodes.specs.declared.node.Node.{Node}
 use Rattle.nr_model.specs.declared.reason.Reason.{Reason}
 use Rattle.nr_nodes.specs.Served.{node_seen}
@@ -113,7 +113,7 @@ pub takes_nothing : (v : WorldState) (step : steps.Step) (reason : Reason)
 takes_nothing v step reason is = record {
   setup = refl;
   taken = λ events world past s.
-      let e = is events world past s in
+      let e = came_plainly v.setup world step ∙ is events world past s in
       record {
         refused = steps.nothing_refused;
         event = record { outcome_is = sym e; handed_is = refl; answer_is = refl; refused_in = λ _. refl };
@@ -125,7 +125,7 @@ takes_nothing v step reason is = record {
 pub takes_done : (old new : WorldState) (step : steps.Step) → new.setup ≡ old.setup
     → ((world : nodes.World) → handed_by world step ≡ []) → ((world : nodes.World) → answer_by world step ≡ None)
     → ((events : List Event) (world : nodes.World) → IsPast old.setup events world → Shows old world
-    → (refused : steps.Refused) × (may_refuse step ≡ false → refused ≡ steps.nothing_refused) × (steps.outcome old.setup world step ≡ steps.Done)
+    → (refused : steps.Refused) × (may_refuse step ≡ false → refused ≡ steps.nothing_refused) × (steps.came_to old.setup world step refused ≡ steps.Done)
     × Shows new (steps.effect old.setup world step refused))
     → Steps old new step steps.Done
 takes_done old new step same none unanswered is = record {

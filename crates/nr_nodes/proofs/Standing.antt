@@ -9,7 +9,7 @@ use Rattle.nr_model.specs.Nodes as nodes
 use Rattle.nr_model.specs.Nodes.Steps as steps
 use Rattle.nr_model.specs.declared.reason.Reason.TheVariants as reasons
 use Rattle.nr_model.specs.Nodes.Pasts.{Answering, handed_by, answer_by}
-use Rattle.nr_model.proofs.NodesSteps.{IsSized}
+use Rattle.nr_model.proofs.NodesSteps.{IsSized, came_plainly}
 use Rattle.nr_model.proofs.NodesOwnShape.{IsAt, IsShaped}
 use Rattle.nr_model.proofs.NodesOwnShaped.{IsShapedWorld, each_shaped}
 use Rattle.nr_entry.specs.Entry.{are_of}
@@ -148,7 +148,12 @@ pub steps_done : (v : WorldState) (step : steps.Step) (n : ℕ) (g : nodes.Node 
     → Steps v (record v { nodes = set v.nodes n x }) step steps.Done
 steps_done v step n g x old makes none unanswered there at seen comes =
     takes_done v (record v { nodes = set v.nodes n x }) step refl none unanswered
-    (λ events world past s. (steps.nothing_refused, λ _. refl, comes.is events world past s, shows_made v world step n g x old makes there at seen s))
+    (λ events world past s. (
+      steps.nothing_refused,
+      λ _. refl,
+      came_plainly v.setup world step ∙ comes.is events world past s,
+      shows_made v world step n g x old makes there at seen s,
+    ))
 
 -- and it is held, where the node is whole
 pub held_with : (v : WorldState) (step : steps.Step) (outcome : steps.Outcome) (handed : List traffic.Handed) (answer : Option Answering) (n : ℕ) (x : Node)

@@ -6,7 +6,7 @@ use Rattle.std.proofs.lemmas.Bool.{not-false, ltb-true}
 use Rattle.std.proofs.lemmas.List.{length-drop}
 use Rattle.nr_model.specs.Connections.{Setup}
 use Rattle.nr_model.specs.Nodes.{Node, World, no_node, node_at, log_of, tail_of}
-use Rattle.nr_model.specs.Nodes.Steps.{Step, Fetch, Apply, Done, Refused, is_node, outcome, advanced, after_step}
+use Rattle.nr_model.specs.Nodes.Steps.{Step, Fetch, Apply, Done, Refused, is_node, outcome, came_to, advanced, after_step}
 use Rattle.nr_model.specs.declared.reason.Reason.TheVariants.{NoSuch, Busy, Nothing}
 use Rattle.nr_model.specs.Nodes.Pasts.{Event, AreEvents, is_done, after_event}
 use Rattle.nr_model.specs.Nodes.Settling.{does, after_events}
@@ -93,8 +93,8 @@ turn_done setup world n (x ∷ y ∷ []) sized placed are made some =
     let last = after_event setup next y in
     let on : after_step setup world (Apply n) x.refused ≡ next = ap (λ (s : Step). after_step setup world s x.refused) (sym applies) in
     let more : after_step setup next (Fetch n) y.refused ≡ last = ap (λ (s : Step). after_step setup next s y.refused) (sym fetches) in
-    let a : is_done x.outcome ≡ is_done (outcome setup world (Apply n)) = ap is_done are.0.outcome_is ∙ ap (λ (s : Step). is_done (outcome setup world s)) applies in
-    let b : is_done y.outcome ≡ is_done (outcome setup next (Fetch n)) = ap is_done are.1.0.outcome_is ∙ ap (λ (s : Step). is_done (outcome setup next s)) fetches in
+    let a : is_done x.outcome ≡ is_done (outcome setup world (Apply n)) = ap is_done are.0.outcome_is ∙ ap (λ (s : Step). is_done (came_to setup world s x.refused)) applies in
+    let b : is_done y.outcome ≡ is_done (outcome setup next (Fetch n)) = ap is_done are.1.0.outcome_is ∙ ap (λ (s : Step). is_done (came_to setup next s y.refused)) fetches in
     turn_leaves (is_done x.outcome) (is_done y.outcome) world next last n
     (λ e. subst (λ (w : World). left_in_world n w < left_in_world n world) on (apply_leaves setup n world x.refused sized placed (sym a ∙ e)))
     (λ e. sym on ∙ idle_still setup world (Apply n) x.refused (sym a ∙ e))

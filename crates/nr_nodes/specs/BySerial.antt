@@ -13,11 +13,11 @@ coded_sessions = coded_list coded_session
 
 -- one that takes bytes, from the first on
 abbrev pub fresh_session : Connection → SessionState
-fresh_session c = record { connection = c; rest = []; mode = plain; next = 0; fed = 0; ended = false; gave_end = false }
+fresh_session c = record { connection = c; rest = []; mode = plain; next = 0; fed = 0; ended = false; gave_end = false; lost = None; fell = false }
 
 -- what is left of one that was closed: nothing
 abbrev pub closed_session : SessionState
-closed_session = record { connection = record { node = 0; serial = 0 }; rest = []; mode = plain; next = 0; fed = 0; ended = true; gave_end = false }
+closed_session = record { connection = record { node = 0; serial = 0 }; rest = []; mode = plain; next = 0; fed = 0; ended = true; gave_end = false; lost = None; fell = false }
 
 -- those that aren't closed, by serial
 abbrev pub Entries : Type 0

@@ -4,7 +4,7 @@ use Rattle.nr_model.specs.Nodes.Steps as steps
 use Rattle.nr_model.specs.Nodes.Pasts.{Answering}
 use Rattle.nr_entry.specs.Jobs.{connection_of}
 use Rattle.nr_nodes.specs.declared.step.Step.{Step}
-use Rattle.nr_nodes.specs.declared.step.Step.TheVariants.{Open, Feed, Post, Lift, Reserve, Fill, Fetch, Apply, Look, Answer, Collect, Close, Refuse}
+use Rattle.nr_nodes.specs.declared.step.Step.TheVariants.{Open, Feed, Post, Lift, Reserve, Fill, Fetch, Apply, Look, Answer, Collect, Close, Refuse, Revive}
 use Rattle.nr_nodes.specs.declared.step.Outcome.{Outcome}
 use Rattle.nr_nodes.specs.declared.step.Outcome.TheVariants.{Opened, Done, Idle}
 use Rattle.nr_nodes.specs.declared.step.Handed.{Handed}
@@ -24,6 +24,7 @@ step_seen (Answer node worker) = steps.Answer node worker
 step_seen (Collect node worker) = steps.Collect node worker
 step_seen (Close conn moment) = steps.Close (connection_of conn) moment
 step_seen (Refuse node) = steps.Refuse node
+step_seen (Revive node donor) = steps.Revive node donor
 
 abbrev pub outcome_seen : Outcome → steps.Outcome
 outcome_seen (Opened conn) = steps.Opened (connection_of conn)

@@ -1,8 +1,8 @@
 -- A node as the definitions see it, and what each step does to that of one node.
-use Rattle.std.specs.Prelude.{ℕ, true, false, not, ◌||◌, cond, List, [], ◌∷◌, ◌++◌, length, replicate, slice_set, Option}
+use Rattle.std.specs.Prelude.{ℕ, true, false, not, ◌||◌, cond, List, [], ◌∷◌, ◌++◌, length, map, replicate, slice_set, Option}
 use Rattle.nr_model.specs.Entries.{left_by_entry}
 use Rattle.nr_model.specs.Nodes as nodes
-use Rattle.nr_model.specs.Nodes.Steps.{posted_worker, Refused, passing, falls_at, fallen, with_entry}
+use Rattle.nr_model.specs.Nodes.Steps.{posted_worker, Refused, passing, falls_at, dropped_jobs, fallen_client, fallen, with_entry}
 use Rattle.nr_entry.specs.declared.entry.Entry.{Entry}
 use Rattle.nr_session.specs.SessionState.{SessionState}
 use Rattle.nr_entry.specs.Jobs.{items_of}
@@ -27,6 +27,8 @@ client_seen session member =
       next = session.next;
       ended = session.gave_end;
       closed = member.is_closed;
+      lost = session.lost;
+      fell = session.fell;
       queue = member.outbox;
     }
 
@@ -50,6 +52,8 @@ node_seen node =
       server = node.replica.server;
       down = node.replica.down;
       refused = node.replica.refused;
+      since = node.since;
+      resumed = node.resumed;
     }
 
 -- a connection more
@@ -83,6 +87,15 @@ abbrev pub applied_node : Refused → ℕ → nodes.Logged → nodes.Node → no
 applied_node refused n entry node =
     passing (cond node.down node
     (cond (node.refused || falls_at refused.falls node.passed) (fallen node) (with_entry refused.cuts n entry node)))
+
+-- its jobs are dropped, those that it has lifted and those at its workers, and its connections note it
+abbrev pub dropped_node : nodes.Node → nodes.Node
+dropped_node node =
+    record node {
+      clients = map (fallen_client (dropped_jobs node)) node.clients;
+      workers = map (λ (worker : nodes.Worker). record worker { pending = [] }) node.workers;
+      waiting = [];
+    }
 
 -- an entry as the definitions see it
 abbrev pub entry_seen : Entry → nodes.Logged

@@ -1,5 +1,5 @@
 -- What holds of each node of a world, whatever it shows.
-use Rattle.std.specs.Prelude.{◌≡◌, ◌+◌, ◌<◌, ◌^◌, ℕ, suc, false, ◌||◌, List, [], ◌∷◌, length}
+use Rattle.std.specs.Prelude.{◌≡◌, ◌+◌, ◌<◌, ◌^◌, ℕ, suc, true, false, ◌||◌, List, [], ◌∷◌, length}
 use Rattle.nr_model.specs.Nodes as nodes
 use Rattle.nr_model.specs.Nodes.Steps.{in_use}
 use Rattle.nr_model.specs.Nodes.Pasts.{Event, IsPast}
@@ -10,10 +10,12 @@ use Rattle.nr_nodes.specs.Served.{node_seen}
 use Rattle.nr_nodes.specs.Logs.{log_seen}
 use Rattle.nr_nodes.specs.WorldState.{WorldState, Shows}
 
--- the session of a connection that isn't closed has its name, and takes no bytes exactly where they asked for its end or it was closed
+-- the session of a connection that isn't closed has its name, and takes no bytes exactly where they asked for its end or it was closed; the queue of one that
+-- is closed is cut
 pub record IsPair (n serial : ℕ) (session : SessionState) (member : Member) : Type 0 where
   pub named : member.is_closed ≡ false → session.connection ≡ record { node = n; serial = serial }
   pub ended : session.ended ≡ (session.gave_end || member.is_closed)
+  pub shut : member.is_closed ≡ true → member.outbox.cut ≡ true
 
 -- each connection has its session and its member, from this serial on
 abbrev pub ArePaired : ℕ → ℕ → List SessionState → List Member → Type 0

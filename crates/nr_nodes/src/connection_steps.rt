@@ -135,11 +135,14 @@ fn why_not_feed(nodes: &[Node], conn: ConnId) -> Option<Reason>
         return Some(Reason::NoSuch);
     }
     let node = &nodes[conn.node];
-    if node.has_ended(conn.serial as usize) {
+    if node.is_over(conn.serial as usize) {
         return Some(Reason::Ended);
     }
     if node.replica.is_down() {
         return Some(Reason::Down);
+    }
+    if node.is_cut(conn.serial as usize) {
+        return Some(Reason::Ended);
     }
     None
 }

@@ -64,7 +64,8 @@ pub(crate) fn close_session(
         ++ option_to_list (close_job (client_seen session.old member) (connection_of conn) milliseconds (own_jobs (connection_of conn) (items_of pending.old.items)))) }
 {
     let dropped = drop_own(conn, pending);
-    let end = end_session(session, milliseconds, dropped);
+    let first = dropped.or(session.lost());
+    let end = end_session(session, milliseconds, first);
     push_end(end, pending)?;
     Ok(())
 }

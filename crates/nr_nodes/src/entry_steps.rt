@@ -1,6 +1,6 @@
 // Entries of the log: a node reserves one and fills its cells, and each node fetches them in turn.
 ghost use Rattle.std.specs.Prelude.{◌≡◌, ◌<◌, ◌≤◌, ◌+◌, ◌&&◌, ◌==◌, true, false, not, nat_lt, length, slice_index_or, IfOk, IfNone, OnErr, IsErr, List};
-ghost use Rattle.std.specs.List.{list_any, list_all};
+ghost use Rattle.std.specs.List.{list_all};
 ghost use Rattle.nr_model.specs.Entries.{entry_jobs};
 ghost use Rattle.nr_model.specs.Nodes as nodes;
 ghost use Rattle.nr_model.specs.Nodes.Steps as steps;
@@ -55,7 +55,7 @@ impl World {
         if node.replica.is_down() {
             return Some(Reason::Down);
         }
-        if is_filling(node) {
+        if node.is_filling() {
             return Some(Reason::Busy);
         }
         if !node.replica.leads_update() {
@@ -156,13 +156,6 @@ impl World {
         let owner = self.log.entry(number).node;
         is_filled_by(&self.nodes[owner], node, number)
     }
-}
-
-// Whether a cell of the entry that it reserved last isn't filled yet.
-fn is_filling(node: &Node) -> bool
-    ensures { result ≡ list_any steps.is_true node.now.unfilled.items }
-{
-    node.unfilled.iter().any(|unfilled| *unfilled)
 }
 
 // Whether a node's cell of an entry that this one reserved is filled.

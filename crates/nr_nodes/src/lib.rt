@@ -11,6 +11,7 @@ mod connection_steps;
 mod conversations;
 mod dropped_jobs;
 mod entry_steps;
+mod fallen_sessions;
 mod log;
 mod node;
 mod pending_jobs;

@@ -1,8 +1,9 @@
 // A node: its replica, its connections' sessions, and its workers.
-ghost use Rattle.std.specs.Prelude.{◌≡◌, ◌<◌, ◌≤◌, ◌+◌, ◌^◌, ◌++◌, map, ℕ, Option, Some, None, IfOk, IfSome, IfNone, OnOk, OnErr, IsTrue, IsSome, List, [], length, replicate, true, false, slice_index_or};
+ghost use Rattle.std.specs.Prelude.{◌≡◌, ◌<◌, ◌≤◌, ◌+◌, ◌^◌, ◌++◌, ◌||◌, map, ℕ, Option, Some, None, IfOk, IfSome, IfNone, OnOk, OnErr, IsTrue, IsSome, List, [], length, replicate, true, false, slice_index_or};
+ghost use Rattle.std.specs.List.{list_any};
 ghost use Rattle.nr_model.specs.Connections as traffic;
 ghost use Rattle.nr_model.specs.Nodes as nodes;
-ghost use Rattle.nr_model.specs.Nodes.Steps.{next_fetch, lifted_node, posted_jobs, fed_node, closed_node, passing, collected, collected_node};
+ghost use Rattle.nr_model.specs.Nodes.Steps.{next_fetch, lifted_node, posted_jobs, fed_node, closed_node, passing, collected, collected_node, has_batch, is_busy, is_overrun, is_true, revived};
 ghost use Rattle.nr_entry.specs.Entry.{are_of};
 ghost use Rattle.nr_entry.specs.Waiting.{has_some};
 ghost use Rattle.nr_entry.specs.Jobs.{connection_of, items_of};
@@ -17,25 +18,26 @@ ghost use Rattle.nr_nodes.specs.Seen.{handed_seen};
 ghost use Rattle.nr_nodes.specs.Batches.{may_post, may_lift, may_answer, executed_in};
 ghost use Rattle.nr_nodes.specs.Taken.{idle_or};
 ghost use Rattle.nr_nodes.specs.Whole.{IsWhole, ArePaired};
-ghost use Rattle.nr_nodes.specs.Connected.{takes_none};
-ghost use Rattle.nr_nodes.specs.Served.{node_seen, entry_seen, opened_node, posted_node, reserved_node, filled_node, fetched_node, answered_node, refused_node, workers_seen};
+ghost use Rattle.nr_nodes.specs.Connected.{takes_none, is_over};
+ghost use Rattle.nr_nodes.specs.Served.{node_seen, entry_seen, dropped_node, opened_node, posted_node, reserved_node, filled_node, fetched_node, answered_node, refused_node, workers_seen};
 
+use crate::fallen_sessions::note_fall;
 use crate::pending_jobs::drop_pending;
 use crate::sessions::Sessions;
 use crate::setup::Setup;
 use crate::step::Handed;
 use crate::waiting_bytes::collect;
-use crate::worker::Worker;
+use crate::worker::{Worker, any_batch};
 use nr_blob::Memory;
 use nr_entry::{ConnId, Entry};
 use nr_model::reason::Reason;
-use nr_replica::Replica;
+use nr_replica::{Offer, Replica};
 use std::alloc::Global;
 use std::hash::RandomState;
 
 /// A node: its replica, its connections' sessions, its workers, how many of its connections aren't closed, the number of the
-/// entry that it reserved last and, for each node, whether the cell of that entry isn't filled yet, how many entries it has passed, and
-/// whether it holds one that it has fetched.
+/// entry that it reserved last and, for each node, whether the cell of that entry isn't filled yet, how many entries it has passed,
+/// whether it holds one that it has fetched, and how many connections and entries there were when it came back last.
 #[derive(Drop)]
 pub struct Node {
     pub(crate) replica: Replica,
@@ -46,6 +48,9 @@ pub struct Node {
     pub(crate) unfilled: Vec<bool>,
     pub(crate) passed: u64,
     pub(crate) is_fetched: bool,
+    // When it came back last, how many connections were ever opened, and how many entries were reserved.
+    pub(crate) since: usize,
+    pub(crate) resumed: u64,
 }
 
 // So many workers with nothing to do.
@@ -82,6 +87,8 @@ impl Node {
             unfilled,
             passed: 0,
             is_fetched: false,
+            since: 0,
+            resumed: 0,
         })
     }
 
@@ -228,6 +235,33 @@ impl Node {
         self.sessions.has_ended(serial) || self.replica.is_cut(serial)
     }
 
+    /// Whether a connection takes no more bytes, whatever becomes of the node: they asked for its end, it was closed, or it was overrun.
+    pub(crate) fn is_over(&self, serial: usize) -> bool
+        requires is_there { serial < length self.now.sessions }
+        requires clients { length self.now.sessions ≡ length self.now.replica.members }
+        ensures { (n : ℕ) → ArePaired n 0 self.now.sessions self.now.replica.members → result ≡ is_over (nodes.client_at serial (node_seen self.now)) }
+    {
+        self.sessions.has_ended(serial) || self.is_overrun(serial)
+    }
+
+    // Whether a connection's queue was cut while the node was up, before it ever fell.
+    fn is_overrun(&self, serial: usize) -> bool
+        requires is_there { serial < length self.now.sessions }
+        requires clients { length self.now.sessions ≡ length self.now.replica.members }
+        ensures { result ≡ is_overrun (nodes.client_at serial (node_seen self.now)) }
+    {
+        self.replica.is_cut(serial) && !self.sessions.fell(serial)
+    }
+
+    /// Whether the queue of a connection was cut.
+    pub(crate) fn is_cut(&self, serial: usize) -> bool
+        requires is_there { serial < length self.now.sessions }
+        requires clients { length self.now.sessions ≡ length self.now.replica.members }
+        ensures { result ≡ (nodes.client_at serial (node_seen self.now)).queue.cut }
+    {
+        self.replica.is_cut(serial)
+    }
+
     /// Whether a connection was closed.
     pub(crate) fn is_closed(&self, serial: usize) -> bool
         requires is_there { serial < length self.now.sessions }
@@ -280,7 +314,9 @@ impl Node {
     /// Applies an entry, its next one, and passes it. A node that is down drops it, and one that memory is refused falls.
     pub(crate) fn apply(&mut self, entry: &Entry)
         requires clients { length self.old.sessions ≡ length self.old.replica.members }
+        requires owed { length self.old.replica.owed ≡ length self.old.workers.items }
         requires numbered { AreNumbered self.old.replica.node 0 self.old.replica.members }
+        requires pairs { ArePaired self.old.replica.node 0 self.old.sessions self.old.replica.members }
         requires passed { self.old.passed + 1 < 2 ^ 64 }
         ensures applied { IsApplied self.old.replica.node (entry_seen entry.now) (node_seen self.old) (node_seen self.new) }
         ensures whole { (n : ℕ) → IsWhole n self.old → IsWhole n self.new }
@@ -299,16 +335,71 @@ impl Node {
     fn advance(&mut self, entry: &Entry)
         requires up { self.old.replica.down ≡ false }
         requires clients { length self.old.sessions ≡ length self.old.replica.members }
+        requires owed { length self.old.replica.owed ≡ length self.old.workers.items }
         requires numbered { AreNumbered self.old.replica.node 0 self.old.replica.members }
+        requires pairs { ArePaired self.old.replica.node 0 self.old.sessions self.old.replica.members }
         ensures advanced { IsAdvanced self.old.replica.node (entry_seen entry.now) (node_seen self.old) (node_seen self.new) }
         ensures whole { (n : ℕ) → IsWhole n self.old → IsWhole n self.new }
         ensures numbered { (n : ℕ) → AreNumbered n 0 self.old.replica.members → AreNumbered n 0 self.new.replica.members }
         ensures passed { self.new.passed ≡ self.old.passed }
     {
-        if self.replica.apply(entry) {
+        let counted = self.resumed <= self.replica.applied();
+        if self.replica.apply_or_stop(entry, counted) {
             return;
         }
+        self.drop_jobs();
+    }
+
+    // Drops its jobs, those that it has lifted and those at its workers. Each connection that isn't closed notes the first of its own.
+    fn drop_jobs(&mut self)
+        requires clients { length self.old.sessions ≡ length self.old.replica.members }
+        requires owed { length self.old.replica.owed ≡ length self.old.workers.items }
+        requires numbered { AreNumbered self.old.replica.node 0 self.old.replica.members }
+        requires pairs { ArePaired self.old.replica.node 0 self.old.sessions self.old.replica.members }
+        ensures dropped { node_seen self.new ≡ dropped_node (node_seen self.old) }
+        ensures whole { (n : ℕ) → IsWhole n self.old → IsWhole n self.new }
+        ensures numbered { (n : ℕ) → AreNumbered n 0 self.old.replica.members → AreNumbered n 0 self.new.replica.members }
+        ensures passed { self.new.passed ≡ self.old.passed }
+    {
+        note_fall(&mut self.sessions, &self.replica, &self.workers);
         drop_pending(&mut self.workers);
+        self.replica.drop_waiting();
+    }
+
+    /// Whether it has begun what isn't done: an entry that it has fetched or has to fill, or a worker's batch.
+    pub(crate) fn is_busy(&self) -> bool
+        requires owed { length self.now.replica.owed ≡ length self.now.workers.items }
+        ensures { result ≡ is_busy (node_seen self.now) }
+    {
+        self.is_fetched || self.has_begun()
+    }
+
+    // Whether it has an entry to fill, or a worker's batch.
+    fn has_begun(&self) -> bool
+        requires owed { length self.now.replica.owed ≡ length self.now.workers.items }
+        ensures { result ≡ (list_any is_true (node_seen self.now).unfilled || list_any has_batch (node_seen self.now).workers) }
+    {
+        self.is_filling() || any_batch(&self.workers)
+    }
+
+    /// Whether a cell of the entry that it reserved last isn't filled yet.
+    pub(crate) fn is_filling(&self) -> bool
+        ensures { result ≡ list_any is_true self.now.unfilled.items }
+    {
+        self.unfilled.iter().any(|unfilled| *unfilled)
+    }
+
+    /// Comes back with a copy of another node's server, where so many entries were reserved. Linear in its connections that aren't closed.
+    pub(crate) fn revive(&mut self, offer: Offer, tail: u64)
+        requires down { self.old.replica.down ≡ true }
+        requires clients { length self.old.sessions ≡ length self.old.replica.members }
+        ensures revived { node_seen self.new ≡ revived tail offer (node_seen self.old) }
+        ensures whole { (n : ℕ) → IsWhole n self.old → IsWhole n self.new }
+        ensures passed { self.new.passed ≡ self.old.passed }
+    {
+        self.replica.revive(offer, self.passed);
+        self.since = self.sessions.len();
+        self.resumed = tail;
     }
 
     // Passes its next entry.

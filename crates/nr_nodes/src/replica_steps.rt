@@ -197,4 +197,51 @@ impl World {
         }
         None
     }
+
+    /// A node that is down comes back with a copy of the server of another one, which is up and has passed as many entries: its connections so
+    /// far get nothing more, and can only be closed. Where memory is refused for the copy it stays down, and the world goes on. Linear in what
+    /// the server stores and remembers, and in the node's connections that aren't closed.
+    pub fn revive(&mut self, node: usize, donor: usize) -> Result<Outcome, Memory>
+        ensures taken { IfOk result (λ outcome. Steps self.old self.new (steps.Revive node donor) (outcome_seen outcome)) }
+        ensures failed { OnErr result (self.new.failed ≡ true) }
+        ensures setup { self.new.setup ≡ self.old.setup }
+        ensures repeats { self.old.failed ≡ true → IsErr result }
+    {
+        if self.has_failed {
+            return Err(Memory);
+        }
+        if let Some(reason) = self.why_not_revive(node, donor) {
+            return Ok(Outcome::Idle(reason));
+        }
+        let Ok(offer) = self.nodes[donor].replica.offer() else {
+            return Ok(Outcome::Idle(Reason::NoMemory));
+        };
+        let tail = self.log.tail();
+        self.nodes[node].revive(offer, tail);
+        Ok(Outcome::Done)
+    }
+
+    fn why_not_revive(&self, number: usize, other: usize) -> Option<Reason>
+        requires { self.now.failed ≡ false }
+        ensures { ComesTo self.now (steps.Revive number other) (idle_or result steps.Done) }
+    {
+        if number >= self.setup.nodes() || other >= self.setup.nodes() {
+            return Some(Reason::NoSuch);
+        }
+        let node = &self.nodes[number];
+        let donor = &self.nodes[other];
+        if donor.replica.is_down() {
+            return Some(Reason::Down);
+        }
+        if node.is_busy() {
+            return Some(Reason::Busy);
+        }
+        if !node.replica.is_down() {
+            return Some(Reason::Nothing);
+        }
+        if node.passed != donor.passed {
+            return Some(Reason::NotYet);
+        }
+        None
+    }
 }

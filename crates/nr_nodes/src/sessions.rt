@@ -1,11 +1,12 @@
 // The sessions of a node's connections.
-ghost use Rattle.std.specs.Prelude.{◌≡◌, ◌<◌, ◌∷◌, ◌++◌, [], false, not, OnOk, filter, length, option_to_list, slice_index_or, slice_set};
+ghost use Rattle.std.specs.Prelude.{◌≡◌, ◌<◌, ◌∷◌, ◌++◌, [], false, not, Option, OnOk, filter, length, option_to_list, slice_index_or, slice_set};
 ghost use Rattle.nr_model.specs.Items.{Item, same_connection};
 ghost use Rattle.nr_model.specs.Asked.{own_jobs};
 ghost use Rattle.nr_model.specs.Nodes.Steps.{close_job};
 ghost use Rattle.nr_entry.specs.Jobs.{connection_of, items_of};
 ghost use Rattle.nr_session.specs.SessionState.{SessionState};
 ghost use Rattle.nr_replica.specs.Members.{Member};
+ghost use Rattle.nr_nodes.specs.Dropped.{fallen_session};
 ghost use Rattle.nr_nodes.specs.Served.{client_seen};
 ghost use Rattle.nr_nodes.specs.BySerial.{fresh_session, closed_session};
 ghost use Rattle.nr_nodes.specs.Fed.{IsFed};
@@ -78,6 +79,32 @@ impl Sessions {
             Some(session) => session.has_ended(),
             None => true,
         }
+    }
+
+    /// Whether its node fell while its queue wasn't cut. One that was closed has forgotten it.
+    pub(crate) fn fell(&self, serial: usize) -> bool
+        requires { serial < length self.now }
+        ensures { (d : SessionState) → result ≡ (slice_index_or self.now serial d).fell }
+    {
+        match self.by_serial.get(&(serial as u64)) {
+            Some(session) => session.fell(),
+            None => false,
+        }
+    }
+
+    /// The node of one that isn't closed falls: the number of the first of its jobs that were dropped, and whether its queue was cut before.
+    /// Logarithmic.
+    pub(crate) fn fall(&mut self, serial: usize, dropped: Option<u64>, is_cut: bool)
+        requires is_there { serial < length self.old }
+        requires unclosed { (d : SessionState) → (slice_index_or self.old serial d).ended ≡ (slice_index_or self.old serial d).gave_end }
+        ensures { (d : SessionState) → self.new ≡ slice_set self.old serial (fallen_session dropped is_cut (slice_index_or self.old serial d)) }
+    {
+        let key = serial as u64;
+        // One that isn't closed has its session.
+        let Some(session) = self.by_serial.get_mut(&key) else {
+            return;
+        };
+        session.fall(dropped, is_cut);
     }
 
     /// Feeds bytes to one that takes them: the jobs that they ask for wait behind the others. Linear in the bytes and these jobs.

@@ -36,6 +36,8 @@ pub enum Step {
     Close(ConnId, u64),
     /// The next entry that a node applies is refused, as where memory runs out.
     Refuse(usize),
+    /// A node that is down comes back with a copy of another node's server: the node, the other one.
+    Revive(usize, usize),
 }
 
 /// What came of a step.

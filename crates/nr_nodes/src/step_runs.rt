@@ -72,6 +72,10 @@ impl World {
                 let outcome = self.refuse(*node)?;
                 Ok(Happened::plain(self.alloc, outcome))
             }
+            Step::Revive(node, donor) => {
+                let outcome = self.revive(*node, *donor)?;
+                Ok(Happened::plain(self.alloc, outcome))
+            }
         }
     }
 }

@@ -1,16 +1,19 @@
 // A worker of a node: the jobs of its connections, and its slot.
-ghost use Rattle.std.specs.Prelude.{◌≡◌, ℕ, Option, IfOk, OnOk, [], take, drop, unwrap_or};
+ghost use Rattle.std.specs.Prelude.{◌≡◌, ℕ, Option, None, IfOk, OnOk, [], take, drop, unwrap_or};
+ghost use Rattle.std.specs.List.{list_any};
 ghost use Rattle.nr_model.specs.Nodes as nodes;
 ghost use Rattle.nr_model.specs.Nodes.Steps as steps;
-ghost use Rattle.nr_model.specs.Nodes.Steps.{is_free, is_posted, is_lifted, posted_worker, posted_jobs, cleared};
-ghost use Rattle.nr_entry.specs.Jobs.{items_of};
+ghost use Rattle.nr_model.specs.Nodes.Steps.{has_batch, is_free, is_posted, is_lifted, posted_worker, posted_jobs, cleared};
+ghost use Rattle.nr_model.specs.Asked.{own_jobs, first_number};
+ghost use Rattle.nr_entry.specs.Jobs.{connection_of, items_of};
 ghost use Rattle.nr_nodes.specs.Workers.{slot_seen, worker_seen};
 ghost use Rattle.nr_nodes.specs.Batches.{post_outcome, lift_outcome, answer_outcome, executed_in};
 ghost use Rattle.nr_nodes.specs.Taken.{idle_or};
 ghost use Rattle.nr_nodes.specs.declared.worker.Slot.TheVariants as slots;
 
+use crate::dropped_jobs::first_own;
 use nr_blob::Memory;
-use nr_entry::Job;
+use nr_entry::{ConnId, Job};
 use nr_model::reason::Reason;
 use std::alloc::Global;
 use std::mem;
@@ -64,6 +67,24 @@ impl Worker {
             pending: Vec::new(alloc),
             batches: 0,
             slot: Slot::Empty,
+        }
+    }
+
+    /// Whether a batch of it was posted, or lifted, and isn't answered.
+    pub(crate) fn has_batch(&self) -> bool
+        ensures { result ≡ has_batch (worker_seen self.now None) }
+    {
+        self.slot.is_posted() || self.slot.is_lifted()
+    }
+
+    /// The number of the first of a connection's jobs that it has posted, where there is one and its node hasn't lifted them. Linear in
+    /// those.
+    pub(crate) fn first_posted(&self, conn: ConnId) -> Option<u64>
+        ensures { (owed : Option ℕ) → result ≡ first_number (own_jobs (connection_of conn) (posted_jobs (slot_seen self.now.slot owed))) }
+    {
+        match &self.slot {
+            Slot::Posted(jobs) => first_own(conn, jobs),
+            _ => None,
         }
     }
 
@@ -147,6 +168,13 @@ impl Worker {
         }
         None
     }
+}
+
+/// Whether a batch of one of these was posted, or lifted, and isn't answered.
+pub(crate) fn any_batch(workers: &[Worker]) -> bool
+    ensures { result ≡ list_any (λ worker. has_batch (worker_seen worker None)) workers.now }
+{
+    workers.iter().any(|worker| worker.has_batch())
 }
 
 // Takes the first jobs, at most so many.

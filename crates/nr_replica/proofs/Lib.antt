@@ -12,3 +12,4 @@ pub mod Kept
 pub mod Told
 pub mod Stepped
 pub mod Crossing
+pub mod CutAll

@@ -1,8 +1,8 @@
 -- What a replica's calls say of its state, from what its parts say.
-use Rattle.std.proofs.Common.{◌≡◌, ℕ, ◌+◌, ◌<◌, Bool, false, cond, List, [], length, take, get_or, ap, sym, ◌∙◌, subst, arith, add-one}
-use Rattle.std.specs.Prelude.{◌==◌, Result, Ok, Err, IfOk, IfSome, OnOk, OnErr, Option, Some, None}
+use Rattle.std.proofs.Common.{◌≡◌, ℕ, ◌+◌, ◌<◌, Bool, true, false, cond, List, [], length, take, get_or, refl, ap, sym, ◌∙◌, subst, arith, add-one}
+use Rattle.std.specs.Prelude.{◌==◌, is_none, Result, Ok, Err, IfOk, IfSome, OnOk, OnErr, Option, Some, None}
 use Rattle.nr_model.specs.Items.{Connection}
-use Rattle.nr_model.specs.Servers.{Server, after_all, emitted_all, fresh}
+use Rattle.nr_model.specs.Servers.{Server, after_all, emitted_all}
 use Rattle.nr_model.specs.Entries.{entry_items}
 use Rattle.nr_model.specs.Sequential.{for_node}
 use Rattle.nr_emission.specs.Emitted.{Written, written_after, all_after}
@@ -10,47 +10,51 @@ use Rattle.nr_blob.specs.declared.memory.Memory.{Memory}
 use Rattle.nr_entry.specs.declared.entry.Entry.{Entry}
 use Rattle.nr_entry.specs.declared.job.Job.{Job}
 use Rattle.nr_entry.specs.Jobs.{connection_of, items_of}
+use Rattle.nr_machine.specs.Machines.{MachineState}
 use Rattle.nr_replica.specs.declared.outbox.Piece.{Piece}
-use Rattle.nr_replica.specs.Members.{Member, AreNumbered, AreGiven, AreDelivered}
-use Rattle.nr_replica.specs.Replicas.{ReplicaState, IsApplied, owed_from}
+use Rattle.nr_replica.specs.Members.{Member, AreNumbered, AreGiven}
+use Rattle.nr_replica.specs.Replicas.{ReplicaState, IsApplied, IsAppliedAs, owed_from, server_in}
 use Rattle.nr_replica.proofs.Giving.{given_delivered}
 use Rattle.nr_replica.proofs.Kept.{numbered_at, get_or_same}
 
 -- an entry was applied
-pub applied_is : (node applied : ℕ) (members given all : List Member) (owed left : List (Option ℕ)) (waiting : List Job) (state moved : Server) (down refused : Bool) (entry : Entry) (staging : List Written)
-    → down ≡ false → AreNumbered node 0 members
-    → staging ≡ all_after written_after [] (for_node node (emitted_all state (entry_items (items_of entry.jobs.items)))) → AreGiven staging members given
-    → all ≡ given → left ≡ cond (entry.node == node) (owed_from 0 members (items_of entry.jobs.items) owed) owed
-    → moved ≡ after_all state (entry_items (items_of entry.jobs.items))
-    → IsApplied entry
-    (record { node = node; members = members; owed = owed; waiting = waiting; applied = applied; server = cond down fresh state; down = down; refused = refused })
-    (record { node = node; members = all; owed = left; waiting = waiting; applied = applied + 1; server = cond down fresh moved; down = down; refused = refused })
-applied_is node applied members given all owed left waiting state moved down refused entry staging up numbered staged handed is less steps =
+pub applied_is : (counted : Bool) (node applied : ℕ) (members given : List Member) (owed left : List (Option ℕ)) (waiting : List Job) (was now : Option MachineState) (refused : Bool) (entry : Entry) (staging : List Written)
+    → is_none was ≡ false → AreNumbered node 0 members
+    → staging ≡ all_after written_after [] (for_node node (emitted_all (server_in was) (entry_items (items_of entry.jobs.items)))) → AreGiven staging members given
+    → left ≡ cond counted (cond (entry.node == node) (owed_from 0 members (items_of entry.jobs.items) owed) owed) owed
+    → now ≡ Some (record { state = after_all (server_in was) (entry_items (items_of entry.jobs.items)); failed = false })
+    → IsAppliedAs counted entry
+    (record { node = node; members = members; owed = owed; waiting = waiting; applied = applied; server = server_in was; down = is_none was; refused = refused })
+    (record { node = node; members = given; owed = left; waiting = waiting; applied = applied + 1; server = server_in now; down = is_none now; refused = refused })
+applied_is counted node applied members given owed left waiting was now refused entry staging up numbered staged handed less moved =
     let items = entry_items (items_of entry.jobs.items) in
-    let received : AreDelivered (emitted_all state items) members all =
-    subst (λ (news : List Member). AreDelivered (emitted_all state items) members news) (sym is)
-    (given_delivered node staging (emitted_all state items) members given numbered staged handed) in
-    subst (λ b. IsApplied entry
-    (record { node = node; members = members; owed = owed; waiting = waiting; applied = applied; server = cond b fresh state; down = b; refused = refused })
-    (record { node = node; members = all; owed = left; waiting = waiting; applied = applied + 1; server = cond b fresh moved; down = b; refused = refused }))
-    (sym up)
-    (record {
-      delivered = received;
+    let server : server_in now ≡ after_all (server_in was) items = ap server_in moved in
+    let stays : is_none now ≡ is_none was = ap is_none moved ∙ sym up in
+    record {
+      delivered = given_delivered node staging (emitted_all (server_in was) items) members given numbered staged handed;
       state =
           λ i. record {
             node = node;
-            members = all;
+            members = given;
             owed = less i;
             waiting = waiting;
             applied = add-one applied i;
-            server = steps i;
-            down = false;
+            server = server i;
+            down = stays i;
             refused = refused;
           };
-    })
+    }
 
-pub applied_from : (entry : Entry) (old now new : ReplicaState) → old ≡ now → IsApplied entry old new → IsApplied entry now new
-applied_from entry old now new is applied = subst (λ (r : ReplicaState). IsApplied entry r new) is applied
+pub applied_from : (counted : Bool) (entry : Entry) (old now new : ReplicaState) → old ≡ now → IsAppliedAs counted entry old new → IsAppliedAs counted entry now new
+applied_from counted entry old now new is applied = subst (λ (r : ReplicaState). IsAppliedAs counted entry r new) is applied
+
+-- a machine that moved hasn't failed
+pub unfailed : (state : Server) (machine : Option MachineState) → machine ≡ Some (record { state = state; failed = false }) → IfSome machine (λ machine. machine.failed ≡ false)
+unfailed state machine is = subst (λ (m : Option MachineState). IfSome m (λ machine. machine.failed ≡ false)) (sym is) refl
+
+-- an entry that is counted
+pub counted_is : (entry : Entry) (old new : ReplicaState) → IsAppliedAs true entry old new → IsApplied entry old new
+counted_is entry old new applied = record { delivered = applied.delivered; state = applied.state }
 
 -- a piece was taken
 abbrev IsPiece : ℕ → Connection → Member → Piece → Type 0

@@ -8,7 +8,7 @@ use Rattle.nr_model.specs.Bytes.{Bytes}
 use Rattle.nr_model.specs.Connections.{is_some_bytes}
 use Rattle.nr_model.specs.Items.{Connection, same_connection, is_update}
 use Rattle.nr_model.specs.Entries.{Jobs}
-use Rattle.nr_model.specs.Queues.{Queue, coded_queue, received, handing, closed_queue}
+use Rattle.nr_model.specs.Queues.{Queue, coded_queue, received, cut_off, handing, closed_queue}
 use Rattle.nr_model.specs.Sequential.Events.{Emission}
 use Rattle.nr_model.specs.Nodes.Steps.{texts_for}
 use Rattle.nr_emission.specs.Emitted.{Written}
@@ -34,6 +34,10 @@ fresh_member c worker limit = record { worker = worker; outbox = fresh_queue c l
 -- what waits is dropped, and nothing more comes
 abbrev pub closed_member : Member → Member
 closed_member member = record { worker = member.worker; outbox = closed_queue member.outbox.connection; is_closed = true }
+
+-- nothing more comes
+abbrev pub cut_member : Member → Member
+cut_member member = record member { outbox = cut_off member.outbox }
 
 -- so many of the bytes that wait were handed out
 abbrev pub handed_member : ℕ → Member → Member

@@ -8,6 +8,7 @@ use Rattle.nr_entry.specs.declared.job.Job.{Job}
 use Rattle.nr_entry.specs.contracts.job.Job as of_job
 use Rattle.nr_entry.specs.Jobs.{items_of}
 use Rattle.nr_machine.specs.Codes.{coded_server}
+use Rattle.nr_machine.specs.Machines.{MachineState}
 use Rattle.nr_replica.specs.Members.{Member, coded_member, AreDelivered, jobs_of_worker}
 
 -- The node; its connections by serial; for each worker, where a batch of it was lifted, how many of its jobs are neither applied nor run; the jobs that were
@@ -39,7 +40,16 @@ abbrev pub owed_from : ℕ → List Member → Jobs → List (Option ℕ) → Li
 owed_from w members jobs [] = []
 owed_from w members jobs (owed ∷ more) = owing_less (length (jobs_of_worker w members jobs)) owed ∷ owed_from (suc w) members jobs more
 
--- The node falls: what it has lifted is dropped.
+-- what a machine has of the server, where there is one
+abbrev pub server_in : Option MachineState → Server
+server_in None = fresh
+server_in (Some machine) = machine.state
+
+-- The node stops: its server is given up, and it is down.
+abbrev pub stopped : ReplicaState → ReplicaState
+stopped r = record r { server = fresh; down = true; refused = false }
+
+-- The node falls: it stops, and what it has lifted is dropped.
 abbrev pub fallen : ReplicaState → ReplicaState
 fallen r = record r { waiting = []; server = fresh; down = true; refused = false }
 
@@ -57,6 +67,14 @@ applied_with members entry r =
 pub record IsApplied (entry : Entry) (old new : ReplicaState) : Type 0 where
   pub delivered : AreDelivered (emitted_all old.server (entry_items (items_of entry.jobs.items))) old.members new.members
   pub state : new ≡ applied_with new.members entry old
+
+-- the same, where the jobs of the entry are owed no more only if it is counted
+abbrev pub applied_as : Bool → List Member → Entry → ReplicaState → ReplicaState
+applied_as counted members entry r = record (applied_with members entry r) { owed = cond counted (applied_with members entry r).owed r.owed }
+
+pub record IsAppliedAs (counted : Bool) (entry : Entry) (old new : ReplicaState) : Type 0 where
+  pub delivered : AreDelivered (emitted_all old.server (entry_items (items_of entry.jobs.items))) old.members new.members
+  pub state : new ≡ applied_as counted new.members entry old
 
 -- the reads that lead were run: the server stays
 abbrev pub read_with : List Member → List Job → ReplicaState → ReplicaState

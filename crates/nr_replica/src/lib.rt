@@ -1,11 +1,13 @@
 //! A node's replica of the server: it takes in jobs, applies entries, runs reads, and keeps what waits for its node's connections.
 #![tactic(auto)]
 
+pub use offer::{Offer, OfferError};
 pub use outbox::Piece;
 pub use replica::Replica;
 
 mod delivering;
 mod members;
+mod offer;
 mod outbox;
 mod reading;
 mod ready;

@@ -1,10 +1,10 @@
 // The connections of a node, as its replica keeps them.
-ghost use Rattle.std.specs.Prelude.{◌≡◌, ◌<◌, ◌≤◌, ◌++◌, ◌∷◌, ℕ, [], length, take, slice_index_or, slice_set, IfOk, OnOk, OnErr, IfSome, IfNone, Some, None};
+ghost use Rattle.std.specs.Prelude.{◌≡◌, ◌<◌, ◌≤◌, ◌++◌, ◌∷◌, ℕ, [], map, length, take, slice_index_or, slice_set, IfOk, OnOk, OnErr, IfSome, IfNone, Some, None};
 ghost use Rattle.std.specs.Option.{option_copied};
 ghost use Rattle.nr_model.specs.Connections.{is_some_bytes};
 ghost use Rattle.nr_model.specs.Queues.{handing};
 ghost use Rattle.nr_entry.specs.Jobs.{connection_of};
-ghost use Rattle.nr_replica.specs.Members.{Member, AreNumbered, fresh_member, closed_member, handed_member, next_ready, queue_at, members_seen};
+ghost use Rattle.nr_replica.specs.Members.{Member, AreNumbered, fresh_member, closed_member, cut_member, handed_member, next_ready, queue_at, members_seen};
 ghost use Rattle.nr_replica.specs.Ready.{has_serial, IsMarked, AreReady};
 
 use crate::outbox::{Outbox, Piece};
@@ -140,6 +140,17 @@ impl Members {
         let worker = self.worker(serial);
         self.outboxes.remove(&(serial as u64));
         self.ready.remove(worker, serial as u64);
+    }
+
+    /// Cuts all that aren't closed: what waits for them can still be handed out, and nothing more comes. Linear in them.
+    pub(crate) fn cut_all(&mut self)
+        ensures cut { (node : ℕ) → members_seen node self.new ≡ map cut_member (members_seen node self.old) }
+        ensures ready { (node : ℕ) → AreReady self.old.ready.sets.items (members_seen node self.old) → AreReady self.new.ready.sets.items (members_seen node self.new) }
+    {
+        self.outboxes.retain(|_, outbox| {
+            outbox.cut();
+            true
+        });
     }
 
     /// Hands out at most so many of the first bytes that wait for one, and at least one, or `None` where nothing waits. Where memory runs out

@@ -1,19 +1,22 @@
 // A replica: the server of one node, and what waits there.
-ghost use Rattle.std.specs.Prelude.{◌≡◌, ◌<◌, ◌≤◌, ◌++◌, ◌∷◌, ℕ, true, false, not, [], length, replicate, take, slice_index_or, slice_set, IfOk, IfErr, OnOk, OnErr, IfSome, IfNone, Some, None, IsTrue};
+ghost use Rattle.std.specs.Prelude.{◌≡◌, ◌↔◌, ◌<◌, ◌≤◌, ◌++◌, ◌∷◌, ℕ, true, false, not, [], Err, map, length, replicate, take, slice_index_or, slice_set, IfOk, IfErr, OnOk, OnErr, IfSome, IfNone, Some, None, IsTrue};
 ghost use Rattle.nr_model.specs.Servers.{fresh};
+ghost use Rattle.nr_model.specs.Asked.{own_jobs, first_number};
 ghost use Rattle.nr_model.specs.Entries.{entry_jobs, left_by_entry, read_jobs};
 ghost use Rattle.nr_entry.specs.Entry.{are_of};
 ghost use Rattle.nr_entry.specs.Jobs.{connection_of, items_of};
 ghost use Rattle.nr_entry.specs.Waiting.{has_some};
-ghost use Rattle.nr_replica.specs.Members.{Member, fresh_member, closed_member, handed_member, next_ready};
-ghost use Rattle.nr_replica.specs.Replicas.{IsApplied, HasRead, fallen};
+ghost use Rattle.nr_replica.specs.Members.{Member, fresh_member, closed_member, cut_member, handed_member, next_ready};
+ghost use Rattle.nr_replica.specs.declared.offer.OfferError.TheVariants as OfferError;
+ghost use Rattle.nr_replica.specs.Replicas.{IsApplied, IsAppliedAs, HasRead, fallen, stopped};
 
 use crate::delivering::deliver;
 use crate::members::Members;
+use crate::offer::{Offer, OfferError};
 use crate::outbox::Piece;
 use crate::reading::run_reads;
-use crate::settling::{settle, settle_own};
-use crate::steps::{forget, stage, take_updates};
+use crate::settling::{settle, settle_counted};
+use crate::steps::{stage, take_updates};
 use nr_blob::Memory;
 use nr_emission::Staging;
 use nr_entry::{ConnId, Entry, Job, Waiting};
@@ -22,38 +25,38 @@ use std::alloc::Global;
 use std::hash::RandomState;
 use std::marker::Model;
 
-/// A node's replica. It is never read again once it is down, which it is from the first growth on that is refused while it applies an entry.
+/// A node's replica. It is down from the first growth on that is refused while it applies an entry, and then has no server, until it comes back
+/// with a copy of another replica's.
 #[derive(Drop)]
 pub struct Replica {
     alloc: Global,
     node: usize,
-    machine: Machine,
+    // None where it is down.
+    machine: Option<Machine>,
     members: Members,
     owed: Vec<Option<usize>>,
     waiting: Waiting,
     // What the entry at hand has emitted.
     staging: Staging,
     applied: u64,
-    is_down: bool,
     is_refused: bool,
 }
 
 impl Model for Replica {
-    ghost use Rattle.std.specs.Prelude.{◌≡◌, [], cond, false, IsTrue};
-    ghost use Rattle.nr_model.specs.Servers.{fresh};
+    ghost use Rattle.std.specs.Prelude.{◌≡◌, [], false, is_none, IfSome, IsTrue};
     ghost use Rattle.nr_entry.specs.Entry.{are_of};
     ghost use Rattle.nr_entry.specs.Jobs.{items_of};
     ghost use Rattle.nr_replica.specs.Members.{AreNumbered, members_seen};
     ghost use Rattle.nr_replica.specs.Ready.{AreReady};
-    ghost use Rattle.nr_replica.specs.Replicas.{ReplicaState, coded_replica};
+    ghost use Rattle.nr_replica.specs.Replicas.{ReplicaState, coded_replica, server_in};
 
     ghost Value = { ReplicaState };
 
     ghost coded = { coded_replica };
 
-    ghost view = { λ r. record { node = r.node; members = members_seen r.node r.members; owed = r.owed.items; waiting = r.waiting.jobs; applied = r.applied; server = cond r.is_down fresh r.machine.state; down = r.is_down; refused = r.is_refused } };
+    ghost view = { λ r. record { node = r.node; members = members_seen r.node r.members; owed = r.owed.items; waiting = r.waiting.jobs; applied = r.applied; server = server_in r.machine; down = is_none r.machine; refused = r.is_refused } };
 
-    ghost invariant = { λ r. (r.staging ≡ []) × (r.waiting.gaps ≡ []) × AreNumbered r.node 0 (members_seen r.node r.members) × (r.is_down ≡ false → r.machine.failed ≡ false) × IsTrue (are_of r.node (items_of r.waiting.jobs)) × AreReady r.members.ready.sets.items (members_seen r.node r.members) };
+    ghost invariant = { λ r. (r.staging ≡ []) × (r.waiting.gaps ≡ []) × AreNumbered r.node 0 (members_seen r.node r.members) × IfSome r.machine (λ machine. machine.failed ≡ false) × IsTrue (are_of r.node (items_of r.waiting.jobs)) × AreReady r.members.ready.sets.items (members_seen r.node r.members) };
 }
 
 impl Replica {
@@ -80,13 +83,12 @@ impl Replica {
         Ok(Replica {
             alloc,
             node,
-            machine: Machine::new(alloc, keys)?,
+            machine: Some(Machine::new(alloc, keys)?),
             members: Members::new(alloc),
             owed,
             waiting: Waiting::new(alloc),
             staging: Staging::new(alloc),
             applied: 0,
-            is_down: false,
             is_refused: false,
         })
     }
@@ -95,7 +97,7 @@ impl Replica {
     pub fn is_down(&self) -> bool
         ensures { result ≡ self.now.down }
     {
-        self.is_down
+        self.machine.is_none()
     }
 
     /// How many entries it has applied.
@@ -253,6 +255,22 @@ impl Replica {
         ensures fell { result ≡ false → self.new ≡ fallen self.old }
         ensures refused { self.old.refused ≡ true → result ≡ false }
     {
+        if self.apply_or_stop(entry, true) {
+            return true;
+        }
+        self.drop_waiting();
+        false
+    }
+
+    /// Applies an entry. Where it isn't `counted`, its jobs count for no batch. It stops, and answers false, where memory is refused on the way,
+    /// or where 2^64 - 1 entries were applied: then nothing of what the entry emitted waits for any connection, its server's memory is let go
+    /// of, and what was lifted still waits, until [`Replica::drop_waiting`].
+    pub fn apply_or_stop(&mut self, entry: &Entry, counted: bool) -> bool
+        requires up { self.old.down ≡ false }
+        ensures applied { result ≡ true → IsAppliedAs counted entry.now self.old self.new }
+        ensures stopped { result ≡ false → self.new ≡ stopped self.old }
+        ensures refused { self.old.refused ≡ true → result ≡ false }
+    {
         let is_refused = self.is_refused || self.applied == u64::MAX;
         if !stage(
             entry,
@@ -261,25 +279,67 @@ impl Replica {
             &mut self.machine,
             &mut self.staging,
         ) {
-            forget(&mut self.waiting, &mut self.staging);
-            self.is_down = true;
+            self.staging.clear();
             self.is_refused = false;
             return false;
         }
-        settle_own(entry, self.node, &self.members, &mut self.owed);
+        settle_counted(counted, entry, self.node, &self.members, &mut self.owed);
         deliver(&self.staging, self.node, &mut self.members);
         self.staging.clear();
         self.applied += 1;
         true
     }
 
-    /// It falls: what waits is dropped, and it is never read again.
+    /// The number of the first job of a connection that was lifted and waits, where one does. Linear in what waits.
+    pub fn first_waiting(&self, conn: ConnId) -> Option<u64>
+        ensures { result ≡ first_number (own_jobs (connection_of conn) (items_of self.now.waiting)) }
+    {
+        self.waiting.first_of(conn)
+    }
+
+    /// What was lifted and waits is dropped.
+    pub fn drop_waiting(&mut self)
+        ensures { self.new ≡ record self.old { waiting = [] } }
+    {
+        self.waiting.clear();
+    }
+
+    /// It falls: what waits is dropped, and its server's memory is let go of.
     pub fn fall(&mut self)
         ensures { self.new ≡ fallen self.old }
     {
-        forget(&mut self.waiting, &mut self.staging);
-        self.is_down = true;
+        self.drop_waiting();
+        self.machine = None;
         self.is_refused = false;
+    }
+
+    /// A copy of its server, with which another replica comes back. Linear in what is stored and remembered.
+    ///
+    /// # Errors
+    ///
+    /// `Down` exactly where it is down, and `Memory` where there is none for the copy, of which nothing is kept.
+    pub fn offer(&self) -> Result<Offer, OfferError>
+        ensures copied { IfOk result (λ offer. offer ≡ self.now.server) }
+        ensures down { (result ≡ Err OfferError.Down) ↔ (self.now.down ≡ true) }
+    {
+        let Some(machine) = &self.machine else {
+            return Err(OfferError::Down);
+        };
+        match machine.copy() {
+            Ok(machine) => Ok(Offer { machine }),
+            Err(Memory) => Err(OfferError::Memory),
+        }
+    }
+
+    /// Comes back with a copy of another replica's server, after so many entries. Every connection that was opened so far gets nothing more
+    /// than what waits for it. Linear in those that aren't closed.
+    pub fn revive(&mut self, offer: Offer, applied: u64)
+        requires { self.old.down ≡ true }
+        ensures { self.new ≡ record self.old { members = map cut_member self.old.members; applied = applied; server = offer; down = false } }
+    {
+        self.members.cut_all();
+        self.machine = Some(offer.machine);
+        self.applied = applied;
     }
 
     /// Runs the reads that lead, and hands them back. They change nothing but what waits for their connections, and one for which memory is
@@ -292,7 +352,10 @@ impl Replica {
     {
         let reads = self.waiting.take_reads()?;
         settle(&reads, &self.members, &mut self.owed);
-        run_reads(&self.machine, &reads, self.node, &mut self.members);
+        let Some(machine) = &self.machine else {
+            unreachable!()
+        };
+        run_reads(machine, &reads, self.node, &mut self.members);
         Ok(reads)
     }
 

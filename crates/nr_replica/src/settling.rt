@@ -16,8 +16,24 @@ pub(crate) fn settle(jobs: &[Job], members: &Members, owed: &mut [Option<usize>]
     }
 }
 
-/// The same for an entry's jobs, if it is one of the node.
-pub(crate) fn settle_own(entry: &Entry, node: usize, members: &Members, owed: &mut [Option<usize>])
+/// The same for the jobs of an entry that is counted, if it is one of the node.
+pub(crate) fn settle_counted(
+    counted: bool,
+    entry: &Entry,
+    node: usize,
+    members: &Members,
+    owed: &mut [Option<usize>],
+)
+    ensures { (n : ℕ) → owed.new
+        ≡ cond counted (cond (entry.now.node == node) (owed_from 0 (specs.members_seen n members.now) (items_of entry.now.jobs.items) owed.old) owed.old) owed.old }
+{
+    if counted {
+        settle_own(entry, node, members, owed);
+    }
+}
+
+// The same for an entry's jobs, if it is one of the node.
+fn settle_own(entry: &Entry, node: usize, members: &Members, owed: &mut [Option<usize>])
     ensures { (n : ℕ) → owed.new ≡ cond (entry.now.node == node) (owed_from 0 (specs.members_seen n members.now) (items_of entry.now.jobs.items) owed.old) owed.old }
 {
     if entry.node == node {

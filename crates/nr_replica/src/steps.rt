@@ -1,11 +1,12 @@
-// The steps of a replica's calls, each over its parts: the jobs of the next entry, the application of one, and what is dropped in a fall.
-ghost use Rattle.std.specs.Prelude.{◌≡◌, ◌≤◌, ℕ, true, false, [], length, IfOk, OnOk, OnErr, IsTrue};
+// The steps of a replica's calls, each over its parts: the jobs of the next entry, and the application of one.
+ghost use Rattle.std.specs.Prelude.{◌≡◌, ◌≤◌, ℕ, true, false, Some, None, [], length, IfOk, OnOk, OnErr, IsTrue};
 ghost use Rattle.nr_model.specs.Sequential.{for_node};
 ghost use Rattle.nr_model.specs.Servers.{after_all, emitted_all};
 ghost use Rattle.nr_model.specs.Entries.{most_entry_jobs, entry_items, entry_jobs, left_by_entry};
 ghost use Rattle.nr_emission.specs.Emitted.{all_after, written_after};
 ghost use Rattle.nr_entry.specs.Entry.{are_of, are_updates};
 ghost use Rattle.nr_entry.specs.Jobs.{items_of};
+ghost use Rattle.nr_replica.specs.Replicas.{server_in};
 
 use nr_blob::Memory;
 use nr_emission::Staging;
@@ -28,33 +29,41 @@ pub(crate) fn take_updates(waiting: &mut Waiting) -> Result<Vec<Job>, Memory>
     Ok(jobs)
 }
 
-/// Applies an entry, and holds back what it emits for the node. False where that is refused: then what is held back isn't to be sent.
+/// Applies an entry, and holds back what it emits for the node. False where that is refused: then what is held back isn't to be sent, and the
+/// machine is let go of.
 pub(crate) fn stage(
     entry: &Entry,
     node: usize,
     is_refused: bool,
-    machine: &mut Machine,
+    machine: &mut Option<Machine>,
     staging: &mut Staging,
 ) -> bool
     ensures up { result ≡ true → is_refused ≡ false }
-    ensures applied { result ≡ true → machine.new ≡ record { state = after_all machine.old.state (entry_items (items_of entry.now.jobs.items)); failed = false } }
+    ensures applied { result ≡ true → machine.new ≡ Some (record { state = after_all (server_in machine.old) (entry_items (items_of entry.now.jobs.items)); failed = false }) }
     ensures emitted { result ≡ true → staging.new
-        ≡ all_after written_after staging.old (for_node node (emitted_all machine.old.state (entry_items (items_of entry.now.jobs.items)))) }
+        ≡ all_after written_after staging.old (for_node node (emitted_all (server_in machine.old) (entry_items (items_of entry.now.jobs.items)))) }
+    ensures refused { result ≡ false → machine.new ≡ None }
 {
-    if is_refused {
-        return false;
+    if !is_refused && is_applied(entry, node, machine, staging) {
+        return true;
     }
-    match machine.apply(entry, node, staging) {
-        Ok(()) => true,
-        Err(Memory) => false,
-    }
+    *machine = None;
+    false
 }
 
-/// Drops what waits and what is held back.
-pub(crate) fn forget(waiting: &mut Waiting, staging: &mut Staging)
-    ensures waiting { waiting.new ≡ record { jobs = []; gaps = []; lent = [] } }
-    ensures staging { staging.new ≡ [] }
+// Whether an entry was applied.
+fn is_applied(
+    entry: &Entry,
+    node: usize,
+    machine: &mut Option<Machine>,
+    staging: &mut Staging,
+) -> bool
+    ensures applied { result ≡ true → machine.new ≡ Some (record { state = after_all (server_in machine.old) (entry_items (items_of entry.now.jobs.items)); failed = false }) }
+    ensures emitted { result ≡ true → staging.new
+        ≡ all_after written_after staging.old (for_node node (emitted_all (server_in machine.old) (entry_items (items_of entry.now.jobs.items)))) }
 {
-    waiting.clear();
-    staging.clear();
+    let Some(machine) = machine else {
+        return false;
+    };
+    machine.apply(entry, node, staging).is_ok()
 }

@@ -83,21 +83,24 @@ IsPlain name numbers step = (name ≡ step_name step) × (step_numbers step ≡ 
 of_two_back : (name : Bytes) (a b : ℕ) (step : Line) → of_two name a b ≡ Some step → IsPlain name (a ∷ b ∷ []) step
 unfolding IsPlain
 of_two_back name a b step is =
-    elim (chosen (bytes_eq name (codes "open")) (Some (lines.Open a b)) (cond (bytes_eq name (codes "close")) (Some (lines.Close a b)) (cond (bytes_eq name (codes "fill")) (Some (lines.Fill a b)) (cond (bytes_eq name (codes "post")) (Some (lines.Post a b)) (cond (bytes_eq name (codes "lift")) (Some (lines.Lift a b)) (cond (bytes_eq name (codes "answer")) (Some (lines.Answer a b)) (cond (bytes_eq name (codes "collect")) (Some (lines.Collect a b)) None)))))) (Some step) is) [
+    elim (chosen (bytes_eq name (codes "open")) (Some (lines.Open a b)) (cond (bytes_eq name (codes "close")) (Some (lines.Close a b)) (cond (bytes_eq name (codes "fill")) (Some (lines.Fill a b)) (cond (bytes_eq name (codes "post")) (Some (lines.Post a b)) (cond (bytes_eq name (codes "lift")) (Some (lines.Lift a b)) (cond (bytes_eq name (codes "answer")) (Some (lines.Answer a b)) (cond (bytes_eq name (codes "collect")) (Some (lines.Collect a b)) (cond (bytes_eq name (codes "revive")) (Some (lines.Revive a b)) None))))))) (Some step) is) [
       | inl here ↦ subst (IsPlain name (a ∷ b ∷ [])) (some_same _ step here.1) (same_name name (codes "open") here.0, refl, refl)
-      | inr there ↦ elim (chosen (bytes_eq name (codes "close")) (Some (lines.Close a b)) (cond (bytes_eq name (codes "fill")) (Some (lines.Fill a b)) (cond (bytes_eq name (codes "post")) (Some (lines.Post a b)) (cond (bytes_eq name (codes "lift")) (Some (lines.Lift a b)) (cond (bytes_eq name (codes "answer")) (Some (lines.Answer a b)) (cond (bytes_eq name (codes "collect")) (Some (lines.Collect a b)) None))))) (Some step) there.1) [
+      | inr there ↦ elim (chosen (bytes_eq name (codes "close")) (Some (lines.Close a b)) (cond (bytes_eq name (codes "fill")) (Some (lines.Fill a b)) (cond (bytes_eq name (codes "post")) (Some (lines.Post a b)) (cond (bytes_eq name (codes "lift")) (Some (lines.Lift a b)) (cond (bytes_eq name (codes "answer")) (Some (lines.Answer a b)) (cond (bytes_eq name (codes "collect")) (Some (lines.Collect a b)) (cond (bytes_eq name (codes "revive")) (Some (lines.Revive a b)) None)))))) (Some step) there.1) [
         | inl here ↦ subst (IsPlain name (a ∷ b ∷ [])) (some_same _ step here.1) (same_name name (codes "close") here.0, refl, refl)
-        | inr there ↦ elim (chosen (bytes_eq name (codes "fill")) (Some (lines.Fill a b)) (cond (bytes_eq name (codes "post")) (Some (lines.Post a b)) (cond (bytes_eq name (codes "lift")) (Some (lines.Lift a b)) (cond (bytes_eq name (codes "answer")) (Some (lines.Answer a b)) (cond (bytes_eq name (codes "collect")) (Some (lines.Collect a b)) None)))) (Some step) there.1) [
+        | inr there ↦ elim (chosen (bytes_eq name (codes "fill")) (Some (lines.Fill a b)) (cond (bytes_eq name (codes "post")) (Some (lines.Post a b)) (cond (bytes_eq name (codes "lift")) (Some (lines.Lift a b)) (cond (bytes_eq name (codes "answer")) (Some (lines.Answer a b)) (cond (bytes_eq name (codes "collect")) (Some (lines.Collect a b)) (cond (bytes_eq name (codes "revive")) (Some (lines.Revive a b)) None))))) (Some step) there.1) [
           | inl here ↦ subst (IsPlain name (a ∷ b ∷ [])) (some_same _ step here.1) (same_name name (codes "fill") here.0, refl, refl)
-          | inr there ↦ elim (chosen (bytes_eq name (codes "post")) (Some (lines.Post a b)) (cond (bytes_eq name (codes "lift")) (Some (lines.Lift a b)) (cond (bytes_eq name (codes "answer")) (Some (lines.Answer a b)) (cond (bytes_eq name (codes "collect")) (Some (lines.Collect a b)) None))) (Some step) there.1) [
+          | inr there ↦ elim (chosen (bytes_eq name (codes "post")) (Some (lines.Post a b)) (cond (bytes_eq name (codes "lift")) (Some (lines.Lift a b)) (cond (bytes_eq name (codes "answer")) (Some (lines.Answer a b)) (cond (bytes_eq name (codes "collect")) (Some (lines.Collect a b)) (cond (bytes_eq name (codes "revive")) (Some (lines.Revive a b)) None)))) (Some step) there.1) [
             | inl here ↦ subst (IsPlain name (a ∷ b ∷ [])) (some_same _ step here.1) (same_name name (codes "post") here.0, refl, refl)
-            | inr there ↦ elim (chosen (bytes_eq name (codes "lift")) (Some (lines.Lift a b)) (cond (bytes_eq name (codes "answer")) (Some (lines.Answer a b)) (cond (bytes_eq name (codes "collect")) (Some (lines.Collect a b)) None)) (Some step) there.1) [
+            | inr there ↦ elim (chosen (bytes_eq name (codes "lift")) (Some (lines.Lift a b)) (cond (bytes_eq name (codes "answer")) (Some (lines.Answer a b)) (cond (bytes_eq name (codes "collect")) (Some (lines.Collect a b)) (cond (bytes_eq name (codes "revive")) (Some (lines.Revive a b)) None))) (Some step) there.1) [
               | inl here ↦ subst (IsPlain name (a ∷ b ∷ [])) (some_same _ step here.1) (same_name name (codes "lift") here.0, refl, refl)
-              | inr there ↦ elim (chosen (bytes_eq name (codes "answer")) (Some (lines.Answer a b)) (cond (bytes_eq name (codes "collect")) (Some (lines.Collect a b)) None) (Some step) there.1) [
+              | inr there ↦ elim (chosen (bytes_eq name (codes "answer")) (Some (lines.Answer a b)) (cond (bytes_eq name (codes "collect")) (Some (lines.Collect a b)) (cond (bytes_eq name (codes "revive")) (Some (lines.Revive a b)) None)) (Some step) there.1) [
                 | inl here ↦ subst (IsPlain name (a ∷ b ∷ [])) (some_same _ step here.1) (same_name name (codes "answer") here.0, refl, refl)
-                | inr there ↦ elim (chosen (bytes_eq name (codes "collect")) (Some (lines.Collect a b)) None (Some step) there.1) [
+                | inr there ↦ elim (chosen (bytes_eq name (codes "collect")) (Some (lines.Collect a b)) (cond (bytes_eq name (codes "revive")) (Some (lines.Revive a b)) None) (Some step) there.1) [
                   | inl here ↦ subst (IsPlain name (a ∷ b ∷ [])) (some_same _ step here.1) (same_name name (codes "collect") here.0, refl, refl)
-                  | inr there ↦ none_some step there.1
+                  | inr there ↦ elim (chosen (bytes_eq name (codes "revive")) (Some (lines.Revive a b)) None (Some step) there.1) [
+                    | inl here ↦ subst (IsPlain name (a ∷ b ∷ [])) (some_same _ step here.1) (same_name name (codes "revive") here.0, refl, refl)
+                    | inr there ↦ none_some step there.1
+                  ]
                 ]
               ]
             ]

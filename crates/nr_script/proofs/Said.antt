@@ -132,6 +132,9 @@ said_read (lines.Close a b) line says =
 said_read (lines.Fill a b) line says =
     ap line_of (two_line (codes "fill") line a b says.rest says.is says.ends)
     ∙ ap (option_map Some) (numbered_two (codes "fill") a b says.fit.0 says.fit.1.0)
+said_read (lines.Revive a b) line says =
+    ap line_of (two_line (codes "revive") line a b says.rest says.is says.ends)
+    ∙ ap (option_map Some) (numbered_two (codes "revive") a b says.fit.0 says.fit.1.0)
 said_read (lines.Post a b) line says =
     ap line_of (two_line (codes "post") line a b says.rest says.is says.ends)
     ∙ ap (option_map Some) (numbered_two (codes "post") a b says.fit.0 says.fit.1.0)

@@ -73,6 +73,7 @@ of_two name first second =
     else if bytes_eq name (codes "lift") then Some (lines.Lift first second)
     else if bytes_eq name (codes "answer") then Some (lines.Answer first second)
     else if bytes_eq name (codes "collect") then Some (lines.Collect first second)
+    else if bytes_eq name (codes "revive") then Some (lines.Revive first second)
     else None
 
 -- a step with one number

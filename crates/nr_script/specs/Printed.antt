@@ -2,7 +2,7 @@
 use Rattle.std.specs.Prelude.{ℕ, [], ◌∷◌, ◌++◌, codes, decimal}
 use Rattle.nr_model.specs.Bytes.{Bytes}
 use Rattle.nr_model.specs.declared.reason.Reason.{Reason}
-use Rattle.nr_model.specs.declared.reason.Reason.TheVariants.{NoSuch, Ended, TooMany, Down, Busy, Nothing, Full, NotYet}
+use Rattle.nr_model.specs.declared.reason.Reason.TheVariants.{NoSuch, Ended, TooMany, Down, Busy, Nothing, Full, NotYet, NoMemory}
 use Rattle.nr_script.specs.Texts.{shown}
 
 -- a connection was opened
@@ -19,6 +19,7 @@ reason_number Busy = 5
 reason_number Nothing = 6
 reason_number Full = 7
 reason_number NotYet = 8
+reason_number NoMemory = 9
 
 abbrev pub reason_name : Reason → Bytes
 reason_name NoSuch = codes "NoSuch"
@@ -29,6 +30,7 @@ reason_name Busy = codes "Busy"
 reason_name Nothing = codes "Nothing"
 reason_name Full = codes "Full"
 reason_name NotYet = codes "NotYet"
+reason_name NoMemory = codes "NoMemory"
 
 -- a step did nothing, for this reason
 abbrev pub idle_line : Reason → Bytes

@@ -41,6 +41,11 @@ pub enum Line {
         node: u64,
         to: u64,
     },
+    /// A node that is down comes back with a copy of another node's server.
+    Revive {
+        node: u64,
+        donor: u64,
+    },
     Post {
         node: u64,
         worker: u64,
@@ -286,6 +291,11 @@ fn of_two(name: &[u8], first: u64, second: u64) -> Option<Line>
         Some(Line::Collect {
             node: first,
             worker: second,
+        })
+    } else if equals(name, b"revive") {
+        Some(Line::Revive {
+            node: first,
+            donor: second,
         })
     } else {
         None

@@ -197,6 +197,11 @@ fn act(
             show(alloc, opened, outcome, out)?;
             Ok(())
         }
+        Line::Revive { node, donor } => {
+            let outcome = world.revive(*node as usize, *donor as usize)?;
+            show(alloc, opened, outcome, out)?;
+            Ok(())
+        }
         Line::Post { node, worker } => {
             let outcome = world.post(*node as usize, *worker as usize)?;
             show(alloc, opened, outcome, out)?;

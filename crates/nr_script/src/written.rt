@@ -71,7 +71,7 @@ fn whole_or_none(end: usize, written: Result<(), Memory>, out: &mut Vec<u8>) -> 
     written
 }
 
-// Its number: 1 to 8, in the order in which reasons are looked for.
+// Its number: 1 to 9, in the order in which reasons are looked for.
 fn number_of(reason: Reason) -> u64
     ensures { result ≡ reason_number reason }
 {
@@ -84,6 +84,7 @@ fn number_of(reason: Reason) -> u64
         Reason::Nothing => 6,
         Reason::Full => 7,
         Reason::NotYet => 8,
+        Reason::NoMemory => 9,
     }
 }
 
@@ -99,6 +100,7 @@ fn name_of(reason: Reason) -> &'static [u8]
         Reason::Nothing => b"Nothing",
         Reason::Full => b"Full",
         Reason::NotYet => b"NotYet",
+        Reason::NoMemory => b"NoMemory",
     }
 }
 

@@ -23,7 +23,7 @@ coded_seat =
 
 -- a session that was fed nothing
 abbrev pub fresh_session : Connection → SessionState
-fresh_session c = record { connection = c; rest = []; mode = plain; next = 0; fed = 0; ended = false; gave_end = false }
+fresh_session c = record { connection = c; rest = []; mode = plain; next = 0; fed = 0; ended = false; gave_end = false; lost = None; fell = false }
 
 -- a connection that was just opened
 abbrev pub fresh_seat : Connection → SeatState

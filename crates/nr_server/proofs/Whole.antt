@@ -1,5 +1,5 @@
 -- What holds of a connection whose service ended without a failure.
-use Rattle.std.proofs.Common.{◌≡◌, Bool, true, false, not, cond, inl, inr, ◌⊎◌, [], ◌++◌, refl, sym, ap, ◌∙◌, subst, append-nil}
+use Rattle.std.proofs.Common.{◌≡◌, ◌<◌, ◌≤◌, List, length, Bool, true, false, not, cond, inl, inr, ◌⊎◌, [], ◌++◌, refl, sym, ap, ◌∙◌, subst, arith, append-nil}
 use Rattle.std.specs.Prelude.{◌||◌, Option, Some, None, IfSome}
 use Rattle.std.proofs.lemmas.Bool.{cases_Bool}
 use Rattle.nr_model.specs.Bytes.{Bytes}
@@ -8,8 +8,9 @@ use Rattle.nr_model.specs.Sequential.{emitted_for}
 use Rattle.nr_model.specs.Connections.{Setup, fed_to}
 use Rattle.nr_model.specs.Nodes.{World, node_at, client_of, sequence_of}
 use Rattle.nr_model.specs.Nodes.Steps.{is_client}
-use Rattle.nr_model.specs.Nodes.Pasts.{IsPast}
-use Rattle.nr_model.proofs.NodesSteps.{a_client}
+use Rattle.nr_model.specs.Nodes.Pasts.{Event, IsPast}
+use Rattle.nr_model.proofs.NodesSteps.{a_client, each_sized}
+use Rattle.nr_model.proofs.NodesAlone.{alone_since}
 use Rattle.nr_nodes.specs.Standing.{has_ended as takes_no_more}
 use Rattle.nr_service.proofs.Known.{course_ended, course_sound}
 use Rattle.nr_service.specs.declared.client.Client.{Client}
@@ -55,6 +56,16 @@ kept_there a world c pending absent kept =
       | inr gone ↦ absurd (cc (sym (absent c gone) ∙ kept))
     ]
 
+-- its node is alone and never came back, so no connection is from before that
+stands_since : (events : List Event) (world : World) (c : Connection) → IsPast alone events world → c.node < length world.nodes
+    → (node_at c.node world).since ≤ c.serial
+stands_since events world c past there =
+    let many : length world.nodes ≡ 1 = ap (λ (w : World). length w.nodes) past.1 ∙ (each_sized alone events).nodes in
+    let below : c.node < 1 = omega arith in
+    let never : (node_at c.node world).since ≡ 0 =
+    ap (λ (w : World). (node_at c.node w).since) past.1 ∙ alone_since alone events (omega arith) c.node below in
+    omega arith
+
 -- all of it was sent
 all_sent : (known : Option Bytes) (handed pending all : Bytes) → pending ≡ [] → handed ≡ all → IfSome known (λ bytes. handed ≡ bytes ++ pending)
     → IfSome known (λ bytes. bytes ≡ all)
@@ -77,7 +88,8 @@ whole was_received was_sent course a story client sized calm rest served over =
     let there = kept_there a world c served.pending rest.absent served.kept in
     let none : served.pending ≡ [] = sym (ap kept_bytes served.kept) ∙ over.empty in
     let past : IsPast alone rest.events world = subst (λ (s : Setup). IsPast s rest.events world) sized rest.is.past in
-    let shut = unclosed alone rest.events world c past (a_client world c there) (none_closed story rest.events world rest.is calm) in
+    let client_is = a_client world c there in
+    let shut = unclosed alone rest.events world c past client_is (none_closed story rest.events world rest.is calm) in
     let up : node.down ≡ false =
     elim over.over [
       | inl stands ↦ up_where node.down (takes_no_more world c) standings.Over (stands.works rest.works world rest.shows) (inl refl)
@@ -96,7 +108,7 @@ whole was_received was_sent course a story client sized calm rest served over =
       there = there;
       up = up;
       fed = all_fed (was_received client.stream) (bytes_fed c story) (fed_to c world.fed) (bytes_fed_in story rest.events world c rest.is) served.received;
-      executed = rest.settled.executed c there up;
+      executed = rest.settled.executed c there up (stands_since rest.events world c past client_is.there);
       sent = λ uncut.
           all_sent (was_sent client.stream) (bytes_handed c story) served.pending (emitted_for c (sequence_of world)) none
           (bytes_handed_in story rest.events world c rest.is ∙ rest.settled.handed c (there, ap not up, uncut)) served.sent;

@@ -1,6 +1,6 @@
 -- What contracts see of a session, and the front of the jobs that is there where memory ran out.
-use Rattle.std.specs.Prelude.{◌≡◌, ℕ, ◌+◌, ◌≤◌, Bool, List, ◌++◌, length, filter, take, None, refl}
-use Rattle.std.specs.Coded.{Coded, code_by, coded×, coded_ℕ, coded_bool}
+use Rattle.std.specs.Prelude.{◌≡◌, ℕ, ◌+◌, ◌≤◌, Bool, List, ◌++◌, length, filter, take, Option, None, refl}
+use Rattle.std.specs.Coded.{Coded, code_by, coded×, coded_ℕ, coded_bool, coded_option}
 use Rattle.nr_model.specs.Bytes.{Bytes}
 use Rattle.nr_model.specs.Commands.{served}
 use Rattle.nr_model.specs.Requests.{Frame, Framing, framing_of}
@@ -14,7 +14,8 @@ abbrev pub coded_connection : Coded Connection
 coded_connection = code_by (ℕ × ℕ) (coded× coded_ℕ coded_ℕ) (λ c. (c.node, c.serial)) (λ p. record { node = p.0; serial = p.1 }) (λ _. refl)
 
 -- the connection, the bytes since its last whole request, the mode that the requests left, the number of its next job, how many bytes
--- it was fed in all, whether it ended, and whether it gave an end then
+-- it was fed in all, whether it ended, and whether it gave an end then; the number of the first of its jobs that a fall of its node dropped, if one was dropped, and
+-- whether its node fell while its queue wasn't cut
 pub record SessionState : Type 0 where
   pub connection : Connection
   pub rest : Bytes
@@ -23,12 +24,14 @@ pub record SessionState : Type 0 where
   pub fed : ℕ
   pub ended : Bool
   pub gave_end : Bool
+  pub lost : Option ℕ
+  pub fell : Bool
 
 abbrev pub coded_session : Coded SessionState
 coded_session =
-    code_by (Connection × (Bytes × (Mode × (ℕ × (ℕ × (Bool × Bool))))))
-    (coded× coded_connection (coded× coded_bytes (coded× coded_mode (coded× coded_ℕ (coded× coded_ℕ (coded× coded_bool coded_bool))))))
-    (λ s. (s.connection, (s.rest, (s.mode, (s.next, (s.fed, (s.ended, s.gave_end)))))))
+    code_by (Connection × (Bytes × (Mode × (ℕ × (ℕ × (Bool × (Bool × (Option ℕ × Bool))))))))
+    (coded× coded_connection (coded× coded_bytes (coded× coded_mode (coded× coded_ℕ (coded× coded_ℕ (coded× coded_bool (coded× coded_bool (coded× (coded_option coded_ℕ) coded_bool))))))))
+    (λ s. (s.connection, (s.rest, (s.mode, (s.next, (s.fed, (s.ended, (s.gave_end, (s.lost, s.fell)))))))))
     (λ p. record {
       connection = p.0;
       rest = p.1.0;
@@ -36,7 +39,9 @@ coded_session =
       next = p.1.1.1.0;
       fed = p.1.1.1.1.0;
       ended = p.1.1.1.1.1.0;
-      gave_end = p.1.1.1.1.1.1;
+      gave_end = p.1.1.1.1.1.1.0;
+      lost = p.1.1.1.1.1.1.1.0;
+      fell = p.1.1.1.1.1.1.1.1;
     }) (λ _. refl)
 
 -- the frames of the rest and a piece behind it, and what they ask for in a mode

@@ -1,5 +1,5 @@
 // The session of a connection: bytes in, jobs out. It owns the reader and the number of the next job, and touches nothing else.
-ghost use Rattle.std.specs.Prelude.{◌≡◌, ◌↔◌, ◌+◌, ◌<◌, ◌≤◌, ◌^◌, ◌++◌, [], true, false, None, Some, Err, OnOk, OnErr, IfOk, IfSome, IsNone, IsTrue, is_ok, unwrap_or, if◌then◌else◌, length};
+ghost use Rattle.std.specs.Prelude.{◌≡◌, ◌↔◌, ◌+◌, ◌<◌, ◌≤◌, ◌^◌, ◌++◌, [], true, false, None, Some, Err, OnOk, OnErr, IfOk, IfSome, IsNone, IsTrue, is_ok, is_some, cond, not, ◌||◌, unwrap_or, if◌then◌else◌, length};
 ghost use Rattle.nr_model.specs.Items.{End};
 ghost use Rattle.nr_model.specs.Keyspace.{last_moment};
 ghost use Rattle.nr_model.specs.Asked.{jobs_from};
@@ -106,6 +106,8 @@ pub struct Session {
     // How many bytes it was fed: at least the next number and the bytes that are kept, while it takes bytes.
     fed: u64,
     life: Life,
+    lost: Option<u64>,
+    fell: bool,
 }
 
 impl Model for Session {
@@ -119,14 +121,14 @@ impl Model for Session {
 
     ghost coded = { coded_session };
 
-    ghost view = { λ s. record { connection = connection_of s.conn; rest = s.reader.rest; mode = s.mode; next = s.next; fed = s.fed; ended = has_ended s.life; gave_end = gave_end s.life } };
+    ghost view = { λ s. record { connection = connection_of s.conn; rest = s.reader.rest; mode = s.mode; next = s.next; fed = s.fed; ended = has_ended s.life; gave_end = gave_end s.life; lost = s.lost; fell = s.fell } };
 
     ghost invariant = { λ s. s.life ≡ Open → (s.reader.closed ≡ None) × (s.next + length s.reader.rest ≤ s.fed) };
 }
 
 impl Session {
     pub fn new(alloc: Global, conn: ConnId) -> Self
-        ensures { result ≡ record { connection = connection_of conn; rest = []; mode = plain; next = 0; fed = 0; ended = false; gave_end = false } }
+        ensures { result ≡ record { connection = connection_of conn; rest = []; mode = plain; next = 0; fed = 0; ended = false; gave_end = false; lost = None; fell = false } }
     {
         Session {
             alloc,
@@ -136,6 +138,8 @@ impl Session {
             next: 0,
             fed: 0,
             life: Life::Open,
+            lost: None,
+            fell: false,
         }
     }
 
@@ -179,6 +183,8 @@ impl Session {
         ensures numbers { OnOk result (self.new.ended ≡ false
             → self.new.next + length self.new.rest ≤ self.old.next + (length self.old.rest + length bytes.now)) }
         ensures connection { self.new.connection ≡ self.old.connection }
+        ensures lost { self.new.lost ≡ self.old.lost }
+        ensures fell { self.new.fell ≡ self.old.fell }
 
         ensures ended { (result ≡ Err SessionError.Ended) ↔ (self.old.ended ≡ true) }
         ensures unchanged { result ≡ Err SessionError.Ended → (self.new ≡ self.old) × (jobs.new.items ≡ jobs.old.items) }
@@ -214,6 +220,31 @@ impl Session {
                 Err(SessionError::Memory)
             }
         }
+    }
+
+    /// The number of the first of its jobs that a fall of its node dropped, where one was dropped.
+    pub fn lost(&self) -> Option<u64>
+        ensures { result ≡ self.now.lost }
+    {
+        self.lost
+    }
+
+    /// Whether its node fell while the connection's queue wasn't cut.
+    pub fn fell(&self) -> bool
+        ensures { result ≡ self.now.fell }
+    {
+        self.fell
+    }
+
+    /// Its node falls: the number of the first of its jobs that were dropped, and whether its connection's queue was cut before. A number
+    /// that was noted at an earlier fall stays.
+    pub fn fall(&mut self, dropped: Option<u64>, is_cut: bool)
+        ensures { self.new ≡ record self.old { lost = cond (is_some self.old.lost) self.old.lost dropped; fell = self.old.fell || not is_cut } }
+    {
+        if self.lost.is_none() {
+            self.lost = dropped;
+        }
+        self.fell = self.fell || !is_cut;
     }
 
     /// Ends the session, and lets go of the bytes and the queued commands that it keeps. The close has no reply, and the number of the first

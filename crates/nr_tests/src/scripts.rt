@@ -39,6 +39,7 @@ fn printed(alloc: Global) -> Result<Vec<u8>, Memory> {
     write_opened(0, &mut out)?;
     write_done(&mut out)?;
     write_idle(Reason::NoSuch, &mut out)?;
+    write_idle(Reason::NoMemory, &mut out)?;
     write_settled(&mut out)?;
     write_handed(0, b"+OK\r\n~\\\x7f", &mut out)?;
     Ok(out)
@@ -56,6 +57,7 @@ fn lines(rt: HostRuntime) {
     assert!(rt; says(alloc, "setup 2 3 1 1024", setup));
     assert!(rt; says(alloc, "open 0 1", Line::Open { node: 0, worker: 1 }));
     assert!(rt; says(alloc, "fill 0 3", Line::Fill { node: 0, to: 3 }));
+    assert!(rt; says(alloc, "revive 1 0", Line::Revive { node: 1, donor: 0 }));
     assert!(rt;
         says(
             alloc,
@@ -93,6 +95,7 @@ fn lines(rt: HostRuntime) {
         "open 0 -1",
         "look 9223372036854775808",
         "look",
+        "revive 0",
         "halt",
         "setup 1 1 1",
         "setup 1 1 1 1 1",
@@ -102,6 +105,7 @@ fn lines(rt: HostRuntime) {
     let Ok(out) = printed(alloc) else {
         panic!(rt; "out of memory");
     };
-    let lines = "ok\nopen 0\ndone\nidle 1 NoSuch\nsettled\n0 +OK\\r\\n~\\\\\\x7f\n";
+    let lines =
+        "ok\nopen 0\ndone\nidle 1 NoSuch\nidle 9 NoMemory\nsettled\n0 +OK\\r\\n~\\\\\\x7f\n";
     assert!(rt; out.as_slice() == lines.as_bytes());
 }

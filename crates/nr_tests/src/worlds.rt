@@ -25,6 +25,16 @@ fn steps_are_run(rt: HostRuntime) -> Result<(), Fail> {
         Step::Collect(1, 0),
         Step::Refuse(0),
         Step::Close(FIRST, 7),
+        Step::Post(1, 0),
+        Step::Lift(1, 0),
+        Step::Reserve(1),
+        Step::Fill(1, 0),
+        Step::Fill(1, 1),
+        Step::Fetch(0),
+        Step::Apply(0),
+        Step::Fetch(1),
+        Step::Apply(1),
+        Step::Revive(0, 1),
     ]?;
     let ran = run(alloc, RandomState::new(&rt)?, &setup, &steps)?;
     let mut handed = 0usize;

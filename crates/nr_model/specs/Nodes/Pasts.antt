@@ -2,7 +2,7 @@
 use Rattle.std.specs.Prelude.{◌≡◌, ℕ, ◌-◌, Bool, true, false, cond, List, [], ◌∷◌, flat_map, fold, Option, Some, None}
 use Rattle.nr_model.specs.Connections.{Setup, Handed}
 use Rattle.nr_model.specs.Nodes.{Empty, Posted, Lifted, Answered, Worker, World, fresh, node_at, worker_at}
-use Rattle.nr_model.specs.Nodes.Steps.{Step, Apply, Look, Collect, Outcome, Opened, Done, Idle, Refused, nothing_refused, outcome, collected, after_step}
+use Rattle.nr_model.specs.Nodes.Steps.{Step, Apply, Look, Collect, Revive, Outcome, Opened, Done, Idle, Refused, nothing_refused, came_to, collected, after_step}
 
 -- the answer to a batch, as its worker took it: whether all its jobs were executed
 pub record Answering : Type 0 where
@@ -43,15 +43,16 @@ abbrev pub answer_by : World → Step → Option Answering
 answer_by world (Collect n w) = answer_in n w (worker_at w (node_at n world))
 answer_by world _ = None
 
--- memory is refused in an apply or a look alone
+-- memory is refused in an apply, in a look, and where a node comes back, and in no other step
 abbrev pub may_refuse : Step → Bool
 may_refuse (Apply n) = true
 may_refuse (Look n) = true
+may_refuse (Revive n f) = true
 may_refuse _ = false
 
 -- the event is what the step comes to in a world
 pub record IsEvent (setup : Setup) (world : World) (e : Event) : Type 0 where
-  pub outcome_is : e.outcome ≡ outcome setup world e.step
+  pub outcome_is : e.outcome ≡ came_to setup world e.step e.refused
   pub handed_is : e.handed ≡ cond (is_done e.outcome) (handed_by world e.step) []
   pub answer_is : e.answer ≡ cond (is_done e.outcome) (answer_by world e.step) None
   pub refused_in : may_refuse e.step ≡ false → e.refused ≡ nothing_refused

@@ -80,7 +80,7 @@ left_in [] = 0
 left_in (node ∷ nodes) = length node.waiting + left_at_workers node.workers + left_in nodes
 
 -- Nothing is held any more, and every node has passed the whole log; a node that is up has applied it. Each job of a connection of a node that is up was executed,
--- and a connection of one that takes what is emitted was handed all of it.
+-- unless the connection is from before its node came back, and a connection of one that takes what is emitted was handed all of it.
 pub record IsSettled (setup : Setup) (events : List Event) (world : World) : Type 0 where
   pub slots : (n w : ℕ) → n < setup.nodes → w < setup.workers → (worker_at w (node_at n world)).slot ≡ Empty
   pub pending : (n w : ℕ) → n < setup.nodes → w < setup.workers → (worker_at w (node_at n world)).pending ≡ []
@@ -90,7 +90,8 @@ pub record IsSettled (setup : Setup) (events : List Event) (world : World) : Typ
   pub passed : (n : ℕ) → n < setup.nodes → (node_at n world).passed ≡ tail_of world
   pub applied : (n : ℕ) → n < setup.nodes → (node_at n world).down ≡ false → (node_at n world).applied ≡ tail_of world
   pub bytes : (c : Connection) → waiting_for world c ≡ []
-  pub executed : (c : Connection) → is_client world c ≡ true → (node_at c.node world).down ≡ false → own_jobs c (jobs_executed world) ≡ asked_jobs world c
+  pub executed : (c : Connection) → is_client world c ≡ true → (node_at c.node world).down ≡ false → (node_at c.node world).since ≤ c.serial
+      → own_jobs c (jobs_executed world) ≡ asked_jobs world c
   pub handed : (c : Connection) → IsWhole c world → handed_to c (handed_in events) ≡ emitted_for c (sequence_of world)
 
 -- Whatever has happened, rounds end in a settled world, and they are at most three more than the jobs that were left.

@@ -1,5 +1,5 @@
 -- The steps of a server of several nodes: when each is enabled, and what it does. Of each kind it is one atomic step of the core.
-use Rattle.std.specs.Prelude.{ℕ, zero, suc, ◌+◌, ◌-◌, Bool, true, false, not, ◌&&◌, ◌||◌, ◌==◌, nat_lt, nat_le, cond, List, [], ◌∷◌, ◌++◌, length, map, take, drop, filter, slice_index_or, slice_set, replicate, Option, Some, None, option_to_list}
+use Rattle.std.specs.Prelude.{ℕ, zero, suc, ◌+◌, ◌-◌, Bool, true, false, not, ◌&&◌, ◌||◌, ◌==◌, nat_lt, nat_le, cond, List, [], ◌∷◌, ◌++◌, length, map, take, drop, filter, slice_index_or, slice_set, replicate, flat_map, Option, Some, None, is_some, option_to_list}
 use Rattle.std.specs.List.{list_any, list_all}
 use Rattle.nr_model.specs.Bytes.{Bytes}
 use Rattle.nr_model.specs.Requests.{framing_of}
@@ -9,13 +9,13 @@ use Rattle.nr_model.specs.Commands.{served}
 use Rattle.nr_model.specs.Items.{Connection, same_connection, End, Item}
 use Rattle.nr_model.specs.Modes.{Conversation, framed_conversation, plain}
 use Rattle.nr_model.specs.Sequential.Events.{Emission}
-use Rattle.nr_model.specs.Servers.{fresh, after_all, emitted_all}
+use Rattle.nr_model.specs.Servers.{Server, fresh, after_all, emitted_all}
 use Rattle.nr_model.specs.Entries.{Jobs, entry_jobs, left_by_entry, read_jobs, left_by_reads, entry_items}
 use Rattle.nr_model.specs.declared.reason.Reason.{Reason}
-use Rattle.nr_model.specs.declared.reason.Reason.TheVariants.{NoSuch, Ended, TooMany, Down, Busy, Nothing, Full, NotYet}
-use Rattle.nr_model.specs.Queues.{received, closed_queue}
+use Rattle.nr_model.specs.declared.reason.Reason.TheVariants.{NoSuch, Ended, TooMany, Down, Busy, Nothing, Full, NotYet, NoMemory}
+use Rattle.nr_model.specs.Queues.{received, cut_off, closed_queue}
 use Rattle.nr_model.specs.Connections.{Setup, Handed, is_some_bytes}
-use Rattle.nr_model.specs.Asked.{jobs_from, own_jobs, close_number}
+use Rattle.nr_model.specs.Asked.{jobs_from, own_jobs, close_number, first_number}
 use Rattle.nr_model.specs.Nodes.{Client, fresh_client, Slot, Empty, Posted, Lifted, Answered, Worker, Node, Entry, Reads, Logged, World, node_at, worker_at, client_at, client_of, with_node, with_worker, with_client, log_of, logged_at, tail_of}
 
 pub data Step : Type 0 where
@@ -41,6 +41,8 @@ pub data Step : Type 0 where
   Close : Connection → ℕ → Step
   -- the next entry that the node applies is refused for want of memory
   Refuse : ℕ → Step
+  -- a node that is down comes back with a copy of another node's server
+  Revive : ℕ → ℕ → Step
 
 pub data Outcome : Type 0 where
   Opened : Connection → Outcome
@@ -54,13 +56,14 @@ pub record Cut : Type 0 where
   pub entry : ℕ
   pub after : ℕ
 
--- what was refused for memory in a step: the application of an entry, by which the node falls, and the growth of queues
+-- what was refused for memory in a step: the application of an entry, by which the node falls, the growth of queues, and the copy of a server
 pub record Refused : Type 0 where
   pub falls : Option ℕ
   pub cuts : List Cut
+  pub copy : Bool
 
 abbrev pub nothing_refused : Refused
-nothing_refused = record { falls = None; cuts = [] }
+nothing_refused = record { falls = None; cuts = []; copy = false }
 
 -- the first reason that holds, else what follows
 abbrev pub idle_where : Bool → Reason → Outcome → Outcome
@@ -122,6 +125,18 @@ are_filled world n x (suc count) = is_filled world n x && are_filled world n (su
 abbrev pub next_fetch : Node → ℕ
 next_fetch node = cond node.fetched (suc node.passed) node.passed
 
+-- a queue was cut while its node was up, before it ever fell: by its limit, or because memory was refused for it
+abbrev pub is_overrun : Client → Bool
+is_overrun client = client.queue.cut && not client.fell
+
+-- a worker's batch was posted, or lifted, and isn't answered
+abbrev pub has_batch : Worker → Bool
+has_batch worker = is_posted worker.slot || is_lifted worker.slot
+
+-- a node has begun what isn't done: an entry that it has fetched or has to fill, or a worker's batch
+abbrev pub is_busy : Node → Bool
+is_busy node = node.fetched || (list_any is_true node.unfilled || list_any has_batch node.workers)
+
 -- what a collect hands out: the bytes that wait for each connection of a worker
 abbrev pub collected : ℕ → List Client → List Handed
 collected w [] = []
@@ -139,8 +154,8 @@ outcome setup world (Open n w) =
 outcome setup world (Feed c time bytes) =
     let client = client_of c world in
     idle_where (not (is_client world c)) NoSuch
-    (idle_where (client.ended || (client.closed || client.queue.cut)) Ended
-    (idle_where (node_at c.node world).down Down Done))
+    (idle_where (client.ended || (client.closed || is_overrun client)) Ended
+    (idle_where (node_at c.node world).down Down (idle_where client.queue.cut Ended Done)))
 outcome setup world (Post n w) =
     let node = node_at n world in
     let worker = worker_at w node in
@@ -186,6 +201,23 @@ outcome setup world (Close c time) =
     idle_where (not (is_client world c)) NoSuch
     (idle_where (client_of c world).closed Ended (idle_where (node_at c.node world).down Down Done))
 outcome setup world (Refuse n) = idle_where (not (is_node setup n)) NoSuch (idle_where (node_at n world).down Down Done)
+outcome setup world (Revive n f) =
+    let node = node_at n world in
+    let donor = node_at f world in
+    idle_where (not (is_node setup n && is_node setup f)) NoSuch
+    (idle_where donor.down Down
+    (idle_where (is_busy node) Busy
+    (idle_where (not node.down) Nothing (idle_where (not (node.passed == donor.passed)) NotYet Done))))
+
+-- What a step came to, where this was refused: a node that would come back stays down where memory is refused for the copy.
+abbrev pub with_copy : Refused → Outcome → Outcome
+with_copy refused (Opened c) = Opened c
+with_copy refused Done = cond refused.copy (Idle NoMemory) Done
+with_copy refused (Idle reason) = Idle reason
+
+abbrev pub came_to : Setup → World → Step → Refused → Outcome
+came_to setup world (Revive n f) refused = with_copy refused (outcome setup world (Revive n f))
+came_to setup world step refused = outcome setup world step
 
 -- a connection more
 abbrev pub opened : Setup → ℕ → ℕ → World → World
@@ -270,16 +302,41 @@ with_executed jobs node = record node { workers = executed_from 0 node.clients j
 abbrev pub passing : Node → Node
 passing node = record node { passed = suc node.passed; fetched = false }
 
+-- what a node drops when it falls: the jobs that it has lifted, and those at its workers, posted and not posted
+abbrev pub dropped_jobs : Node → Jobs
+dropped_jobs node =
+    node.waiting ++ (flat_map (λ (worker : Worker). posted_jobs worker.slot) node.workers ++ flat_map (λ (worker : Worker). worker.pending) node.workers)
+
+-- What a fall leaves of a connection. Where it isn't closed, the first of its jobs that is dropped is noted; what was noted before stays.
+abbrev pub fallen_client : Jobs → Client → Client
+fallen_client dropped client =
+    record client {
+      lost = cond (client.closed || is_some client.lost) client.lost (first_number (own_jobs client.queue.connection dropped));
+      fell = client.fell || not client.queue.cut;
+    }
+
 -- The node falls: what it has lifted and what waits at its workers is dropped, and its copy of the server is given up.
 abbrev pub fallen : Node → Node
 fallen node =
-    record node { workers = map (λ (worker : Worker). record worker { pending = [] }) node.workers; waiting = []; server = fresh; down = true; refused = false }
+    record node {
+      clients = map (fallen_client (dropped_jobs node)) node.clients;
+      workers = map (λ (worker : Worker). record worker { pending = [] }) node.workers;
+      waiting = [];
+      server = fresh;
+      down = true;
+      refused = false;
+    }
+
+-- The jobs of the node's next entry are owed to its workers: the entry is its own, and was reserved since the node came back. An own one from before may
+-- still lie ahead of the node when it comes back; its batch was refused, and it counts for no other.
+abbrev pub is_owed : ℕ → Logged → Node → Bool
+is_owed n entry node = nat_le node.resumed node.applied && entry.node == n
 
 -- an entry is applied: the replica moves, its connections get what is emitted for them, and its own jobs are executed
 abbrev pub with_entry : List Cut → ℕ → Logged → Node → Node
 with_entry cuts n entry node =
     let items = entry_items entry.jobs in
-    let done = cond (entry.node == n) (with_executed entry.jobs node) node in
+    let done = cond (is_owed n entry node) (with_executed entry.jobs node) node in
     record done {
       applied = suc node.applied;
       server = after_all node.server items;
@@ -341,20 +398,34 @@ collected_node w node =
     let worker = worker_at w node in
     record (with_worker w (record worker { slot = cleared worker.slot }) node) { clients = map (emptied w) node.clients }
 
+-- the number of the first job of a connection that was dropped by a fall, else of its next
+abbrev pub first_free : Client → ℕ
+first_free client = elim client.lost [ None ↦ client.next | Some number ↦ number ]
+
 -- A close: its bytes ended, what waits for it is dropped, and so are its jobs that weren't posted. An end without a reply is put in their place, numbered
--- as the first of them or else as the next, unless its bytes had asked for its end and nothing was dropped. Of the connection nothing stays but its
--- worker, whose batches may still owe jobs of it.
+-- as the first of them, else as the first that a fall dropped, else as the next, unless its bytes had asked for its end and nothing was ever dropped. Of
+-- the connection nothing stays but its worker, whose batches may still owe jobs of it.
 abbrev pub close_job : Client → Connection → ℕ → Jobs → Option Item
 close_job client c time dropped =
-    cond (client.ended && length dropped == 0) None
-    (Some (record { connection = c; number = close_number client.next dropped; moment = moment time; deed = End None }))
+    cond (not (is_some client.lost) && (client.ended && length dropped == 0)) None
+    (Some (record { connection = c; number = close_number (first_free client) dropped; moment = moment time; deed = End None }))
 
 abbrev pub dropped_at : Client → Connection → Node → Jobs
 dropped_at client c node = own_jobs c (worker_at client.worker node).pending
 
 abbrev pub closed_client : Client → Client
 closed_client client =
-    record { worker = client.worker; rest = []; mode = plain; next = 0; ended = false; closed = true; queue = closed_queue client.queue.connection }
+    record {
+      worker = client.worker;
+      rest = [];
+      mode = plain;
+      next = 0;
+      ended = false;
+      closed = true;
+      lost = None;
+      fell = false;
+      queue = closed_queue client.queue.connection;
+    }
 
 abbrev pub closed_node : Connection → ℕ → Node → Node
 closed_node c time node =
@@ -370,6 +441,21 @@ closed c time world =
     let client = client_at c.serial node in
     record (with_node c.node (closed_node c time node) world) {
       closed = world.closed ++ record { connection = c; job = close_job client c time (dropped_at client c node) } ∷ [];
+    }
+
+abbrev pub cut_client : Client → Client
+cut_client client = record client { queue = cut_off client.queue }
+
+-- A node comes back: its server is a copy of another's, it has applied all that it passed, and its connections so far get nothing more.
+abbrev pub revived : ℕ → Server → Node → Node
+revived tail server node =
+    record node {
+      clients = map cut_client node.clients;
+      applied = node.passed;
+      server = server;
+      down = false;
+      since = length node.clients;
+      resumed = tail;
     }
 
 -- what a step does that is enabled, where this was refused
@@ -397,6 +483,7 @@ effect setup world (Answer n w) refused =
 effect setup world (Collect n w) refused = with_node n (collected_node w (node_at n world)) world
 effect setup world (Close c time) refused = closed c time world
 effect setup world (Refuse n) refused = with_node n (record (node_at n world) { refused = true }) world
+effect setup world (Revive n f) refused = with_node n (revived (tail_of world) (node_at f world).server (node_at n world)) world
 
 -- a step that isn't enabled changes nothing
 abbrev pub effect_by : Outcome → Setup → World → Step → Refused → World
@@ -405,4 +492,4 @@ effect_by Done setup world step refused = effect setup world step refused
 effect_by (Idle reason) setup world step refused = world
 
 abbrev pub after_step : Setup → World → Step → Refused → World
-after_step setup world step refused = effect_by (outcome setup world step) setup world step refused
+after_step setup world step refused = effect_by (came_to setup world step refused) setup world step refused

@@ -1,7 +1,6 @@
 use Rattle.std.proofs.Common.{◌≡◌, drop}
-use Rattle.nr_model.specs.Asked.{own_jobs}
+use Rattle.nr_model.specs.Asked.{own_jobs, first_number}
 use Rattle.nr_entry.specs.Jobs.{connection_of, items_of}
-use Rattle.nr_nodes.specs.Dropped.{first_number}
 use Rattle.nr_nodes.proofs.dropped_jobs.first_own.Given as goal
 
 -- the first of those that are left is the first of all
