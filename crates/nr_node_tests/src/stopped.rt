@@ -93,6 +93,13 @@ fn is_told(rt: &impl Abort, slots: &Slots, seat: &mut WorkerSeat, wanted: bool)
     }
 }
 
+// Slots that several hold.
+fn shared(rt: &impl Abort, alloc: Global, slots: Slots) -> Arc<Slots>
+    ensures { arc_value result ≡ slots }
+{
+    Arc::new(alloc, slots).ok().expect(rt, "memory")
+}
+
 // A node that nothing was done at yet, with its slots.
 fn combiner_of<B: ServerName>(
     rt: &impl Abort,
@@ -113,9 +120,9 @@ fn combiner_of<B: ServerName>(
         workers: 1,
     };
     let core = Core::new(alloc, keys, second, shape).expect(rt, "memory");
-    let slots = Arc::new(alloc, slots).ok().expect(rt, "memory");
-    let shared = Arc::try_clone(&slots).ok().expect(rt, "memory");
-    let combiner = Combiner::new(alloc, shape, core, desk, shared).expect(rt, "memory");
+    let slots = shared(rt, alloc, slots);
+    let other = Arc::try_clone(&slots).ok().expect(rt, "memory");
+    let combiner = Combiner::new(alloc, shape, core, desk, other).expect(rt, "memory");
     (combiner, slots)
 }
 
