@@ -20,8 +20,6 @@ mod serving;
 #[cfg(test)]
 mod settings;
 #[cfg(test)]
-mod sizes;
-#[cfg(test)]
 mod sorted_sets;
 #[cfg(test)]
 mod worlds;
