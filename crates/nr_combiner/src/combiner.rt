@@ -22,7 +22,7 @@ use nr_blob::Memory;
 use nr_entry::{Answer, Batch, ConnId};
 use nr_node::{Core, Handed, Round, Shape, TakeError};
 use nr_oplog::{LogName, Token};
-use nr_replica::Piece;
+use nr_replica::{Piece, Spares};
 use nr_slots::{CombinerSeat, Note, Slots};
 use std::alloc::Global;
 use std::marker::Model;
@@ -162,6 +162,7 @@ impl<B: ServerName> Combiner<B> {
         &mut self,
         worker: usize,
         most: usize,
+        spares: &mut Spares,
         taken: &mut Vec<Handed>,
     ) -> Result<(), Memory>
         requires { 0 < most }
@@ -170,7 +171,7 @@ impl<B: ServerName> Combiner<B> {
         if worker >= self.numbers.len() {
             return Ok(());
         }
-        self.core.collect(worker, most, taken)
+        self.core.collect(worker, most, spares, taken)
     }
 
     /// [`Combiner::collect`], with a token and a note that keep how the node stands behind it, also where nothing was handed out: two loads. No slot is looked at,
@@ -179,6 +180,7 @@ impl<B: ServerName> Combiner<B> {
         &mut self,
         worker: usize,
         most: usize,
+        spares: &mut Spares,
         taken: &mut Vec<Handed>,
     ) -> ToldPieces<B>
         requires { 0 < most }
@@ -189,7 +191,7 @@ impl<B: ServerName> Combiner<B> {
         ensures node { result.token.standing.node ≡ self.old.node.book.node }
         ensures named { result.note.slots ≡ B.slots self.old.node.book.node }
     {
-        let result = self.collect(worker, most, taken);
+        let result = self.collect(worker, most, spares, taken);
         let (token, note) = self.keep();
         let is_down = self.is_down();
         ToldPieces {
@@ -205,6 +207,7 @@ impl<B: ServerName> Combiner<B> {
         worker: usize,
         lifts: Lifts,
         most: usize,
+        spares: &mut Spares,
         taken: &mut Vec<Handed>,
     ) -> Told<B>
         requires { 0 < most }
@@ -216,7 +219,7 @@ impl<B: ServerName> Combiner<B> {
         ensures named { result.note.slots ≡ B.slots self.old.node.book.node }
     {
         let combined = self.combine_by(lifts, worker);
-        let told = self.collect_pieces(worker, most, taken);
+        let told = self.collect_pieces(worker, most, spares, taken);
         let others = self.others(worker, combined.answered);
         let leads_update = self.leads_update();
         let turned = Turned {

@@ -17,7 +17,7 @@ use nr_blob::Memory;
 use nr_entry::ConnId;
 use nr_node::{Handed, Round};
 use nr_oplog::{Oplog, Token};
-use nr_replica::Piece;
+use nr_replica::{Piece, Spares};
 use nr_slots::Slots;
 use std::alloc::Global;
 use std::hint;
@@ -169,6 +169,7 @@ impl<B: ServerName> Node<B> {
         worker: usize,
         lifts: Lifts,
         most: usize,
+        spares: &mut Spares,
         taken: &mut Vec<Handed>,
     ) -> Option<Told<B>>
         requires { 0 < most }
@@ -184,7 +185,7 @@ impl<B: ServerName> Node<B> {
         if combiner.node() != self.node {
             return None;
         }
-        Some(combiner.turn(worker, lifts, most, taken))
+        Some(combiner.turn(worker, lifts, most, spares, taken))
     }
 
     /// [`Combiner::collect_pieces`] behind the lock, which it takes once: what waits for a worker's connections is handed out without a turn. `None` where another
@@ -194,6 +195,7 @@ impl<B: ServerName> Node<B> {
         rt: &R,
         worker: usize,
         most: usize,
+        spares: &mut Spares,
         taken: &mut Vec<Handed>,
     ) -> Option<ToldPieces<B>>
         requires { 0 < most }
@@ -209,7 +211,7 @@ impl<B: ServerName> Node<B> {
         if self.node != combiner.node() {
             return None;
         }
-        Some(combiner.collect_pieces(worker, most, taken))
+        Some(combiner.collect_pieces(worker, most, spares, taken))
     }
 
     /// [`Combiner::cut_among`] behind the lock, which it takes once for all of these connections. Where another node stands behind it, which there never is, none is

@@ -15,6 +15,7 @@ use crate::told::{Told, ToldOpened, ToldPieces};
 use nr_entry::{Batch, ConnId, Job, Outcome};
 use nr_node::Handed;
 use nr_oplog::Token;
+use nr_replica::Spares;
 use nr_slots::WorkerSeat;
 use std::alloc::Global;
 use std::marker::Model;
@@ -91,6 +92,7 @@ impl<B: ServerName> Worker<B> {
         rt: &R,
         lifts: Lifts,
         most: usize,
+        spares: &mut Spares,
         taken: &mut Vec<Handed>,
     ) -> Option<(Turned, Token<B>)>
         requires { 0 < most }
@@ -100,11 +102,12 @@ impl<B: ServerName> Worker<B> {
         ensures none { IfNone result (taken.new.items ≡ taken.old.items) }
         ensures same { self.new ≡ self.old }
     {
+        let shared = &self.shared;
         let Told {
             turned,
             token,
             note,
-        } = self.shared.turn(rt, self.worker, lifts, most, taken)?;
+        } = shared.turn(rt, self.worker, lifts, most, spares, taken)?;
         self.seat.hear(self.shared.slots(), note);
         Some((turned, token))
     }
@@ -116,6 +119,7 @@ impl<B: ServerName> Worker<B> {
         &mut self,
         rt: &R,
         most: usize,
+        spares: &mut Spares,
         taken: &mut Vec<Handed>,
     ) -> Option<(Collected, Token<B>)>
         requires { 0 < most }
@@ -125,11 +129,12 @@ impl<B: ServerName> Worker<B> {
         ensures none { IfNone result (taken.new.items ≡ taken.old.items) }
         ensures same { self.new ≡ self.old }
     {
+        let shared = &self.shared;
         let ToldPieces {
             collected,
             token,
             note,
-        } = self.shared.collect_pieces(rt, self.worker, most, taken)?;
+        } = shared.collect_pieces(rt, self.worker, most, spares, taken)?;
         self.seat.hear(self.shared.slots(), note);
         Some((collected, token))
     }

@@ -16,6 +16,7 @@ use nr_combiner::{
 use nr_entry::{ConnId, Job, Outcome};
 use nr_node::{Handed, Round};
 use nr_oplog::{Opened, Token};
+use nr_replica::Spares;
 use std::alloc::Global;
 use std::hash::RandomState;
 use std::mem;
@@ -168,7 +169,9 @@ impl<B: ServerName> Station<B> {
         ensures jobs { self.new.jobs ≡ self.old.jobs }
     {
         let mut pieces = Vec::new(self.alloc);
-        let Some((turned, token)) = self.worker.turn(rt, lifts, most, &mut pieces) else {
+        let mut spares = Spares::new(self.alloc);
+        let Some((turned, token)) = self.worker.turn(rt, lifts, most, &mut spares, &mut pieces)
+        else {
             return Err(Memory);
         };
         Ok(Turn {

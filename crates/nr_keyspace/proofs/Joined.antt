@@ -109,6 +109,12 @@ get-set stores database store key below =
           ∙ sym (get-joined stores key)
     ] refl
 
+pub get-set_other : (stores : List Store) (database : ℕ) (store : Store) (key : Key) → database < length stores → key.database ≢ database
+    → map.get (joined (set stores database store)) key ≡ map.get (joined stores) key
+get-set_other stores database store key below apart =
+    get-set stores database store key below
+    ∙ ap (λ b. cond b (map.get store key.name) (map.get (joined stores) key)) (differ key.database database apart)
+
 narrowed : {A : Type 0} (a b : Bool) (x y z : A) → (a ≡ true → y ≡ z) → cond a (cond b x y) z ≡ cond (a && b) x z
 narrowed true true x y z same = refl
 narrowed true false x y z same = same refl

@@ -6,7 +6,7 @@ use Rattle.nr_model.specs.Keyspace.{only_live, names_in}
 use Rattle.nr_keyspace.specs.Joined.{joined}
 use Rattle.nr_keyspace.specs.Stores.{Store}
 use Rattle.nr_keyspace.specs.Swept.{IsSweptAt}
-use Rattle.nr_keyspace.proofs.Joined.{get-at, get-live_at}
+use Rattle.nr_keyspace.proofs.Joined.{get-at, get-live_at, get-set_other}
 use Rattle.nr_keyspace.proofs.Names.{names_from, len_keys}
 
 -- how many keys a database has
@@ -34,4 +34,5 @@ swept_at now more stores database store new is below few taken none_left =
           get-live_at after now database new name stands within
           ∙ none_left over name
           ∙ sym (get-at after database new name stands within);
+      others = λ key apart. get-set_other stores database new key below apart;
     }

@@ -9,7 +9,7 @@ use crate::within::Core;
 use nr_blob::Memory;
 use nr_entry::ConnId;
 use nr_oplog::LogName;
-use nr_replica::Piece;
+use nr_replica::{Piece, Spares};
 
 /// What was handed out for a connection.
 #[derive(Drop)]
@@ -22,11 +22,13 @@ pub struct Handed {
 impl<B: LogName> Core<B> {
     /// Hands out what waits for the connections that a worker serves, that of the lowest serial first: of each at most `most` of its first bytes, and at least
     /// one. They stand behind what `taken` has. It costs a [`Replica::next_ready`](nr_replica::Replica::next_ready) for each of these connections and one more,
-    /// and is linear in the bytes. Where memory runs out it stops there, and what was handed out stands in `taken`: nothing is lost.
+    /// and is linear in the bytes. Queues that give their buffers away take spare ones. Where memory runs out it stops there, and what was handed out stands in
+    /// `taken`: nothing is lost.
     pub fn collect(
         &mut self,
         worker: usize,
         most: usize,
+        spares: &mut Spares,
         taken: &mut Vec<Handed>,
     ) -> Result<(), Memory>
         requires some { 0 < most }
@@ -39,7 +41,7 @@ impl<B: LogName> Core<B> {
             let Some(conn) = self.next_ready(worker, from) else {
                 return Ok(());
             };
-            self.hand_over(conn, most, taken)?;
+            self.hand_over(conn, most, spares, taken)?;
             from = conn.serial + 1;
         }
         Ok(())
@@ -50,6 +52,7 @@ impl<B: LogName> Core<B> {
         &mut self,
         conn: ConnId,
         most: usize,
+        spares: &mut Spares,
         taken: &mut Vec<Handed>,
     ) -> Result<(), Memory>
         requires some { 0 < most }
@@ -59,7 +62,7 @@ impl<B: LogName> Core<B> {
         ensures same { OnErr result ((taken.new.items ≡ taken.old.items) × (self.new ≡ self.old)) }
     {
         taken.reserve(1)?;
-        let Some(one) = self.hand_out(conn, most)? else {
+        let Some(one) = self.hand_out(conn, most, spares)? else {
             return Ok(());
         };
         taken.push_reserved(one);

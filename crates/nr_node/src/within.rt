@@ -28,7 +28,7 @@ use nr_blob::Memory;
 use nr_entry::{Batch, ConnId, Outcome};
 use nr_log_end::{LogEnd, Look};
 use nr_oplog::{End, LogName, Token};
-use nr_replica::{Piece, Replica};
+use nr_replica::{Piece, Replica, Spares};
 use std::alloc::Global;
 use std::hash::RandomState;
 use std::marker::Model;
@@ -333,7 +333,8 @@ impl<B: LogName> Core<B> {
         if !self.has(conn) {
             return Ok(None);
         }
-        let Some(handed) = self.hand_out(conn, most)? else {
+        let mut spares = Spares::new(self.alloc);
+        let Some(handed) = self.hand_out(conn, most, &mut spares)? else {
             return Ok(None);
         };
         let token = self.token();
@@ -341,8 +342,13 @@ impl<B: LogName> Core<B> {
     }
 
     /// Hands out at most so many of the first bytes that wait for a connection of the node, and at least one, or `None` where nothing waits. Linear in them.
-    /// Where memory runs out nothing changes.
-    pub(crate) fn hand_out(&mut self, conn: ConnId, most: usize) -> Result<Option<Handed>, Memory>
+    /// A queue that gives its buffer away takes a spare one. Where memory runs out nothing changes.
+    pub(crate) fn hand_out(
+        &mut self,
+        conn: ConnId,
+        most: usize,
+        spares: &mut Spares,
+    ) -> Result<Option<Handed>, Memory>
         requires some { 0 < most }
         requires opened { IsOpened self.old (connection_of conn) }
         ensures handed { IfOk result (λ taken. IfSome taken (λ one. IsHanded most conn.serial one self.old self.new)) }
@@ -350,7 +356,8 @@ impl<B: LogName> Core<B> {
         ensures unchanged { OnErr result (self.new ≡ self.old) }
     {
         let is_cut = self.replica.is_cut(conn.serial as usize);
-        let Some(piece) = self.replica.take_piece(conn.serial as usize, most)? else {
+        let serial = conn.serial as usize;
+        let Some(piece) = self.replica.take_piece(serial, most, spares)? else {
             return Ok(None);
         };
         Ok(Some(Handed { piece, is_cut }))

@@ -14,6 +14,7 @@ use nr_entry::{ConnId, Job};
 use nr_held::Alone;
 use nr_node::Handed;
 use nr_oplog::Opened;
+use nr_replica::Spares;
 use nr_session::Session;
 use nr_taps::Mark;
 use nr_worker::desk_law;
@@ -84,7 +85,8 @@ fn take_first<B: ServerName, R: Wait + Abort>(
     ensures same { worker.new ≡ worker.old }
 {
     let mut pieces = Vec::new(alloc);
-    let Some((_, token)) = worker.turn(rt, Lifts::All, MANY, &mut pieces) else {
+    let mut spares = Spares::new(alloc);
+    let Some((_, token)) = worker.turn(rt, Lifts::All, MANY, &mut spares, &mut pieces) else {
         panic!(rt; "a turn is taken");
     };
     mark.adopt(worker.shared().log(), token);

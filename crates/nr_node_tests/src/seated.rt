@@ -2,7 +2,7 @@
 use crate::asserted::{holds, same};
 use nr_entry::{ConnId, Job};
 use nr_node::Handed;
-use nr_replica::Piece;
+use nr_replica::{Piece, Spares};
 use nr_seats::{Closed, Seats};
 use std::alloc::Global;
 use std::process::Abort;
@@ -40,11 +40,12 @@ fn feed(rt: &impl Abort, seats: &mut Seats, bytes: &[u8], jobs: &mut Vec<Job>) {
 }
 
 // Lets go of so many bytes that wait.
-fn write(rt: &impl Abort, seats: &mut Seats, count: usize) {
+fn write(rt: &impl Abort, alloc: Global, seats: &mut Seats, count: usize) {
     if count > seats.pending(CONN.serial).len() {
         panic!(rt; "so many bytes wait");
     }
-    seats.written(CONN.serial, count);
+    let mut spares = Spares::new(alloc);
+    seats.written(CONN.serial, count, &mut spares);
 }
 
 // A connection sends a request in two parts, gets its reply in two, and is cut at a reply above its limit.
@@ -72,7 +73,7 @@ fn a_seat_from_first_to_last(rt: HostRuntime) {
         b"+PONG\r\n",
     );
     holds(&rt, "it is told", seats.told(0) == Some(CONN.serial));
-    write(&rt, &mut seats, 5);
+    write(&rt, alloc, &mut seats, 5);
     same(&rt, "its end waits", seats.pending(CONN.serial), b"\r\n");
     put(
         &rt,

@@ -8,6 +8,7 @@ use Rattle.nr_nodes.specs.declared.log.Log.{Log}
 use Rattle.nr_nodes.specs.Logs.{log_seen}
 use Rattle.nr_nodes.specs.Advanced.{IsOf}
 use Rattle.nr_nodes.specs.Whole.{IsWhole}
+use Rattle.nr_nodes.specs.WorldState.{WorldState}
 
 -- a node is whole, and the log has each entry that it hasn't passed
 pub record IsWithin (log : Log) (node : Node) : Type 0 where
@@ -52,3 +53,7 @@ HavePassed count (node ∷ nodes) = (count ≤ node.passed) × HavePassed count 
 abbrev pub least_of : ℕ → List Node → ℕ
 least_of most [] = most
 least_of most (node ∷ nodes) = least_of (min most node.passed) nodes
+
+-- the log begins behind the entries that every node has passed
+abbrev pub LetsGo : WorldState → WorldState → Type 0
+LetsGo old new = new.log.base ≡ least_of (old.log.base + length (log_seen old.log)) new.nodes

@@ -7,7 +7,7 @@ ghost use Rattle.nr_nodes.specs.Logs.{log_seen};
 ghost use Rattle.nr_nodes.specs.Served.{node_seen};
 ghost use Rattle.nr_nodes.specs.Whole.{IsWhole};
 ghost use Rattle.nr_nodes.specs.WorldState.{Shows};
-ghost use Rattle.nr_nodes.specs.Replayed.{IsWithin, IsNext, IsAhead, HasLooked, HavePassed, least_of};
+ghost use Rattle.nr_nodes.specs.Replayed.{IsWithin, IsNext, IsAhead, HasLooked, HavePassed, LetsGo, least_of};
 ghost use Rattle.nr_nodes.specs.Batches.{ComesTo};
 ghost use Rattle.nr_nodes.specs.Seen.{outcome_seen};
 ghost use Rattle.nr_nodes.specs.Taken.{Steps, idle_or};
@@ -84,6 +84,7 @@ impl World {
     /// A node applies the entry that it fetched, and passes it. Linear in the entry's jobs and the nodes.
     pub fn apply(&mut self, node: usize) -> Result<Outcome, Memory>
         ensures taken { IfOk result (λ outcome. Steps self.old self.new (steps.Apply node) (outcome_seen outcome)) }
+        ensures lets_go { IfOk result (λ outcome. outcome_seen outcome ≡ steps.Done → LetsGo self.old self.new) }
         ensures failed { OnErr result (self.new.failed ≡ true) }
         ensures setup { self.new.setup ≡ self.old.setup }
         ensures repeats { self.old.failed ≡ true → IsErr result }
@@ -115,6 +116,7 @@ impl World {
     /// A node applies all entries that were reserved, and runs the reads that lead. Linear in these entries' jobs and in the reads.
     pub fn look(&mut self, node: usize) -> Result<Outcome, Memory>
         ensures taken { IfOk result (λ outcome. Steps self.old self.new (steps.Look node) (outcome_seen outcome)) }
+        ensures lets_go { IfOk result (λ outcome. outcome_seen outcome ≡ steps.Done → LetsGo self.old self.new) }
         ensures failed { OnErr result (self.new.failed ≡ true) }
         ensures setup { self.new.setup ≡ self.old.setup }
         ensures repeats { self.old.failed ≡ true → IsErr result }
@@ -203,6 +205,7 @@ impl World {
     /// the server stores and remembers, and in the node's connections that aren't closed.
     pub fn revive(&mut self, node: usize, donor: usize) -> Result<Outcome, Memory>
         ensures taken { IfOk result (λ outcome. Steps self.old self.new (steps.Revive node donor) (outcome_seen outcome)) }
+        ensures before { OnErr result (self.old.failed ≡ true) }
         ensures failed { OnErr result (self.new.failed ≡ true) }
         ensures setup { self.new.setup ≡ self.old.setup }
         ensures repeats { self.old.failed ≡ true → IsErr result }

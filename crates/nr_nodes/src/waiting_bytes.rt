@@ -7,7 +7,7 @@ ghost use Rattle.nr_nodes.specs.Collected.{emptied, waiting_of, emptied_member, 
 
 use crate::step::Handed;
 use nr_blob::Memory;
-use nr_replica::Replica;
+use nr_replica::{Replica, Spares};
 
 /// Hands out all bytes that wait for the connections of a worker, in the order of their serials. Linear in those for which bytes wait, and
 /// the bytes.
@@ -38,7 +38,8 @@ fn hand_out(replica: &mut Replica, serial: usize, handed: &mut Vec<Handed>) -> R
         ≡ map handed_seen handed.old.items ++ waiting_of (slice_index_or replica.old.members serial d)) }
 {
     let waiting = replica.waiting(serial);
-    let Some(piece) = replica.take_piece(serial, waiting)? else {
+    let mut spares = Spares::new(*handed.allocator());
+    let Some(piece) = replica.take_piece(serial, waiting, &mut spares)? else {
         return Ok(());
     };
     handed.push(Handed {

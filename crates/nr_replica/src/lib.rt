@@ -4,6 +4,7 @@
 pub use offer::{Offer, OfferError};
 pub use outbox::Piece;
 pub use replica::Replica;
+pub use spares::Spares;
 
 mod delivering;
 mod members;
@@ -13,4 +14,5 @@ mod reading;
 mod ready;
 mod replica;
 mod settling;
+mod spares;
 mod steps;

@@ -9,6 +9,7 @@ ghost use Rattle.nr_replica.specs.Ready.{has_serial, IsMarked, AreReady};
 
 use crate::outbox::{Outbox, Piece};
 use crate::ready::Ready;
+use crate::spares::Spares;
 use nr_blob::Memory;
 use nr_entry::ConnId;
 use std::alloc::Global;
@@ -160,6 +161,7 @@ impl Members {
         alloc: Global,
         serial: usize,
         most: usize,
+        spares: &mut Spares,
     ) -> Result<Option<Piece>, Memory>
         requires some { 0 < most }
         requires is_there { serial < length self.old.workers.items }
@@ -176,7 +178,8 @@ impl Members {
         let worker = self.worker(serial);
         match self.outboxes.get_mut(&(serial as u64)) {
             Some(outbox) => {
-                take_piece(alloc, most, worker, serial as u64, outbox, &mut self.ready)
+                let ready = &mut self.ready;
+                take_piece(alloc, most, worker, serial as u64, outbox, ready, spares)
             }
             None => Ok(None),
         }
@@ -191,6 +194,7 @@ fn take_piece(
     serial: u64,
     outbox: &mut Outbox,
     ready: &mut Ready,
+    spares: &mut Spares,
 ) -> Result<Option<Piece>, Memory>
     requires { 0 < most }
     ensures piece { IfOk result (λ piece. IfSome piece (λ piece. (connection_of piece.conn ≡ outbox.old.connection) × (piece.from ≡ outbox.old.handed) × (piece.bytes.items ≡ take most outbox.old.waiting))) }
@@ -201,7 +205,7 @@ fn take_piece(
     ensures marked { has_serial ready.old.sets.items worker serial ≡ is_some_bytes outbox.old.waiting
         → IsMarked worker serial (is_some_bytes outbox.new.waiting) ready.old.sets.items ready.new.sets.items }
 {
-    let piece = outbox.take_piece(alloc, most)?;
+    let piece = outbox.take_piece(alloc, most, spares)?;
     ready.withdraw(worker, serial, outbox);
     Ok(piece)
 }

@@ -8,6 +8,7 @@ ghost use Rattle.nr_entry.specs.Jobs.{connection_of};
 ghost use Rattle.nr_replica.specs.declared.outbox.Put.TheVariants as outcomes;
 ghost use Rattle.nr_model.specs.Queues.{Queue, put, takes, with_bytes, cut_off, handing, most_bytes};
 
+use crate::spares::{MOST_ROOM, Spares};
 use nr_blob::Memory;
 use nr_emission::Sink;
 use nr_entry::ConnId;
@@ -68,10 +69,7 @@ impl Model for Outbox {
 const MOST_BYTES: u64 = 9_223_372_036_854_775_808;
 
 /// The most bytes that are copied out where all that waits is handed out: then the buffer stays for those that come next.
-const MOST_COPIED: usize = 1024;
-
-/// The most room that is taken at once for what comes next, where a buffer was moved out.
-const MOST_ROOM: usize = 65_536;
+pub(crate) const MOST_COPIED: usize = 1024;
 
 impl Outbox {
     /// Nothing waits. At most `limit` bytes ever wait. It takes no memory.
@@ -175,9 +173,14 @@ impl Outbox {
 
     /// Hands out at most so many of the first bytes that wait, and at least one, or `None` where nothing waits. Linear in them: they are
     /// copied into a piece of their own size, and the buffer keeps its room for those that come next. More than 1,024 bytes that are all
-    /// that waits are moved out with the buffer, and not copied; room for as many is taken then, up to 64 KiB. Where memory runs out nothing
-    /// is changed.
-    pub fn take_piece(&mut self, alloc: Global, most: usize) -> Result<Option<Piece>, Memory>
+    /// that waits are moved out with the buffer, and not copied; a spare one takes its place, else room for as many is taken, up to 128 KiB.
+    /// Where memory runs out nothing is changed.
+    pub fn take_piece(
+        &mut self,
+        alloc: Global,
+        most: usize,
+        spares: &mut Spares,
+    ) -> Result<Option<Piece>, Memory>
         requires { 0 < most }
         ensures piece { IfOk result (λ piece. IfSome piece (λ piece. (connection_of piece.conn ≡ self.old.connection) × (piece.from ≡ self.old.handed) × (piece.bytes.items ≡ take most self.old.waiting))) }
         ensures some { IfOk result (λ piece. IfSome piece (λ piece. 0 < length piece.bytes.items)) }
@@ -191,7 +194,7 @@ impl Outbox {
         }
         let from = self.handed;
         let bytes = if self.start == 0 && waiting <= most && waiting > MOST_COPIED {
-            mem::replace(&mut self.buffer, with_room(alloc, waiting))
+            mem::replace(&mut self.buffer, with_room(alloc, waiting, spares))
         } else {
             let count = cmp::min(most, waiting);
             let copied = Vec::from_slice(alloc, &self.buffer[self.start..self.start + count])?;
@@ -228,10 +231,13 @@ impl Outbox {
     }
 }
 
-// No bytes, with room for those that come next: as many as came last. Without memory for it there is none.
-fn with_room(alloc: Global, last: usize) -> Vec<u8>
+// No bytes, with room for those that come next: a spare buffer's, else for as many as came last. Without memory for it there is none.
+fn with_room(alloc: Global, last: usize, spares: &mut Spares) -> Vec<u8>
     ensures { result.items ≡ [] }
 {
+    if let Some(spare) = spares.take() {
+        return spare;
+    }
     match Vec::with_capacity(alloc, cmp::min(last, MOST_ROOM)) {
         Ok(room) => room,
         Err(_) => Vec::new(alloc),

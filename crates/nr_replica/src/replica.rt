@@ -16,6 +16,7 @@ use crate::offer::{Offer, OfferError};
 use crate::outbox::Piece;
 use crate::reading::run_reads;
 use crate::settling::{settle, settle_counted};
+use crate::spares::Spares;
 use crate::steps::{stage, take_updates};
 use nr_blob::Memory;
 use nr_emission::Staging;
@@ -187,8 +188,13 @@ impl Replica {
     }
 
     /// Hands out at most so many of the first bytes that wait for a connection, and at least one, or `None` where nothing waits. Linear in
-    /// them. Where memory runs out nothing changes.
-    pub fn take_piece(&mut self, serial: usize, most: usize) -> Result<Option<Piece>, Memory>
+    /// them. A queue that gives its buffer away with them takes a spare one. Where memory runs out nothing changes.
+    pub fn take_piece(
+        &mut self,
+        serial: usize,
+        most: usize,
+        spares: &mut Spares,
+    ) -> Result<Option<Piece>, Memory>
         requires some { 0 < most }
         requires is_there { serial < length self.old.members }
         ensures piece { (d : Member) → IfOk result (λ piece. IfSome piece (λ piece.
@@ -199,7 +205,7 @@ impl Replica {
         ensures left { (d : Member) → OnOk result (self.new ≡ record self.old { members = slice_set self.old.members serial (handed_member most (slice_index_or self.old.members serial d)) }) }
         ensures unchanged { OnErr result (self.new ≡ self.old) }
     {
-        self.members.take_piece(self.alloc, serial, most)
+        self.members.take_piece(self.alloc, serial, most, spares)
     }
 
     /// Takes in the jobs of a worker's batch, behind those that wait. Linear in them. Where memory runs out nothing changes, and the jobs come back.

@@ -9,7 +9,7 @@ ghost use Rattle.nr_seats.specs.Seated.{fresh_seat, takes, cut_off, with_bytes, 
 
 use nr_entry::{ConnId, Job};
 use nr_node::Handed;
-use nr_replica::Piece;
+use nr_replica::{Piece, Spares};
 use nr_session::Session;
 use nr_taps::Buffer;
 use std::alloc::Global;
@@ -149,12 +149,12 @@ impl Seat {
         self.bytes.bytes()
     }
 
-    /// So many of these were written. They are let go of, and all memory with the last.
-    pub fn written(&mut self, count: usize)
+    /// So many of these were written. They are let go of, and with the last their memory is a spare buffer.
+    pub fn written(&mut self, count: usize, spares: &mut Spares)
         requires { count ≤ length self.old.pending }
         ensures { self.new ≡ with_written count self.old }
     {
-        self.bytes.let_go(count);
+        self.bytes.drain(count, spares);
     }
 
     /// Closes the connection, at a moment in milliseconds, at most 2^53: its session lets go of what it keeps. Its last job, which ends it,

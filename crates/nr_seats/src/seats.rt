@@ -12,6 +12,7 @@ use crate::seat::Seat;
 use nr_blob::Memory;
 use nr_entry::{ConnId, Job};
 use nr_node::Handed;
+use nr_replica::Spares;
 use std::alloc::Global;
 use std::collections::BTreeMap;
 use std::marker::Model;
@@ -144,12 +145,12 @@ impl Seats {
         }
     }
 
-    /// So many of these were written, and are let go of. Logarithmic.
-    pub fn written(&mut self, serial: u64, count: usize)
+    /// So many of these were written, and are let go of; with the last their memory is a spare buffer. Logarithmic.
+    pub fn written(&mut self, serial: u64, count: usize, spares: &mut Spares)
         requires { count ≤ length (pending_here (seat_at serial self.old)) }
         ensures { IsPut serial (option_map (with_written count) (seat_at serial self.old)) self.old self.new }
     {
-        let_go_at(&mut self.by_serial, serial, count);
+        let_go_at(&mut self.by_serial, serial, count, spares);
     }
 
     /// Takes no more bytes from a connection, as [`Seat::cut`] does. It is told of too from now on. Logarithmic.
@@ -235,14 +236,14 @@ fn put_at(by_serial: &mut BTreeMap<u64, Seat>, serial: u64, handed: Handed, limi
 }
 
 // So many bytes of the seat at a serial are let go of.
-fn let_go_at(by_serial: &mut BTreeMap<u64, Seat>, serial: u64, count: usize)
+fn let_go_at(by_serial: &mut BTreeMap<u64, Seat>, serial: u64, count: usize, spares: &mut Spares)
     requires { count ≤ length (pending_here (seat_at serial by_serial.old.entries)) }
     ensures { IsPut serial (option_map (with_written count) (seat_at serial by_serial.old.entries)) by_serial.old.entries by_serial.new.entries }
 {
     let Some(seat) = by_serial.get_mut(&serial) else {
         return;
     };
-    seat.written(count);
+    seat.written(count, spares);
 }
 
 // The seat at a serial takes no more bytes.

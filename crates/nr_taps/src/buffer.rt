@@ -2,8 +2,10 @@
 ghost use Rattle.std.specs.Prelude.{◌≡◌, ◌<◌, ◌≤◌, ◌++◌, [], drop, length, IfErr, OnOk, OnErr};
 
 use bytes::BytesMut;
+use nr_replica::Spares;
 use std::alloc::Global;
 use std::marker::Model;
+use std::mem;
 
 /// Bytes that were handed out and accepted, from the first that wasn't written on.
 #[derive(Drop)]
@@ -76,5 +78,27 @@ impl Buffer {
         if self.bytes.is_empty() {
             *self = self.fresh();
         }
+    }
+
+    /// Lets go of the first so many bytes, and with the last of them its memory is a spare buffer.
+    pub fn drain(&mut self, count: usize, spares: &mut Spares)
+        requires { count ≤ length self.old }
+        ensures { self.new ≡ drop count self.old }
+    {
+        if count < self.bytes.len() {
+            self.let_go(count);
+            return;
+        }
+        let fresh = self.fresh();
+        spare(mem::replace(self, fresh), spares);
+    }
+}
+
+// Its memory is a spare buffer.
+fn spare(drained: Buffer, spares: &mut Spares) {
+    let mut bytes = drained.bytes;
+    bytes.clear();
+    if let Ok(bytes) = bytes.into_vec() {
+        spares.keep(bytes);
     }
 }

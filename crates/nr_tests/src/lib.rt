@@ -20,6 +20,8 @@ mod serving;
 #[cfg(test)]
 mod settings;
 #[cfg(test)]
+mod sizes;
+#[cfg(test)]
 mod sorted_sets;
 #[cfg(test)]
 mod worlds;

@@ -7,6 +7,7 @@ ghost use Rattle.nr_worker.specs.Working.{fresh_work, without_mark, Reflects};
 use nr_combiner::{ServerName, Worker};
 use nr_entry::Job;
 use nr_node::Handed;
+use nr_replica::Spares;
 use nr_seats::Seats;
 use nr_taps::Mark;
 use std::alloc::Global;
@@ -33,6 +34,8 @@ pub struct Desk<'a, R, B: ServerName> {
     pub(crate) mark: Mark<B>,
     // What a turn hands out, between two calls none: the vector keeps its memory.
     pub(crate) pieces: Vec<Handed>,
+    // Buffers that were written out, for its node's queues.
+    pub(crate) spares: Spares,
     pub(crate) is_down: bool,
     pub(crate) limit: usize,
 }
@@ -69,6 +72,7 @@ impl<'a, R: Wait, B: ServerName> Desk<'a, R, B> {
             is_waiting: false,
             mark: Mark::new(),
             pieces: Vec::new(alloc),
+            spares: Spares::new(alloc),
             is_down: false,
             limit,
         }

@@ -16,7 +16,9 @@ impl<'a, R: Wait, B: ServerName> Desk<'a, R, B> {
         ensures took { IfSome result (λ turned. TakesTurn B.places lifts most turned self.old self.new) }
         ensures none { IfNone result (self.new ≡ self.old) }
     {
-        let Some((turned, token)) = self.worker.turn(self.rt, lifts, most, &mut self.pieces) else {
+        let pieces = &mut self.pieces;
+        let spares = &mut self.spares;
+        let Some((turned, token)) = self.worker.turn(self.rt, lifts, most, spares, pieces) else {
             return None;
         };
         self.mark.adopt(self.worker.shared().log(), token);

@@ -22,13 +22,13 @@ impl<'a, R: Wait, B: ServerName> Desk<'a, R, B> {
         self.seats.pending(serial)
     }
 
-    /// So many of these were written, and are let go of. Logarithmic.
+    /// So many of these were written, and are let go of; their memory is kept for what its node hands out next. Logarithmic.
     pub fn written(&mut self, serial: u64, count: usize)
         requires { count ≤ length (pending_here (seat_at serial self.old.seats)) }
         ensures written { Writes serial count self.old self.new }
         ensures goes { Goes unchanged self.old self.new }
     {
-        self.seats.written(serial, count);
+        self.seats.written(serial, count, &mut self.spares);
     }
 
     /// No connection is told of any more.

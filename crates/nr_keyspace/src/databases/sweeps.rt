@@ -33,6 +33,7 @@ fn later(latest: Option<u64>, now: u64) -> u64
 fn settle(databases: &mut Databases, latest: Option<u64>, deadline: Option<i64>) -> Option<u64>
     ensures same { seen_after result databases.new ≡ seen_after latest databases.old }
     ensures seen { is_seen_after result deadline ≡ true }
+    ensures kept { is_seen_after latest deadline ≡ true → (result ≡ latest) × (databases.new ≡ databases.old) }
 {
     let moment = latest?;
     if is_live(moment, deadline) {
@@ -77,6 +78,8 @@ impl Sweeps {
     pub(crate) fn settle(&mut self, databases: &mut Databases, deadline: Option<i64>)
         ensures same { seen_after self.new.latest databases.new ≡ seen_after self.old.latest databases.old }
         ensures seen { is_seen_after self.new.latest deadline ≡ true }
+        ensures kept { is_seen_after self.old.latest deadline ≡ true → (self.new.latest ≡ self.old.latest) × (databases.new ≡ databases.old) }
+        ensures turn { self.new.turn ≡ self.old.turn }
     {
         self.latest = settle(databases, self.latest, deadline);
     }

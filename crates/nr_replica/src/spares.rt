@@ -1,0 +1,66 @@
+// Buffers that were written out, for queues that give theirs away.
+ghost use Rattle.std.specs.Prelude.{◌≡◌, ◌≤◌, ◌+◌, ◌⊎◌, [], IfSome, IfNone};
+
+use crate::outbox::MOST_COPIED;
+use std::alloc::Global;
+use std::marker::Model;
+
+/// The most buffers that are kept.
+const MOST_KEPT: usize = 64;
+
+/// The most room of a buffer that is kept.
+pub(crate) const MOST_ROOM: usize = 131_072;
+
+/// Buffers with nothing in them, for queues that give theirs away: what a connection gets takes no new memory then each time. At most 64 are kept, each with
+/// room for more than 1,024 bytes and at most 128 KiB.
+#[derive(Drop)]
+pub struct Spares {
+    buffers: Vec<Vec<u8>>,
+}
+
+impl Model for Spares {
+    ghost use Rattle.std.specs.Prelude.{◌≤◌, ℕ, length};
+
+    ghost Value = { ℕ };
+
+    ghost view = { λ s. length s.buffers.items };
+
+    ghost invariant = { λ s. length s.buffers.items ≤ 64 };
+}
+
+impl Spares {
+    /// None. It takes no memory.
+    pub fn new(alloc: Global) -> Spares
+        ensures { result ≡ 0 }
+    {
+        Spares {
+            buffers: Vec::new(alloc),
+        }
+    }
+
+    /// Keeps a buffer, without the bytes in it, or lets go of it: where it is too small or too large, where as many are kept as may be, or without memory
+    /// to note it. Constant.
+    pub fn keep(&mut self, buffer: Vec<u8>)
+        ensures kept { (self.new ≡ self.old) ⊎ (self.new ≡ self.old + 1) }
+        ensures few { self.new ≤ 64 }
+    {
+        let room = buffer.capacity();
+        if self.buffers.len() >= MOST_KEPT || room <= MOST_COPIED || room > MOST_ROOM {
+            return;
+        }
+        let mut emptied = buffer;
+        emptied.clear();
+        let _ = self.buffers.push(emptied);
+    }
+
+    /// The one that was kept last, which isn't kept any more, with nothing in it.
+    pub(crate) fn take(&mut self) -> Option<Vec<u8>>
+        ensures empty { IfSome result (λ buffer. buffer.items ≡ []) }
+        ensures some { IfSome result (λ buffer. self.old ≡ self.new + 1) }
+        ensures none { IfNone result (self.old ≡ 0) }
+    {
+        let mut buffer = self.buffers.pop()?;
+        buffer.clear();
+        Some(buffer)
+    }
+}
