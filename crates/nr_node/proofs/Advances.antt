@@ -345,6 +345,11 @@ pub log_passed : (s held t : Standing) (e : Entry) → held ≡ fetched_with e s
 log_passed s held t e fetched passed stands =
     subst StandsInLog (sym (passed ∙ ap passed_on fetched)) (still_in_log s e (subst StandsInLog fetched stands))
 
+-- it stands behind one more, or behind those that it stood behind
+pub log_further : (b : Bool) (s t : Standing) → (b ≡ true → StandsInLog t) → (b ≡ false → t ≡ s) → StandsInLog s → StandsInLog t
+log_further true s t more none stands = more refl
+log_further false s t more none stands = subst StandsInLog (sym (none refl)) stands
+
 -- a loop that took so many entries in
 pub record WentOn (x : ℕ) (first now : LogView) (old new : ReplicaState) (next after : Option Next) (book later : Book) : Type 0 where
   pub idle : now.standing.held ≡ None

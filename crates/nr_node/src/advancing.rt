@@ -4,6 +4,7 @@ ghost use Rattle.nr_entry.specs.declared.entry.Entry.{Entry};
 ghost use Rattle.nr_entry.specs.Jobs.{items_of};
 ghost use Rattle.nr_log_end.specs.Standings.{StandsInLog, passed_of};
 ghost use Rattle.nr_accounts.specs.Book.{without_ended};
+ghost use Rattle.nr_replica.specs.Backlogs.{HasBacklog};
 ghost use Rattle.nr_node.specs.Keeping.{Frees};
 ghost use Rattle.nr_node.specs.Level.{IsLevel};
 ghost use Rattle.nr_node.specs.Advanced.{IsTakenIn, GoesOn};
@@ -17,8 +18,9 @@ use nr_oplog::{End, LogName};
 use nr_replica::Replica;
 
 /// Lets go of the shares that are kept of entries which all nodes have passed. Takes all entries in that there are when it begins, and passes them, and the next
-/// one where that is there. False where one isn't there yet. The account of each connection whose end is among them goes. A replica that is down passes them
-/// too, and executes none. Where the replica falls over one of them, or is down, the next entry of its own is dropped.
+/// one where that is there. It stops, and answers false, where one isn't there yet, or where the replica holds the others back, since much waits for a connection:
+/// see [`Replica::holds_back`](nr_replica::Replica::holds_back). The account of each connection whose end is among them goes. A replica that is down passes them
+/// too, executes none, and holds none back. Where the replica falls over one of them, or is down, the next entry of its own is dropped.
 pub(crate) fn catch_up<B: LogName>(
     end: &mut End<B>,
     kept: &mut OwnEntries,
@@ -42,11 +44,11 @@ pub(crate) fn catch_up<B: LogName>(
     if !advance_by(end, replica, accounts, next, count) {
         return false;
     }
-    advance(end, replica, accounts, next);
+    advance_further(end, replica, accounts, next, count);
     true
 }
 
-// Takes so many entries in, one after the other. False where one isn't there yet.
+// Takes so many entries in, one after the other. False where one isn't there yet, or is held back.
 fn advance_by<B: LogName>(
     end: &mut End<B>,
     replica: &mut Replica,
@@ -57,15 +59,67 @@ fn advance_by<B: LogName>(
     requires idle { end.old.standing.held ≡ None }
     ensures idle { end.new.standing.held ≡ None }
     ensures met { (end.new.standing.seen ≡ end.old.standing.seen) × (end.new.looks ≡ end.old.looks) }
+    ensures log { result ≡ true → 0 < count → StandsInLog end.new.standing }
     ensures all { result ≡ true → (entries : List Entry) × (length entries ≡ count) × GoesOn entries end.old.standing end.new.standing replica.old replica.new next.old next.new accounts.old accounts.new }
     ensures fewer { result ≡ false → (entries : List Entry) × (length entries < count) × GoesOn entries end.old.standing end.new.standing replica.old replica.new next.old next.new accounts.old accounts.new }
 {
     for _ in 0..count {
-        if !advance(end, replica, accounts, next) {
+        if !advance_unless_held(end, replica, accounts, next) {
             return false;
         }
     }
     true
+}
+
+// Takes the entry in that stands behind so many that were taken in, and passes it, where it is there. Behind one that was taken in it may be held back.
+fn advance_further<B: LogName>(
+    end: &mut End<B>,
+    replica: &mut Replica,
+    accounts: &mut Accounts,
+    next: &mut Option<Next>,
+    count: u64,
+) -> bool
+    requires idle { end.old.standing.held ≡ None }
+    requires log { 0 < count → StandsInLog end.old.standing }
+    ensures idle { end.new.standing.held ≡ None }
+    ensures met { (end.new.standing.seen ≡ end.old.standing.seen) × (end.new.looks ≡ end.old.looks) }
+    ensures log { StandsInLog end.new.standing }
+    ensures some { result ≡ true → (entry : Entry) × GoesOn (entry ∷ []) end.old.standing end.new.standing replica.old replica.new next.old next.new accounts.old accounts.new }
+    ensures none { result ≡ false → (end.new.standing ≡ end.old.standing) × (replica.new ≡ replica.old) × (next.new ≡ next.old) × (accounts.new ≡ accounts.old) }
+{
+    if count > 0 {
+        return advance_unless_held(end, replica, accounts, next);
+    }
+    advance(end, replica, accounts, next)
+}
+
+// Takes the next entry in, and passes it. False where it isn't there yet, or is held back.
+fn advance_unless_held<B: LogName>(
+    end: &mut End<B>,
+    replica: &mut Replica,
+    accounts: &mut Accounts,
+    next: &mut Option<Next>,
+) -> bool
+    requires idle { end.old.standing.held ≡ None }
+    ensures idle { end.new.standing.held ≡ None }
+    ensures met { (end.new.standing.seen ≡ end.old.standing.seen) × (end.new.looks ≡ end.old.looks) }
+    ensures log { result ≡ true → StandsInLog end.new.standing }
+    ensures some { result ≡ true → (entry : Entry) × GoesOn (entry ∷ []) end.old.standing end.new.standing replica.old replica.new next.old next.new accounts.old accounts.new }
+    ensures none { result ≡ false → (end.new.standing ≡ end.old.standing) × (replica.new ≡ replica.old) × (next.new ≡ next.old) × (accounts.new ≡ accounts.old) }
+{
+    if is_held_back(replica) {
+        return false;
+    }
+    advance(end, replica, accounts, next)
+}
+
+// Whether the replica takes no entry in yet, since much waits for a connection. One that is down takes all.
+fn is_held_back(replica: &mut Replica) -> bool
+    ensures up { result ≡ true → replica.old.down ≡ false }
+    ensures reason { result ≡ true → HasBacklog replica.old.members }
+    ensures same { replica.new ≡ replica.old }
+{
+    !replica.is_down() && replica.holds_back()
 }
 
 // Takes the next entry in, and passes it. False where it isn't there yet.

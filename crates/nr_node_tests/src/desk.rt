@@ -34,6 +34,8 @@ pub(crate) enum Act {
     HandsIn(&'static [u8]),
     /// The worker takes a turn of the combiner, of which this comes.
     Combines(Round),
+    /// So often the worker takes a turn of the combiner, and each time an entry has to wait.
+    IsHeldUp(u32),
     /// Whether the worker is told that what it handed in was executed, or nothing.
     IsTold(bool),
     /// The worker is told that its node is down.
@@ -81,6 +83,7 @@ impl<B: ServerName> Desk<B> {
             Act::Counts(count) => self.counts(rt, count),
             Act::HandsIn(sent) => self.hands_in(rt, sent),
             Act::Combines(round) => self.combines(rt, round),
+            Act::IsHeldUp(turns) => self.is_held_up(rt, turns),
             Act::IsTold(told) => self.is_told(rt, told),
             Act::IsLost => self.is_lost(rt),
             Act::Refuses => self.station.refuse(rt),
@@ -134,6 +137,12 @@ impl<B: ServerName> Desk<B> {
 
     fn combines<R: Wait + Abort>(&self, rt: &R, round: Round) {
         holds(rt, "a turn is taken", self.station.combine(rt) == Ok(round));
+    }
+
+    fn is_held_up<R: Wait + Abort>(&self, rt: &R, turns: u32) {
+        for _ in 0..turns {
+            self.combines(rt, Round::NotYet);
+        }
     }
 
     pub(crate) fn is_told<R: Abort>(&mut self, rt: &R, told: bool) {

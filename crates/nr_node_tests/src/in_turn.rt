@@ -5,8 +5,8 @@ ghost use Rattle.nr_combiner.specs.Opened.{AreNamed, AreOfWorkers};
 
 use crate::asserted::{holds, same};
 use crate::desk::Act::{
-    Asks, Closes, Combines, Counts, Gets, GetsEach, GetsLength, HandsIn, IsLost, IsTold, Opens,
-    OpensNone, Refuses, Reopens, Sends, SendsEach, SendsMany,
+    Asks, Closes, Combines, Counts, Gets, GetsEach, GetsLength, HandsIn, IsHeldUp, IsLost, IsTold,
+    Opens, OpensNone, Refuses, Reopens, Sends, SendsEach, SendsMany,
 };
 use crate::desk::{Act, Desk};
 use nr_blob::int_text;
@@ -14,6 +14,7 @@ use nr_combiner::{Lifts, OpenError, OpenedSlots, Plan, ServerName, open_slots};
 use nr_held::{Client, Offered, Turn, stations};
 use nr_node::Round;
 use nr_oplog::Opened;
+use nr_replica::Spares;
 use nr_taps::Refused;
 use std::alloc::Global;
 use std::cmp::Ordering;
@@ -77,6 +78,17 @@ const NARROW: Layout = Layout {
     plan: Plan {
         workers: 1,
         connections: 1,
+        limit: 1024,
+    },
+};
+
+/// The same with two workers, and a connection for each.
+const NARROW_PAIR: Layout = Layout {
+    nodes: 1,
+    places: 64,
+    plan: Plan {
+        workers: 2,
+        connections: 2,
         limit: 1024,
     },
 };
@@ -197,7 +209,15 @@ fn in_turn<B: ServerName, R: Wait + Abort>(rt: &R, desks: &mut [Desk<B>], acts: 
     }
 }
 
-// Each client counts, one after the other, and is told how many did.
+// The worker takes a turn at once, where its node's lock is free.
+fn tries<B: ServerName>(rt: &impl Abort, alloc: Global, desk: &mut Desk<B>) {
+    let (mut spares, mut pieces) = (Spares::new(alloc), Vec::new(alloc));
+    let worker = &mut desk.station.worker;
+    let turned = worker.try_turn(Lifts::All, 8, &mut spares, &mut pieces);
+    holds(rt, "a lock that is free is taken", turned.is_some());
+}
+
+// Each client counts, one after the other, and is told how many did; and each worker takes a turn where the lock is free.
 fn all_count<B: ServerName, R: Wait + Abort>(rt: &R, alloc: Global, desks: Vec<Desk<B>>) {
     let mut count = 0u32;
     for mut desk in desks {
@@ -207,6 +227,7 @@ fn all_count<B: ServerName, R: Wait + Abort>(rt: &R, alloc: Global, desks: Vec<D
         int_text(i64::from(count), &mut wanted).expect(rt, "memory");
         wanted.extend_from_slice(b"\r\n").expect(rt, "memory");
         desk.asks(rt, b"INCR n\r\n", &wanted);
+        tries(rt, alloc, &mut desk);
     }
     holds(rt, "each of 48 counts", count == 48);
 }
@@ -376,7 +397,16 @@ fn one_falls<B: ServerName, R: Wait + Abort>(rt: &R, desks: Vec<Desk<B>>) {
     other.does(rt, Asks(b"GET n\r\n", b"$2\r\n40\r\n"));
 }
 
-// Of these connections those are told whose queue was cut, since more came than may wait, or since they were closed.
+// A turn of the worker tells whether a queue of its connections was cut.
+fn tells_cut<B: ServerName, R: Wait + Abort>(rt: &R, desk: &mut Desk<B>, wanted: bool) {
+    let turn = desk
+        .station
+        .turn(rt, Lifts::All, 8)
+        .expect(rt, "a turn is taken");
+    holds(rt, "a cut is told once", turn.turned.has_cut == wanted);
+}
+
+// Of these connections those are told whose queue was cut, since more came than may wait, or since they were closed; and the worker's turn tells that one was cut.
 fn tell_cuts<B: ServerName, R: Wait + Abort>(rt: &R, alloc: Global, desks: Vec<Desk<B>>) {
     let (mut first, mut second) = both(rt, desks);
     first.does(rt, Asks(b"SETRANGE k 1048575 x\r\n", b":1048576\r\n"));
@@ -399,6 +429,9 @@ fn tell_cuts<B: ServerName, R: Wait + Abort>(rt: &R, alloc: Global, desks: Vec<D
     holds(rt, "two are told", cut.len() == 2);
     holds(rt, "the closed one is told", cut.first() == Some(&closed));
     holds(rt, "the long one is told", cut.last() == Some(&long));
+    tells_cut(rt, &mut first, false);
+    tells_cut(rt, &mut second, true);
+    tells_cut(rt, &mut second, false);
 }
 
 // A turn of the worker tells these other workers: a bit for each.
@@ -661,6 +694,100 @@ fn batches_of_one_worker_are_executed(rt: HostRuntime) {
         Play::InTurn(&[
             (0, Counts(100_000)),
             (0, Asks(b"GET n\r\n", b"$6\r\n100000\r\n")),
+        ]),
+    );
+}
+
+/// A SUBSCRIBE, and its reply.
+const SUBSCRIBES: Act = Asks(
+    b"SUBSCRIBE news\r\n",
+    b"*3\r\n$9\r\nsubscribe\r\n$4\r\nnews\r\n:1\r\n",
+);
+
+// A message has 35 bytes, and a sixteenth of what may wait is 64: behind two of them an entry has to wait, until they are handed out.
+#[test]
+fn what_waits_holds_an_entry_up(rt: HostRuntime) {
+    play_at(
+        &rt,
+        rt.alloc(),
+        NARROW_PAIR,
+        Play::InTurn(&[
+            (1, SUBSCRIBES),
+            (0, Asks(b"PUBLISH news m1\r\n", b":1\r\n")),
+            (0, Asks(b"PUBLISH news m2\r\n", b":1\r\n")),
+            (0, HandsIn(b"PUBLISH news m3\r\n")),
+            (0, IsHeldUp(3)),
+            (0, IsTold(false)),
+            (
+                1,
+                Gets(
+                    b"*3\r\n$7\r\nmessage\r\n$4\r\nnews\r\n$2\r\nm1\r\n*3\r\n$7\r\nmessage\r\n$4\r\nnews\r\n$2\r\nm2\r\n",
+                ),
+            ),
+            (0, Combines(Round::Done)),
+            (0, IsTold(true)),
+            (0, Gets(b":1\r\n")),
+            (
+                1,
+                Gets(b"*3\r\n$7\r\nmessage\r\n$4\r\nnews\r\n$2\r\nm3\r\n"),
+            ),
+        ]),
+    );
+}
+
+// A worker that hands nothing out holds its node up for 1,000 turns, the one among them in which its connection's second message came, and then until 64 bytes
+// more wait. Once it has handed them out all is as at first.
+#[test]
+fn nothing_is_held_up_for_long(rt: HostRuntime) {
+    play_at(
+        &rt,
+        rt.alloc(),
+        NARROW_PAIR,
+        Play::InTurn(&[
+            (1, SUBSCRIBES),
+            (0, Asks(b"PUBLISH news m1\r\n", b":1\r\n")),
+            (0, Asks(b"PUBLISH news m2\r\n", b":1\r\n")),
+            (0, HandsIn(b"PUBLISH news m3\r\n")),
+            (0, IsHeldUp(999)),
+            (0, Combines(Round::Done)),
+            (0, IsTold(true)),
+            (0, Gets(b":1\r\n")),
+            (0, Asks(b"PUBLISH news m4\r\n", b":1\r\n")),
+            (0, HandsIn(b"PUBLISH news m5\r\n")),
+            (0, IsHeldUp(999)),
+            (0, Combines(Round::Done)),
+            (0, IsTold(true)),
+            (0, Gets(b":1\r\n")),
+            (
+                1,
+                Gets(
+                    b"*3\r\n$7\r\nmessage\r\n$4\r\nnews\r\n$2\r\nm1\r\n*3\r\n$7\r\nmessage\r\n$4\r\nnews\r\n$2\r\nm2\r\n*3\r\n$7\r\nmessage\r\n$4\r\nnews\r\n$2\r\nm3\r\n*3\r\n$7\r\nmessage\r\n$4\r\nnews\r\n$2\r\nm4\r\n*3\r\n$7\r\nmessage\r\n$4\r\nnews\r\n$2\r\nm5\r\n",
+                ),
+            ),
+            (0, Asks(b"PUBLISH news m6\r\n", b":1\r\n")),
+            (0, Asks(b"PUBLISH news m7\r\n", b":1\r\n")),
+            (0, HandsIn(b"PUBLISH news m8\r\n")),
+            (0, IsHeldUp(1)),
+            (0, IsTold(false)),
+        ]),
+    );
+}
+
+// What one entry brings is cut at the limit: 29 of 30 messages wait, with 1,015 bytes. A queue that was cut holds nothing up.
+#[test]
+fn one_entry_cuts_a_queue(rt: HostRuntime) {
+    play_at(
+        &rt,
+        rt.alloc(),
+        NARROW_PAIR,
+        Play::InTurn(&[
+            (1, SUBSCRIBES),
+            (0, SendsMany(b"PUBLISH news m1\r\n", 30)),
+            (0, GetsLength(120, 120)),
+            (0, Asks(b"PUBLISH news m2\r\n", b":1\r\n")),
+            (0, Asks(b"PUBLISH news m3\r\n", b":1\r\n")),
+            (1, GetsLength(1_015, 1_015)),
+            (1, Gets(b"")),
         ]),
     );
 }

@@ -7,6 +7,7 @@ pub mod Received
 pub mod Reached
 pub mod Giving
 pub mod Owed
+pub mod Held
 pub mod Looked
 pub mod Kept
 pub mod Told

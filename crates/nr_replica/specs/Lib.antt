@@ -1,3 +1,4 @@
+pub mod Backlogs
 pub mod Members
 pub mod Ready
 pub mod Replicas

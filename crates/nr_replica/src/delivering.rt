@@ -39,7 +39,12 @@ fn give(conn: ConnId, bytes: &[u8], node: usize, members: &mut Members)
             return;
         };
         if let Some(outbox) = members.outboxes.get_mut(&conn.serial) {
+            let was_cut = outbox.is_cut();
             put(bytes, worker, conn.serial, outbox, &mut members.ready);
+            members
+                .ready
+                .backlogs
+                .note(worker, conn.serial, was_cut, outbox);
         }
     }
 }

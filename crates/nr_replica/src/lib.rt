@@ -6,6 +6,7 @@ pub use outbox::Piece;
 pub use replica::Replica;
 pub use spares::Spares;
 
+mod backlog;
 mod delivering;
 mod members;
 mod offer;

@@ -1,9 +1,10 @@
 // The connections of a node, as its replica keeps them.
-ghost use Rattle.std.specs.Prelude.{◌≡◌, ◌<◌, ◌≤◌, ◌++◌, ◌∷◌, ℕ, [], map, length, take, slice_index_or, slice_set, IfOk, OnOk, OnErr, IfSome, IfNone, Some, None};
+ghost use Rattle.std.specs.Prelude.{◌≡◌, ◌<◌, ◌≤◌, ◌++◌, ◌∷◌, ℕ, true, [], map, length, take, slice_index_or, slice_set, IfOk, OnOk, OnErr, IfSome, IfNone, Some, None};
 ghost use Rattle.std.specs.Option.{option_copied};
 ghost use Rattle.nr_model.specs.Connections.{is_some_bytes};
 ghost use Rattle.nr_model.specs.Queues.{handing};
 ghost use Rattle.nr_entry.specs.Jobs.{connection_of};
+ghost use Rattle.nr_replica.specs.Backlogs.{HasBacklog};
 ghost use Rattle.nr_replica.specs.Members.{Member, AreNumbered, fresh_member, closed_member, cut_member, handed_member, next_ready, queue_at, members_seen};
 ghost use Rattle.nr_replica.specs.Ready.{has_serial, IsMarked, AreReady};
 
@@ -26,16 +27,16 @@ pub(crate) struct Members {
 }
 
 impl Members {
-    /// None yet. They take no memory.
-    pub(crate) fn new(alloc: Global) -> Members
-        ensures workers { result.workers.items ≡ [] }
-        ensures ready { result.ready.sets.items ≡ [] }
+    /// None yet, of so many workers.
+    pub(crate) fn new(alloc: Global, workers: usize) -> Result<Members, Memory>
+        ensures workers { IfOk result (λ members. members.workers.items ≡ []) }
+        ensures ready { IfOk result (λ members. members.ready.sets.items ≡ []) }
     {
-        Members {
+        Ok(Members {
             workers: Vec::new(alloc),
             outboxes: BTreeMap::new(alloc),
-            ready: Ready::new(alloc),
-        }
+            ready: Ready::new(alloc, workers)?,
+        })
     }
 
     /// How many were ever opened.
@@ -141,6 +142,7 @@ impl Members {
         let worker = self.worker(serial);
         self.outboxes.remove(&(serial as u64));
         self.ready.remove(worker, serial as u64);
+        self.ready.backlogs.let_go(worker, serial as u64);
     }
 
     /// Cuts all that aren't closed: what waits for them can still be handed out, and nothing more comes. Linear in them.
@@ -152,6 +154,24 @@ impl Members {
             outbox.cut();
             true
         });
+    }
+
+    /// Whether so much waits for one of them that the node is held up for its worker. Its cost is that of [`Backlogs::holds_back`](crate::backlog::Backlogs::holds_back).
+    pub(crate) fn holds_back(&mut self) -> bool
+        ensures reason { (node : ℕ) → result ≡ true → HasBacklog (members_seen node self.old) }
+        ensures same { (node : ℕ) → members_seen node self.new ≡ members_seen node self.old }
+        ensures ready { self.new.ready.sets.items ≡ self.old.ready.sets.items }
+    {
+        let opened = self.workers.len() as u64;
+        self.ready.backlogs.holds_back(&self.outboxes, opened)
+    }
+
+    /// Whether a queue of a worker's connections was cut since this was last asked. Constant.
+    pub(crate) fn take_cut(&mut self, worker: usize) -> bool
+        ensures same { (node : ℕ) → members_seen node self.new ≡ members_seen node self.old }
+        ensures ready { self.new.ready.sets.items ≡ self.old.ready.sets.items }
+    {
+        self.ready.backlogs.take_cut(worker)
     }
 
     /// Hands out at most so many of the first bytes that wait for one, and at least one, or `None` where nothing waits. Where memory runs out
@@ -207,5 +227,6 @@ fn take_piece(
 {
     let piece = outbox.take_piece(alloc, most, spares)?;
     ready.withdraw(worker, serial, outbox);
+    ready.backlogs.let_go(worker, serial);
     Ok(piece)
 }

@@ -5,6 +5,7 @@ ghost use Rattle.nr_model.specs.Connections.{is_some_bytes};
 ghost use Rattle.nr_model.specs.Replies.{reply_text};
 ghost use Rattle.nr_resp.specs.Shown.{shown_reply};
 ghost use Rattle.nr_entry.specs.Jobs.{connection_of};
+ghost use Rattle.nr_replica.specs.Backlogs.{IsBacklog};
 ghost use Rattle.nr_replica.specs.declared.outbox.Put.TheVariants as outcomes;
 ghost use Rattle.nr_model.specs.Queues.{Queue, put, takes, with_bytes, cut_off, handing, most_bytes};
 
@@ -228,6 +229,15 @@ impl Outbox {
         ensures { result ≡ self.now.cut }
     {
         self.is_cut
+    }
+
+    /// Whether it isn't cut, and more waits than a sixteenth of its limit and so many more sixteenths.
+    pub(crate) fn is_above(&self, extra: usize) -> bool
+        ensures { result ≡ true → IsBacklog self.now }
+    {
+        let sixteenth = self.limit / 16;
+        let allowed = sixteenth.saturating_mul(extra).saturating_add(sixteenth);
+        !self.is_cut && self.len() > allowed
     }
 }
 

@@ -48,7 +48,12 @@ fn run_read<'k>(machine: &'k Machine, job: &'k Job, node: usize, members: &mut M
             return;
         };
         if let Some(outbox) = members.outboxes.get_mut(&job.conn.serial) {
+            let was_cut = outbox.is_cut();
             answer(machine, job, worker, outbox, &mut members.ready);
+            members
+                .ready
+                .backlogs
+                .note(worker, job.conn.serial, was_cut, outbox);
         }
     }
 }

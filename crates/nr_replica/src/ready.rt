@@ -1,31 +1,34 @@
 // The connections for which bytes wait, by their workers.
-ghost use Rattle.std.specs.Prelude.{◌≡◌, ◌<◌, ◌≤◌, ℕ, true, false, [], length, IfSome, IfNone, OnOk, OnErr};
+ghost use Rattle.std.specs.Prelude.{◌≡◌, ◌<◌, ◌≤◌, ℕ, true, false, [], length, IfOk, IfSome, IfNone, OnOk, OnErr};
 ghost use Rattle.nr_model.specs.Connections.{is_some_bytes};
 ghost use Rattle.nr_model.specs.Queues.{cut_off};
 ghost use Rattle.nr_replica.specs.Ready.{has_serial, IsMarked, IsAsBefore};
 
+use crate::backlog::Backlogs;
 use crate::outbox::Outbox;
 use nr_blob::Memory;
 use std::alloc::Global;
 use std::collections::BTreeSet;
 
-/// For each worker the serials of its connections for which bytes wait.
+/// For each worker the serials of its connections for which bytes wait, and how far these hold their node up.
 #[derive(Drop)]
 pub(crate) struct Ready {
     alloc: Global,
     // They are made as far as bytes ever came to a worker. One past them has none.
     pub(crate) sets: Vec<BTreeSet<u64>>,
+    pub(crate) backlogs: Backlogs,
 }
 
 impl Ready {
-    /// Bytes wait for none. It takes no memory.
-    pub(crate) fn new(alloc: Global) -> Ready
-        ensures { result.sets.items ≡ [] }
+    /// Bytes wait for none of the connections of so many workers.
+    pub(crate) fn new(alloc: Global, workers: usize) -> Result<Ready, Memory>
+        ensures { IfOk result (λ ready. ready.sets.items ≡ []) }
     {
-        Ready {
+        Ok(Ready {
             alloc,
             sets: Vec::new(alloc),
-        }
+            backlogs: Backlogs::new(alloc, workers)?,
+        })
     }
 
     // Puts a connection in. Where memory runs out all are as before.

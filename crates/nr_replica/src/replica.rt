@@ -6,6 +6,7 @@ ghost use Rattle.nr_model.specs.Entries.{entry_jobs, left_by_entry, read_jobs};
 ghost use Rattle.nr_entry.specs.Entry.{are_of};
 ghost use Rattle.nr_entry.specs.Jobs.{connection_of, items_of};
 ghost use Rattle.nr_entry.specs.Waiting.{has_some};
+ghost use Rattle.nr_replica.specs.Backlogs.{HasBacklog};
 ghost use Rattle.nr_replica.specs.Members.{Member, fresh_member, closed_member, cut_member, handed_member, next_ready};
 ghost use Rattle.nr_replica.specs.declared.offer.OfferError.TheVariants as OfferError;
 ghost use Rattle.nr_replica.specs.Replicas.{IsApplied, IsAppliedAs, HasRead, fallen, stopped};
@@ -85,7 +86,7 @@ impl Replica {
             alloc,
             node,
             machine: Some(Machine::new(alloc, keys)?),
-            members: Members::new(alloc),
+            members: Members::new(alloc, workers)?,
             owed,
             waiting: Waiting::new(alloc),
             staging: Staging::new(alloc),
@@ -206,6 +207,23 @@ impl Replica {
         ensures unchanged { OnErr result (self.new ≡ self.old) }
     {
         self.members.take_piece(self.alloc, serial, most, spares)
+    }
+
+    /// Whether no entry is to be applied yet: so much waits for a connection that it is to be handed out first. That is more than a sixteenth of its limit; or where
+    /// its worker has held the node up for 1,000 of these calls, and handed nothing out for that connection, more than a sixteenth more, and so on, up to
+    /// the limit. It is a hint: an entry may be applied all the same. One compare where nothing came above that, else logarithmic for each worker.
+    pub fn holds_back(&mut self) -> bool
+        ensures reason { result ≡ true → HasBacklog self.old.members }
+        ensures same { self.new ≡ self.old }
+    {
+        self.members.holds_back()
+    }
+
+    /// Whether a queue of a connection that a worker serves was cut since this was last asked, by its limit or since memory was refused. It is a hint.
+    pub fn take_cut(&mut self, worker: usize) -> bool
+        ensures same { self.new ≡ self.old }
+    {
+        self.members.take_cut(worker)
     }
 
     /// Takes in the jobs of a worker's batch, behind those that wait. Linear in them. Where memory runs out nothing changes, and the jobs come back.

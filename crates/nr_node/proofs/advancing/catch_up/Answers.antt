@@ -48,13 +48,13 @@ returns-clause-goes g c =
     let t = c.advance_by.new.end.standing in
     let went : c.advance_by.result ≡ true = search (c.if-not-advance_by.false) in
     let all = c.advance_by.ensures.all went in
-    let last = went_or_not c.advance.result t c.advance.new.end.standing c.advance_by.new.replica c.advance.new.replica c.advance_by.new.next c.advance.new.next
-    c.advance_by.new.accounts c.advance.new.accounts c.advance.ensures.some c.advance.ensures.none in
+    let last = went_or_not c.advance_further.result t c.advance_further.new.end.standing c.advance_by.new.replica c.advance_further.new.replica c.advance_by.new.next c.advance_further.new.next
+    c.advance_by.new.accounts c.advance_further.new.accounts c.advance_further.ensures.some c.advance_further.ensures.none in
     let first = goes_then [] all.0 s m t c.args.replica.now c.args.replica.now c.advance_by.new.replica c.args.next.now c.args.next.now c.advance_by.new.next
     c.args.accounts.now c.args.accounts.now c.advance_by.new.accounts (goes_tail s m c.args.replica.now c.args.next.now c.args.accounts.now on) all.2 in (
       all.0 ++ last.0,
-      goes_then all.0 last.0 s t c.advance.new.end.standing c.args.replica.now c.advance_by.new.replica c.advance.new.replica c.args.next.now c.advance_by.new.next
-          c.advance.new.next c.args.accounts.now c.advance_by.new.accounts c.advance.new.accounts first last.1,
+      goes_then all.0 last.0 s t c.advance_further.new.end.standing c.args.replica.now c.advance_by.new.replica c.advance_further.new.replica c.args.next.now c.advance_by.new.next
+          c.advance_further.new.next c.args.accounts.now c.advance_by.new.accounts c.advance_further.new.accounts first last.1,
     )
 
 pub returns-clause-reached : goal.returns-clause-reached
@@ -65,13 +65,13 @@ returns-clause-reached g c = λ _.
     let t = c.advance_by.new.end.standing in
     let went : c.advance_by.result ≡ true = search (c.if-not-advance_by.false) in
     let all = c.advance_by.ensures.all went in
-    let last = went_or_not c.advance.result t c.advance.new.end.standing c.advance_by.new.replica c.advance.new.replica c.advance_by.new.next c.advance.new.next
-    c.advance_by.new.accounts c.advance.new.accounts c.advance.ensures.some c.advance.ensures.none in
+    let last = went_or_not c.advance_further.result t c.advance_further.new.end.standing c.advance_by.new.replica c.advance_further.new.replica c.advance_by.new.next c.advance_further.new.next
+    c.advance_by.new.accounts c.advance_further.new.accounts c.advance_further.ensures.some c.advance_further.ensures.none in
     let count : c.saturating_sub-count.result ≡ m.seen - c.passed.result = counted c.saturating_sub-count.result c.tail-tail.result c.passed.result c.tail-tail.new.self.standing m (search rules) c.tail-tail.ensures.tail
     (lets_stand c.args.kept.now c.let_go.new.self c.tail-tail.new.self c.let_go.new.end c.let_go.ensures) in (
-      reached_tail s m t c.advance.new.end.standing all.0 last.0 c.saturating_sub-count.result c.passed.result on all.2.passed last.1.passed
-          (c.advance.ensures.met.0 ∙ c.advance_by.ensures.met.0) all.1 count (c.passed.ensures ∙ same_passed s m on),
-      c.advance.ensures.log,
+      reached_tail s m t c.advance_further.new.end.standing all.0 last.0 c.saturating_sub-count.result c.passed.result on all.2.passed last.1.passed
+          (c.advance_further.ensures.met.0 ∙ c.advance_by.ensures.met.0) all.1 count (c.passed.ensures ∙ same_passed s m on),
+      c.advance_further.ensures.log,
     )
 
 pub returns-clause-few : goal.returns-clause-few
@@ -82,12 +82,12 @@ returns-clause-few g c =
     let t = c.advance_by.new.end.standing in
     let went : c.advance_by.result ≡ true = search (c.if-not-advance_by.false) in
     let all = c.advance_by.ensures.all went in
-    let last = went_or_not c.advance.result t c.advance.new.end.standing c.advance_by.new.replica c.advance.new.replica c.advance_by.new.next c.advance.new.next
-    c.advance_by.new.accounts c.advance.new.accounts c.advance.ensures.some c.advance.ensures.none in
+    let last = went_or_not c.advance_further.result t c.advance_further.new.end.standing c.advance_by.new.replica c.advance_further.new.replica c.advance_by.new.next c.advance_further.new.next
+    c.advance_by.new.accounts c.advance_further.new.accounts c.advance_further.ensures.some c.advance_further.ensures.none in
     let count : c.saturating_sub-count.result ≡ m.seen - c.passed.result = counted c.saturating_sub-count.result c.tail-tail.result c.passed.result c.tail-tail.new.self.standing m (search rules) c.tail-tail.ensures.tail
     (lets_stand c.args.kept.now c.let_go.new.self c.tail-tail.new.self c.let_go.new.end c.let_go.ensures) in
-    few_more s m t c.advance.new.end.standing all.0 last.0 c.saturating_sub-count.result c.passed.result on all.2.passed last.1.passed
-    (c.advance.ensures.met.0 ∙ c.advance_by.ensures.met.0) all.1 last.2 count (c.passed.ensures ∙ same_passed s m on)
+    few_more s m t c.advance_further.new.end.standing all.0 last.0 c.saturating_sub-count.result c.passed.result on all.2.passed last.1.passed
+    (c.advance_further.ensures.met.0 ∙ c.advance_by.ensures.met.0) all.1 last.2 count (c.passed.ensures ∙ same_passed s m on)
 
 pub returns-then-not-advance_by-clause-looks : goal.returns-then-not-advance_by-clause-looks
 returns-then-not-advance_by-clause-looks g c =
@@ -96,8 +96,8 @@ returns-then-not-advance_by-clause-looks g c =
 
 pub returns-clause-looks : goal.returns-clause-looks
 returns-clause-looks g c =
-    looks_on c.args.end.now c.tail-tail.new.self c.let_go.new.end c.advance.new.end c.tail-tail.result c.tail-tail.ensures.looks c.tail-tail.ensures.tail
-    (lets_stand c.args.kept.now c.let_go.new.self c.tail-tail.new.self c.let_go.new.end c.let_go.ensures) (lets_look c.args.kept.now c.let_go.new.self c.tail-tail.new.self c.let_go.new.end c.let_go.ensures) (met_on c.let_go.new.end c.advance_by.new.end c.advance.new.end c.advance_by.ensures.met c.advance.ensures.met)
+    looks_on c.args.end.now c.tail-tail.new.self c.let_go.new.end c.advance_further.new.end c.tail-tail.result c.tail-tail.ensures.looks c.tail-tail.ensures.tail
+    (lets_stand c.args.kept.now c.let_go.new.self c.tail-tail.new.self c.let_go.new.end c.let_go.ensures) (lets_look c.args.kept.now c.let_go.new.self c.tail-tail.new.self c.let_go.new.end c.let_go.ensures) (met_on c.let_go.new.end c.advance_by.new.end c.advance_further.new.end c.advance_by.ensures.met c.advance_further.ensures.met)
 
 pub returns-then-not-advance_by-clause-freed : goal.returns-then-not-advance_by-clause-freed
 returns-then-not-advance_by-clause-freed g c =
@@ -106,5 +106,5 @@ returns-then-not-advance_by-clause-freed g c =
 
 pub returns-clause-freed : goal.returns-clause-freed
 returns-clause-freed g c =
-    lets_free c.args.kept.now c.let_go.new.self c.args.end.now c.tail-tail.new.self c.let_go.new.end c.advance.new.end c.tail-tail.result c.tail-tail.ensures.looks
-    (ap (λ (s : Standing). s.nodes) c.tail-tail.ensures.standing.1) c.let_go.ensures (c.advance.ensures.met.1 ∙ c.advance_by.ensures.met.1)
+    lets_free c.args.kept.now c.let_go.new.self c.args.end.now c.tail-tail.new.self c.let_go.new.end c.advance_further.new.end c.tail-tail.result c.tail-tail.ensures.looks
+    (ap (λ (s : Standing). s.nodes) c.tail-tail.ensures.standing.1) c.let_go.ensures (c.advance_further.ensures.met.1 ∙ c.advance_by.ensures.met.1)

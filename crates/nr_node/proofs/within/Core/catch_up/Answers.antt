@@ -1,4 +1,3 @@
-use Rattle.std.proofs.Common.{◌≡◌, true, false, ap}
 use Rattle.std.proofs.lemmas.Bool.{not-false, not-true}
 use Rattle.nr_node.proofs.Taking.{goes_within}
 use Rattle.nr_node.proofs.Caught.{caught_by}
