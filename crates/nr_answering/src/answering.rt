@@ -120,6 +120,11 @@ impl Answers for Answering {
         Ok(opened)
     }
 
+    /// A server that runs on one thread ends where there is no memory.
+    fn turn_away(&mut self) -> Result<(), Memory> {
+        Err(Memory)
+    }
+
     fn standing(&self, conn: ConnId) -> Standing {
         if self.has_failed {
             return Standing::Down;

@@ -1,10 +1,11 @@
 -- What is read and written for one client.
-use Rattle.std.proofs.Common.{◌≡◌, ℕ, [], ◌∷◌, ◌++◌, take, drop, refl, sym, ap, ◌∙◌, subst, append-nil}
-use Rattle.std.specs.Prelude.{Option, IfSome}
+use Rattle.std.proofs.Common.{◌≡◌, ℕ, ◌+◌, ◌-◌, ◌≤◌, [], ◌∷◌, ◌++◌, length, take, drop, refl, sym, ap, ◌∙◌, subst, append-nil, arith}
+use Rattle.std.specs.Prelude.{Option, None, Some, IfSome}
+use Rattle.std.proofs.lemmas.List.{length-drop}
 use Rattle.std.specs.Option.{option_map}
 use Rattle.std.proofs.lemmas.List.Elements.{All-nil, All-cons}
 use Rattle.nr_model.specs.Bytes.{Bytes}
-use Rattle.nr_model.specs.Items.{Connection}
+use Rattle.nr_model.specs.Items.{Connection, same_connection}
 use Rattle.nr_model.specs.Keyspace.{moment}
 use Rattle.nr_model.specs.Connections.{Feeding}
 use Rattle.nr_model.proofs.JobLists.{same_self}
@@ -13,7 +14,7 @@ use Rattle.nr_service.specs.Readings.{Feedings, IsFedTo}
 use Rattle.nr_service.specs.Serving.{connection}
 use Rattle.nr_service.specs.Steps.{ServesOne, settled_past}
 use Rattle.nr_service.specs.declared.client.Client.{Client}
-use Rattle.nr_service.specs.Stories.{Fed, Story, Past, Kept, kept_bytes, IsFed, IsWritten, bytes_fed, bytes_handed, going_on}
+use Rattle.nr_service.specs.Stories.{Fed, Story, Past, Kept, KeepsOthers, kept_bytes, IsFed, IsWritten, bytes_fed, bytes_handed, going_on}
 use Rattle.nr_service.proofs.Occurrences.{fed_behind, handed_still, still_apart}
 use Rattle.nr_service.specs.Streams.{Course, GrowsBy, IsCourse}
 use Rattle.nr_service.proofs.Apart.{flips}
@@ -159,6 +160,15 @@ written_one was_received was_sent course is_past is_settled keeps allowed before
       };
     }
 
+-- how many bytes are left of those that are kept
+pub left_kept : (count : ℕ) (old new : Option Bytes) → new ≡ option_map (λ (bytes : Bytes). drop count bytes) old → count ≤ length (kept_bytes old)
+    → length (kept_bytes new) + count ≡ length (kept_bytes old)
+left_kept count None new is few = let none = ap (λ (o : Option Bytes). length (kept_bytes o)) is in omega arith
+left_kept count (Some bytes) new is few =
+    let left = ap (λ (o : Option Bytes). length (kept_bytes o)) is in
+    let long = length-drop count bytes in
+    omega arith
+
 -- one step on it behind another
 pub one_then : {A S : Type 0} (was_received was_sent : S → Option Bytes) (course : S → Option Course) (is_past : A → Past) (keeps : A → Kept)
     (allowed : Feedings) (a b c : A)
@@ -169,3 +179,26 @@ one_then was_received was_sent course is_past keeps allowed a b c x y z p q = re
   beside = λ others. serves_then was_received was_sent course is_past keeps allowed a b c (x ∷ others) (y ∷ others) (z ∷ others) (p.beside others)
       (q.beside others);
 }
+
+-- how many bytes are left behind one more step, and what is kept for the others
+pub left_then : (before after : Kept) (c d : Connection) (left taken kept : ℕ) → d ≡ c → left ≡ length (kept_bytes (before c))
+    → kept ≡ length (kept_bytes (before d)) → length (kept_bytes (after d)) + taken ≡ kept → left - taken ≡ length (kept_bytes (after c))
+left_then before after c d left taken kept same was were is =
+    let first = ap (λ (e : Connection). length (kept_bytes (before e))) same in
+    let then = ap (λ (e : Connection). length (kept_bytes (after e))) same in
+    omega arith
+
+pub others_then : (first before after : Kept) (c d : Connection) → d ≡ c → KeepsOthers c first before → KeepsOthers d before after
+    → KeepsOthers c first after
+others_then first before after c d same so_far more = λ other differs.
+    more other (ap (λ (e : Connection). same_connection other e) same ∙ differs) ∙ so_far other differs
+
+-- no more were taken than were left, and those that may be taken are fewer by them
+pub left_first : (before after : Kept) (c d : Connection) (left taken kept : ℕ) → d ≡ c → left ≡ length (kept_bytes (before c))
+    → kept ≡ length (kept_bytes (before d)) → length (kept_bytes (after d)) + taken ≡ kept → taken ≤ left
+left_first before after c d left taken kept same was were is =
+    let first = ap (λ (e : Connection). length (kept_bytes (before e))) same in omega arith
+
+pub taken_then : (left most taken first_most all : ℕ) → taken ≤ left → taken ≤ most → left + first_most ≡ all + most
+    → (left - taken) + first_most ≡ all + (most - taken)
+taken_then left most taken first_most all within few is = omega arith

@@ -1,8 +1,8 @@
 -- What is known of the bytes of a stream, as they grow.
-use Rattle.std.proofs.Common.{◌≡◌, ℕ, Bool, true, false, ◌++◌, take, drop, refl, sym, ap, ◌∙◌, subst, append_assoc, append-nil}
+use Rattle.std.proofs.Common.{◌≡◌, ℕ, ◌≤◌, Bool, true, false, ◌++◌, take, drop, refl, sym, ap, ◌∙◌, subst, append_assoc, append-nil, arith, length}
 use Rattle.std.specs.Prelude.{Option, Some, None, IfSome}
 use Rattle.std.specs.Option.{option_map}
-use Rattle.std.proofs.lemmas.List.{take-append-drop}
+use Rattle.std.proofs.lemmas.List.{length-take, take-append-drop, take-take}
 use Rattle.nr_model.specs.Bytes.{Bytes}
 use Rattle.nr_model.proofs.JobLists.{take_none}
 use Rattle.nr_service.specs.Streams.{Course, GrowsBy, IsCourse, fresh_course}
@@ -11,6 +11,13 @@ use Rattle.nr_service.specs.Streams.{Course, GrowsBy, IsCourse, fresh_course}
 pub grows_none : (bytes : Bytes) (old new : Option Bytes) → GrowsBy 0 bytes old new → new ≡ old
 grows_none bytes None new e = e
 grows_none bytes (Some x) new e = e ∙ ap (λ (y : Bytes). Some (x ++ y)) (take_none bytes) ∙ ap (λ (y : Bytes). Some y) (append-nil x)
+
+-- no more came than stand in front
+pub grows_in_front : (count most : ℕ) (bytes : Bytes) (old new : Option Bytes) → count ≤ length (take most bytes)
+    → GrowsBy count (take most bytes) old new → GrowsBy count bytes old new
+grows_in_front count most bytes old new few e =
+    let long = length-take most bytes in
+    e ∙ ap (λ (more : Bytes). option_map (λ (front : Bytes). front ++ more) old) (take-take count most bytes (omega arith))
 
 -- it is what was fed, and so are the bytes behind it
 pub fed_more : (old new : Option Bytes) (piece fed all : Bytes) → new ≡ option_map (λ (bytes : Bytes). bytes ++ piece) old → fed ++ piece ≡ all

@@ -1,5 +1,5 @@
 -- Turns in which all clients are looked at.
-use Rattle.std.specs.Prelude.{◌≡◌, ◌≢◌, ◌<◌, ◌⊎◌, ℕ, Bool, true, false, List, [], length, map, slice_index_or, None, All}
+use Rattle.std.specs.Prelude.{◌≡◌, ◌≢◌, ◌<◌, ◌≤◌, ◌+◌, ◌/◌, max, ◌⊎◌, ℕ, Bool, true, false, List, [], length, map, slice_index_or, None, All}
 use Rattle.std.specs.List.{IsDistinct}
 use Rattle.nr_model.specs.Items.{Connection, same_connection}
 use Rattle.nr_service.specs.Leaving.{IsEnding}
@@ -23,6 +23,14 @@ IsSent keeps client = (kept_bytes (keeps (connection client)) ≡ []) ⊎ (clien
 -- or its stream failed
 abbrev pub IsSentOrBroken : {S : Type 0} → Kept → Client S → Type 0
 IsSentOrBroken keeps client = IsSent keeps client ⊎ (client.is_broken ≡ true)
+
+-- how many bytes are written for a client in a visit at most: an eighth of those that may wait, and a mebibyte where that is more
+abbrev pub most_written : ℕ → ℕ
+most_written limit = max (limit / 8) 1048576
+
+-- where so many bytes were kept, and so many are left, it was written until this held or as many were taken as may be
+abbrev pub IsWrittenOn : ℕ → ℕ → ℕ → Type 0 → Type 0
+IsWrittenOn most kept left P = P ⊎ (left + most ≤ kept)
 
 -- What was written at a place: where nothing more can be done at once behind that, nothing could be before, and all is sent there; and elsewhere it is as
 -- before, where no two of the clients have one connection.

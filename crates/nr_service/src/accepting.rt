@@ -1,7 +1,10 @@
 // Taking the connections that wait.
-ghost use Rattle.std.specs.Prelude.{◌≡◌, false, [], IfOk, IfSome, OnOk, OnErr};
+ghost use Rattle.std.specs.Prelude.{◌≡◌, ◌≤◌, ◌+◌, false, [], IfOk, IfSome, IfNone, OnOk, OnErr};
+ghost use Rattle.std.specs.Vec.{vec_len, vec_capacity};
+ghost use Rattle.nr_entry.specs.Jobs.{connection_of};
 ghost use Rattle.nr_service.specs.Arriving.{ArrivesFew, ArrivesUntil};
 ghost use Rattle.nr_service.specs.Devices.{PartsWith, turned_away};
+ghost use Rattle.nr_service.specs.Stories.{IsLeftOf, IsOpened, Keeps};
 ghost use Rattle.nr_service.specs.Streams.{fresh_course};
 ghost use Rattle.nr_service.specs.Steps.{Accepts, IsTakenOn, next_number};
 ghost use Rattle.nr_service.specs.Turns.{most_accepted};
@@ -13,11 +16,38 @@ use crate::leaving::part;
 use crate::signs::Signs;
 use crate::stream::Stream;
 use nr_blob::Memory;
+use nr_entry::ConnId;
 
 // How many connections are accepted at most in a turn.
 const MOST_ACCEPTED: u32 = 64;
 
-// Serves a stream from now on, on which nothing was received or sent. False where there was no room for it: then it is abandoned.
+// Opens the connection that was accepted as this number, where there is memory for one more client; else it is turned away. `None` where there was no
+// room for it.
+fn open_one<A: Answers, S: Stream>(
+    answers: &mut A,
+    clients: &mut Vec<Client<S>>,
+    number: u64,
+) -> Result<Option<ConnId>, Memory>
+    ensures opened { IfOk result (λ opened. IfSome opened (λ conn. IsOpened (connection_of conn) (A.is_past answers.old) (A.is_past answers.new)
+        (A.kept answers.old) (A.kept answers.new))) }
+    ensures none { IfOk result (λ opened. IfNone opened (Keeps (A.is_past answers.old) (A.is_past answers.new) (A.kept answers.old)
+        (A.kept answers.new))) }
+    ensures full { IfOk result (λ opened. IfNone opened (A.is_full answers.old)) }
+    ensures placed { IfOk result (λ opened. IfSome opened (λ conn. A.is_placed answers.old answers.new number (connection_of conn))) }
+    ensures left { OnErr result (IsLeftOf (A.is_past answers.old) (A.is_left answers.new)) }
+    ensures items { clients.new.items ≡ clients.old.items }
+    ensures room { IfOk result (λ opened. IfSome opened (λ conn. vec_len clients.new + 1 ≤ vec_capacity clients.new)) }
+{
+    if clients.try_reserve(1).is_err() {
+        answers.turn_away()?;
+        return Ok(None);
+    }
+    let opened = answers.open(number)?;
+    Ok(opened)
+}
+
+// Serves a stream from now on, on which nothing was received or sent. False where there was no room for it, or no memory for one more client: then
+// it is abandoned.
 pub(crate) fn take_on<A: Answers, S: Stream + Drop, D: Device<S>>(
     answers: &mut A,
     device: &mut D,
@@ -42,9 +72,7 @@ pub(crate) fn take_on<A: Answers, S: Stream + Drop, D: Device<S>>(
 {
     let number = *accepted;
     *accepted = number.wrapping_add(1);
-    answers.leaves();
-    clients.try_reserve(1)?;
-    let Some(conn) = answers.open(number)? else {
+    let Some(conn) = open_one(answers, clients, number)? else {
         part(device, stream, Ending::Lost);
         return Ok(false);
     };

@@ -66,6 +66,12 @@ pub trait Answers {
         ensures placed { IfOk result (λ opened. IfSome opened (λ conn. is_placed self.old self.new number (connection_of conn))) }
         ensures left { OnErr result (IsLeftOf (is_past self.old) (is_left self.new)) };
 
+    /// There is no memory for one more client: the connection that was accepted is turned away, and the room that was taken for it comes back.
+    fn turn_away(&mut self) -> Result<(), Memory>
+        ensures kept { OnOk result (Keeps (is_past self.old) (is_past self.new) (kept self.old) (kept self.new)) }
+        ensures full { OnOk result (is_full self.old) }
+        ensures left { OnErr result (IsLeftOf (is_past self.old) (is_left self.new)) };
+
     /// How a connection stands.
     fn standing(&self, conn: ConnId) -> Standing
         ensures { stands self.now (connection_of conn) result };

@@ -270,11 +270,12 @@ where
     }
 
     /// Exchanges bytes with each client that is looked at, at the moment that the clock gives, which is asked once: reads once for each and feeds
-    /// what came, has all work done, and writes once for each for which bytes are kept. Looked at are those that are new, those of which the device
-    /// tells that they are ready, and what answers that its work changed them, and those that weren't read or written to the end; and all of them in
-    /// the first exchange, in one of 1,024, and behind 16 waits that nothing ended. Beside the work it takes a few steps and at most one read and
-    /// one write for each that is looked at, each linear in its bytes, of which at most 65,536 are read; the others cost nothing but the depth of a
-    /// map.
+    /// what came, has all work done, and writes for each what is kept for it, until all is written, its stream takes nothing or fails, or as much
+    /// was taken as may be in a visit: an eighth of `limit`, and 1,048,576 bytes where that is more. Looked at are those that are new, those of
+    /// which the device tells that they are ready, and what answers that its work changed them, and those that weren't read or written to the end;
+    /// and all of them in the first exchange, in one of 1,024, and behind 16 waits that nothing ended. Beside the work it takes a few steps, at most
+    /// one read, and as many writes as the stream takes for each that is looked at, each linear in its bytes, of which at most 65,536 are read; the
+    /// others cost nothing but the depth of a map.
     ///
     /// # Errors
     ///

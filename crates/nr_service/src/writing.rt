@@ -1,18 +1,29 @@
 // Writing what is kept for clients.
-ghost use Rattle.std.specs.Prelude.{◌≡◌, [], true, false, map, All};
+ghost use Rattle.std.specs.Prelude.{◌≡◌, ◌≤◌, ◌+◌, [], true, false, length, map, All};
 ghost use Rattle.std.specs.List.{IsDistinct};
 ghost use Rattle.nr_model.specs.Items.{same_connection};
 ghost use Rattle.nr_service.specs.Readings.{IsNeverFed};
 ghost use Rattle.nr_service.specs.Serving.{connection};
 ghost use Rattle.nr_service.specs.Steps.{Serves, ServesOne, settled_past};
-ghost use Rattle.nr_service.specs.Stories.{KeepsOthers};
-ghost use Rattle.nr_service.specs.Sweeps.{IsSentOrBroken, WritesAt};
+ghost use Rattle.nr_service.specs.Stories.{KeepsOthers, kept_bytes};
+ghost use Rattle.nr_service.specs.Sweeps.{IsSentOrBroken, IsWrittenOn, WritesAt, most_written};
 
 use crate::answers::Answers;
 use crate::client::{Client, FIRST_ROOM, MOST_ROOM};
 use crate::reading::HELD_PART;
 use crate::signs::Signs;
 use crate::stream::{Sent, Stream};
+
+// At most this part of the limit is written for a client in a visit, and so many bytes where that is more: the others wait no longer than for these.
+const WRITTEN_PART: usize = 8;
+
+const LEAST_MOST: usize = 1_048_576;
+
+fn most_written(limit: usize) -> usize
+    ensures { result ≡ most_written limit }
+{
+    (limit / WRITTEN_PART).max(LEAST_MOST)
+}
 
 // How many bytes of a client are read at once from now on, of which so many were read at most, and for which so many wait behind the work: four
 // times as many where a read filled them and no more than that wait, at most all for which there is room; and else as few as at first.
@@ -23,7 +34,82 @@ fn room_behind(room: usize, has_filled: bool, waiting: usize) -> usize {
     FIRST_ROOM
 }
 
-// Writes once what is kept for one, where anything is. What isn't taken stays.
+// What a try to write for one did: so many bytes were kept for it, and so many of them were taken.
+#[derive(Clone, Copy)]
+struct Tried {
+    kept: usize,
+    taken: usize,
+}
+
+// Tries once to write what is kept for one, at most so many bytes, where anything is kept and its stream hasn't failed. What isn't taken stays.
+fn write_some<A: Answers, S: Stream>(answers: &mut A, client: &mut Client<S>, most: usize) -> Tried
+    ensures served { ServesOne S.received S.sent S.course (settled_past A.is_past A.is_settled) A.kept IsNeverFed answers.old answers.new
+        client.old client.new }
+    ensures conn { client.new.conn ≡ client.old.conn }
+    ensures others { KeepsOthers (connection client.old) (A.kept answers.old) (A.kept answers.new) }
+    ensures kept { result.kept ≡ length (kept_bytes (A.kept answers.old (connection client.old))) }
+    ensures left { length (kept_bytes (A.kept answers.new (connection client.old))) + result.taken ≡ result.kept }
+    ensures most { result.taken ≤ most }
+    ensures stops { result.taken ≡ 0 → IsSentOrBroken (A.kept answers.new) client.new }
+{
+    let pending = answers.pending(client.conn);
+    let kept = pending.len();
+    if kept == 0 || client.is_broken {
+        return Tried { kept, taken: 0 };
+    }
+    match client.stream.send(&pending[..kept.min(most)]) {
+        Sent::Bytes(taken) => {
+            answers.written(client.conn, taken);
+            client.is_full = false;
+            Tried { kept, taken }
+        }
+        Sent::Nothing => {
+            client.is_full = true;
+            Tried { kept, taken: 0 }
+        }
+        Sent::Failed => {
+            client.is_broken = true;
+            Tried { kept, taken: 0 }
+        }
+    }
+}
+
+// Writes on what is kept for one behind a first try, which took so many of the most bytes that may be taken: until all is written, its stream takes
+// nothing or fails, or the most were taken. How many bytes are left.
+fn write_on<A: Answers, S: Stream>(
+    answers: &mut A,
+    client: &mut Client<S>,
+    first: Tried,
+    most: usize,
+) -> usize
+    requires kept { length (kept_bytes (A.kept answers.old (connection client.old))) + first.taken ≡ first.kept }
+    requires most { first.taken ≤ most }
+    requires stops { first.taken ≡ 0 → IsSentOrBroken (A.kept answers.old) client.old }
+    ensures served { ServesOne S.received S.sent S.course (settled_past A.is_past A.is_settled) A.kept IsNeverFed answers.old answers.new
+        client.old client.new }
+    ensures conn { client.new.conn ≡ client.old.conn }
+    ensures others { KeepsOthers (connection client.old) (A.kept answers.old) (A.kept answers.new) }
+    ensures left { result ≡ length (kept_bytes (A.kept answers.new (connection client.old))) }
+    ensures on { IsWrittenOn most first.kept result (IsSentOrBroken (A.kept answers.new) client.new) }
+{
+    let mut left = first.kept - first.taken;
+    let mut most = most - first.taken;
+    if first.taken == 0 {
+        return left;
+    }
+    while left > 0 && most > 0 {
+        let next = write_some(answers, client, most);
+        if next.taken == 0 {
+            return left;
+        }
+        left -= next.taken;
+        most -= next.taken;
+    }
+    left
+}
+
+// Writes what is kept for one, until all is written, its stream takes nothing or fails, or as much was taken as may be in a visit. What isn't taken
+// stays.
 fn write_one<A: Answers, S: Stream>(
     answers: &mut A,
     client: &mut Client<S>,
@@ -37,28 +123,20 @@ fn write_one<A: Answers, S: Stream>(
     ensures calm { signs.new.is_busy ≡ false → signs.old.is_busy ≡ false }
     ensures sent { signs.new.is_busy ≡ false → IsSentOrBroken (A.kept answers.new) client.new }
     ensures others { KeepsOthers (connection client.old) (A.kept answers.old) (A.kept answers.new) }
+    ensures on { IsWrittenOn (most_written limit) (length (kept_bytes (A.kept answers.old (connection client.old))))
+        (length (kept_bytes (A.kept answers.new (connection client.old)))) (IsSentOrBroken (A.kept answers.new) client.new) }
 {
-    let pending = answers.pending(client.conn);
-    let whole = pending.len();
-    client.room = room_behind(client.room, client.has_filled, whole);
+    let most = most_written(limit);
+    let first = write_some(answers, client, most);
+    client.room = room_behind(client.room, client.has_filled, first.kept);
     client.has_filled = false;
-    if whole == 0 || client.is_broken {
-        return;
-    }
-    match client.stream.send(pending) {
-        Sent::Bytes(count) => {
-            answers.written(client.conn, count);
-            client.is_full = false;
-            let left = whole - count;
-            let is_free = client.is_held && left <= limit / HELD_PART;
-            signs.note_rest(client.conn, (left > 0) | is_free);
-        }
-        Sent::Nothing => client.is_full = true,
-        Sent::Failed => client.is_broken = true,
-    }
+    let left = write_on(answers, client, first, most);
+    let goes_on = left > 0 && !client.is_full && !client.is_broken;
+    let is_free = client.is_held && left <= limit / HELD_PART;
+    signs.note_rest(client.conn, goes_on | is_free);
 }
 
-// Writes once for the client at this place, where there is one.
+// Writes for the client at this place, where there is one.
 fn write_at<A: Answers, S: Stream>(
     answers: &mut A,
     clients: &mut [Client<S>],
@@ -78,7 +156,7 @@ fn write_at<A: Answers, S: Stream>(
     write_one(answers, &mut clients[place], limit, signs);
 }
 
-/// Writes once for each client that is looked at and for which bytes are kept. Linear in their number and the bytes.
+/// Writes for each client that is looked at and for which bytes are kept. Linear in their number and the bytes.
 pub(crate) fn write_listed<A: Answers, S: Stream>(
     answers: &mut A,
     clients: &mut [Client<S>],

@@ -40,7 +40,7 @@ pub struct Door<'a, R> {
     events: Events<Global>,
     // Of each socket, at its place: what may be done.
     ready: Slab<Shared>,
-    // The places of those that the last wait told of, and of those whose end it told of before and that still have it to give.
+    // The places of those that the last wait told of, and of those of which it told before and that may still have more to give than one read took.
     listed: Vec<usize>,
     lingering: Vec<Lingering>,
     // Into this the bytes go that those that linger still get.
@@ -96,7 +96,7 @@ impl<'a, R> Door<'a, R> {
         let registered = self.poll.registry().register(
             &mut stream,
             Token(place),
-            Interest::READABLE | Interest::WRITABLE,
+            Interest::READABLE | Interest::WRITABLE | Interest::PRIORITY,
         );
         let set = stream.set_nodelay(true);
         if registered.is_err() || set.is_err() {
@@ -112,25 +112,30 @@ impl<'a, R> Door<'a, R> {
         })
     }
 
-    // Whether the thread sleeps until something is told of: no work is at hand, no letter is there, and nobody rang.
+    // Whether the thread sleeps until something is told of: no work is at hand, none that lingers may be read, no letter is there, and nobody rang.
     fn falls_asleep(&self, is_busy: bool) -> bool
-        ensures { result ≡ true → is_busy ≡ false }
+        ensures idle { result ≡ true → is_busy ≡ false }
+        ensures dropped { result ≡ true → self.now.is_lingering_ready ≡ false }
     {
-        !is_busy && self.lane.letters.is_empty() && self.lane.bell.may_sleep()
+        !is_busy
+            && !self.is_lingering_ready
+            && self.lane.letters.is_empty()
+            && self.lane.bell.may_sleep()
     }
 
     // Notes what the system told of.
     fn note(&mut self) {
         let ready = &self.ready;
-        self.listed.retain(|place| has_end(ready, *place));
+        self.listed.retain(|place| has_more(ready, *place));
         for event in &self.events {
             let Token(place) = event.token();
             if event.token() == WAKER {
                 continue;
             }
+            let is_listed = has_more(&self.ready, place);
             if mark(&self.ready, event) {
                 self.is_lingering_ready = true;
-            } else {
+            } else if !is_listed {
                 list(&mut self.listed, place);
             }
         }
@@ -160,19 +165,19 @@ impl<R: Wait> Door<'_, R> {
 }
 
 impl<R: Clock> Door<'_, R> {
-    // Drops what peers of lingering sockets still send, and lets go of those whose time is over.
+    // Drops what peers of lingering sockets still send, a piece of each, and lets go of those whose time is over. Where there is no clock they all go.
     fn linger(&mut self) {
         self.waits = MOST_WAITS;
         self.is_lingering_ready = false;
-        let Ok(now) = Instant::now(self.runtime) else {
-            self.lingering.clear();
-            return;
-        };
+        let now = Instant::now(self.runtime).ok();
         let ready = &mut self.ready;
         let dropped = &mut self.dropped;
         let is_ready = &mut self.is_lingering_ready;
         self.lingering.retain_mut(|lingering| {
-            let goes_on = lingering.goes_on(now, dropped);
+            let goes_on = match now {
+                Some(now) => lingering.goes_on(now, dropped),
+                None => false,
+            };
             if goes_on {
                 *is_ready |= lingering.socket.readiness.is_readable();
             } else {
@@ -186,24 +191,24 @@ impl<R: Clock> Door<'_, R> {
     fn keep(&mut self, socket: Socket) {
         let place = socket.place;
         socket.readiness.set_lingering();
-        self.is_lingering_ready = true;
         let is_kept = match Instant::now(self.runtime) {
             Ok(now) if self.lingering.len() < MOST_LINGERING => {
                 self.lingering.push(Lingering::new(socket, now)).is_ok()
             }
             _ => false,
         };
+        self.is_lingering_ready |= is_kept;
         if !is_kept {
             self.ready.try_remove(place);
         }
     }
 }
 
-// Whether the end of the socket at this place was told of, and may still be read.
-fn has_end(ready: &Slab<Shared>, place: usize) -> bool {
+// Whether the socket at this place may still be read, of whose end or of whose urgent byte was told.
+fn has_more(ready: &Slab<Shared>, place: usize) -> bool {
     match ready.get(place) {
         Some(readiness) => {
-            readiness.is_ending() && readiness.is_readable() && !readiness.is_lingering()
+            readiness.may_have_more() && readiness.is_readable() && !readiness.is_lingering()
         }
         None => false,
     }
@@ -222,6 +227,9 @@ fn mark(ready: &Slab<Shared>, event: &Event) -> bool {
     };
     if event.is_read_closed() || event.is_error() {
         readiness.set_ending();
+    }
+    if event.is_priority() {
+        readiness.set_urgent();
     }
     if event.is_readable() || event.is_read_closed() || event.is_error() {
         readiness.set_readable(true);

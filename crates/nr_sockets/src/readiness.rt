@@ -4,12 +4,14 @@ use std::sync::Arc;
 use std::sync::atomic::{AtomicBool, Ordering};
 
 /// Whether bytes may be there to be read, and room for bytes to be written, and whether the peer sends no more: the end of what it sent is
-/// told of once, maybe long before it is read. And whether the socket lingers. The socket and the list of all sockets share it.
+/// told of once, maybe long before it is read. Whether it ever sent an urgent byte: a read stops in front of one, though more is there behind it. And
+/// whether the socket lingers. The socket and the list of all sockets share it.
 #[derive(Drop)]
 pub(crate) struct Readiness {
     is_readable: AtomicBool,
     is_writable: AtomicBool,
     is_ending: AtomicBool,
+    is_urgent: AtomicBool,
     is_lingering: AtomicBool,
 }
 
@@ -22,6 +24,7 @@ impl Readiness {
             is_readable: AtomicBool::new(true),
             is_writable: AtomicBool::new(true),
             is_ending: AtomicBool::new(false),
+            is_urgent: AtomicBool::new(false),
             is_lingering: AtomicBool::new(false),
         }
     }
@@ -40,6 +43,19 @@ impl Readiness {
 
     pub(crate) fn set_ending(&self) {
         self.is_ending.store(true, Ordering::Relaxed);
+    }
+
+    pub(crate) fn is_urgent(&self) -> bool {
+        self.is_urgent.load(Ordering::Relaxed)
+    }
+
+    pub(crate) fn set_urgent(&self) {
+        self.is_urgent.store(true, Ordering::Relaxed);
+    }
+
+    /// Whether a read that gave fewer bytes than there was room for may have left some, or the end.
+    pub(crate) fn may_have_more(&self) -> bool {
+        self.is_ending() || self.is_urgent()
     }
 
     pub(crate) fn is_lingering(&self) -> bool {

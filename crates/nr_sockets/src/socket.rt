@@ -47,8 +47,8 @@ impl<T: Read + Write> Channel<T> {
         match self.stream.read(buffer) {
             Ok(0) => Received::End,
             Ok(count) => {
-                // Fewer than there was room for: no more were there, but maybe the end.
-                if count < buffer.len() && !self.readiness.is_ending() {
+                // Fewer than there was room for: no more were there, but maybe the end, or what stands behind an urgent byte.
+                if count < buffer.len() && !self.readiness.may_have_more() {
                     self.readiness.set_readable(false);
                 }
                 self.received.note(&buffer[..count]);

@@ -1,0 +1,20 @@
+-- It was served so far, so many bytes are left of it, and of those that may be taken.
+use Rattle.std.proofs.Common.{◌≡◌, ◌+◌, length}
+use Rattle.nr_service.specs.Readings.{IsNeverFed}
+use Rattle.nr_service.specs.Serving.{connection}
+use Rattle.nr_service.specs.Steps.{ServesOne, settled_past}
+use Rattle.nr_service.specs.Stories.{KeepsOthers, kept_bytes}
+use Rattle.nr_service.proofs.writing.write_on.Given as goal
+
+abbrev pub invariant-loop-left : goal.invariant-loop-left
+invariant-loop-left g l = record {
+  served : ServesOne g.S.Stream.received g.S.Stream.sent g.S.Stream.course (settled_past g.A.Answers.is_past g.A.Answers.is_settled) g.A.Answers.kept
+      IsNeverFed l.fn.answers l.answers l.fn.client l.client;
+  conn : l.client.conn ≡ l.fn.client.conn;
+  others : KeepsOthers (connection l.fn.client) (g.A.Answers.kept l.fn.answers) (g.A.Answers.kept l.answers);
+  left : l.left ≡ length (kept_bytes (g.A.Answers.kept l.answers (connection l.fn.client)));
+  taken : l.left + l.fn.most ≡ l.fn.first.kept + l.most;
+}
+
+abbrev pub decreases-loop-left : goal.decreases-loop-left
+decreases-loop-left g l = l.most
