@@ -37,7 +37,8 @@ pub struct Turned {
     pub combined: Result<Round, Memory>,
     /// Of handing out: a piece for each of the worker's connections for which bytes waited, or fewer, since memory ran out.
     pub collected: Result<(), Memory>,
-    /// Whether an entry that was reserved before isn't filled yet: else the node has passed all that there were, also where it is down.
+    /// Whether an entry that was reserved before isn't passed yet, since it isn't filled, or since too much waits for some connection: else the node has passed all
+    /// that there were, also where it is down.
     pub is_behind: bool,
     /// Whether an entry was put into the log.
     pub has_put: bool,
@@ -47,6 +48,8 @@ pub struct Turned {
     pub leads_update: bool,
     /// Whether the batch of the worker itself was answered, also by its coming back: then what is emitted for it was handed out behind that.
     pub is_answered: bool,
+    /// Whether a queue of the worker's connections was cut since it was told last.
+    pub has_cut: bool,
 }
 
 /// What came of handing out what waits for a worker's connections, without a turn.
@@ -55,6 +58,8 @@ pub struct Collected {
     /// A piece for each of the worker's connections for which bytes waited, or fewer, since memory ran out.
     pub result: Result<(), Memory>,
     pub is_down: bool,
+    /// Whether a queue of the worker's connections was cut since it was told last. Nothing rests on it.
+    pub has_cut: bool,
 }
 
 /// Why one wasn't opened where there is room.

@@ -194,8 +194,13 @@ impl<B: ServerName> Combiner<B> {
         let result = self.collect(worker, most, spares, taken);
         let (token, note) = self.keep();
         let is_down = self.is_down();
+        let has_cut = self.take_cut(worker);
         ToldPieces {
-            collected: Collected { result, is_down },
+            collected: Collected {
+                result,
+                is_down,
+                has_cut,
+            },
             token,
             note,
         }
@@ -230,6 +235,7 @@ impl<B: ServerName> Combiner<B> {
             others,
             leads_update,
             is_answered: is_marked(combined.answered, worker),
+            has_cut: told.collected.has_cut,
         };
         Told {
             turned,
@@ -252,6 +258,13 @@ impl<B: ServerName> Combiner<B> {
         ensures { self.new ≡ record self.old { node = refusing_node self.old.node } }
     {
         self.core.refuse();
+    }
+
+    // Whether a queue of the worker's connections was cut since this was last asked.
+    fn take_cut(&mut self, worker: usize) -> bool
+        ensures { self.new ≡ self.old }
+    {
+        self.core.take_cut(worker)
     }
 
     // Whether an entry is due.

@@ -22,25 +22,15 @@ use nr_slots::Slots;
 use std::alloc::Global;
 use std::hint;
 use std::marker::Model;
+use std::sync::atomic::{AtomicUsize, Ordering};
 use std::sync::{Arc, Mutex, MutexGuard, Wait};
 
-/// How often a node's lock is tried before it is waited for: some 20 microseconds.
+/// How often a node's lock is tried before it is waited for: some 20 microseconds. Who waits for it is put to sleep by the system and woken again, which takes longer
+/// than most turns, and those that come meanwhile queue behind.
 const TRIES: u32 = 400;
 
-// Takes a node's lock. It is tried for a while first: who waits for it is put to sleep by the system and woken again, which takes longer than most turns, and
-// those that come meanwhile queue behind.
-fn hold<'n, R: Wait, B: ServerName>(
-    rt: &R,
-    combiner: &'n Mutex<Combiner<B>>,
-) -> MutexGuard<'n, Combiner<B>> {
-    for _ in 0..TRIES {
-        if let Some(held) = combiner.try_lock() {
-            return held;
-        }
-        hint::spin_loop();
-    }
-    combiner.lock(rt)
-}
+/// How often one looks at most whether another has held the lock since: some 50 microseconds.
+const MOST_LOOKS: u32 = 1_000;
 
 /// A node, as its workers share it. Each call takes its lock once, for as long as its work takes. Contracts see which it is, its slots and its limits: what stands
 /// behind the lock changes between any two calls, so what they say of it is what was handed out.
@@ -53,6 +43,9 @@ pub struct Node<B: ServerName> {
     // How many connections are open at most, and how many bytes wait for one at most.
     connections: usize,
     limit: usize,
+    // How many wait for the lock, and how often it was held. Hints.
+    waiting: AtomicUsize,
+    holds: AtomicUsize,
 }
 
 impl<B: ServerName> Model for Node<B> {
@@ -89,6 +82,8 @@ impl<B: ServerName> Node<B> {
             slots,
             connections,
             limit,
+            waiting: AtomicUsize::new(0),
+            holds: AtomicUsize::new(0),
         }
     }
 
@@ -118,6 +113,62 @@ impl<B: ServerName> Node<B> {
         &self.slots
     }
 
+    // Takes the lock, where it is free.
+    fn try_hold(&self) -> Option<MutexGuard<'_, Combiner<B>>> {
+        let held = self.combiner.try_lock()?;
+        self.holds.fetch_add(1, Ordering::SeqCst);
+        Some(held)
+    }
+
+    // Takes the lock: it is tried for a while, and then waited for.
+    fn hold<R: Wait>(&self, rt: &R) -> MutexGuard<'_, Combiner<B>> {
+        if let Some(held) = self.try_hold() {
+            return held;
+        }
+        self.begin_to_wait();
+        let held = self.wait(rt);
+        self.end_waiting();
+        held
+    }
+
+    // Tries to take the lock for a while, and then waits for it.
+    fn wait<R: Wait>(&self, rt: &R) -> MutexGuard<'_, Combiner<B>> {
+        for _ in 0..TRIES {
+            if let Some(held) = self.try_hold() {
+                return held;
+            }
+            hint::spin_loop();
+        }
+        let held = self.combiner.lock(rt);
+        self.holds.fetch_add(1, Ordering::SeqCst);
+        held
+    }
+
+    /// One more waits for the lock: those who have just held it let it have its turn ([`Node::let_others`]). For each call there is one of [`Node::end_waiting`].
+    pub fn begin_to_wait(&self) {
+        self.waiting.fetch_add(1, Ordering::SeqCst);
+    }
+
+    /// One waits no more.
+    pub fn end_waiting(&self) {
+        self.waiting.fetch_sub(1, Ordering::SeqCst);
+    }
+
+    /// Where somebody waits for the lock: waits until another has held it, or nobody waits any more, at most some 50 microseconds. So one who takes the lock time and
+    /// again passes nobody over who is awake, and neither one who sleeps in the system nor one who never comes stops it. Two loads where nobody waits.
+    pub fn let_others(&self) {
+        let holds = self.holds.load(Ordering::SeqCst);
+        for _ in 0..MOST_LOOKS {
+            if self.waiting.load(Ordering::SeqCst) == 0 {
+                return;
+            }
+            if self.holds.load(Ordering::SeqCst) != holds {
+                return;
+            }
+            hint::spin_loop();
+        }
+    }
+
     /// [`Combiner::open`] behind the lock, of a connection that one of its workers serves, with a token and a note that keep how the node stands then: two loads
     /// more. [`OpenError::Down`] also where another node stands behind the lock, which there never is.
     pub fn open<R: Wait>(&self, rt: &R, worker: u8) -> Result<ToldOpened<B>, OpenError>
@@ -130,7 +181,7 @@ impl<B: ServerName> Node<B> {
         ensures sound { IfOk result (λ told. IsSound told.token.standing × (told.token.standing.node ≡ self.now.node)) }
         ensures named { IfOk result (λ told. told.note.slots ≡ B.slots self.now.node) }
     {
-        let mut combiner = hold(rt, &self.combiner);
+        let mut combiner = self.hold(rt);
         if combiner.node() != self.node() {
             return Err(OpenError::Down);
         }
@@ -141,12 +192,12 @@ impl<B: ServerName> Node<B> {
 
     /// [`Combiner::close`] behind the lock.
     pub fn close<R: Wait>(&self, rt: &R, conn: ConnId) {
-        self.combiner.lock(rt).close(conn);
+        self.hold(rt).close(conn);
     }
 
     /// [`Combiner::combine`] behind the lock.
     pub fn combine<R: Wait>(&self, rt: &R) -> Result<Round, Memory> {
-        self.combiner.lock(rt).combine()
+        self.hold(rt).combine()
     }
 
     /// [`Combiner::take_piece`] behind the lock. Its token keeps of which record the bytes are.
@@ -159,7 +210,32 @@ impl<B: ServerName> Node<B> {
         requires { 0 < most }
         ensures { IfOk result (λ taken. IfSome taken (λ t. IsPieceOf (connection_of conn) most t.0 t.1.standing)) }
     {
-        self.combiner.lock(rt).take_piece(conn, most)
+        self.hold(rt).take_piece(conn, most)
+    }
+
+    // [`Combiner::turn`] of what stands behind the lock.
+    fn turn_behind(
+        &self,
+        combiner: &mut Combiner<B>,
+        worker: usize,
+        lifts: Lifts,
+        most: usize,
+        spares: &mut Spares,
+        taken: &mut Vec<Handed>,
+    ) -> Option<Told<B>>
+        requires { 0 < most }
+        ensures turned { IfSome result (λ told. TurnsBehind B.places self.now.node worker lifts most taken.old.items taken.new.items told.turned told.token.standing told.note) }
+        ensures added { IfSome result (λ told. HasAdded most (tells_down told.turned.combined) told.token.standing (AreHandedIn (slice_index_or told.note.desks worker no_desk) (record_of told.token.standing.history)) taken.old.items taken.new.items) }
+        ensures own { IfSome result (λ told. HasOwn worker (slice_index_or told.note.desks worker no_desk) told.token.standing) }
+        ensures executed { IfSome result (λ told. HasExecuted (slice_index_or told.note.desks worker no_desk) told.token.standing) }
+        ensures sound { IfSome result (λ told. IsSound told.token.standing × (told.token.standing.node ≡ self.now.node)) }
+        ensures named { IfSome result (λ told. told.note.slots ≡ B.slots self.now.node) }
+        ensures none { IfNone result (taken.new.items ≡ taken.old.items) }
+    {
+        if combiner.node() != self.node {
+            return None;
+        }
+        Some(combiner.turn(worker, lifts, most, spares, taken))
     }
 
     /// [`Combiner::turn`] behind the lock, which it takes once. `None` where another node stands behind it, which there never is: then nothing is done.
@@ -181,11 +257,30 @@ impl<B: ServerName> Node<B> {
         ensures named { IfSome result (λ told. told.note.slots ≡ B.slots self.now.node) }
         ensures none { IfNone result (taken.new.items ≡ taken.old.items) }
     {
-        let mut combiner = hold(rt, &self.combiner);
-        if combiner.node() != self.node {
-            return None;
-        }
-        Some(combiner.turn(worker, lifts, most, spares, taken))
+        let mut combiner = self.hold(rt);
+        self.turn_behind(&mut combiner, worker, lifts, most, spares, taken)
+    }
+
+    /// The same where the lock is free: one try. `None` where it is held, too, and then nothing is done.
+    pub fn try_turn(
+        &self,
+        worker: usize,
+        lifts: Lifts,
+        most: usize,
+        spares: &mut Spares,
+        taken: &mut Vec<Handed>,
+    ) -> Option<Told<B>>
+        requires { 0 < most }
+        ensures turned { IfSome result (λ told. TurnsBehind B.places self.now.node worker lifts most taken.old.items taken.new.items told.turned told.token.standing told.note) }
+        ensures added { IfSome result (λ told. HasAdded most (tells_down told.turned.combined) told.token.standing (AreHandedIn (slice_index_or told.note.desks worker no_desk) (record_of told.token.standing.history)) taken.old.items taken.new.items) }
+        ensures own { IfSome result (λ told. HasOwn worker (slice_index_or told.note.desks worker no_desk) told.token.standing) }
+        ensures executed { IfSome result (λ told. HasExecuted (slice_index_or told.note.desks worker no_desk) told.token.standing) }
+        ensures sound { IfSome result (λ told. IsSound told.token.standing × (told.token.standing.node ≡ self.now.node)) }
+        ensures named { IfSome result (λ told. told.note.slots ≡ B.slots self.now.node) }
+        ensures none { IfNone result (taken.new.items ≡ taken.old.items) }
+    {
+        let mut combiner = self.try_hold()?;
+        self.turn_behind(&mut combiner, worker, lifts, most, spares, taken)
     }
 
     /// [`Combiner::collect_pieces`] behind the lock, which it takes once: what waits for a worker's connections is handed out without a turn. `None` where another
@@ -207,7 +302,7 @@ impl<B: ServerName> Node<B> {
         ensures named { IfSome result (λ told. told.note.slots ≡ B.slots self.now.node) }
         ensures none { IfNone result (taken.new.items ≡ taken.old.items) }
     {
-        let mut combiner = hold(rt, &self.combiner);
+        let mut combiner = self.hold(rt);
         if self.node != combiner.node() {
             return None;
         }
@@ -225,7 +320,7 @@ impl<B: ServerName> Node<B> {
         ensures all { OnOk result (CutsBehind self.now.node conns.now cut.old.items cut.new.items) }
         ensures front { OnErr result (CutsFrontBehind conns.now cut.old.items cut.new.items) }
     {
-        let combiner = self.combiner.lock(rt);
+        let combiner = self.hold(rt);
         if self.node() != combiner.node() {
             return Err(Memory);
         }
@@ -234,6 +329,6 @@ impl<B: ServerName> Node<B> {
 
     /// [`Combiner::refuse`] behind the lock. It is for tests.
     pub fn refuse<R: Wait>(&self, rt: &R) {
-        self.combiner.lock(rt).refuse();
+        self.hold(rt).refuse();
     }
 }

@@ -112,6 +112,31 @@ impl<B: ServerName> Worker<B> {
         Some((turned, token))
     }
 
+    /// The same where its node's lock is free: one try. `None` where it is held, too, and then nothing is done.
+    pub fn try_turn(
+        &mut self,
+        lifts: Lifts,
+        most: usize,
+        spares: &mut Spares,
+        taken: &mut Vec<Handed>,
+    ) -> Option<(Turned, Token<B>)>
+        requires { 0 < most }
+        ensures turned { IfSome result (λ told. (note : NoteView) × TurnsBehind B.places self.old.node self.old.seat.worker lifts most taken.old.items taken.new.items told.0 told.1.standing note) }
+        ensures heard { IfSome result (λ told. HasHeard self.old.seat.worker most (tells_down told.0.combined) told.1.standing self.old.seat.lane taken.old.items taken.new.items) }
+        ensures sound { IfSome result (λ told. IsSound told.1.standing × (told.1.standing.node ≡ self.old.node)) }
+        ensures none { IfNone result (taken.new.items ≡ taken.old.items) }
+        ensures same { self.new ≡ self.old }
+    {
+        let shared = &self.shared;
+        let Told {
+            turned,
+            token,
+            note,
+        } = shared.try_turn(self.worker, lifts, most, spares, taken)?;
+        self.seat.hear(self.shared.slots(), note);
+        Some((turned, token))
+    }
+
     /// What waits for its connections, without a turn: [`Combiner::collect_pieces`](crate::Combiner::collect_pieces) behind the lock, which it takes once, and whose
     /// note it hears then by two loads. So it gets what another worker's turn made for it, and says of that what a turn says. `None` where another node stands
     /// behind the lock, which there never is: then nothing is done.

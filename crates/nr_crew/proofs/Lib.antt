@@ -1,5 +1,4 @@
 mod Dealt
-mod Parting
 mod Remains
 mod Together
 pub mod Fresh

@@ -10,6 +10,5 @@ mod dealing;
 mod gate;
 mod lane;
 mod nodes;
-mod others;
 mod running;
 mod serving;

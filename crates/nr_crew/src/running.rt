@@ -22,7 +22,7 @@ use std::thread::{self, PromisedHandle, Scope, Threads};
 /// Why a server's workers ended before they were to.
 #[derive(Clone, Copy, Debug, PartialEq, Eq)]
 pub enum ServeError {
-    /// Memory ran out for all of them, or every node is down.
+    /// Every node is down, or memory ran out for a worker.
     Memory,
     /// No connection can come any more, or a worker can't wait for those that it has.
     Device,
@@ -122,7 +122,7 @@ fn ended_by<S, D, M>(
     if !comes_more || lefts.iter().any(|left| left.ended == Ended::Device) {
         return Err(ServeError::Device);
     }
-    if !lefts.is_empty() && lefts.iter().all(|left| left.ended == Ended::Memory) {
+    if lefts.iter().any(|left| left.ended == Ended::Memory) {
         return Err(ServeError::Memory);
     }
     Ok(())
@@ -318,8 +318,9 @@ where
 
 /// Serves by these lanes, each on a thread of its own, and deals the connections out to them that come from `main`: connection number x, from 0 on, goes to node
 /// x mod nodes, worker (x / nodes) mod workers, or to that worker of the next node that takes it. The lanes stand in the order of their nodes, and of the workers of
-/// each: worker w of node n is lane n * workers + w. At most `limit` bytes wait for a connection. It ends once the gate stopped all workers, memory ran out for all or
-/// every node is down, no connection can come any more, or the crew is told to stop: then all end, and what they left is handed back with `main`.
+/// each: worker w of node n is lane n * workers + w. At most `limit` bytes wait for a connection. It ends once the gate stopped all workers, every
+/// node is down, one of them can't wait any more, no connection can come any more, or the crew is told to stop: then all end, and what they left is handed back with
+/// `main`.
 ///
 /// # Errors
 ///

@@ -9,6 +9,8 @@ pub(crate) struct Line {
     pub from: usize,
     /// It stays once all was sent, and never ends.
     pub stays: bool,
+    /// It stays until it got all that it wants.
+    pub waits: bool,
     /// How many bytes a call gives or takes at most.
     pub piece: usize,
     /// It takes none of its replies.
@@ -31,6 +33,7 @@ impl Line {
         Line {
             from: 0,
             stays: false,
+            waits: false,
             piece: usize::MAX,
             is_deaf: false,
             reads: usize::MAX,
@@ -78,7 +81,8 @@ impl Stream for Line {
         }
         let left = self.input.get(self.given..).unwrap_or(b"");
         let count = left.len().min(buffer.len()).min(self.piece);
-        if left.is_empty() && !self.stays {
+        let stays = self.stays || (self.waits && !self.is_answered());
+        if left.is_empty() && !stays {
             return Received::End;
         }
         if count == 0 {

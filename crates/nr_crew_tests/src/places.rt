@@ -27,6 +27,16 @@ impl Moments for Still {
     }
 }
 
+/// How a door breaks, once it has given a connection.
+#[derive(Clone, Copy, Debug, PartialEq, Eq)]
+pub(crate) enum Breaks {
+    Never,
+    /// It has no memory for the next one.
+    Memory,
+    /// It can't wait any more.
+    Wait,
+}
+
 // Where the connections of a lane come from, and go.
 #[derive(Drop)]
 struct Door<'a, R> {
@@ -34,8 +44,8 @@ struct Door<'a, R> {
     watch: &'a Watch,
     letters: &'a Letters,
     lane: usize,
-    // So many connections it takes, and then memory is refused once.
-    room: usize,
+    breaks: Breaks,
+    has_given: bool,
     gone: Vec<Line>,
     // How many of these it told of.
     told: usize,
@@ -52,12 +62,11 @@ impl<R: Abort> Door<'_, R> {
 
 impl<R: Wait + Abort> Device<Line> for Door<'_, R> {
     fn accept(&mut self) -> Result<Option<Line>, Memory> {
-        if self.room == 0 {
-            self.room = usize::MAX;
+        if self.has_given && self.breaks == Breaks::Memory {
             return Err(Memory);
         }
         let line = self.letters.lock(self.rt).pop_front();
-        self.room = self.room.saturating_sub(usize::from(line.is_some()));
+        self.has_given |= line.is_some();
         Ok(line)
     }
 
@@ -70,7 +79,7 @@ impl<R: Wait + Abort> Device<Line> for Door<'_, R> {
         if !is_busy {
             thread::yield_now();
         }
-        true
+        !(self.has_given && self.breaks == Breaks::Wait)
     }
 
     fn finish(&mut self, mut line: Line) {
@@ -126,10 +135,11 @@ impl<R: Wait + Abort> Accepts for Arrivals<'_, R> {
     }
 }
 
-/// A server of two nodes, of one worker each or of two.
+/// A server of so many nodes, with so many workers each.
 #[derive(Clone, Copy)]
 pub(crate) struct Trial {
-    pub is_single: bool,
+    pub nodes: usize,
+    pub workers: usize,
     pub places: usize,
     pub connections: usize,
     /// How many bytes wait for a connection at most.
@@ -137,8 +147,8 @@ pub(crate) struct Trial {
     /// How many of the connections stay to the end.
     pub stay: usize,
     pub held: Held,
-    /// Memory is refused to the first worker once it has taken a connection.
-    pub is_short: bool,
+    /// How the first worker's door breaks.
+    pub breaks: Breaks,
     /// The first node falls over the first entry.
     pub falls: bool,
     /// After how many waits no connection can come any more.
@@ -155,11 +165,15 @@ pub(crate) struct Came {
     pub gave_up: bool,
 }
 
-fn size_of(trial: Trial) -> Size {
+// The size of its server, where a server may have that.
+fn size_of<R: Abort>(rt: &R, trial: Trial) -> Size {
+    if trial.nodes < 1 || trial.nodes > 8 || trial.workers < 1 || trial.workers > 16 {
+        panic!(rt; "no server has so many nodes and workers");
+    }
     Size {
         shape: Shape {
-            nodes: 2,
-            workers: if trial.is_single { 1 } else { 2 },
+            nodes: trial.nodes,
+            workers: trial.workers,
         },
         places: trial.places,
         connections: trial.connections,
@@ -173,7 +187,7 @@ fn places_of<'a, R: Abort>(
     alloc: Global,
     watch: &'a Watch,
     letters: &'a [Letters],
-    is_short: bool,
+    breaks: Breaks,
 ) -> Vec<Place<Door<'a, R>, Still>> {
     let mut places = Vec::new(alloc);
     for (lane, letters) in letters.iter().enumerate() {
@@ -182,7 +196,8 @@ fn places_of<'a, R: Abort>(
             watch,
             letters,
             lane,
-            room: if is_short && lane == 0 { 1 } else { usize::MAX },
+            breaks: if lane == 0 { breaks } else { Breaks::Never },
+            has_given: false,
             gone: Vec::new(alloc),
             told: 0,
         };
@@ -208,7 +223,7 @@ fn serve_by<'a, R>(
 where
     R: Threads + Wait + Abort + Sync,
 {
-    let size = size_of(trial);
+    let size = size_of(rt, trial);
     if trial.falls {
         return serve_falling::<R, Line, Door<'_, R>, Still, Watch, Arrivals<'_, R>>(
             rt, alloc, keys, size, places, arrivals, watch,
@@ -227,7 +242,7 @@ where
     let wanted = lines.len().saturating_sub(trial.stay);
     let watch = Watch::new(wanted, trial.held);
     let mut letters = Vec::new(alloc);
-    for _ in 0..4 {
+    for _ in 0..trial.nodes.saturating_mul(trial.workers) {
         let empty = Mutex::new(VecDeque::new(alloc));
         letters.push(empty).ok().expect(rt, "memory");
     }
@@ -241,7 +256,7 @@ where
         dealt: Vec::new(alloc),
         waits: trial.waits,
     };
-    let places = places_of(rt, alloc, &watch, &letters, trial.is_short);
+    let places = places_of(rt, alloc, &watch, &letters, trial.breaks);
     let keys = RandomState::new(rt).ok().expect(rt, "random bytes");
     let served = serve_by(rt, alloc, keys, trial, places, arrivals, &watch);
     let (served, arrivals) = served.ok().expect(rt, "memory");

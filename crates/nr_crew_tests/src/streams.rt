@@ -1,23 +1,27 @@
 // Connections in memory, at two nodes.
 use crate::asserted::holds;
 use crate::line::Line;
-use crate::places::{Came, Trial, serve};
+use crate::places::{Breaks, Came, Trial, serve};
 use crate::watch::Held;
 use nr_crew::ServeError;
 use nr_lane::Crew;
 use nr_service::Silent;
 use std::alloc::Global;
 use std::process::Abort;
+use std::random::RandomSource;
+use std::sync::Wait;
+use std::thread::Threads;
 
-/// Two workers a node, and room for all.
+/// Two nodes, two workers each, and room for all.
 const TRIAL: Trial = Trial {
-    is_single: false,
+    nodes: 2,
+    workers: 2,
     places: 1_024,
     connections: 256,
     limit: 1_048_576,
     stay: 0,
     held: Held::Nobody,
-    is_short: false,
+    breaks: Breaks::Never,
     falls: false,
     waits: u64::MAX,
 };
@@ -85,7 +89,7 @@ fn gate(rt: HostRuntime) {
         let mut lines = Vec::new(rt.alloc());
         add_pings(&rt, rt.alloc(), 2, 0, &mut lines);
         let mut trial = TRIAL;
-        trial.is_single = true;
+        trial.workers = 1;
         trial.held = Held::Node(held);
         let came = serve(&rt, rt.alloc(), trial, lines);
         holds(&rt, "both answer", served_well(&rt, &came, 2) == 2);
@@ -146,10 +150,68 @@ fn an_idle_node_holds_nobody_up(rt: HostRuntime) {
     line.piece = 9;
     lines.push(line).ok().expect(&rt, "memory");
     let mut trial = TRIAL;
-    trial.is_single = true;
+    trial.workers = 1;
     trial.places = 2;
     let came = serve(&rt, rt.alloc(), trial, lines);
     holds(&rt, "all are set", served_well(&rt, &came, 1) == 1);
+}
+
+// One of two nodes is held up until the other has put 5,000 entries into the log: then it passes them all, and reads behind them.
+#[test]
+fn far_behind(rt: HostRuntime) {
+    let mut lines = Vec::new(rt.alloc());
+    let set = (b"SET k v\r\n".as_slice(), b"+OK\r\n".as_slice());
+    let mut writes = client(&rt, rt.alloc(), 0, set, 5_000);
+    writes.piece = 9;
+    lines.push(writes).ok().expect(&rt, "memory");
+    let get = (b"GET k\r\n".as_slice(), b"$1\r\nv\r\n".as_slice());
+    let reads = client(&rt, rt.alloc(), 0, get, 1);
+    lines.push(reads).ok().expect(&rt, "memory");
+    let mut trial = TRIAL;
+    trial.workers = 1;
+    trial.places = 8_192;
+    trial.held = Held::Node(1);
+    let came = serve(&rt, rt.alloc(), trial, lines);
+    holds(&rt, "all are answered", served_well(&rt, &came, 2) == 2);
+}
+
+const SUBSCRIBES: (&[u8], &[u8]) = (
+    b"SUBSCRIBE c\r\n",
+    b"*3\r\n$9\r\nsubscribe\r\n$1\r\nc\r\n:1\r\n*3\r\n$7\r\nmessage\r\n$1\r\nc\r\n$1\r\nm\r\n",
+);
+
+/// Once all others went, one sets a key at the worker of the subscribers, and behind that one publishes at another.
+const PUBLISHES: [(usize, &[u8], &[u8]); 2] = [
+    (980, b"SET k v\r\n", b"+OK\r\n"),
+    (981, b"PUBLISH c m\r\n", b":70\r\n"),
+];
+
+// Of five nodes with three workers each one worker has 70 subscribers, and all get what is published at another node.
+#[test]
+fn many_at_one_worker(rt: HostRuntime) {
+    let mut lines = Vec::new(rt.alloc());
+    for number in 0..1_050 {
+        let is_subscriber = number % 15 == 0;
+        let row = if is_subscriber { SUBSCRIBES } else { PING };
+        let mut line = client(&rt, rt.alloc(), 0, row, 1);
+        line.waits = is_subscriber;
+        lines.push(line).ok().expect(&rt, "memory");
+    }
+    for row in PUBLISHES {
+        lines
+            .push(comes(&rt, rt.alloc(), row))
+            .ok()
+            .expect(&rt, "memory");
+    }
+    let mut trial = TRIAL;
+    trial.nodes = 5;
+    trial.workers = 3;
+    let came = serve(&rt, rt.alloc(), trial, lines);
+    holds(
+        &rt,
+        "all are answered",
+        served_well(&rt, &came, 1_052) == 1_052,
+    );
 }
 
 // Connections go to the nodes in turn, and to the workers of each.
@@ -226,7 +288,7 @@ fn who_goes_takes_no_time(rt: HostRuntime) {
         lines.push(line).ok().expect(&rt, "memory");
     }
     let mut trial = TRIAL;
-    trial.is_single = true;
+    trial.workers = 1;
     let came = serve(&rt, rt.alloc(), trial, lines);
     holds(
         &rt,
@@ -266,34 +328,36 @@ fn no_more_waits_than_may(rt: HostRuntime) {
     // One comes to the node of each.
     add_pings(&rt, rt.alloc(), 2, 4, &mut lines);
     let mut trial = TRIAL;
-    trial.is_single = true;
+    trial.workers = 1;
     trial.limit = 1_000;
     trial.stay = 1;
     let came = serve(&rt, rt.alloc(), trial, lines);
     holds(&rt, "one is lost", served_well(&rt, &came, 6) == 5);
 }
 
-// Memory is refused to the worker of the first of two nodes: it lets go of its client, and of each that is dealt to it then, whose room comes back; and it passes what the
-// other one puts into a log of two places.
-#[test]
-fn a_worker_without_memory_holds_nobody_up(rt: HostRuntime) {
-    let mut lines = Vec::new(rt.alloc());
-    for number in 0..8 {
-        let set = (b"SET k v\r\n".as_slice(), b"+OK\r\n".as_slice());
-        let mut line = client(&rt, rt.alloc(), 0, set, 100);
-        line.from = number;
-        line.piece = 9;
-        line.is_lost = number % 2 == 0;
-        lines.push(line).ok().expect(&rt, "memory");
+// Of two workers the first ends as its door breaks, with a client at each that stays: both end, and it is told why.
+fn ends_all<R>(rt: &R, alloc: Global, breaks: Breaks, why: ServeError)
+where
+    R: RandomSource + Threads + Wait + Abort + Sync,
+{
+    let mut lines = Vec::new(alloc);
+    for _ in 0..2 {
+        let mut line = client(rt, alloc, 0, PING, 1);
+        line.stays = true;
+        lines.push(line).ok().expect(rt, "memory");
     }
     let mut trial = TRIAL;
-    trial.is_single = true;
-    trial.is_short = true;
-    trial.places = 2;
-    trial.connections = 2;
-    let came = serve(&rt, rt.alloc(), trial, lines);
-    holds(&rt, "half are served", served_well(&rt, &came, 8) == 4);
-    went_to(&rt, &came, &[0, 1, 0, 1, 0, 1, 0, 1].map(Some));
+    trial.workers = 1;
+    trial.breaks = breaks;
+    let came = serve(rt, alloc, trial, lines);
+    holds(rt, "it is told why", came.ended == Err(why));
+    holds(rt, "both end", came.workers == 2 && !came.gave_up);
+}
+
+#[test]
+fn a_worker_that_ends_ends_all(rt: HostRuntime) {
+    ends_all(&rt, rt.alloc(), Breaks::Wait, ServeError::Device);
+    ends_all(&rt, rt.alloc(), Breaks::Memory, ServeError::Memory);
 }
 
 /// One that says nothing is at each node, at that which falls and at the other; behind them one is answered at the first, and then a key is set at the other, which all
@@ -317,7 +381,7 @@ fn a_fall_holds_nobody_up(rt: HostRuntime) {
         lines.push(line).ok().expect(&rt, "memory");
     }
     let mut trial = TRIAL;
-    trial.is_single = true;
+    trial.workers = 1;
     trial.falls = true;
     trial.stay = 1;
     let came = serve(&rt, rt.alloc(), trial, lines);

@@ -45,6 +45,7 @@ enum Clients {
     ReadBack,
     CloseHalf,
     SendMuch,
+    SendOn,
 }
 
 // The number of a reply `:N`.
@@ -138,6 +139,18 @@ fn close_half<R: Loopback>(rt: &R, alloc: Global, address: SocketAddr) -> io::Re
     Ok(answer.strip_prefix(b"+OK\r\n".as_slice()) == Some(replies.as_slice()))
 }
 
+// A client that sends on behind its QUIT, four mebibytes of which nobody reads a command, and reads then, gets all replies, and then the end.
+fn send_on<R: Loopback>(rt: &R, alloc: Global, address: SocketAddr) -> io::Result<bool> {
+    let more = b"x".repeat(alloc, 4_194_304)?;
+    let mut stream = TcpStream::connect(rt, address)?;
+    stream.write_all(b"SET last v\r\nGET last\r\nQUIT\r\n")?;
+    stream.write_all(&more)?;
+    stream.shutdown(Shutdown::Write)?;
+    let mut answer = Vec::new(alloc);
+    stream.read_to_end(&mut answer)?;
+    Ok(answer.as_slice() == b"+OK\r\n$1\r\nv\r\n+OK\r\n".as_slice())
+}
+
 // Whether a key goes at its deadline.
 fn expires(alloc: Global, stream: &mut TcpStream) -> io::Result<bool> {
     for _ in 0..1_000_000 {
@@ -200,6 +213,7 @@ fn serves<R: Loopback>(rt: &R, alloc: Global, listen: &str, clients: Clients, wh
                 Clients::ReadBack => read_back(rt, alloc, address),
                 Clients::CloseHalf => close_half(rt, alloc, address),
                 Clients::SendMuch => send_much(rt, alloc, address),
+                Clients::SendOn => send_on(rt, alloc, address),
             };
             watch.goes();
             is_so.ok()
@@ -219,5 +233,6 @@ fn tcp(rt: HostRuntime) -> Result<(), Fail> {
     serves(&rt, rt.alloc(), FREE, Clients::Count, "all is counted");
     serves(&rt, rt.alloc(), FREE, Clients::ReadBack, "it is read");
     serves(&rt, rt.alloc(), FREE, Clients::CloseHalf, "all is sent");
+    serves(&rt, rt.alloc(), FREE, Clients::SendOn, "all stays sent");
     Ok(())
 }

@@ -109,7 +109,7 @@ works_posted true v w posted same g =
     (ap (λ (x : WorkState). x.worker.node) posted.changed ∙ ap (λ (x : WorkerState). x.node) posted.posted.posted)
 works_posted false v w posted same g = works_still v w g same
 
-pub works_turned : (turned : Option Turned) (v w : WorkState) → IfSome turned (λ _. HandsOn v w) → IfNone turned (w ≡ v) → Works v w
+pub works_turned : {A : Type 0} (turned : Option A) (v w : WorkState) → IfSome turned (λ _. HandsOn v w) → IfNone turned (w ≡ v) → Works v w
 works_turned (Some turned) v w on same = record { handed = on.handed; goes = on.goes; waiting = on.waiting; node = ap (λ (x : WorkState). x.worker.node) on.changed }
 works_turned None v w on same =
     subst (Works v) (sym same) (record {
@@ -127,7 +127,7 @@ works_collected (Some told) v w s same g =
 works_collected None v w s same g = works_still v w g same
 
 pub works_same : (v : WorkState) → Works v v
-works_same v = works_turned None v v tt refl
+works_same v = works_turned {A = Turned} None v v tt refl
 
 -- ---- no more bytes are taken from one
 abbrev pending_of : Option SeatState → Option Bytes

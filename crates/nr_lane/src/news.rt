@@ -29,4 +29,13 @@ impl News {
         self.has_put |= turned.has_put;
         self.was_full |= matches!(turned.combined, Ok(Round::Full));
     }
+
+    /// This and what others found.
+    pub(crate) fn with(self, more: News) -> News {
+        News {
+            others: self.others | more.others,
+            has_put: self.has_put | more.has_put,
+            was_full: self.was_full | more.was_full,
+        }
+    }
 }

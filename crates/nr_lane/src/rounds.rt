@@ -4,10 +4,11 @@ ghost use Rattle.std.specs.Bool.{OnFalse};
 ghost use Rattle.nr_lane.specs.Works.{IsIdle, Works};
 
 use crate::news::News;
-use nr_combiner::{Lifts, ServerName, Turned};
+use nr_combiner::{Collected, Lifts, ServerName, Turned};
 use nr_entry::{ConnId, Refusal};
 use nr_node::Round;
 use nr_worker::{Desk, Settled};
+use std::hint;
 use std::sync::Wait;
 
 /// How many turns a work takes at most.
@@ -15,6 +16,10 @@ const MOST_TURNS: u32 = 64;
 
 /// How many bytes a turn hands out for a connection: all that wait.
 const EVERY: usize = usize::MAX;
+
+/// How often a desk tries to take its node's lock, and looks whether its batch was answered meanwhile, before it is put to sleep until the lock is free: some 20
+/// microseconds.
+const TRIES: u32 = 400;
 
 // What is done behind a turn.
 #[derive(Clone, Copy, Debug, PartialEq, Eq)]
@@ -27,12 +32,25 @@ enum Next {
     Later,
 }
 
+// What came of waiting for a turn.
+#[derive(Clone, Copy, Debug)]
+enum Waited {
+    /// It was taken.
+    Turned(Turned),
+    /// None was: the batch was answered meanwhile in another's.
+    Settled(Settled),
+    /// None was, since another node stands behind the lock.
+    Nothing,
+}
+
 /// What a work comes to.
 #[derive(Clone, Copy, Debug)]
 pub(crate) struct Worked {
     pub news: News,
     /// Its node is down.
     pub is_down: bool,
+    /// A queue of one of its connections was cut.
+    pub has_cut: bool,
     /// Something is left to be done.
     pub is_busy: bool,
 }
@@ -44,11 +62,25 @@ fn hand_in<R: Wait, B: ServerName>(desk: &mut Desk<'_, R, B>)
     let _is_posted = desk.post();
 }
 
-// A turn at its node.
+// A turn at its node, once its lock is free.
 fn turn<R: Wait, B: ServerName>(desk: &mut Desk<'_, R, B>) -> Option<Turned>
     ensures { Works desk.old desk.new }
 {
     desk.turn(Lifts::All, EVERY)
+}
+
+// A turn at its node, where its lock is free.
+fn try_turn<R: Wait, B: ServerName>(desk: &mut Desk<'_, R, B>) -> Option<Turned>
+    ensures { Works desk.old desk.new }
+{
+    desk.try_turn(Lifts::All, EVERY)
+}
+
+// What waits at its node, without a turn.
+fn collect_pieces<R: Wait, B: ServerName>(desk: &mut Desk<'_, R, B>) -> Option<Collected>
+    ensures { Works desk.old desk.new }
+{
+    desk.collect_pieces(EVERY)
 }
 
 // What became of the batch, where that is known.
@@ -77,29 +109,124 @@ fn next_done(turned: Turned, settled: Option<Settled>, is_at_work: bool) -> Next
     Next::Rest
 }
 
-// What is done behind a turn.
+// What is done behind a turn: where entries are left that can't be passed yet, what was handed out is written first.
 fn next_of(turned: Turned, settled: Option<Settled>, is_at_work: bool) -> Next {
     match turned.combined {
-        Ok(Round::Done) => next_done(turned, settled, is_at_work),
         Ok(Round::Down) if is_at_work => Next::Turn,
         Ok(Round::Down) => Next::Rest,
+        _ if turned.is_behind => Next::Later,
+        Ok(Round::Done) => next_done(turned, settled, is_at_work),
         Ok(Round::Again) => Next::Turn,
         Ok(Round::Full | Round::NotYet) | Err(_) => Next::Later,
     }
 }
 
-// Hands jobs in, takes a turn, and takes in what became of the batch.
+// What is done once what waited was handed out without a turn, since the batch was answered.
+fn next_collected(collected: Collected, settled: Settled, is_at_work: bool) -> Next {
+    if collected.result.is_err() || came_back(Some(settled)) {
+        return Next::Later;
+    }
+    if is_at_work { Next::Turn } else { Next::Rest }
+}
+
+// Tries to take a turn for a while, and looks whether the batch was answered meanwhile. `None` where neither was.
+fn try_for_a_while<R: Wait, B: ServerName>(desk: &mut Desk<'_, R, B>) -> Option<Waited>
+    ensures { Works desk.old desk.new }
+{
+    for _ in 0..TRIES {
+        if let Some(settled) = collect(desk) {
+            return Some(Waited::Settled(settled));
+        }
+        if let Some(turned) = try_turn(desk) {
+            return Some(Waited::Turned(turned));
+        }
+        hint::spin_loop();
+    }
+    None
+}
+
+// The same, counted as one who waits for the lock.
+fn try_counted<R: Wait, B: ServerName>(desk: &mut Desk<'_, R, B>) -> Option<Waited>
+    ensures { Works desk.old desk.new }
+{
+    desk.begin_to_wait();
+    let waited = try_for_a_while(desk);
+    desk.end_waiting();
+    waited
+}
+
+// A turn at its node: at once where its lock is free, else as soon as it is, unless the batch is answered before that.
+fn wait_for_turn<R: Wait, B: ServerName>(desk: &mut Desk<'_, R, B>) -> Waited
+    ensures { Works desk.old desk.new }
+{
+    if let Some(turned) = try_turn(desk) {
+        return Waited::Turned(turned);
+    }
+    if let Some(waited) = try_counted(desk) {
+        return waited;
+    }
+    match turn(desk) {
+        Some(turned) => Waited::Turned(turned),
+        None => Waited::Nothing,
+    }
+}
+
+// Takes in what became of the batch behind a turn.
+fn go_on_behind<R: Wait, B: ServerName>(
+    desk: &mut Desk<'_, R, B>,
+    turned: Turned,
+    worked: &mut Worked,
+) -> Next
+    ensures { Works desk.old desk.new }
+{
+    let settled = collect(desk);
+    worked.news.add(turned);
+    worked.is_down |= turned.combined == Ok(Round::Down) || settled == Some(Settled::Down);
+    worked.has_cut |= turned.has_cut;
+    next_of(turned, settled, desk.is_at_work())
+}
+
+// Takes in what waits for its connections, once the batch was answered in another's turn.
+fn go_on_answered<R: Wait, B: ServerName>(
+    desk: &mut Desk<'_, R, B>,
+    settled: Settled,
+    worked: &mut Worked,
+) -> Next
+    ensures { Works desk.old desk.new }
+{
+    let Some(collected) = collect_pieces(desk) else {
+        return Next::Later;
+    };
+    worked.is_down |= collected.is_down || settled == Settled::Down;
+    worked.has_cut |= collected.has_cut;
+    next_collected(collected, settled, desk.is_at_work())
+}
+
+// Hands jobs in, waits for a turn, and takes in what became of the batch.
 fn take_turn<R: Wait, B: ServerName>(desk: &mut Desk<'_, R, B>, worked: &mut Worked) -> Next
     ensures { Works desk.old desk.new }
 {
     hand_in(desk);
-    let Some(turned) = turn(desk) else {
+    match wait_for_turn(desk) {
+        Waited::Turned(turned) => go_on_behind(desk, turned, worked),
+        Waited::Settled(settled) => go_on_answered(desk, settled, worked),
+        Waited::Nothing => Next::Later,
+    }
+}
+
+// The same, and where more than so many bytes wait for some connection behind it, they are written before the next.
+fn take_bounded<R: Wait, B: ServerName>(
+    desk: &mut Desk<'_, R, B>,
+    worked: &mut Worked,
+    enough: usize,
+) -> Next
+    ensures { Works desk.old desk.new }
+{
+    let next = take_turn(desk, worked);
+    if next == Next::Turn && desk.most_waiting() > enough {
         return Next::Later;
-    };
-    let settled = collect(desk);
-    worked.news.add(turned);
-    worked.is_down |= turned.combined == Ok(Round::Down) || settled == Some(Settled::Down);
-    next_of(turned, settled, desk.is_at_work())
+    }
+    next
 }
 
 // Takes no more bytes from a connection.
@@ -130,33 +257,43 @@ fn hear_in_time<R: Wait, B: ServerName>(desk: &mut Desk<'_, R, B>, is_time: bool
     }
 }
 
-// Takes turns until nothing is left to be done, or others have to do something first, at most 64. Whether something is left.
-fn take_turns<R: Wait, B: ServerName>(desk: &mut Desk<'_, R, B>, worked: &mut Worked) -> bool
+// Takes turns until nothing is left to be done, others have to do something first, or what was handed out has to be written, at most 64. Whether something is left.
+// Between two of them others have the lock who wait for it.
+fn take_turns<R: Wait, B: ServerName>(
+    desk: &mut Desk<'_, R, B>,
+    worked: &mut Worked,
+    enough: usize,
+) -> bool
     ensures { Works desk.old desk.new }
 {
     for _ in 0..MOST_TURNS {
-        match take_turn(desk, worked) {
+        match take_bounded(desk, worked, enough) {
             Next::Rest => return false,
             Next::Later => return true,
-            Next::Turn => {}
+            Next::Turn => desk.let_others(),
         }
     }
     true
 }
 
-/// Has the work of a desk done, until nothing is left to be done or others have to do something first: at most 64 turns, each of which takes the lock once. Where
-/// it is time to, it hears before which queues its node has cut.
-pub(crate) fn work_on<R: Wait, B: ServerName>(desk: &mut Desk<'_, R, B>, is_time: bool) -> Worked
+/// Has the work of a desk done, until nothing is left to be done, others have to do something first, or more than `enough` bytes wait for some connection that it was
+/// handed something for: at most 64 turns, each of which takes the lock once. Where it is time to, it hears before which queues its node has cut.
+pub(crate) fn work_on<R: Wait, B: ServerName>(
+    desk: &mut Desk<'_, R, B>,
+    is_time: bool,
+    enough: usize,
+) -> Worked
     ensures works { Works desk.old desk.new }
     ensures rest { result.is_busy ≡ false → IsIdle desk.new }
 {
     let mut worked = Worked {
         news: News::none(),
         is_down: false,
+        has_cut: false,
         is_busy: false,
     };
     hear_in_time(desk, is_time);
-    let has_rest = take_turns(desk, &mut worked);
+    let has_rest = take_turns(desk, &mut worked, enough);
     worked.is_busy = has_rest | desk.is_at_work();
     worked
 }

@@ -17,6 +17,7 @@ use nr_service::{Answers, Rings, Standing};
 use nr_taps::Mark;
 use nr_worker::Desk;
 use std::alloc::Global;
+use std::cell::Cell;
 use std::marker::Model;
 use std::sync::Wait;
 
@@ -33,10 +34,14 @@ pub struct ServingDesk<'a, R, B: ServerName, K> {
     crew: &'a Crew<K>,
     // Which worker of its node it is.
     worker: usize,
-    // What the last work found for others.
-    news: News,
+    // What its works found for others that wasn't passed on yet.
+    news: Cell<News>,
     is_busy: bool,
     is_down: bool,
+    // Behind how many bytes that wait for a connection a work ends, so that they are written.
+    enough: usize,
+    // A queue of one of its connections was cut in the last work: the next one hears which.
+    has_cut: bool,
     // How many works it has done, counted to 256.
     works: u8,
 }
@@ -59,8 +64,8 @@ fn capped(milliseconds: u64) -> u64
 }
 
 impl<'a, R: Wait, B: ServerName, K: Rings> ServingDesk<'a, R, B, K> {
-    /// The desk of a worker that has handed in nothing, which is this worker of its node, with no connections. At most `limit` bytes wait for each. It takes no
-    /// memory.
+    /// The desk of a worker that has handed in nothing, which is this worker of its node, with no connections. At most `limit` bytes wait for each, and a work ends
+    /// once more than `enough` do. It takes no memory.
     pub fn new(
         alloc: Global,
         rt: &'a R,
@@ -68,6 +73,7 @@ impl<'a, R: Wait, B: ServerName, K: Rings> ServingDesk<'a, R, B, K> {
         number: usize,
         crew: &'a Crew<K>,
         limit: usize,
+        enough: usize,
     ) -> ServingDesk<'a, R, B, K>
         requires { worker ≡ fresh_worker (shared_of worker) worker.seat.worker }
         ensures past { (setup : Setup) → HasLedTo result (beginning setup) }
@@ -78,9 +84,11 @@ impl<'a, R: Wait, B: ServerName, K: Rings> ServingDesk<'a, R, B, K> {
             desk: Desk::new(alloc, rt, worker, limit),
             crew,
             worker: number,
-            news: News::none(),
+            news: Cell::new(News::none()),
             is_busy: false,
             is_down: false,
+            enough,
+            has_cut: false,
             works: 0,
         }
     }
@@ -91,12 +99,6 @@ impl<'a, R: Wait, B: ServerName, K: Rings> ServingDesk<'a, R, B, K> {
         ensures left { self.new.desk ≡ without_mark self.old.desk }
     {
         self.desk.take_mark()
-    }
-
-    /// A turn of its node's combiner for the other workers of the node, in which nothing is handed out here: for one that serves nobody any more. It takes the lock
-    /// once.
-    pub fn turn_for_others(&self) {
-        self.desk.turn_for_others();
     }
 }
 
@@ -138,6 +140,12 @@ impl<'a, R: Wait, B: ServerName, K: Rings> Answers for ServingDesk<'a, R, B, K> 
         Ok(None)
     }
 
+    /// The room that was taken for it as it was dealt out comes back.
+    fn turn_away(&mut self) -> Result<(), Memory> {
+        self.crew.leave(self.desk.node());
+        Ok(())
+    }
+
     fn standing(&self, conn: ConnId) -> Standing {
         if self.is_down {
             return Standing::Down;
@@ -158,15 +166,18 @@ impl<'a, R: Wait, B: ServerName, K: Rings> Answers for ServingDesk<'a, R, B, K> 
         Ok(())
     }
 
-    /// At most 64 turns of its node. Where memory runs out what is left waits. Each 64th work hears which queues its node has cut.
+    /// At most 64 turns of its node. Where memory runs out what is left waits. A work behind one in which a queue was cut hears which ones its node has cut, and so
+    /// does each 64th.
     fn work(&mut self) -> Result<(), Memory> {
         self.desk.forget_told();
         self.works = self.works.wrapping_add(1);
-        let worked = work_on(&mut self.desk, self.works % WORKS_TO_HEAR == 0);
+        let is_time = self.has_cut || self.works % WORKS_TO_HEAR == 0;
+        let worked = work_on(&mut self.desk, is_time, self.enough);
         if worked.is_down && !self.is_down {
             self.crew.fall(self.desk.node());
         }
-        self.news = worked.news;
+        self.news.set(self.news.get().with(worked.news));
+        self.has_cut = worked.has_cut;
         self.is_down |= worked.is_down;
         self.is_busy = worked.is_busy;
         Ok(())
@@ -179,7 +190,8 @@ impl<'a, R: Wait, B: ServerName, K: Rings> Answers for ServingDesk<'a, R, B, K> 
     fn leaves(&self) {}
 
     fn pass_on(&self) {
-        self.crew.pass_on(self.desk.node(), self.worker, &self.news);
+        let news = self.news.replace(News::none());
+        self.crew.pass_on(self.desk.node(), self.worker, &news);
     }
 
     fn told(&self, place: usize) -> Option<ConnId> {
@@ -203,7 +215,7 @@ impl<'a, R: Wait, B: ServerName, K: Rings> Answers for ServingDesk<'a, R, B, K> 
         }
     }
 
-    /// Its last job waits behind the others, and its node lets go of its queue. Where there is no memory for that job nothing changes.
+    /// Its last job waits behind the others, and its node lets go of its queue. It takes no memory.
     fn close(&mut self, conn: ConnId, moment: u64) -> Result<(), Memory> {
         if conn.node != self.desk.node() {
             return Ok(());
@@ -211,9 +223,7 @@ impl<'a, R: Wait, B: ServerName, K: Rings> Answers for ServingDesk<'a, R, B, K> 
         if !self.desk.is_open(conn.serial) {
             return Ok(());
         }
-        if !self.desk.close(conn.serial, capped(moment)) {
-            return Err(Memory);
-        }
+        self.desk.close(conn.serial, capped(moment));
         self.crew.leave(conn.node);
         Ok(())
     }

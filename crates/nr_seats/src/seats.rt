@@ -1,5 +1,5 @@
 // What a worker keeps of its connections.
-ghost use Rattle.std.specs.Prelude.{◌≡◌, ◌≤◌, ◌∷◌, [], true, None, Some, map, length, is_some, OnOk, OnErr};
+ghost use Rattle.std.specs.Prelude.{◌≡◌, ◌≤◌, ◌+◌, ◌∷◌, [], true, None, Some, map, length, is_some, OnOk, OnErr};
 ghost use Rattle.std.specs.Bool.{OnTrue, OnFalse};
 ghost use Rattle.std.specs.Option.{option_map};
 ghost use Rattle.nr_model.specs.Keyspace.{last_moment};
@@ -33,8 +33,10 @@ pub enum Closed {
 pub struct Seats {
     alloc: Global,
     by_serial: BTreeMap<u64, Seat>,
-    // For which serials something was handed out since this was forgotten last, one behind the other. A hint.
+    // For which serials something was handed out since this was forgotten last, one behind the other; and how many bytes waited at most for one of them behind that.
+    // Hints.
     told: Vec<u64>,
+    most_waiting: usize,
 }
 
 impl Model for Seats {
@@ -61,6 +63,7 @@ impl Seats {
             alloc,
             by_serial: BTreeMap::new(alloc),
             told: Vec::new(alloc),
+            most_waiting: 0,
         }
     }
 
@@ -68,6 +71,7 @@ impl Seats {
     /// changes. Logarithmic.
     pub fn open(&mut self, conn: ConnId) -> bool
         ensures opened { OnTrue result (IsPut conn.serial (Some (fresh_seat (connection_of conn))) self.old self.new) }
+        ensures count { OnTrue result (length self.new ≤ length self.old + 1) }
         ensures same { OnFalse result (self.new ≡ self.old) }
     {
         let seat = Seat::new(self.alloc, conn);
@@ -97,17 +101,20 @@ impl Seats {
         requires in_time { moment ≤ last_moment }
         ensures fed { OnTrue result (FeedsSeat serial moment bytes.now self.old self.new (items_of jobs.old.items) (items_of jobs.new.items)) }
         ensures stopped { OnFalse result (StopsSeat serial moment bytes.now self.old self.new (items_of jobs.old.items) (items_of jobs.new.items)) }
+        ensures count { length self.new ≡ length self.old }
     {
         feed_at(&mut self.by_serial, serial, moment, bytes, jobs)
     }
 
     // Puts a piece at its connection's seat, or loses it where that isn't open.
     fn put(&mut self, handed: Handed, limit: usize)
-        ensures { Accepts limit (portion_of handed ∷ []) self.old self.new }
+        ensures accepts { Accepts limit (portion_of handed ∷ []) self.old self.new }
+        ensures count { length self.new ≡ length self.old }
     {
         let serial = handed.piece.conn.serial;
         tell(&mut self.told, serial);
-        put_at(&mut self.by_serial, serial, handed, limit);
+        let waiting = put_at(&mut self.by_serial, serial, handed, limit);
+        self.most_waiting = self.most_waiting.max(waiting);
     }
 
     /// Puts each piece at its connection's seat, in their order, as [`Seat::take_in`] does; a piece for a connection that isn't open is lost. None
@@ -116,6 +123,7 @@ impl Seats {
     pub fn put_each(&mut self, pieces: &mut Vec<Handed>, limit: usize)
         ensures accepts { Accepts limit (map portion_of pieces.old.items) self.old self.new }
         ensures none { pieces.new.items ≡ [] }
+        ensures count { length self.new ≡ length self.old }
     {
         for piece in pieces.drain(..) {
             self.put(piece, limit);
@@ -127,6 +135,12 @@ impl Seats {
         ensures { self.new ≡ self.old }
     {
         self.told.clear();
+        self.most_waiting = 0;
+    }
+
+    /// How many bytes waited at most for one of those that are told of, behind what was handed out for it. A hint.
+    pub fn most_waiting(&self) -> usize {
+        self.most_waiting
     }
 
     /// The serial of a connection for which something was handed out since this was forgotten last, the first at place 0 and so on; one may be there more than
@@ -148,14 +162,16 @@ impl Seats {
     /// So many of these were written, and are let go of; with the last their memory is a spare buffer. Logarithmic.
     pub fn written(&mut self, serial: u64, count: usize, spares: &mut Spares)
         requires { count ≤ length (pending_here (seat_at serial self.old)) }
-        ensures { IsPut serial (option_map (with_written count) (seat_at serial self.old)) self.old self.new }
+        ensures written { IsPut serial (option_map (with_written count) (seat_at serial self.old)) self.old self.new }
+        ensures count { length self.new ≡ length self.old }
     {
         let_go_at(&mut self.by_serial, serial, count, spares);
     }
 
     /// Takes no more bytes from a connection, as [`Seat::cut`] does. It is told of too from now on. Logarithmic.
     pub fn cut(&mut self, serial: u64)
-        ensures { IsPut serial (option_map cut_off (seat_at serial self.old)) self.old self.new }
+        ensures cut { IsPut serial (option_map cut_off (seat_at serial self.old)) self.old self.new }
+        ensures count { length self.new ≡ length self.old }
     {
         tell(&mut self.told, serial);
         cut_at(&mut self.by_serial, serial);
@@ -185,6 +201,8 @@ impl Seats {
         requires { moment ≤ last_moment }
         ensures closed { closed_seen result ≡ option_map (last_job moment) (seat_at serial self.old) }
         ensures gone { IsPut serial None self.old self.new }
+        ensures fewer { is_some (seat_at serial self.old) ≡ true → length self.new + 1 ≡ length self.old }
+        ensures count { length self.new ≤ length self.old }
     {
         match self.by_serial.remove(&serial) {
             Some(mut seat) => closing(seat.close(moment)),
@@ -197,6 +215,7 @@ impl Seats {
 #[tactic(auto, using(crate::proofs::Found::put_by))]
 fn open_at(by_serial: &mut BTreeMap<u64, Seat>, serial: u64, seat: Seat) -> Result<(), Memory>
     ensures opened { OnOk result (IsPut serial (Some seat) by_serial.old.entries by_serial.new.entries) }
+    ensures count { OnOk result (length by_serial.new.entries ≤ length by_serial.old.entries + 1) }
     ensures same { OnErr result (by_serial.new.entries ≡ by_serial.old.entries) }
 {
     by_serial.insert(serial, seat)?;
@@ -217,6 +236,7 @@ fn feed_at(
         (items_of jobs.new.items)) }
     ensures stopped { OnFalse result (StopsSeat serial moment bytes.now by_serial.old.entries by_serial.new.entries (items_of jobs.old.items)
         (items_of jobs.new.items)) }
+    ensures count { length by_serial.new.entries ≡ length by_serial.old.entries }
 {
     let Some(seat) = by_serial.get_mut(&serial) else {
         return false;
@@ -224,21 +244,24 @@ fn feed_at(
     seat.feed(moment, bytes, jobs)
 }
 
-// A piece comes to the seat at its serial.
-fn put_at(by_serial: &mut BTreeMap<u64, Seat>, serial: u64, handed: Handed, limit: usize)
+// A piece comes to the seat at its serial. How many bytes wait there behind it.
+fn put_at(by_serial: &mut BTreeMap<u64, Seat>, serial: u64, handed: Handed, limit: usize) -> usize
     requires { handed.piece.conn.serial ≡ serial }
-    ensures { Accepts limit (portion_of handed ∷ []) by_serial.old.entries by_serial.new.entries }
+    ensures accepts { Accepts limit (portion_of handed ∷ []) by_serial.old.entries by_serial.new.entries }
+    ensures count { length by_serial.new.entries ≡ length by_serial.old.entries }
 {
     let Some(seat) = by_serial.get_mut(&serial) else {
-        return;
+        return 0;
     };
     seat.take_in(handed, limit);
+    seat.pending().len()
 }
 
 // So many bytes of the seat at a serial are let go of.
 fn let_go_at(by_serial: &mut BTreeMap<u64, Seat>, serial: u64, count: usize, spares: &mut Spares)
     requires { count ≤ length (pending_here (seat_at serial by_serial.old.entries)) }
-    ensures { IsPut serial (option_map (with_written count) (seat_at serial by_serial.old.entries)) by_serial.old.entries by_serial.new.entries }
+    ensures written { IsPut serial (option_map (with_written count) (seat_at serial by_serial.old.entries)) by_serial.old.entries by_serial.new.entries }
+    ensures count { length by_serial.new.entries ≡ length by_serial.old.entries }
 {
     let Some(seat) = by_serial.get_mut(&serial) else {
         return;
@@ -248,7 +271,8 @@ fn let_go_at(by_serial: &mut BTreeMap<u64, Seat>, serial: u64, count: usize, spa
 
 // The seat at a serial takes no more bytes.
 fn cut_at(by_serial: &mut BTreeMap<u64, Seat>, serial: u64)
-    ensures { IsPut serial (option_map cut_off (seat_at serial by_serial.old.entries)) by_serial.old.entries by_serial.new.entries }
+    ensures cut { IsPut serial (option_map cut_off (seat_at serial by_serial.old.entries)) by_serial.old.entries by_serial.new.entries }
+    ensures count { length by_serial.new.entries ≡ length by_serial.old.entries }
 {
     let Some(seat) = by_serial.get_mut(&serial) else {
         return;

@@ -10,6 +10,7 @@ use Rattle.nr_model.proofs.NodesOwnSessions as sessions
 use Rattle.nr_entry.specs.Jobs.{connection_of, items_of}
 use Rattle.nr_entry.specs.declared.batch.Batch.{Batch}
 use Rattle.nr_entry.specs.declared.conn.ConnId.{ConnId}
+use Rattle.nr_entry.specs.declared.job.Job.{Job}
 use Rattle.nr_log_end.specs.declared.standing.Standing.{Standing}
 use Rattle.nr_node.specs.Sound.{IsSound, Serves}
 use Rattle.nr_combiner.specs.Heard.{Knows, KnowsOpened}
@@ -179,16 +180,16 @@ none_there None absent = refl
 none_there (Some s) absent = absurd (cc absent)
 
 -- of the worker as opening left it
-pub opened_by : (v u : WorkState) (worker : WorkerState) (seats : SeatsState) (mark : Option Standing) (conn : ConnId) (s : Standing) (next : ℕ) → u ≡ v
-    → worker ≡ u.worker → u.next ≤ conn.serial → is_some (seat_at conn.serial u.seats) ≡ false → next ≡ conn.serial + 1 → KnowsOpened u.worker.seat.worker conn s u.worker.seat.lane
+pub opened_by : (v u : WorkState) (worker : WorkerState) (seats : SeatsState) (mark : Option Standing) (conn : ConnId) (s : Standing) (next : ℕ) (jobs : List Job)
+    (late : ℕ) → u ≡ v → worker ≡ u.worker → jobs ≡ u.jobs → late ≡ u.late → u.next ≤ conn.serial → is_some (seat_at conn.serial u.seats) ≡ false → next ≡ conn.serial + 1 → KnowsOpened u.worker.seat.worker conn s u.worker.seat.lane
     → IsSound s × (s.node ≡ u.worker.node) → Adopts u.mark s mark → HaveMet u.mark (Some s)
     → IsPut conn.serial (Some (fresh_seat (connection_of conn))) u.seats seats
-    → let w : WorkState = record u { worker = worker; seats = seats; next = next; mark = mark } in
+    → let w : WorkState = record u { worker = worker; seats = seats; next = next; mark = mark; jobs = jobs; late = late } in
     OpensAt (connection_of conn) v w × Goes (one_opened (connection_of conn)) v w
-opened_by v u worker seats mark conn s next same still later absent next_is knows sound adopted met put =
-    let w : WorkState = record u { worker = worker; seats = seats; next = next; mark = mark } in
+opened_by v u worker seats mark conn s next jobs late same still waits lates later absent next_is knows sound adopted met put =
+    let w : WorkState = record u { worker = worker; seats = seats; next = next; mark = mark; jobs = jobs; late = late } in
     let w_is : w ≡ record u { seats = seats; next = conn.serial + 1; mark = mark } =
-    λ i. record u { worker = still i; seats = seats; next = next_is i; mark = mark } in
+    λ i. record u { worker = still i; seats = seats; next = next_is i; mark = mark; jobs = waits i; late = lates i } in
     let node : conn.node ≡ u.worker.node = knows.serves.node ∙ sound.1 in
     let is : connection_of conn ≡ named u.worker.node conn.serial = λ i. record { node = node i; serial = conn.serial } in
     subst (λ (x : WorkState). OpensAt (connection_of conn) x w × Goes (one_opened (connection_of conn)) x w) same (

@@ -16,9 +16,9 @@ use Rattle.nr_combiner.specs.Workers.{HasCollected, WorkerState}
 use Rattle.nr_combiner.specs.declared.worker.TheConstants.{MOST_JOBS}
 use Rattle.nr_seats.specs.Portions.{EachSeat}
 use Rattle.nr_worker.specs.Desk.{AllPosted, DeskState, IsAskedBy, IsLed, IsServedAt, Served, asked_of}
-use Rattle.nr_worker.specs.Settling.{AreOfBatches, IsOfBatch, back_of, down_of, left_of, settled_work}
+use Rattle.nr_worker.specs.Settling.{AreOfBatches, IsOfBatch, back_of, down_of, late_of, left_of, settled_work}
 use Rattle.nr_worker.specs.Working.{Goes, IsBelow, IsSeated, IsToPost, WorkState, unchanged}
-use Rattle.nr_worker.proofs.Batched.{goes_nowhere}
+use Rattle.nr_worker.proofs.Batched.{goes_nowhere, late_too}
 use Rattle.nr_worker.proofs.Lists.{all_weaker, posted_at}
 use Rattle.nr_worker.proofs.Portioned.{all_of}
 
@@ -97,22 +97,25 @@ collected_goes outcome v worker c =
     let left = left_of MOST_JOBS outcome v.jobs in
     let posted = v.worker.seat.lane.posted in
     let there : Contains posted c.last.1 = subst (λ (bs : List Batch). Contains bs c.last.1) (sym c.last.2) (in_middle c.last.1 c.last.0 []) in
-    goes_settled v worker back left (down_of MOST_JOBS outcome v.down) (ap (λ (w : WorkerState). w.node) c.collected)
+    late_too unchanged v (record v { worker = worker; jobs = back ++ left; returned = length back; waiting = false; down = down_of MOST_JOBS outcome v.down })
+    (late_of MOST_JOBS outcome v.late)
+    (goes_settled v worker back left (down_of MOST_JOBS outcome v.down) (ap (λ (w : WorkerState). w.node) c.collected)
     (ap (λ (w : WorkerState). w.seat.worker) c.collected) (ap (λ (w : WorkerState). w.seat.lane.posted) c.collected) (left_keeps MOST_JOBS outcome v.jobs)
-    (back_batched MOST_JOBS outcome posted c.last.1 there (subst (λ (o : Outcome). IsBackOf o c.last.1.jobs.items) c.says c.last.4.3))
+    (back_batched MOST_JOBS outcome posted c.last.1 there (subst (λ (o : Outcome). IsBackOf o c.last.1.jobs.items) c.says c.last.4.3)))
 
 none_left : {A : Type 0} (xs : List A) → length xs ≡ 0 → xs ≡ []
 none_left [] none = refl
 none_left (x ∷ xs) none = absurd (cc none)
 
-pub settled_by : (v u : WorkState) (outcome : Outcome) (worker : WorkerState) (returned jobs back left : List Job) (down : Bool) → u ≡ v
+pub settled_by : (v u : WorkState) (outcome : Outcome) (worker : WorkerState) (returned jobs back left : List Job) (down : Bool) (late : ℕ) → u ≡ v
     → u.jobs ≡ returned ++ jobs → length returned ≡ 0 → HasCollected outcome u.worker worker → back ≡ back_of MOST_JOBS outcome
     → left ≡ left_of MOST_JOBS outcome jobs → down ≡ down_of MOST_JOBS outcome u.down
-    → Goes unchanged v (record u { worker = worker; jobs = back ++ left; returned = length back; waiting = false; down = down })
-settled_by v u outcome worker returned jobs back left down same are none c back_is left_is down_is =
-    let w : WorkState = record u { worker = worker; jobs = back ++ left; returned = length back; waiting = false; down = down } in
+    → late ≡ late_of MOST_JOBS outcome u.late
+    → Goes unchanged v (record u { worker = worker; jobs = back ++ left; returned = length back; waiting = false; down = down; late = late })
+settled_by v u outcome worker returned jobs back left down late same are none c back_is left_is down_is late_is =
+    let w : WorkState = record u { worker = worker; jobs = back ++ left; returned = length back; waiting = false; down = down; late = late } in
     let all : u.jobs ≡ jobs = are ∙ ap (λ (r : List Job). r ++ jobs) (none_left returned none) in
     let left_now : left ≡ left_of MOST_JOBS outcome u.jobs = left_is ∙ ap (left_of MOST_JOBS outcome) (sym all) in
     let is : w ≡ settled_work outcome worker u =
-    λ i. record u { worker = worker; jobs = back_is i ++ left_now i; returned = length (back_is i); waiting = false; down = down_is i } in
+    λ i. record u { worker = worker; jobs = back_is i ++ left_now i; returned = length (back_is i); waiting = false; down = down_is i; late = late_is i } in
     subst (λ (x : WorkState). Goes unchanged x w) same (subst (Goes unchanged u) (sym is) (collected_goes outcome u worker c))

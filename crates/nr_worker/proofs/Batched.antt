@@ -33,6 +33,31 @@ stays v w same = record {
   };
 }
 
+-- how many of the jobs are late is nothing to the law
+pub late_too : (change : List Served → List Served) (v w : WorkState) (late : ℕ) → Goes change v w → Goes change v (record w { late = late })
+late_too change v w late g = record {
+  leads = λ d led r.
+      let l = g.leads d led r in
+      let now = l.reflects in
+      record {
+        then = l.then;
+        led = l.led;
+        goes = l.goes;
+        reflects = record {
+          node = now.node;
+          worker = now.worker;
+          posted = now.posted;
+          mark = now.mark;
+          below = now.below;
+          apart = now.apart;
+          jobs = now.jobs;
+          seats = now.seats;
+          numbers = now.numbers;
+        };
+        served = l.served;
+      };
+}
+
 -- ---- a batch is handed in
 -- what holds of each of these with each of those
 for_each : {A B : Type 0} (R : A → B → Type 0) (xs : List A) (ys : List B) → AllByRecursion (λ (y : B). AllByRecursion (λ (x : A). R x y) xs) ys
@@ -113,14 +138,14 @@ handed_in most v w p changed =
     (sym (changed ∙ ap (λ (x : WorkerState). record v { worker = x; jobs = drop most v.jobs; returned = 0; waiting = true }) p.posted))
     (record { leads = posts v p.batch (drop most v.jobs) true front })
 
-pub goes_by : (most : ℕ) (v u : WorkState) (worker : WorkerState) (first back left : List Job) → u ≡ v → first ≡ take most u.jobs → back ≡ []
+pub goes_by : (most : ℕ) (v u : WorkState) (worker : WorkerState) (first back left : List Job) (late : ℕ) → u ≡ v → first ≡ take most u.jobs → back ≡ []
     → left ≡ drop most u.jobs → HasPosted first u.worker worker
-    → Goes unchanged v (record u { worker = worker; jobs = back ++ left; returned = length back; waiting = true })
-goes_by most v u worker first back left same front none behind p =
+    → Goes unchanged v (record u { worker = worker; jobs = back ++ left; returned = length back; waiting = true; late = late })
+goes_by most v u worker first back left late same front none behind p =
     let w : WorkState = record u { worker = worker; jobs = back ++ left; returned = length back; waiting = true } in
-    subst (λ (x : WorkState). Goes unchanged x w) same
-    (handed_in most u w (subst (λ (js : List Job). HasPosted js u.worker worker) front p)
-    (λ i. record u { worker = worker; jobs = none i ++ behind i; returned = length (none i); waiting = true }))
+    subst (λ (x : WorkState). Goes unchanged x (record w { late = late })) same
+    (late_too unchanged u w late (handed_in most u w (subst (λ (js : List Job). HasPosted js u.worker worker) front p)
+    (λ i. record u { worker = worker; jobs = none i ++ behind i; returned = length (none i); waiting = true })))
 
 -- ---- the worker takes a batch
 pub taken_in : {A B : Type 0} (r : Result A B) (P : Type 0) → IsOk r → OnOk r P → P

@@ -21,7 +21,7 @@ use Rattle.nr_seats.proofs.Putting.{each_put, named, seat_here, seat_others}
 use Rattle.nr_worker.specs.Desk.{AllPosted, CountsFrom, DeskState, IsLed, IsServedAt, Served, asked_of}
 use Rattle.nr_worker.specs.Moves.{Asks}
 use Rattle.nr_worker.specs.Working.{AreApart, Closes, Goes, IsBelow, IsSeatOf, IsSeated, IsToPost, LeadsTo, Reflects, WorkState, all_closed, closed_with, connections_of, last_here, last_seen}
-use Rattle.nr_worker.proofs.Batched.{goes_nowhere}
+use Rattle.nr_worker.proofs.Batched.{goes_nowhere, late_too}
 use Rattle.nr_worker.proofs.Desks.{asked_led}
 use Rattle.nr_worker.proofs.Lists.{above, all_at, all_both, all_weaker, posted_both, posted_weaker}
 use Rattle.nr_worker.proofs.Nourished.{behind, counts_both, differ_false, false_differs, one_changes, parts_of}
@@ -278,19 +278,22 @@ seen_here : (moment : ℕ) (o : Option SeatState) → last_seen (option_map (las
 seen_here moment None = refl
 seen_here moment (Some s) = refl
 
-pub closed_by : (v u : WorkState) (seats : SeatsState) (r a held b : List Job) (serial moment : ℕ) (closed : Closed) → u ≡ v → u.jobs ≡ r ++ a → held ≡ a
+pub closed_by : (v u : WorkState) (seats : SeatsState) (r a b : List Job) (late serial moment : ℕ) (closed : Closed) → u ≡ v → u.jobs ≡ r ++ a
     → closed_seen closed ≡ option_map (last_job moment) (seat_at serial u.seats) → IsPut serial None u.seats seats
-    → items_of b ≡ items_of held ++ last_seen (closed_seen closed)
-    → let w : WorkState = record u { seats = seats; jobs = r ++ b } in
+    → items_of b ≡ items_of a ++ last_seen (closed_seen closed) → late ≡ u.late + length (last_seen (closed_seen closed))
+    → let w : WorkState = record u { seats = seats; jobs = r ++ b; late = late } in
     Closes serial moment v w × Goes (all_closed (last_here moment (seat_at serial v.seats))) v w
-closed_by v u seats r a held b serial moment closed same are kept seen put added =
+closed_by v u seats r a b late serial moment closed same are seen put added late_is =
     let w : WorkState = record u { seats = seats; jobs = r ++ b } in
+    let now : WorkState = record w { late = late } in
     let o = seat_at serial u.seats in
     let put_behind : items_of b ≡ items_of a ++ option_to_list (last_here moment o) =
-    added ∙ (λ i. items_of (kept i) ++ last_seen (seen i)) ∙ ap (λ (js : Jobs). items_of a ++ js) (seen_here moment o) in
+    added ∙ (λ i. items_of a ++ last_seen (seen i)) ∙ ap (λ (js : Jobs). items_of a ++ js) (seen_here moment o) in
+    let late_now : late ≡ u.late + length (option_to_list (last_here moment o)) =
+    late_is ∙ (λ i. u.late + length (last_seen (seen i))) ∙ ap (λ (js : Jobs). u.late + length js) (seen_here moment o) in
     let last : items_of (r ++ b) ≡ items_of u.jobs ++ option_to_list (last_here moment o) =
     behind r a b (option_to_list (last_here moment o)) put_behind ∙ ap (λ (js : List Job). items_of js ++ option_to_list (last_here moment o)) (sym are) in
-    subst (λ (x : WorkState). Closes serial moment x w × Goes (all_closed (last_here moment (seat_at serial x.seats))) x w) same (
-      record { gone = put; last = last; changed = refl },
-      closes_at u seats (r ++ b) serial moment o refl put last,
+    subst (λ (x : WorkState). Closes serial moment x now × Goes (all_closed (last_here moment (seat_at serial x.seats))) x now) same (
+      record { gone = put; last = last; late = late_now; changed = refl },
+      late_too (all_closed (last_here moment o)) u w late (closes_at u seats (r ++ b) serial moment o refl put last),
     )

@@ -5,6 +5,7 @@ mod Timed
 mod Batched
 mod Portioned
 mod Nourished
+mod Gathered
 mod Awaited
 mod Admitted
 mod Departed

@@ -32,6 +32,7 @@ use Rattle.nr_seats.proofs.Putting.{named, seat_here, seat_others}
 use Rattle.nr_worker.specs.Desk.{CountsFrom, DeskState, IsLed, IsServedAt, Served, asked_of}
 use Rattle.nr_worker.specs.Moves.{Asks}
 use Rattle.nr_worker.specs.Working.{AreApart, Goes, IsBelow, IsSeatOf, IsSeated, IsSession, IsToPost, LeadsTo, Reflects, WorkState, all_fed, connections_of, fed_more, takes_from}
+use Rattle.nr_worker.proofs.Batched.{late_too}
 use Rattle.nr_worker.proofs.Desks.{asked_led}
 use Rattle.nr_worker.proofs.Lists.{all_at, all_weaker, posted_weaker}
 use Rattle.nr_worker.proofs.Portioned.{all_map, all_of, known_more, map_has, same_connections}
@@ -465,18 +466,19 @@ fed_at v seats jobs serial moment bytes false takes fed stopped =
     let gone = has_stopped moment bytes f.was f.is (items_of v.jobs) (items_of jobs) f.stopped in
     record { leads = leads v seats jobs serial moment bytes f.was f.is gone.0 f.there f.put taken gone.2 gone.1 }
 
-pub fed_by : (v u : WorkState) (seats : SeatsState) (jobs : List Job) (c : Connection) (moment : ℕ) (bytes : Bytes) (result : Bool) → u ≡ v
+pub fed_by : (v u : WorkState) (seats : SeatsState) (jobs : List Job) (late : ℕ) (c : Connection) (moment : ℕ) (bytes : Bytes) (result : Bool) → u ≡ v
     → takes_from c v ≡ true
     → OnTrue result (FeedsSeat c.serial moment bytes u.seats seats (items_of u.jobs) (items_of jobs))
     → OnFalse result (StopsSeat c.serial moment bytes u.seats seats (items_of u.jobs) (items_of jobs))
-    → Goes (all_fed (feeding_of c moment bytes)) v (record u { seats = seats; jobs = jobs })
-fed_by v u seats jobs c moment bytes result same takes fed stopped =
+    → Goes (all_fed (feeding_of c moment bytes)) v (record u { seats = seats; jobs = jobs; late = late })
+fed_by v u seats jobs late c moment bytes result same takes fed stopped =
     let w : WorkState = record u { seats = seats; jobs = jobs } in
     let parts = both_hold (c.node == u.worker.node) (takes_here (seat_at c.serial u.seats)) (ap (takes_from c) same ∙ takes) in
     let node = eqb-true c.node u.worker.node parts.0 in
     let is : named u.worker.node c.serial ≡ c = λ i. record { node = sym node i; serial = c.serial } in
-    subst (λ (x : WorkState). Goes (all_fed (feeding_of c moment bytes)) x w) same
-    (subst (λ (d : Connection). Goes (all_fed (feeding_of d moment bytes)) u w) is (fed_at u seats jobs c.serial moment bytes result parts.1 fed stopped))
+    subst (λ (x : WorkState). Goes (all_fed (feeding_of c moment bytes)) x (record w { late = late })) same
+    (late_too (all_fed (feeding_of c moment bytes)) u w late
+    (subst (λ (d : Connection). Goes (all_fed (feeding_of d moment bytes)) u w) is (fed_at u seats jobs c.serial moment bytes result parts.1 fed stopped)))
 
 -- ---- behind jobs that were handed back
 pub behind : (r a b : List Job) (new : Jobs) → items_of b ≡ items_of a ++ new → items_of (r ++ b) ≡ items_of (r ++ a) ++ new

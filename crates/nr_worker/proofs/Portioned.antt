@@ -15,7 +15,8 @@ use Rattle.nr_session.specs.SessionState.{SessionState}
 use Rattle.nr_node.specs.Sound.{IsSound}
 use Rattle.nr_node.specs.declared.collecting.Handed.{Handed}
 use Rattle.nr_slots.specs.Seats.{NoteView}
-use Rattle.nr_combiner.specs.Behind.{TurnsBehind}
+use Rattle.nr_combiner.specs.Behind.{CollectsBehind, TurnsBehind}
+use Rattle.nr_combiner.specs.declared.answering.Collected.{Collected}
 use Rattle.nr_combiner.specs.declared.answering.Lifts.{Lifts}
 use Rattle.nr_combiner.specs.declared.answering.Turned.{Turned}
 use Rattle.nr_combiner.specs.Heard.{HasHeard}
@@ -29,7 +30,7 @@ use Rattle.nr_seats.specs.Portions.{Accepts, AreOfNode, Arrival, EachSeat, Grows
 use Rattle.nr_seats.proofs.Handing.{each_accepted, hands_out}
 use Rattle.nr_worker.specs.Desk.{DeskState, IsLed, IsServedAt, Served, asked_of}
 use Rattle.nr_worker.specs.Moves.{HasGot, HaveGot, Turns}
-use Rattle.nr_worker.specs.Working.{AreApart, HandsOn, IsBelow, IsSeatOf, IsSeated, IsServed, IsSession, IsToPost, LeadsTo, Reflects, WorkState, all_handed, connections_of, handed_more, TakesTurn}
+use Rattle.nr_worker.specs.Working.{AreApart, HandsOn, IsBelow, IsSeatOf, IsSeated, IsServed, IsSession, IsToPost, LeadsTo, Reflects, WorkState, all_handed, connections_of, handed_more, TakesPieces, TakesTurn}
 use Rattle.nr_worker.proofs.Desks.{turned_led}
 use Rattle.nr_worker.proofs.Lists.{all_at, all_weaker}
 
@@ -382,6 +383,21 @@ took_by places lifts turned v u worker seats mark most s note old pieces same no
       note = note;
       pieces = pieces;
       behind = subst (λ (hs : List Handed). TurnsBehind places u.worker.node u.worker.seat.worker lifts most hs pieces turned s note) none behind;
+      adopted = adopted;
+      accepted = a;
+    })
+
+pub got_by : (collected : Collected) (v u : WorkState) (worker : WorkerState) (seats : SeatsState) (mark : Option Standing) (most : ℕ)
+    (s : Standing) (note : NoteView) (old pieces : List Handed) → u ≡ v → old ≡ [] → worker ≡ u.worker
+    → CollectsBehind u.worker.node u.worker.seat.worker most old pieces collected s note → Adopts u.mark s mark
+    → Accepts u.limit (map portion_of pieces) u.seats seats
+    → TakesPieces most collected v (record u { worker = worker; seats = seats; mark = mark })
+got_by collected v u worker seats mark most s note old pieces same none still behind adopted a =
+    subst (λ (x : WorkState). TakesPieces most collected x (record u { worker = worker; seats = seats; mark = mark })) same (record {
+      standing = s;
+      note = note;
+      pieces = pieces;
+      behind = subst (λ (hs : List Handed). CollectsBehind u.worker.node u.worker.seat.worker most hs pieces collected s note) none behind;
       adopted = adopted;
       accepted = a;
     })

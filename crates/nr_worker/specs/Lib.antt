@@ -1,5 +1,6 @@
 pub mod Desk
 pub mod Moves
 pub mod Law
+pub mod Due
 pub mod Working
 pub mod Settling

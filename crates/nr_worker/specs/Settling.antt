@@ -31,6 +31,12 @@ left_of most outcomes.Executed jobs = jobs
 left_of most outcomes.Down jobs = []
 left_of most (outcomes.Refused why back) jobs = cond (nat_le (length back.items) most) jobs []
 
+-- how many of those are late
+abbrev pub late_of : ℕ → Outcome → ℕ → ℕ
+late_of most outcomes.Executed late = late
+late_of most outcomes.Down late = 0
+late_of most (outcomes.Refused why back) late = cond (nat_le (length back.items) most) late 0
+
 -- whether the node is known to be down
 abbrev pub down_of : ℕ → Outcome → Bool → Bool
 down_of most outcomes.Executed down = down
@@ -46,6 +52,7 @@ settled_work outcome worker v =
       returned = length (back_of MOST_JOBS outcome);
       waiting = false;
       down = down_of MOST_JOBS outcome v.down;
+      late = late_of MOST_JOBS outcome v.late;
     }
 
 -- The answer to the batch that was posted last was collected, and tells this.

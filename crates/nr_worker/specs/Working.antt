@@ -19,7 +19,8 @@ use Rattle.nr_slots.specs.Seats.{NoteView, one_if}
 use Rattle.nr_node.specs.declared.collecting.Handed.{Handed}
 use Rattle.nr_taps.specs.Marks.{Adopts}
 use Rattle.nr_session.specs.SessionState.{SessionState}
-use Rattle.nr_combiner.specs.Behind.{TurnsBehind}
+use Rattle.nr_combiner.specs.Behind.{CollectsBehind, TurnsBehind}
+use Rattle.nr_combiner.specs.declared.answering.Collected.{Collected}
 use Rattle.nr_combiner.specs.declared.answering.Lifts.{Lifts}
 use Rattle.nr_combiner.specs.declared.answering.Turned.{Turned}
 use Rattle.nr_combiner.specs.declared.worker.TheConstants.{MOST_JOBS}
@@ -31,7 +32,8 @@ use Rattle.nr_worker.specs.Desk.{AllPosted, DeskState, IsLed, Served, asked_of}
 use Rattle.nr_worker.specs.Law.{GoesTo}
 
 -- its worker, and what it keeps of its connections; the serials below `next` may have been opened here; the jobs that were asked for and wait to be posted,
--- in order, and how many of them, the first, were handed back; its mark; whether a batch's answer wasn't collected, and whether its node is down; and how many bytes wait for a connection at most
+-- in order, and how many of them, the first, were handed back; its mark; whether a batch's answer wasn't collected, and whether its node is down; how many bytes wait for a connection at
+-- most; and how many of these jobs, the last, found no room among the others yet
 pub record WorkState : Type 0 where
   pub worker : WorkerState
   pub seats : SeatsState
@@ -42,16 +44,17 @@ pub record WorkState : Type 0 where
   pub waiting : Bool
   pub down : Bool
   pub limit : ℕ
+  pub late : ℕ
 
 abbrev pub coded_work : Coded WorkState
 coded_work =
-    code_by (WorkerState × (SeatsState × (ℕ × (List Job × (ℕ × (Option Standing × (Bool × (Bool × ℕ))))))))
+    code_by (WorkerState × (SeatsState × (ℕ × (List Job × (ℕ × (Option Standing × (Bool × (Bool × (ℕ × ℕ)))))))))
     (coded× coded_worker
     (coded× coded_seats
     (coded× coded_ℕ
     (coded× (coded_list of_job.the_row.coded)
-    (coded× coded_ℕ (coded× (coded_option of_standing.the_row.coded) (coded× coded_bool (coded× coded_bool coded_ℕ))))))))
-    (λ v. (v.worker, (v.seats, (v.next, (v.jobs, (v.returned, (v.mark, (v.waiting, (v.down, v.limit))))))))) (λ p. record {
+    (coded× coded_ℕ (coded× (coded_option of_standing.the_row.coded) (coded× coded_bool (coded× coded_bool (coded× coded_ℕ coded_ℕ)))))))))
+    (λ v. (v.worker, (v.seats, (v.next, (v.jobs, (v.returned, (v.mark, (v.waiting, (v.down, (v.limit, v.late)))))))))) (λ p. record {
       worker = p.0;
       seats = p.1.0;
       next = p.1.1.0;
@@ -60,7 +63,8 @@ coded_work =
       mark = p.1.1.1.1.1.0;
       waiting = p.1.1.1.1.1.1.0;
       down = p.1.1.1.1.1.1.1.0;
-      limit = p.1.1.1.1.1.1.1.1;
+      limit = p.1.1.1.1.1.1.1.1.0;
+      late = p.1.1.1.1.1.1.1.1.1;
     }) (λ _. refl)
 
 -- It has counted its batches, waits for an answer where one wasn't collected, and then none are handed back, of which there is at most a batch; and its mark is of
@@ -74,7 +78,7 @@ pub record IsKept (batches : ℕ) (v : WorkState) : Type 0 where
 
 -- at first
 abbrev pub fresh_work : WorkerState → ℕ → WorkState
-fresh_work worker limit = record { worker = worker; seats = []; next = 0; jobs = []; returned = 0; mark = None; waiting = false; down = false; limit = limit }
+fresh_work worker limit = record { worker = worker; seats = []; next = 0; jobs = []; returned = 0; mark = None; waiting = false; down = false; limit = limit; late = 0 }
 
 -- its mark was taken
 abbrev pub without_mark : WorkState → WorkState
@@ -205,11 +209,12 @@ abbrev pub last_seen : Option (Option Item) → List Item
 last_seen None = []
 last_seen (Some job) = option_to_list job
 
--- A seat was closed, if there was one: its last job stands behind the others, and nothing else changed.
+-- A seat was closed, if there was one: its last job stands behind the others, late as it is, and nothing else changed.
 pub record Closes (serial moment : ℕ) (v w : WorkState) : Type 0 where
   pub gone : IsPut serial None v.seats w.seats
   pub last : items_of w.jobs ≡ items_of v.jobs ++ option_to_list (last_here moment (seat_at serial v.seats))
-  pub changed : w ≡ record v { seats = w.seats; jobs = w.jobs }
+  pub late : w.late ≡ v.late + length (option_to_list (last_here moment (seat_at serial v.seats)))
+  pub changed : w ≡ record v { seats = w.seats; jobs = w.jobs; late = w.late }
 
 -- So many of the bytes that wait for a connection were written, and nothing else changed.
 pub record Writes (serial count : ℕ) (v w : WorkState) : Type 0 where
@@ -225,15 +230,16 @@ pub record CutsOff (serial : ℕ) (v w : WorkState) : Type 0 where
 abbrev pub takes_from : Connection → WorkState → Bool
 takes_from c v = c.node == v.worker.node && takes_here (seat_at c.serial v.seats)
 
--- Bytes were fed to a seat, and the jobs that they ask for stand behind the others; nothing else changed.
+-- Bytes were fed to a seat, and the jobs that they ask for stand behind the others, none of which is late then; nothing else changed.
 pub record Feeds (serial moment : ℕ) (bytes : Bytes) (v w : WorkState) : Type 0 where
   pub fed : FeedsSeat serial moment bytes v.seats w.seats (items_of v.jobs) (items_of w.jobs)
-  pub changed : w ≡ record v { seats = w.seats; jobs = w.jobs }
+  pub late : w.late ≡ 0
+  pub changed : w ≡ record v { seats = w.seats; jobs = w.jobs; late = w.late }
 
 -- Or they were not fed to their end: no more are taken from the connection, and the first of these jobs stand there.
 pub record Stops (serial moment : ℕ) (bytes : Bytes) (v w : WorkState) : Type 0 where
   pub stopped : StopsSeat serial moment bytes v.seats w.seats (items_of v.jobs) (items_of w.jobs)
-  pub changed : w ≡ record v { seats = w.seats; jobs = w.jobs }
+  pub changed : w ≡ record v { seats = w.seats; jobs = w.jobs; late = w.late }
 
 -- how many jobs are handed in next: those that were handed back, else at most so many
 abbrev pub due : ℕ → ℕ → ℕ
@@ -244,7 +250,7 @@ pub record HandsIn (most : ℕ) (v w : WorkState) : Type 0 where
   pub still : v.waiting ≡ false
   pub some : v.jobs ≢ []
   pub posted : HasPosted (take (due most v.returned) v.jobs) v.worker w.worker
-  pub changed : w ≡ record v { worker = w.worker; jobs = drop (due most v.returned) v.jobs; returned = 0; waiting = true }
+  pub changed : w ≡ record v { worker = w.worker; jobs = drop (due most v.returned) v.jobs; returned = 0; waiting = true; late = w.late }
 
 -- A turn handed these bytes out: they wait at the seats of their connections, and nothing else changed but the mark.
 pub record HandsOn (v w : WorkState) : Type 0 where
@@ -259,5 +265,14 @@ pub record TakesTurn (places : ℕ) (lifts : Lifts) (most : ℕ) (turned : Turne
   pub note : NoteView
   pub pieces : List Handed
   pub behind : TurnsBehind places v.worker.node v.worker.seat.worker lifts most [] pieces turned standing note
+  pub adopted : Adopts v.mark standing w.mark
+  pub accepted : Accepts v.limit (map portion_of pieces) v.seats w.seats
+
+-- So it came from what was handed out without a turn.
+pub record TakesPieces (most : ℕ) (collected : Collected) (v w : WorkState) : Type 0 where
+  pub standing : Standing
+  pub note : NoteView
+  pub pieces : List Handed
+  pub behind : CollectsBehind v.worker.node v.worker.seat.worker most [] pieces collected standing note
   pub adopted : Adopts v.mark standing w.mark
   pub accepted : Accepts v.limit (map portion_of pieces) v.seats w.seats

@@ -1,9 +1,11 @@
 // What became of a batch.
 ghost use Rattle.std.specs.Prelude.{◌≡◌, [], true, IfSome, IfNone};
-ghost use Rattle.nr_worker.specs.Settling.{back_of, down_of, left_of, settled_of, HasSettled};
+ghost use Rattle.nr_worker.specs.Due.{emptied};
+ghost use Rattle.nr_worker.specs.Settling.{back_of, down_of, late_of, left_of, settled_of, HasSettled};
 ghost use Rattle.nr_worker.specs.Working.{unchanged, Goes};
 
 use crate::desk::Desk;
+use crate::due::DueJobs;
 use nr_combiner::{MOST_JOBS, ServerName};
 use nr_entry::{Job, Outcome, Refusal};
 use std::sync::Wait;
@@ -20,12 +22,12 @@ pub enum Settled {
 }
 
 // The node is down: no jobs wait any more.
-fn fall(jobs: &mut Vec<Job>, is_down: &mut bool) -> Settled
+fn fall(due: &mut DueJobs, is_down: &mut bool) -> Settled
     ensures told { result ≡ Settled.Down }
-    ensures jobs { jobs.new.items ≡ [] }
+    ensures jobs { due.new ≡ emptied due.old }
     ensures down { is_down.new ≡ true }
 {
-    jobs.clear();
+    due.clear();
     *is_down = true;
     Settled::Down
 }
@@ -34,25 +36,27 @@ fn fall(jobs: &mut Vec<Job>, is_down: &mut bool) -> Settled
 fn settle(
     outcome: Outcome,
     returned: &mut Vec<Job>,
-    jobs: &mut Vec<Job>,
+    due: &mut DueJobs,
     is_down: &mut bool,
     most: usize,
 ) -> Settled
     requires { returned.old.items ≡ [] }
     ensures told { result ≡ settled_of most outcome }
     ensures back { returned.new.items ≡ back_of most outcome }
-    ensures left { jobs.new.items ≡ left_of most outcome jobs.old.items }
+    ensures left { due.new.jobs ≡ left_of most outcome due.old.jobs }
+    ensures late { due.new.late ≡ late_of most outcome due.old.late }
+    ensures room { due.new.room ≡ due.old.room }
     ensures down { is_down.new ≡ down_of most outcome is_down.old }
 {
     match outcome {
         Outcome::Executed => Settled::Executed,
-        Outcome::Down => fall(jobs, is_down),
+        Outcome::Down => fall(due, is_down),
         Outcome::Refused(why, back) => {
             if back.len() <= most {
                 *returned = back;
                 return Settled::HandedBack(why);
             }
-            fall(jobs, is_down)
+            fall(due, is_down)
         }
     }
 }
@@ -76,7 +80,7 @@ impl<'a, R: Wait, B: ServerName> Desk<'a, R, B> {
         Some(settle(
             outcome,
             &mut self.returned,
-            &mut self.jobs,
+            &mut self.due,
             &mut self.is_down,
             MOST_JOBS,
         ))

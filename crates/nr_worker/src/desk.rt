@@ -4,6 +4,7 @@ ghost use Rattle.nr_combiner.specs.Workers.{fresh_worker, shared_of};
 ghost use Rattle.nr_worker.specs.Moves.{fresh_desk};
 ghost use Rattle.nr_worker.specs.Working.{fresh_work, without_mark, Reflects};
 
+use crate::due::DueJobs;
 use nr_combiner::{ServerName, Worker};
 use nr_entry::Job;
 use nr_node::Handed;
@@ -28,7 +29,7 @@ pub struct Desk<'a, R, B: ServerName> {
     pub(crate) next: u64,
     // Those of a batch that was handed back, in front of the others.
     pub(crate) returned: Vec<Job>,
-    pub(crate) jobs: Vec<Job>,
+    pub(crate) due: DueJobs,
     // Whether the answer to the last batch wasn't collected.
     pub(crate) is_waiting: bool,
     pub(crate) mark: Mark<B>,
@@ -41,16 +42,16 @@ pub struct Desk<'a, R, B: ServerName> {
 }
 
 impl<'a, R, B: ServerName> Model for Desk<'a, R, B> {
-    ghost use Rattle.std.specs.Prelude.{◌≡◌, ◌++◌, [], length};
+    ghost use Rattle.std.specs.Prelude.{◌≡◌, ◌≤◌, ◌++◌, [], length};
     ghost use Rattle.nr_worker.specs.Working.{WorkState, coded_work, IsKept};
 
     ghost Value = { WorkState };
 
     ghost coded = { coded_work };
 
-    ghost view = { λ d. record { worker = d.worker; seats = d.seats; next = d.next; jobs = d.returned.items ++ d.jobs.items; returned = length d.returned.items; mark = d.mark.standing; waiting = d.is_waiting; down = d.is_down; limit = d.limit } };
+    ghost view = { λ d. record { worker = d.worker; seats = d.seats; next = d.next; jobs = d.returned.items ++ d.due.jobs; returned = length d.returned.items; mark = d.mark.standing; waiting = d.is_waiting; down = d.is_down; limit = d.limit; late = d.due.late } };
 
-    ghost invariant = { λ d. IsKept d.batches (record { worker = d.worker; seats = d.seats; next = d.next; jobs = d.returned.items ++ d.jobs.items; returned = length d.returned.items; mark = d.mark.standing; waiting = d.is_waiting; down = d.is_down; limit = d.limit }) × (d.pieces.items ≡ []) };
+    ghost invariant = { λ d. IsKept d.batches (record { worker = d.worker; seats = d.seats; next = d.next; jobs = d.returned.items ++ d.due.jobs; returned = length d.returned.items; mark = d.mark.standing; waiting = d.is_waiting; down = d.is_down; limit = d.limit; late = d.due.late }) × (d.pieces.items ≡ []) × (length d.seats ≤ d.due.room) };
 }
 
 impl<'a, R: Wait, B: ServerName> Desk<'a, R, B> {
@@ -68,7 +69,7 @@ impl<'a, R: Wait, B: ServerName> Desk<'a, R, B> {
             seats: Seats::new(alloc),
             next: 0,
             returned: Vec::new(alloc),
-            jobs: Vec::new(alloc),
+            due: DueJobs::new(alloc),
             is_waiting: false,
             mark: Mark::new(),
             pieces: Vec::new(alloc),

@@ -28,6 +28,6 @@ impl<'a, R: Wait, B: ServerName> Desk<'a, R, B> {
         ensures stopped { OnFalse result (Stops conn.serial moment bytes.now self.old self.new) }
         ensures goes { Goes (all_fed (record { connection = connection_of conn; moment = moment; bytes = bytes.now })) self.old self.new }
     {
-        self.seats.feed(conn.serial, moment, bytes, &mut self.jobs)
+        self.due.feed(&mut self.seats, conn.serial, moment, bytes)
     }
 }

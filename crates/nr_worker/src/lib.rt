@@ -8,6 +8,7 @@ pub use law::desk_law;
 mod closing;
 mod collecting;
 mod desk;
+mod due;
 mod feeding;
 mod law;
 mod opening;

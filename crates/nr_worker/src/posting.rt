@@ -5,46 +5,31 @@ ghost use Rattle.nr_combiner.specs.Workers.{HasPosted};
 ghost use Rattle.nr_worker.specs.Working.{due, unchanged, Goes, HandsIn};
 
 use crate::desk::Desk;
+use crate::due::DueJobs;
 use nr_combiner::{MOST_JOBS, ServerName, Worker};
 use nr_entry::Job;
 use std::alloc::Global;
 use std::mem;
 use std::sync::Wait;
 
-// Takes the first jobs, at most so many, and none where memory runs out. Linear in those that are left, and nothing is copied where none are.
-fn take_front(alloc: Global, jobs: &mut Vec<Job>, most: usize) -> Option<Vec<Job>>
-    ensures front { IfSome result (λ front. front.items ≡ take most jobs.old.items) }
-    ensures behind { IfSome result (λ front. jobs.new.items ≡ drop most jobs.old.items) }
-    ensures few { IfSome result (λ front. length front.items ≤ most) }
-    ensures same { IfNone result (jobs.new.items ≡ jobs.old.items) }
-    ensures all { length jobs.old.items ≤ most → IsSome result }
-{
-    if jobs.len() <= most {
-        return Some(mem::replace(jobs, Vec::new(alloc)));
-    }
-    let Ok(behind) = jobs.split_off(most) else {
-        return None;
-    };
-    Some(mem::replace(jobs, behind))
-}
-
 // Takes those that were handed back, else the first of the others.
 fn take_due(
     alloc: Global,
     returned: &mut Vec<Job>,
-    jobs: &mut Vec<Job>,
+    jobs: &mut DueJobs,
     most: usize,
 ) -> Option<Vec<Job>>
     requires few { length returned.old.items ≤ most }
-    ensures front { IfSome result (λ front. front.items ≡ take (due most (length returned.old.items)) (returned.old.items ++ jobs.old.items)) }
-    ensures behind { IfSome result (λ front. jobs.new.items ≡ drop (due most (length returned.old.items)) (returned.old.items ++ jobs.old.items)) }
+    ensures front { IfSome result (λ front. front.items ≡ take (due most (length returned.old.items)) (returned.old.items ++ jobs.old.jobs)) }
+    ensures behind { IfSome result (λ front. jobs.new.jobs ≡ drop (due most (length returned.old.items)) (returned.old.items ++ jobs.old.jobs)) }
     ensures few { IfSome result (λ front. length front.items ≤ most) }
     ensures none { IfSome result (λ front. returned.new.items ≡ []) }
-    ensures same { IfNone result ((returned.new.items ≡ returned.old.items) × (jobs.new.items ≡ jobs.old.items)) }
-    ensures all { length (returned.old.items ++ jobs.old.items) ≤ most → IsSome result }
+    ensures same { IfNone result ((returned.new.items ≡ returned.old.items) × (jobs.new ≡ jobs.old)) }
+    ensures room { jobs.new.room ≡ jobs.old.room }
+    ensures all { jobs.old.late ≡ 0 → length (returned.old.items ++ jobs.old.jobs) ≤ most → IsSome result }
 {
     if returned.is_empty() {
-        return take_front(alloc, jobs, most);
+        return jobs.take_front(alloc, most);
     }
     Some(mem::replace(returned, Vec::new(alloc)))
 }
@@ -64,7 +49,7 @@ impl<'a, R: Wait, B: ServerName> Desk<'a, R, B> {
     fn has_none(&self) -> bool
         ensures { result ≡ (length self.now.jobs == 0) }
     {
-        self.returned.is_empty() && self.jobs.is_empty()
+        self.returned.is_empty() && self.due.is_empty()
     }
 
     /// Whether jobs wait, or the answer to a batch does.
@@ -76,18 +61,18 @@ impl<'a, R: Wait, B: ServerName> Desk<'a, R, B> {
 
     /// Hands the first jobs that wait in as the next batch, those of a batch that was handed back, else at most [`MOST_JOBS`]: one load and one store. False where
     /// none wait, the answer to the last batch wasn't collected, a u64 doesn't count the batches, or memory runs out: then nothing changes. Linear in the jobs that
-    /// are left, and nothing is copied where none are.
+    /// are left and in the late ones, and nothing is copied where there are none.
     #[tactic(auto, using(crate::proofs::Batched::stays))]
     pub fn post(&mut self) -> bool
         ensures posted { OnTrue result (HandsIn MOST_JOBS self.old self.new) }
         ensures same { OnFalse result (self.new ≡ self.old) }
-        ensures told { self.old.waiting ≡ false → self.old.jobs ≢ [] → length self.old.jobs ≤ MOST_JOBS → self.old.worker.next + 1 < 2 ^ 64 → result ≡ true }
+        ensures told { self.old.waiting ≡ false → self.old.late ≡ 0 → self.old.jobs ≢ [] → length self.old.jobs ≤ MOST_JOBS → self.old.worker.next + 1 < 2 ^ 64 → result ≡ true }
         ensures goes { Goes unchanged self.old self.new }
     {
         if self.is_waiting || self.has_none() || self.batches == u64::MAX {
             return false;
         }
-        let Some(jobs) = take_due(self.alloc, &mut self.returned, &mut self.jobs, MOST_JOBS) else {
+        let Some(jobs) = take_due(self.alloc, &mut self.returned, &mut self.due, MOST_JOBS) else {
             return false;
         };
         hand_in(&mut self.worker, jobs);

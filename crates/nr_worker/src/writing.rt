@@ -38,6 +38,11 @@ impl<'a, R: Wait, B: ServerName> Desk<'a, R, B> {
         self.seats.forget_told();
     }
 
+    /// How many bytes waited at most for one of those that are told of, behind what was handed out for it. A hint. Constant.
+    pub fn most_waiting(&self) -> usize {
+        self.seats.most_waiting()
+    }
+
     /// The serial of a connection for which turns handed something out since this was forgotten last, the first at place 0 and so on; one may be there more than
     /// once. A hint: one may be missing where there was no memory to tell of it. Constant.
     pub fn told(&self, place: usize) -> Option<u64> {

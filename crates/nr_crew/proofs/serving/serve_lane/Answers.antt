@@ -1,8 +1,8 @@
-use Rattle.std.proofs.Common.{ap, sym, ◌∙◌, subst}
+use Rattle.std.proofs.Common.{sym, subst}
 use Rattle.nr_model.specs.Connections.{Setup}
-use Rattle.nr_lane.specs.Serving.{ServingState, kept_at}
+use Rattle.nr_lane.specs.Serving.{kept_at}
 use Rattle.nr_crew.specs.Left.{IsAnswered}
-use Rattle.nr_crew.proofs.Remains.{is_answered, is_left, may_go_on_answered}
+use Rattle.nr_crew.proofs.Remains.{is_answered, is_left}
 use Rattle.nr_crew.proofs.serving.serve_lane.Goals as goal
 
 pub returns : goal.returns
@@ -17,8 +17,6 @@ returns g c =
     let began = c.over-service.ensures.serving setup (c.new-desk.ensures.past setup) in
     let left = is_left received sent g.S.Stream.course gives kept_at parted c.args.lane.clock setup service c.serve-ended.result
     (c.serve-ended.ensures.serving c.args.lane.clock setup began) in
-    let known = c.take_mark-mark.ensures.mark ∙ ap (λ (d : ServingState). d.desk.mark) c.go_on_behind.ensures.answers in
+    let known = c.take_mark-mark.ensures.mark in
     let answered = is_answered received sent gives parted c.args.lane.clock setup service mark known left in
-    let on = may_go_on_answered received sent gives (parted service.device) (parted c.go_on_behind.new.service.device) mark service.clients.items
-    c.go_on_behind.new.service.clients.items c.go_on_behind.ensures.goes_on answered in
-    subst (λ t. IsAnswered received sent gives (parted t.0) mark t.2.items) (sym c.rest_of-device.ensures) on
+    subst (λ t. IsAnswered received sent gives (parted t.0) mark t.2.items) (sym c.rest_of-device.ensures) answered

@@ -5,10 +5,10 @@ pub loop-init : goal.loop-init
 loop-init g c = works_same c.args.desk.now
 
 pub returns-in-Rest : goal.returns-in-Rest
-returns-in-Rest g c = works_then c.args.desk.now c.loop.desk c.take_turn.new.desk c.loop.invariant c.take_turn.ensures
+returns-in-Rest g c = works_then c.args.desk.now c.loop.desk c.take_bounded.new.desk c.loop.invariant c.take_bounded.ensures
 
 pub returns-in-Later : goal.returns-in-Later
-returns-in-Later g c = works_then c.args.desk.now c.loop.desk c.take_turn.new.desk c.loop.invariant c.take_turn.ensures
+returns-in-Later g c = works_then c.args.desk.now c.loop.desk c.take_bounded.new.desk c.loop.invariant c.take_bounded.ensures
 
 pub loop-preserved : goal.loop-preserved
-loop-preserved g c = works_then c.args.desk.now c.loop.desk c.take_turn.new.desk c.loop.invariant c.take_turn.ensures
+loop-preserved g c = works_then c.args.desk.now c.loop.desk c.take_bounded.new.desk c.loop.invariant c.take_bounded.ensures

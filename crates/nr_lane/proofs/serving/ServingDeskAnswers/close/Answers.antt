@@ -27,4 +27,4 @@ returns-clause-closed g c =
     let new : ServingState = record { desk = c.close.new.self; busy = c.self.inside.is_busy; down = c.self.inside.is_down } in
     subst (λ (v : ServingState). IsClosed conn (IsGoneFrom v conn) (HasLedTo v) (HasLedTo new) (kept_at v) (kept_at new)) c.self.view_is
     (is_closed old new conn c.capped.result (c.if-conn-node.false ∙ c.node.ensures) (sym c.is_open.ensures ∙ c.if-not-is_open.false)
-    c.if-not-close.ensures.closed c.if-not-close.ensures.goes)
+    c.close.ensures.closed c.close.ensures.goes)

@@ -15,4 +15,5 @@ loop-piece-init c =
           (ap (map portion_of)
           ((λ i. drain_items (into i)) ∙ c.drain-piece-items.ensures.rest ∙ ap (λ n. take n pieces.items) count ∙ take-length pieces.items))
           refl,
+      refl,
     )

@@ -1,6 +1,6 @@
 use Rattle.std.proofs.Common.{rules, ◌≡◌, ap, ◌∙◌}
 use Rattle.nr_combiner.proofs.Handed.{turned_added, turned_executed, turned_own, turns_behind}
-use Rattle.nr_combiner.proofs.node.Node.turn.Goals as goal
+use Rattle.nr_combiner.proofs.node.Node.turn_behind.Goals as goal
 
 pub returns-clause-turned : goal.returns-clause-turned
 returns-clause-turned g c = turns_behind _ _ _ _ _ _ _ _ _ _ _ _ c.turn.ensures.turned (search rules) c.turn.ensures.node c.turn.ensures.down c.turn.ensures.served
@@ -16,7 +16,7 @@ returns-clause-sound g c = (c.turn.ensures.sound, (returns-clause-turned g c).st
 
 pub returns-clause-named : goal.returns-clause-named
 returns-clause-named g c =
-    let is : c.deref_mut.result.now.node.book.node ≡ c.args.self.now.node = search rules in
+    let is : c.args.combiner.now.node.book.node ≡ c.args.self.now.node = search rules in
     c.turn.ensures.named ∙ ap g.B.ServerName.slots is
 
 pub returns-clause-own : goal.returns-clause-own

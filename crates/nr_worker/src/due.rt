@@ -1,0 +1,212 @@
+// The jobs that wait to be handed in.
+ghost use Rattle.std.specs.Prelude.{◌≡◌, ◌<◌, ◌≤◌, ◌==◌, ◌+◌, ◌++◌, ◌∷◌, [], true, length, take, drop, IsSome, IfSome, IfNone, OnOk, OnErr};
+ghost use Rattle.std.specs.Bool.{OnTrue, OnFalse};
+ghost use Rattle.std.specs.Vec.{vec_len, vec_capacity};
+ghost use Rattle.nr_model.specs.Keyspace.{last_moment};
+ghost use Rattle.nr_entry.specs.Jobs.{items_of};
+ghost use Rattle.nr_seats.specs.Placed.{seat_at, takes_here, FeedsSeat, StopsSeat};
+ghost use Rattle.nr_worker.specs.Due.{emptied, fresh_due, with_room};
+
+use nr_blob::Memory;
+use nr_entry::Job;
+use nr_seats::Seats;
+use std::alloc::Global;
+use std::marker::Model;
+use std::mem;
+
+/// The jobs that wait to be handed in, in order. That a connection is closed takes no memory: its last job waits behind the others in room that was taken as the
+/// connection was opened, until there is room for it among them.
+#[derive(Drop)]
+pub(crate) struct DueJobs {
+    jobs: Vec<Job>,
+    // Last jobs for which there was no room among the others yet, behind them.
+    lasts: Vec<Job>,
+    // For how many more of these room is kept.
+    room: usize,
+}
+
+impl Model for DueJobs {
+    ghost use Rattle.std.specs.Prelude.{◌≤◌, ◌+◌, ◌++◌};
+    ghost use Rattle.std.specs.Vec.{vec_len, vec_capacity};
+    ghost use Rattle.nr_worker.specs.Due.{DueState, coded_due};
+
+    ghost Value = { DueState };
+
+    ghost coded = { coded_due };
+
+    ghost view = { λ d. record { jobs = d.jobs.items ++ d.lasts.items; late = vec_len d.lasts; room = d.room } };
+
+    ghost invariant = { λ d. vec_len d.lasts + d.room ≤ vec_capacity d.lasts };
+}
+
+impl DueJobs {
+    /// None. It takes no memory.
+    pub(crate) fn new(alloc: Global) -> DueJobs
+        ensures { result ≡ fresh_due }
+    {
+        DueJobs {
+            jobs: Vec::new(alloc),
+            lasts: Vec::new(alloc),
+            room: 0,
+        }
+    }
+
+    /// Keeps room for the last job of one more connection. Constant over many.
+    ///
+    /// # Errors
+    ///
+    /// `Memory` where there is none: then nothing changes.
+    pub(crate) fn make_room(&mut self) -> Result<(), Memory>
+        ensures made { OnOk result (self.new ≡ with_room self.old) }
+        ensures same { OnErr result (self.new ≡ self.old) }
+    {
+        let room = self.room + 1;
+        self.lasts.reserve(room)?;
+        self.room = room;
+        Ok(())
+    }
+
+    /// Lets go of the room for the last job of one connection.
+    pub(crate) fn give_room(&mut self)
+        requires { 0 < self.old.room }
+        ensures { self.old ≡ with_room self.new }
+    {
+        self.room -= 1;
+    }
+
+    /// Puts a connection's last job behind the others, in the room that was kept for it.
+    pub(crate) fn push_last(&mut self, job: Job)
+        requires { 0 < self.old.room }
+        ensures jobs { self.new.jobs ≡ self.old.jobs ++ job ∷ [] }
+        ensures late { self.new.late ≡ self.old.late + 1 }
+        ensures room { self.new.room + 1 ≡ self.old.room }
+    {
+        self.room -= 1;
+        self.lasts.push_reserved(job);
+    }
+
+    /// Feeds a connection at its seat, as [`Seats::feed`] does: its jobs wait behind the others, those that are late among them. Where there is no memory for the
+    /// late ones no bytes are fed, and the connection is cut. Logarithmic, and linear in the bytes and in the late ones.
+    pub(crate) fn feed(&mut self, seats: &mut Seats, serial: u64, moment: u64, bytes: &[u8]) -> bool
+        requires taken { takes_here (seat_at serial seats.old) ≡ true }
+        requires in_time { moment ≤ last_moment }
+        ensures fed { OnTrue result (FeedsSeat serial moment bytes.now seats.old seats.new (items_of self.old.jobs) (items_of self.new.jobs)) }
+        ensures stopped { OnFalse result (StopsSeat serial moment bytes.now seats.old seats.new (items_of self.old.jobs) (items_of self.new.jobs)) }
+        ensures late { OnTrue result (self.new.late ≡ 0) }
+        ensures room { self.new.room ≡ self.old.room }
+        ensures count { length seats.new ≡ length seats.old }
+    {
+        if !gather(&mut self.jobs, &mut self.lasts) {
+            seats.cut(serial);
+            return false;
+        }
+        seats.feed(serial, moment, bytes, &mut self.jobs)
+    }
+
+    /// Takes the first jobs, at most so many, and none where memory runs out: then nothing changes. The late ones aren't late any more, where some of them are among
+    /// the first. Linear in those that are left and in the late ones, and nothing is copied where there are none.
+    pub(crate) fn take_front(&mut self, alloc: Global, most: usize) -> Option<Vec<Job>>
+        ensures front { IfSome result (λ front. front.items ≡ take most self.old.jobs) }
+        ensures behind { IfSome result (λ front. self.new.jobs ≡ drop most self.old.jobs) }
+        ensures few { IfSome result (λ front. length front.items ≤ most) }
+        ensures room { self.new.room ≡ self.old.room }
+        ensures same { IfNone result (self.new ≡ self.old) }
+        ensures all { self.old.late ≡ 0 → length self.old.jobs ≤ most → IsSome result }
+    {
+        if self.jobs.len() > most {
+            return take_first(alloc, &mut self.jobs, most);
+        }
+        take_both(alloc, &mut self.jobs, &mut self.lasts, most)
+    }
+
+    /// No jobs wait any more; the room stays. Linear in them.
+    pub(crate) fn clear(&mut self)
+        ensures { self.new ≡ emptied self.old }
+    {
+        self.jobs.clear();
+        self.lasts.clear();
+    }
+
+    /// Whether no jobs wait.
+    pub(crate) fn is_empty(&self) -> bool
+        ensures { result ≡ (length self.now.jobs == 0) }
+    {
+        self.jobs.is_empty() && self.lasts.is_empty()
+    }
+}
+
+// Moves the late ones behind the others. False where memory runs out: then nothing changes. Linear in them.
+fn gather(jobs: &mut Vec<Job>, lasts: &mut Vec<Job>) -> bool
+    ensures all { OnTrue result (jobs.new.items ≡ jobs.old.items ++ lasts.old.items) }
+    ensures none { OnTrue result (lasts.new.items ≡ []) }
+    ensures same { OnFalse result ((jobs.new.items ≡ jobs.old.items) × (lasts.new.items ≡ lasts.old.items)) }
+    ensures room { vec_capacity lasts.new ≡ vec_capacity lasts.old }
+    ensures fits { vec_len jobs.old + vec_len lasts.old ≤ vec_capacity jobs.old → result ≡ true }
+{
+    jobs.append(lasts).is_ok()
+}
+
+// The same where there is room for them.
+fn join(jobs: &mut Vec<Job>, lasts: &mut Vec<Job>)
+    requires { vec_len jobs.old + vec_len lasts.old ≤ vec_capacity jobs.old }
+    ensures all { jobs.new.items ≡ jobs.old.items ++ lasts.old.items }
+    ensures none { lasts.new.items ≡ [] }
+    ensures room { vec_capacity lasts.new ≡ vec_capacity lasts.old }
+{
+    let _is_whole = gather(jobs, lasts);
+}
+
+// Takes those behind the first so many away, and none where memory runs out. Linear in them.
+fn split_behind(alloc: Global, jobs: &mut Vec<Job>, count: usize) -> Option<Vec<Job>>
+    ensures front { IfSome result (λ behind. jobs.new.items ≡ take count jobs.old.items) }
+    ensures behind { IfSome result (λ behind. behind.items ≡ drop count jobs.old.items) }
+    ensures same { IfNone result (jobs.new.items ≡ jobs.old.items) }
+    ensures room { vec_capacity jobs.new ≡ vec_capacity jobs.old }
+    ensures all { length jobs.old.items ≤ count → IsSome result }
+{
+    if jobs.len() <= count {
+        return Some(Vec::new(alloc));
+    }
+    let Ok(behind) = jobs.split_off(count) else {
+        return None;
+    };
+    Some(behind)
+}
+
+// Takes the first jobs, at most so many, and none where memory runs out.
+fn take_first(alloc: Global, jobs: &mut Vec<Job>, most: usize) -> Option<Vec<Job>>
+    ensures front { IfSome result (λ front. front.items ≡ take most jobs.old.items) }
+    ensures behind { IfSome result (λ front. jobs.new.items ≡ drop most jobs.old.items) }
+    ensures same { IfNone result (jobs.new.items ≡ jobs.old.items) }
+{
+    let Some(behind) = split_behind(alloc, jobs, most) else {
+        return None;
+    };
+    Some(mem::replace(jobs, behind))
+}
+
+// Takes the first of the jobs and of the late ones, which are behind them, at most so many, and none where memory runs out. The others aren't late any more.
+fn take_both(
+    alloc: Global,
+    jobs: &mut Vec<Job>,
+    lasts: &mut Vec<Job>,
+    most: usize,
+) -> Option<Vec<Job>>
+    requires { vec_len jobs.old ≤ most }
+    ensures front { IfSome result (λ front. front.items ≡ take most (jobs.old.items ++ lasts.old.items)) }
+    ensures behind { IfSome result (λ front. jobs.new.items ≡ drop most (jobs.old.items ++ lasts.old.items)) }
+    ensures none { IfSome result (λ front. lasts.new.items ≡ []) }
+    ensures same { IfNone result ((jobs.new.items ≡ jobs.old.items) × (lasts.new.items ≡ lasts.old.items)) }
+    ensures room { vec_capacity lasts.new ≡ vec_capacity lasts.old }
+    ensures all { vec_len lasts.old ≡ 0 → IsSome result }
+{
+    let more = most - jobs.len();
+    if jobs.reserve(lasts.len()).is_err() {
+        return None;
+    }
+    let Some(behind) = split_behind(alloc, lasts, more) else {
+        return None;
+    };
+    join(jobs, lasts);
+    Some(mem::replace(jobs, behind))
+}
