@@ -1,4 +1,5 @@
 pub mod Firsts
 pub mod Told
+pub mod Walks
 pub mod Refusals
 pub mod Spelled

@@ -26,9 +26,9 @@ told file key value (UnknownKey name) ascends found blames = (
   first_told file key (string_bytes name) value ascends (found (unknown_is_refused key value blames.1)) blames.0,
   ap kind_of blames.0 ∙ blames.1,
 )
-told file key value (BadValue name) ascends found blames =
-    (first_told file key (string_bytes name) value ascends (found blames.2) blames.0, rw blames.0 blames.1)
-told file key value NotToml ascends found blames = blames
+told file key value (BadValue name kind) ascends found blames =
+    (first_told file key (string_bytes name) value ascends (found blames.2) blames.0, ap kind_of blames.0 ∙ blames.1)
+told file key value (NotToml place) ascends found blames = blames
 told file key value Memory ascends found blames = tt
 
 -- the same at the entries of a table, where what is left of them has the first fault of all

@@ -9,6 +9,7 @@ use Rattle.clap.specs.declared.error.Error.{Error}
 use Rattle.clap.specs.declared.error.kind.ErrorKind.TheVariants as kinds
 use Rattle.nr_config.specs.declared.command_line.Task.{Task}
 use Rattle.nr_config.specs.declared.command_line.Task.TheVariants.{Run, Script, Serve}
+use Rattle.nr_config.specs.declared.given.Given.{Given}
 use Rattle.nr_config.specs.declared.command_line.WordsError.{WordsError}
 use Rattle.nr_config.specs.declared.command_line.WordsError.TheVariants.{Asked, Refused, Memory}
 
@@ -20,6 +21,10 @@ file = record (new_rule (codes "file")) { action = Some Set; value_names = 1; re
 abbrev pub config : Rule
 config = record file { id = codes "config"; long = Some (codes "config") }
 
+-- `--NAME VALUE`, in the place of the setting of this name
+abbrev pub word : Text → Rule
+word name = record (new_rule name) { action = Some Set; value_names = 1; long = Some name }
+
 abbrev pub run : App
 run = new_app (codes "run")
 
@@ -27,13 +32,16 @@ abbrev pub script : App
 script = with_rule (new_app (codes "script")) file
 
 abbrev pub serve : App
-serve = with_rule (new_app (codes "serve")) config
+serve =
+    with_rule
+    (with_rule (with_rule (with_rule (with_rule (new_app (codes "serve")) config) (word (codes "listen"))) (word (codes "nodes"))) (word (codes "workers")))
+    (word (codes "connections"))
 
--- words without a task are answered by the help
+-- words without a task are answered by the help; there is a version
 abbrev pub start : App
-start = let bare = new_app (codes "noderedis") in record bare { top = record bare.top { subcommand_required = true; arg_required_else_help = true } }
+start = let bare = new_app (codes "noderedis") in record bare { top = record bare.top { subcommand_required = true; arg_required_else_help = true; has_version = true } }
 
--- `noderedis run`, `noderedis script FILE`, and `noderedis serve --config FILE`
+-- `noderedis run`, `noderedis script FILE`, and `noderedis serve --config FILE` with words in the place of settings
 abbrev pub command : App
 command = with_subcommand (with_subcommand (with_subcommand start run.top) script.top) serve.top
 
@@ -53,11 +61,18 @@ subcommand_in found = option_map (λ p. p.0) found
 abbrev pub value_in : Text → Option (Text × List Row) → Option Text
 value_in id found = option_and_then (λ p. first_of id p.1) found
 
--- the task is the one of the subcommand that was found, with its file
+-- the words in the place of settings are those that were found
+pub record AreGivenIn (found : Option (Text × List Row)) (given : Given) : Type 0 where
+  pub listen : value_in (codes "listen") found ≡ option_map string_bytes given.listen
+  pub nodes : value_in (codes "nodes") found ≡ option_map string_bytes given.nodes
+  pub workers : value_in (codes "workers") found ≡ option_map string_bytes given.workers
+  pub connections : value_in (codes "connections") found ≡ option_map string_bytes given.connections
+
+-- the task is the one of the subcommand that was found, with its file and words
 abbrev pub IsTaskOf : Option (Text × List Row) → Task → Type 0
 IsTaskOf found Run = subcommand_in found ≡ Some (codes "run")
 IsTaskOf found (Script name) = (subcommand_in found ≡ Some (codes "script")) × (value_in (codes "file") found ≡ Some (string_bytes name))
-IsTaskOf found (Serve name) = (subcommand_in found ≡ Some (codes "serve")) × (value_in (codes "config") found ≡ Some (string_bytes name))
+IsTaskOf found (Serve name given) = (subcommand_in found ≡ Some (codes "serve")) × (value_in (codes "config") found ≡ Some (string_bytes name)) × AreGivenIn found given
 
 -- the words, of which the first is the program's own name, are without a fault and name this task
 abbrev pub Names : List Text → Task → Type 0
@@ -96,17 +111,31 @@ abbrev pub is_option : Text → Bool
 is_option [] = false
 is_option (byte ∷ rest) = byte == 45
 
--- the words are the program's own name, and then the task as a user writes it
+-- no word stands in the place of a setting
+pub record IsNothing (given : Given) : Type 0 where
+  pub listen : given.listen ≡ None
+  pub nodes : given.nodes ≡ None
+  pub workers : given.workers ≡ None
+  pub connections : given.connections ≡ None
+
+-- the words are the program's own name, and then the task as a user writes it, with no setting among them
 abbrev pub Spells : List Text → Task → Type 0
 Spells words Run = (program : Text) × (words ≡ program ∷ codes "run" ∷ [])
 Spells words (Script name) = (program : Text) × (words ≡ program ∷ codes "script" ∷ string_bytes name ∷ []) × (is_option (string_bytes name) ≡ false)
-Spells words (Serve name) = (program : Text) × (words ≡ program ∷ codes "serve" ∷ codes "--config" ∷ string_bytes name ∷ []) × (is_option (string_bytes name) ≡ false)
+Spells words (Serve name given) = (program : Text) × (words ≡ program ∷ codes "serve" ∷ codes "--config" ∷ string_bytes name ∷ []) × (is_option (string_bytes name) ≡ false) × IsNothing given
 
--- the same task, with a file of the same name
+-- the same words in the place of settings
+pub record AreSame (given got : Given) : Type 0 where
+  pub listen : option_map string_bytes given.listen ≡ option_map string_bytes got.listen
+  pub nodes : option_map string_bytes given.nodes ≡ option_map string_bytes got.nodes
+  pub workers : option_map string_bytes given.workers ≡ option_map string_bytes got.workers
+  pub connections : option_map string_bytes given.connections ≡ option_map string_bytes got.connections
+
+-- the same task, with a file of the same name, and the same words
 abbrev pub IsSame : Task → Task → Type 0
 IsSame Run Run = Unit {0}
 IsSame (Script name) (Script other) = string_bytes name ≡ string_bytes other
-IsSame (Serve name) (Serve other) = string_bytes name ≡ string_bytes other
+IsSame (Serve name given) (Serve other got) = (string_bytes name ≡ string_bytes other) × AreSame given got
 IsSame _ _ = ⊥
 
 -- the answer is this task, or want of memory

@@ -1,11 +1,14 @@
 -- Which fault of a settings file is told, and what a file without one sets.
-use Rattle.std.specs.Prelude.{◌≡◌, ℕ, false, List, Some, None, IsSome, IfSome, true, codes, string_bytes}
+use Rattle.std.specs.Prelude.{◌≡◌, ℕ, false, List, Some, None, IfSome, true, codes, string_bytes}
 use Rattle.std.specs.Ordering.{nat_cmp}
 use Rattle.std.specs.Cmp.Lexicographic.{slice_cmp}
 use Rattle.std.specs.declared.cmp.Ordering.TheVariants.{Less}
 use Rattle.toml.specs.Data.{Data, Members, get_member}
+use Rattle.toml.specs.Errors.{IsMemory}
 use Rattle.toml.specs.Parse.{parse_document}
+use Rattle.toml.specs.declared.de.error.Error.{Error}
 use Rattle.nr_config.specs.Keys.{kind_of, is_allowed, number_or, text_or}
+use Rattle.nr_config.specs.Places.{IsPlaceIn}
 use Rattle.nr_config.specs.declared.error.ConfigError.{ConfigError}
 use Rattle.nr_config.specs.declared.error.ConfigError.TheVariants.{NotToml, UnknownKey, BadValue, Memory}
 use Rattle.nr_config.specs.declared.settings.Settings.{Settings}
@@ -13,8 +16,8 @@ use Rattle.nr_config.specs.declared.settings.Settings.{Settings}
 -- what is told of a key with its value, or want of memory
 abbrev pub Blames : List ℕ → Data → ConfigError → Type 0
 Blames key value (UnknownKey name) = (string_bytes name ≡ key) × (kind_of key ≡ None)
-Blames key value (BadValue name) = (string_bytes name ≡ key) × IsSome (kind_of key) × (is_allowed key value ≡ false)
-Blames key value NotToml = ⊥
+Blames key value (BadValue name kind) = (string_bytes name ≡ key) × (kind_of key ≡ Some kind) × (is_allowed key value ≡ false)
+Blames key value (NotToml place) = ⊥
 Blames key value Memory = Unit {0}
 
 -- the file has this key with a value that it may not have, and no such key before it in byte order
@@ -27,15 +30,22 @@ pub record IsFirstFault (file : Members) (key : List ℕ) : Type 0 where
 -- what is told of a file that is TOML, or want of memory
 abbrev pub BlamesFirst : Members → ConfigError → Type 0
 BlamesFirst file (UnknownKey name) = IsFirstFault file (string_bytes name) × (kind_of (string_bytes name) ≡ None)
-BlamesFirst file (BadValue name) = IsFirstFault file (string_bytes name) × IsSome (kind_of (string_bytes name))
-BlamesFirst file NotToml = ⊥
+BlamesFirst file (BadValue name kind) = IsFirstFault file (string_bytes name) × (kind_of (string_bytes name) ≡ Some kind)
+BlamesFirst file (NotToml place) = ⊥
 BlamesFirst file Memory = Unit {0}
+
+-- what is made of a refusal of the library
+abbrev pub IsMadeOf : List ℕ → Error → ConfigError → Type 0
+IsMadeOf text error (NotToml place) = (¬ (IsMemory error)) × IsPlaceIn text place
+IsMadeOf text error (UnknownKey name) = ⊥
+IsMadeOf text error (BadValue name kind) = ⊥
+IsMadeOf text error Memory = IsMemory error
 
 -- what is told of a text, or want of memory
 abbrev pub Refuses : List ℕ → ConfigError → Type 0
-Refuses text NotToml = parse_document text ≡ None
+Refuses text (NotToml place) = (parse_document text ≡ None) × IsPlaceIn text place
 Refuses text (UnknownKey name) = (file : Members) × (parse_document text ≡ Some file) × BlamesFirst file (UnknownKey name)
-Refuses text (BadValue name) = (file : Members) × (parse_document text ≡ Some file) × BlamesFirst file (BadValue name)
+Refuses text (BadValue name kind) = (file : Members) × (parse_document text ≡ Some file) × BlamesFirst file (BadValue name kind)
 Refuses text Memory = Unit {0}
 
 -- each setting is as the file says, or at its default

@@ -1,20 +1,26 @@
 -- The keys of a settings file, the values that they may have, and what is read from them.
-use Rattle.std.specs.Prelude.{◌≡◌, ◌≤◌, ℕ, ℤ, pos, negsuc, Bool, true, false, ◌&&◌, List, Option, Some, None, IfSome, is_some, if◌then◌else◌, nat_le, codes, bytes_eq, unwrap_or}
+use Rattle.std.specs.Prelude.{◌≡◌, ◌≤◌, ℕ, ℤ, pos, negsuc, Bool, true, false, ◌&&◌, ◌++◌, List, Option, Some, None, IfSome, is_some, if◌then◌else◌, nat_le, codes, bytes_eq, unwrap_or}
+use Rattle.std.specs.Fmt.{decimal}
 use Rattle.std.specs.Option.{option_map_or}
 use Rattle.toml.specs.Data.{Data, integer, Members, get_member, as_str}
 use Rattle.nr_config.specs.declared.keys.Kind.{Kind}
-use Rattle.nr_config.specs.declared.keys.Kind.TheVariants.{Text, Number}
+use Rattle.nr_config.specs.declared.keys.Kind.TheVariants.{Address, Number}
 
 -- what the value of the setting of this name has to be, where there is one
 abbrev pub kind_of : List ℕ → Option Kind
 kind_of name =
     if bytes_eq name (codes "connections") then Some (Number 1 1024)
-    else if bytes_eq name (codes "listen") then Some Text
+    else if bytes_eq name (codes "listen") then Some Address
     else if bytes_eq name (codes "nodes") then Some (Number 1 8)
     else if bytes_eq name (codes "places") then Some (Number 2 65536)
     else if bytes_eq name (codes "queue_limit") then Some (Number 1024 1073741824)
     else if bytes_eq name (codes "workers") then Some (Number 1 16)
     else None
+
+-- what a user is told of it
+abbrev pub kind_text : Kind → List ℕ
+kind_text Address = codes "an address and a port"
+kind_text (Number least most) = codes "from " ++ (decimal least ++ (codes " to " ++ decimal most))
 
 abbrev pub natural : ℤ → Option ℕ
 natural (pos n) = Some n
@@ -25,10 +31,15 @@ abbrev pub whole_number : Data → Option ℕ
 whole_number (integer z) = natural z
 whole_number _ = None
 
+-- a setting of this kind may be at this number
+abbrev pub is_within : ℕ → Kind → Bool
+is_within n Address = false
+is_within n (Number least most) = nat_le least n && nat_le n most
+
 -- the value is of this kind
 abbrev pub fits : Kind → Data → Bool
-fits Text value = is_some (as_str value)
-fits (Number least most) value = option_map_or (λ n. nat_le least n && nat_le n most) (whole_number value) false
+fits Address value = is_some (as_str value)
+fits (Number least most) value = option_map_or (λ n. is_within n (Number least most)) (whole_number value) false
 
 -- a settings file may have this key with this value
 abbrev pub is_allowed : List ℕ → Data → Bool

@@ -1,12 +1,16 @@
 // The words of the command line, read by `clap`: which task they name.
 ghost use Rattle.std.specs.Prelude.{◌≡◌, Some, false, codes, option_map, IfOk, IfErr, map, string_bytes};
-ghost use Rattle.clap.specs.Words.{app_of, first_of, rows_of, rule_of, shape_of, with_subcommand, kind_of, subcommand_rows_of, first_value, found_of};
-ghost use Rattle.nr_config.specs.CommandLines.{command, file, config, run, script, serve, start, Describes, IsLocal, Names, Refuses, FindsTask, Finds, IsRefusal, IsMadeOf, Spells, Gives};
+ghost use Rattle.clap.specs.Words.{with_rule, app_of, first_of, rows_of, rule_of, shape_of, with_subcommand, kind_of, subcommand_rows_of, first_value, found_of};
+ghost use Rattle.nr_config.specs.CommandLines.{AreGivenIn, command, file, config, word, run, script, serve, start, Describes, IsLocal, Names, Refuses, FindsTask, Finds, IsRefusal, IsMadeOf, Spells, Gives};
 
+use crate::given::Given;
 use clap::error::ErrorKind;
 use clap::{Arg, ArgAction, ArgMatches, Command};
 use std::alloc::{AllocError, Global};
 use thiserror::Error;
+
+// What `noderedis --version` prints behind the name.
+const VERSION: &str = "0.9.0";
 
 /// What the program is to do.
 #[derive(Debug, Drop, PartialEq, Eq)]
@@ -15,14 +19,14 @@ pub enum Task {
     Run,
     /// Run the steps of the script of this name.
     Script(String),
-    /// Serve by TCP, with the settings in the file of this name.
-    Serve(String),
+    /// Serve by TCP, with the settings in the file of this name, but for those that words give.
+    Serve(String, Given),
 }
 
 /// Why the words of the command line give no task.
 #[derive(Debug, Drop, Error)]
 pub enum WordsError {
-    /// The words ask for help. This is the text, for standard output.
+    /// The words ask for help or the version. This is the text, for standard output.
     #[error("{0}")]
     Asked(clap::Error),
     /// The words name no task. The text says why, for standard error.
@@ -56,6 +60,18 @@ fn config<'a>(alloc: Global) -> Arg<'a>
         .action(ArgAction::Set)
 }
 
+// A word that stands in the place of a setting.
+fn word<'a>(alloc: Global, name: &'a str, value: &'a str, help: &'a str) -> Arg<'a>
+    ensures rule { rule_of result ≡ word name.entry.now }
+    ensures local { result.global ≡ false }
+{
+    Arg::new(alloc, name)
+        .long(name)
+        .value_name(value)
+        .help(help)
+        .action(ArgAction::Set)
+}
+
 fn run<'a>(alloc: Global) -> Command<'a>
     ensures { Describes run result }
 {
@@ -72,12 +88,27 @@ fn script<'a>(alloc: Global) -> Result<Command<'a>, AllocError>
         .arg(file(alloc))
 }
 
+fn taking<'a>(command: Command<'a>, arg: Arg<'a>) -> Result<Command<'a>, AllocError>
+    requires command { IsLocal command }
+    requires argument { arg.global ≡ false }
+    ensures { IfOk result (Describes (with_rule (app_of command.entry) (rule_of arg.entry))) }
+{
+    command.arg(arg)
+}
+
 fn serve<'a>(alloc: Global) -> Result<Command<'a>, AllocError>
     ensures { IfOk result (Describes serve) }
 {
-    Command::new(alloc, "serve")
-        .about("Serves by TCP")
-        .arg(config(alloc))
+    let bare = Command::new(alloc, "serve").about("Serves by TCP");
+    let named = taking(bare, config(alloc))?;
+    let placed = taking(named, word(alloc, "listen", "ADDR", "Where to listen"))?;
+    let sized = taking(placed, word(alloc, "nodes", "N", "How many nodes: 1 to 8"))?;
+    let staffed = taking(
+        sized,
+        word(alloc, "workers", "N", "Workers of a node: 1 to 16"),
+    )?;
+    let help = "Connections of a node: 1 to 1024";
+    taking(staffed, word(alloc, "connections", "N", help))
 }
 
 fn start<'a>(alloc: Global) -> Command<'a>
@@ -85,6 +116,7 @@ fn start<'a>(alloc: Global) -> Command<'a>
 {
     Command::new(alloc, "noderedis")
         .about("A Redis server whose inside is Node Replication")
+        .version(VERSION)
         .subcommand_required(true)
         .arg_required_else_help(true)
 }
@@ -135,11 +167,26 @@ fn script_in(alloc: Global, matches: &ArgMatches<'_>) -> Result<Option<Task>, Al
     }
 }
 
+fn given_in(alloc: Global, matches: &ArgMatches<'_>) -> Result<Given, AllocError>
+    ensures { IfOk result (AreGivenIn (Some (codes "serve", rows_of (found_of matches.now)))) }
+{
+    let listen = value_in(alloc, matches, "listen")?;
+    let nodes = value_in(alloc, matches, "nodes")?;
+    let workers = value_in(alloc, matches, "workers")?;
+    let connections = value_in(alloc, matches, "connections")?;
+    Ok(Given {
+        listen,
+        nodes,
+        workers,
+        connections,
+    })
+}
+
 fn serve_in(alloc: Global, matches: &ArgMatches<'_>) -> Result<Option<Task>, AllocError>
     ensures { IfOk result (λ task. FindsTask (Some (codes "serve", rows_of (found_of matches.now))) task) }
 {
     match value_in(alloc, matches, "config")? {
-        Some(file) => Ok(Some(Task::Serve(file))),
+        Some(file) => Ok(Some(Task::Serve(file, given_in(alloc, matches)?))),
         None => Ok(None),
     }
 }
@@ -201,7 +248,7 @@ fn refusal(error: clap::Error) -> WordsError
 ///
 /// # Errors
 ///
-/// `Refused` where they name no task, and `Asked` where they ask for help in place of one. `Memory` may come at any words.
+/// `Refused` where they name no task, and `Asked` where they ask for help or the version in place of one. `Memory` may come at any words.
 pub fn words(alloc: Global, words: Vec<String>) -> Result<Task, WordsError>
     ensures spelled { (task : Task) → Spells (map string_bytes words.items) task → Gives task result }
     ensures named { IfOk result (Names (map string_bytes words.items)) }

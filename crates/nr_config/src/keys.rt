@@ -1,19 +1,34 @@
 // The keys of a settings file, and the values that they may have.
 ghost use Rattle.std.specs.Prelude.{◌≡◌, Some, ◌≤◌, IsTrue, OnOk, IfErr, IfOk, true, string_bytes};
 ghost use Rattle.toml.specs.View.{view};
-ghost use Rattle.nr_config.specs.Keys.{kind_of, whole_number, fits, is_allowed};
+ghost use Rattle.nr_config.specs.Keys.{kind_of, whole_number, fits, is_allowed, is_within};
 ghost use Rattle.nr_config.specs.Faults.{Blames};
 
 use crate::error::ConfigError;
 use std::alloc::Global;
+use std::fmt;
 use toml::Value;
 
 /// What the value of a setting has to be.
-#[derive(Clone, Copy)]
+#[derive(Clone, Copy, Debug, PartialEq, Eq)]
 pub enum Kind {
-    Text,
+    /// A text: an address and a port.
+    Address,
     /// A whole number within the range.
     Number { least: usize, most: usize },
+}
+
+impl fmt::Display for Kind {
+    ghost use Rattle.nr_config.specs.Keys.{kind_text};
+
+    ghost output = { λ kind. Some (kind_text kind) };
+
+    fn fmt<W: fmt::Write>(&self, f: &mut fmt::Formatter<W>) -> fmt::Result {
+        match self {
+            Kind::Address => f.write_str("an address and a port"),
+            Kind::Number { least, most } => write!(f, "from {least} to {most}"),
+        }
+    }
 }
 
 fn number(least: usize, most: usize) -> Option<Kind>
@@ -28,7 +43,7 @@ pub fn kind_of(name: &str) -> Option<Kind>
 {
     match name {
         "connections" => number(1, 1_024),
-        "listen" => Some(Kind::Text),
+        "listen" => Some(Kind::Address),
         "nodes" => number(1, 8),
         "places" => number(2, 65_536),
         "queue_limit" => number(1_024, 1_073_741_824),
@@ -47,13 +62,23 @@ pub fn whole_number(value: &Value) -> Option<usize>
     }
 }
 
+/// Whether a setting of this kind may be at this number.
+pub fn is_within(number: usize, kind: Kind) -> bool
+    ensures { result ≡ is_within number kind }
+{
+    match kind {
+        Kind::Address => false,
+        Kind::Number { least, most } => least <= number && number <= most,
+    }
+}
+
 fn fits(kind: Kind, value: &Value) -> bool
     ensures { result ≡ fits kind (view value.now) }
 {
     match kind {
-        Kind::Text => value.is_str(),
-        Kind::Number { least, most } => match whole_number(value) {
-            Some(number) => least <= number && number <= most,
+        Kind::Address => value.is_str(),
+        Kind::Number { .. } => match whole_number(value) {
+            Some(number) => is_within(number, kind),
             None => false,
         },
     }
@@ -75,6 +100,6 @@ pub fn check(alloc: Global, key: &str, value: &Value) -> Result<(), ConfigError>
     match kind_of(key) {
         None => Err(ConfigError::UnknownKey(copy(alloc, key)?)),
         Some(kind) if fits(kind, value) => Ok(()),
-        Some(_) => Err(ConfigError::BadValue(copy(alloc, key)?)),
+        Some(kind) => Err(ConfigError::BadValue(copy(alloc, key)?, kind)),
     }
 }

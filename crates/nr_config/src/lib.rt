@@ -3,10 +3,15 @@
 
 pub use command_line::{Task, WordsError, words};
 pub use error::ConfigError;
+pub use given::Given;
+pub use keys::Kind;
+pub use place::Place;
 pub use settings::Settings;
 
 mod command_line;
 mod error;
+mod given;
 mod keys;
+mod place;
 mod reading;
 mod settings;

@@ -1,16 +1,30 @@
 // A settings file, read.
 ghost use Rattle.std.specs.Prelude.{◌≡◌, None, Some, IfOk, IfErr, OnOk, option_map};
 ghost use Rattle.toml.specs.Data.{Members, get_member};
+ghost use Rattle.toml.specs.Errors.{IsWithin};
 ghost use Rattle.toml.specs.View.{view, table_view};
 ghost use Rattle.toml.specs.Parse.{parse_document};
 ghost use Rattle.nr_config.specs.Keys.{HasNoFault, IsInRange, number_or, text_or};
-ghost use Rattle.nr_config.specs.Faults.{BlamesFirst, Refuses, Sets};
+ghost use Rattle.nr_config.specs.Faults.{BlamesFirst, IsMadeOf, Refuses, Sets};
 
 use crate::error::ConfigError;
 use crate::keys::{check, copy, whole_number};
+use crate::place::Place;
 use crate::settings::Settings;
 use std::alloc::Global;
+use toml::de::Error;
 use toml::{Table, Value};
+
+// What is told of a text that the library refuses.
+fn refusal(text: &str, error: &Error) -> ConfigError
+    requires { IsWithin text.now error.now }
+    ensures { IsMadeOf text.now error.now result }
+{
+    match error.span() {
+        Some(span) => ConfigError::NotToml(Place::behind(&text.as_bytes()[..span.start])),
+        None => ConfigError::Memory,
+    }
+}
 
 fn read_table(alloc: Global, text: &str) -> Result<Table, ConfigError>
     ensures table { IfOk result (λ table. parse_document text.now ≡ Some (table_view table)) }
@@ -18,8 +32,7 @@ fn read_table(alloc: Global, text: &str) -> Result<Table, ConfigError>
 {
     match toml::table_from_str(alloc, text) {
         Ok(table) => Ok(table),
-        Err(error) if error.is_memory() => Err(ConfigError::Memory),
-        Err(_) => Err(ConfigError::NotToml),
+        Err(error) => Err(refusal(text, &error)),
     }
 }
 
@@ -64,7 +77,7 @@ impl Settings {
     ///
     /// # Errors
     ///
-    /// `NotToml` where the text isn't TOML. Else the first key in byte order answers that is unknown, or has a value that its setting
+    /// `NotToml` where the text isn't TOML, with the place from which it isn't. Else the first key in byte order answers that is unknown, or has a value that its setting
     /// may not have. `Memory` may come at any text.
     pub fn from_text(alloc: Global, text: &str) -> Result<Settings, ConfigError>
         ensures settings { IfOk result (λ settings. (file : Members) × (parse_document text.now ≡ Some file) × HasNoFault file × Sets file settings) }

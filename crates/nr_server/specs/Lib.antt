@@ -3,6 +3,7 @@ pub mod Written
 pub mod Known
 pub mod Ran
 pub mod Going
+pub mod Refusals
 pub mod Faults
 pub mod Files
 pub mod Plays

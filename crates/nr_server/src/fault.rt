@@ -1,8 +1,10 @@
-// Why the program failed, with the line that it prints and its exit status.
+// Why the program failed, with the lines that it prints and its exit status.
 ghost use Rattle.std.specs.Prelude.{◌≡◌};
 ghost use Rattle.nr_server.specs.Faults.{status_of};
 
+use crate::refusal::Refusal;
 use nr_blob::Memory;
+use nr_config::{Kind, Place};
 use nr_script::ScriptError;
 use std::alloc::AllocError;
 use std::fmt;
@@ -18,18 +20,18 @@ pub enum Fault {
     Memory,
     /// The line of a script with this number, from 1, says no step that can be taken.
     BadStep(u64),
-    /// The script could not be read.
-    Script,
-    /// The settings could not be read.
-    Settings,
-    /// The settings aren't TOML.
-    NotToml,
+    /// The script of this name could not be read.
+    Script(String, Refusal),
+    /// The settings file of this name could not be read.
+    Settings(String, Refusal),
+    /// The settings aren't TOML from this place on.
+    NotToml(Place),
     /// No setting has this name.
     UnknownKey(String),
-    /// The value of the setting of this name is of another type, or out of its range.
-    BadValue(String),
+    /// The value of the setting of this name isn't what it has to be.
+    BadValue(String, Kind),
     /// The server could not listen at this address.
-    CannotListen(String),
+    CannotListen(String, Refusal),
     /// No connection can come any more.
     Listener,
     /// The system gave no thread.
@@ -45,12 +47,12 @@ impl Fault {
     }
 }
 
-// What the program says of it, on one line.
+// What the program says of it: a line, and where there is a reason, that on a line of its own, two spaces in.
 impl fmt::Display for Fault {
     ghost use Rattle.std.specs.Prelude.{Some};
-    ghost use Rattle.nr_server.specs.Faults.{line_of};
+    ghost use Rattle.nr_server.specs.Faults.{text_of};
 
-    ghost output = { λ fault. Some (line_of fault) };
+    ghost output = { λ fault. Some (text_of fault) };
 
     fn fmt<W: fmt::Write>(&self, f: &mut fmt::Formatter<W>) -> fmt::Result {
         match self {
@@ -58,12 +60,20 @@ impl fmt::Display for Fault {
             Fault::Write => f.write_str("noderedis: write failed"),
             Fault::Memory => f.write_str("noderedis: out of memory"),
             Fault::BadStep(line) => write!(f, "noderedis: line {line}: bad step"),
-            Fault::Script => f.write_str("noderedis: cannot read the script"),
-            Fault::Settings => f.write_str("noderedis: cannot read the settings"),
-            Fault::NotToml => f.write_str("noderedis: settings: not toml"),
+            Fault::Script(file, why) => {
+                write!(f, "noderedis: cannot read the script\n  {file}: {why}")
+            }
+            Fault::Settings(file, why) => {
+                write!(f, "noderedis: cannot read the settings\n  {file}: {why}")
+            }
+            Fault::NotToml(place) => write!(f, "noderedis: settings: not toml\n  {place}"),
             Fault::UnknownKey(key) => write!(f, "noderedis: settings: unknown key {key}"),
-            Fault::BadValue(key) => write!(f, "noderedis: settings: bad value {key}"),
-            Fault::CannotListen(address) => write!(f, "noderedis: cannot listen on {address}"),
+            Fault::BadValue(key, kind) => {
+                write!(f, "noderedis: settings: bad value {key}\n  {kind}")
+            }
+            Fault::CannotListen(address, why) => {
+                write!(f, "noderedis: cannot listen on {address}\n  {why}")
+            }
             Fault::Listener => f.write_str("noderedis: listener failed"),
             Fault::NoThread => f.write_str("noderedis: no thread"),
         }

@@ -4,15 +4,17 @@
 
 pub use fault::Fault;
 pub use line::{Ran, run_on};
+pub use refusal::Refusal;
 pub use run::{Done, Served, serve_stream};
 pub use script::play_on;
 pub use serve::{listen_on, serve_by_tcp, serve_on};
-pub use settings::settings_on;
+pub use settings::{settings_on, with_words};
 
 mod bytes;
 mod fault;
 mod joined;
 mod line;
+mod refusal;
 mod run;
 mod script;
 mod serve;

@@ -7,6 +7,7 @@ ghost use Rattle.nr_server.specs.Listening.{IsUnheard};
 ghost use Rattle.nr_server.specs.Serving.{told_of};
 
 use crate::fault::Fault;
+use crate::refusal::Refusal;
 use nr_blob::Memory;
 use nr_config::Settings;
 use nr_crew::{Place, ServeError, Served, Shape, Size, serve_nodes};
@@ -24,7 +25,7 @@ use std::thread::Threads;
 ///
 /// # Errors
 ///
-/// `CannotListen` where the system refuses it, `Memory` where memory runs out.
+/// `CannotListen` where the system refuses it, with what it says; `Memory` where memory runs out.
 pub fn listen_on<N: Net>(alloc: Global, net: &N, settings: &Settings) -> Result<Listening, Fault>
     ensures named { IfOk result (λ listening. string_bytes listening.named ≡ string_bytes settings.now.listen) }
     ensures refused { IfErr result (IsUnheard settings.now) }
@@ -32,7 +33,10 @@ pub fn listen_on<N: Net>(alloc: Global, net: &N, settings: &Settings) -> Result<
     match Listening::listen(alloc, net, settings.listen.as_str()) {
         Ok(listening) => Ok(listening),
         Err(error) if error.kind() == ErrorKind::OutOfMemory => Err(Fault::Memory),
-        Err(_) => Err(Fault::CannotListen(String::from_str(alloc, settings.listen.as_str())?)),
+        Err(error) => {
+            let address = String::from_str(alloc, settings.listen.as_str())?;
+            Err(Fault::CannotListen(address, Refusal::of(&error)))
+        }
     }
 }
 
