@@ -355,8 +355,8 @@ fn serves_by_the_clock(rt: HostRuntime) -> Result<(), Fail> {
     Ok(())
 }
 
-// A turn with nothing at hand rests at its device. One whose client says nothing rests in each of 100 turns. One whose client gives and takes a byte a
-// turn rests while the first five bytes of its request come, and then not in the turns in which bytes are left to be written or the client goes.
+// A turn with nothing at hand rests at its device. One whose client says nothing rests in each of 100 turns. One whose client gives a byte a turn rests in
+// each of the six in which those of its request come, since all of the reply is written in the last of them, and then not in that in which the client goes.
 #[test]
 fn rests_where_nothing_moves(rt: HostRuntime) -> Result<(), Fail> {
     let keys = RandomState::new(&rt)?;
@@ -364,7 +364,7 @@ fn rests_where_nothing_moves(rt: HostRuntime) -> Result<(), Fail> {
     let mut silent = talking;
     silent.first = 0;
     silent.needed = 1;
-    for (peer, calm, busy) in [(silent, 100, 0), (talking, 5, 7)] {
+    for (peer, calm, busy) in [(silent, 100, 0), (talking, 6, 1)] {
         let clock = MachineClock { runtime: &rt };
         let came = came_of(&rt, rt.alloc(), keys, clock, peer, 100)?;
         let came = came.expect(&rt, "turns");
