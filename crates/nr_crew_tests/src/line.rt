@@ -79,9 +79,9 @@ impl Stream for Line {
             self.is_lost = true;
             return Received::Failed;
         }
+        let stays = self.stays || (self.waits && !self.is_answered());
         let left = self.input.get(self.given..).unwrap_or(b"");
         let count = left.len().min(buffer.len()).min(self.piece);
-        let stays = self.stays || (self.waits && !self.is_answered());
         if left.is_empty() && !stays {
             return Received::End;
         }
