@@ -241,19 +241,3 @@ fn no_names_are_too_many(rt: HostRuntime) -> Result<(), Fail> {
     assert!(rt; is_answered(alloc, &mut world, b"", b"GET 69999", b"$5\r\n69999\r\n")?);
     Ok(())
 }
-
-// As many words as a request may have, and one more.
-#[test]
-fn no_words_are_too_many(rt: HostRuntime) -> Result<(), Fail> {
-    let alloc = rt.alloc();
-    let mut world = opened(alloc, RandomState::new(&rt)?)?;
-    assert!(rt; is_answered(alloc, &mut world, b"", b"SET k v", b"+OK\r\n")?);
-    let mut request = b"*1048576\r\n$3\r\nDEL\r\n".repeat(alloc, 1)?;
-    request.extend_from_slice(&b"$1\r\nk\r\n".repeat(alloc, 1_048_575)?)?;
-    assert!(rt; ask(alloc, &mut world, &request)?.as_slice() == b":1\r\n".as_slice());
-    let refused = ask(alloc, &mut world, b"*1048577\r\n")?;
-    assert!(rt;
-        refused.as_slice() == b"-ERR Protocol error: invalid multibulk length\r\n".as_slice()
-    );
-    Ok(())
-}
