@@ -2,12 +2,13 @@
 //! why it failed.
 #![tactic(auto)]
 
-use nr_config::{Given, Settings, Task, WordsError, words};
+use nr_config::{Given, Lasts, Settings, Task, WordsError, words};
 use nr_server::{
     Fault, Refusal, listen_on, play_on, run_on, serve_by_tcp, settings_on, with_words,
 };
 use nr_service::{MachineClock, Open};
 use std::alloc::Global;
+use std::fs::Files;
 use std::hash::RandomState;
 use std::io::{self, ErrorKind};
 use std::net::Net;
@@ -15,7 +16,7 @@ use std::process::ExitCode;
 use std::rt::Clock;
 use std::sync::Wait;
 use std::thread::Threads;
-use std::{env, fs, thread};
+use std::{env, fs};
 
 fn serve_input(rt: &HostRuntime) -> io::Result<Result<(), Fault>> {
     let alloc = rt.alloc();
@@ -44,37 +45,22 @@ fn play_script(rt: &HostRuntime, file: &str) -> io::Result<Result<(), Fault>> {
     }
 }
 
-fn serve_clients<R: Clock + Net + Threads + Wait + Sync>(
+// What serves: the runtime's clock, files, sockets and threads.
+trait Serving: Clock + Files + Net + Threads + Wait + Sync {}
+
+impl<R: Clock + Files + Net + Threads + Wait + Sync> Serving for R {}
+
+fn serve_clients<R: Serving>(
     rt: &HostRuntime,
-    threads: &R,
+    serving: &R,
     file: &str,
     given: Given,
+    lasts: Lasts,
 ) -> io::Result<Result<(), Fault>> {
     match read_file(rt, file)? {
-        Ok(text) => serve_with(rt, threads, &text, given),
+        Ok(text) => serve_with(rt, serving, &text, given, lasts),
         Err(why) => Ok(Err(Fault::Settings(String::from_str(rt.alloc(), file)?, why))),
     }
-}
-
-// Says by how many threads it serves, and where there are fewer processors also that, if standard error takes it.
-fn announce_threads<R: Threads>(rt: &HostRuntime, threads: &R, settings: &Settings) {
-    let count = settings.nodes * settings.workers;
-    let _ = eprintln!(rt; "noderedis: {count} threads serve");
-    if let Ok(processors) = thread::available_parallelism(threads) {
-        let processors = processors.get();
-        if count > processors {
-            let _ = eprintln!(rt; "  more than the {processors} processors");
-        }
-    }
-}
-
-// Says where it listens, and by how many threads it serves.
-fn announce<R: Threads>(rt: &HostRuntime, threads: &R, settings: &Settings) -> Result<(), Fault> {
-    if println!(rt; "noderedis: listening on {}", settings.listen).is_err() {
-        return Err(Fault::Write);
-    }
-    announce_threads(rt, threads, settings);
-    Ok(())
 }
 
 // The settings of this text, but for those that words give.
@@ -83,26 +69,34 @@ fn settings_of(alloc: Global, text: &[u8], given: Given) -> Result<Settings, Fau
 }
 
 // Serves with the settings of this text, but for those that words give, by threads.
-fn serve_with<R: Clock + Net + Threads + Wait + Sync>(
+fn serve_with<R: Serving>(
     rt: &HostRuntime,
-    threads: &R,
+    serving: &R,
     text: &[u8],
     given: Given,
+    lasts: Lasts,
 ) -> io::Result<Result<(), Fault>> {
     let alloc = rt.alloc();
     let settings = match settings_of(alloc, text, given) {
         Ok(settings) => settings,
         Err(fault) => return Ok(Err(fault)),
     };
-    let listening = match listen_on(alloc, threads, &settings) {
+    let listening = match listen_on(alloc, serving, &settings) {
         Ok(listening) => listening,
         Err(fault) => return Ok(Err(fault)),
     };
-    if let Err(fault) = announce(rt, threads, &settings) {
-        return Ok(Err(fault));
-    }
     let keys = RandomState::new(rt)?;
-    Ok(serve_by_tcp(threads, alloc, keys, &settings, listening, &Open))
+    Ok(serve_by_tcp(
+        serving,
+        alloc,
+        keys,
+        &settings,
+        listening,
+        lasts,
+        rt.stdout(),
+        rt.stderr(),
+        &Open,
+    ))
 }
 
 // Says why the program ends: in a line, and a reason on one of its own.
@@ -121,10 +115,7 @@ fn refuse(rt: &HostRuntime, error: &WordsError) -> io::Result<ExitCode> {
     }
 }
 
-fn perform<R: Clock + Net + Threads + Wait + Sync>(
-    rt: &HostRuntime,
-    threads: &R,
-) -> io::Result<ExitCode> {
+fn perform<R: Serving>(rt: &HostRuntime, serving: &R) -> io::Result<ExitCode> {
     let alloc = rt.alloc();
     let given: Vec<String> = env::args(rt)?.collect(alloc)?;
     let task = match words(alloc, given) {
@@ -134,7 +125,9 @@ fn perform<R: Clock + Net + Threads + Wait + Sync>(
     let done = match task {
         Task::Run => serve_input(rt)?,
         Task::Script(file) => play_script(rt, file.as_str())?,
-        Task::Serve(file, given) => serve_clients(rt, threads, file.as_str(), given)?,
+        Task::Serve(file, given, lasts) => {
+            serve_clients(rt, serving, file.as_str(), given, lasts)?
+        }
     };
     match done {
         Ok(()) => Ok(ExitCode::SUCCESS),

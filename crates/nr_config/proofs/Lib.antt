@@ -2,4 +2,8 @@ pub mod Firsts
 pub mod Told
 pub mod Walks
 pub mod Refusals
+pub mod Parsed
+pub mod Levels
+pub mod Serving
 pub mod Spelled
+pub mod Lists

@@ -1,5 +1,5 @@
 -- Which fault of a settings file is told, and what a file without one sets.
-use Rattle.std.specs.Prelude.{◌≡◌, ℕ, false, List, Some, None, IfSome, true, codes, string_bytes}
+use Rattle.std.specs.Prelude.{◌≡◌, ℕ, false, List, [], ◌∷◌, map, Some, None, IfSome, true, codes, string_bytes}
 use Rattle.std.specs.Ordering.{nat_cmp}
 use Rattle.std.specs.Cmp.Lexicographic.{slice_cmp}
 use Rattle.std.specs.declared.cmp.Ordering.TheVariants.{Less}
@@ -7,7 +7,7 @@ use Rattle.toml.specs.Data.{Data, Members, get_member}
 use Rattle.toml.specs.Errors.{IsMemory}
 use Rattle.toml.specs.Parse.{parse_document}
 use Rattle.toml.specs.declared.de.error.Error.{Error}
-use Rattle.nr_config.specs.Keys.{kind_of, is_allowed, number_or, text_or}
+use Rattle.nr_config.specs.Keys.{kind_of, is_allowed, addresses_or, number_or}
 use Rattle.nr_config.specs.Places.{IsPlaceIn}
 use Rattle.nr_config.specs.declared.error.ConfigError.{ConfigError}
 use Rattle.nr_config.specs.declared.error.ConfigError.TheVariants.{NotToml, UnknownKey, BadValue, Memory}
@@ -50,9 +50,12 @@ Refuses text Memory = Unit {0}
 
 -- each setting is as the file says, or at its default
 pub record Sets (file : Members) (settings : Settings) : Type 0 where
-  pub listen : string_bytes settings.listen ≡ text_or (codes "127.0.0.1:6379") (get_member (codes "listen") file)
+  pub listen : map string_bytes settings.listen.items ≡ addresses_or (codes "127.0.0.1:6379" ∷ []) (get_member (codes "listen") file)
   pub nodes : settings.nodes ≡ number_or 2 (get_member (codes "nodes") file)
   pub places : settings.places ≡ number_or 1024 (get_member (codes "places") file)
   pub workers : settings.workers ≡ number_or 2 (get_member (codes "workers") file)
   pub connections : settings.connections ≡ number_or 256 (get_member (codes "connections") file)
   pub queue_limit : settings.queue_limit ≡ number_or 67108864 (get_member (codes "queue_limit") file)
+  pub tcp_keepalive : settings.tcp_keepalive ≡ number_or 300 (get_member (codes "tcp_keepalive") file)
+  pub timeout : settings.timeout ≡ number_or 0 (get_member (codes "timeout") file)
+  pub shutdown_seconds : settings.shutdown_seconds ≡ number_or 5 (get_member (codes "shutdown_seconds") file)

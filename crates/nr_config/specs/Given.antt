@@ -1,5 +1,5 @@
 -- What words of the command line make of the settings of a file.
-use Rattle.std.specs.Prelude.{◌≡◌, ◌⊎◌, ◌<◌, ◌^◌, ℕ, List, Option, Some, None, codes, option_map, unwrap_or, string_bytes}
+use Rattle.std.specs.Prelude.{◌≡◌, ◌⊎◌, ◌<◌, ◌^◌, ℕ, List, [], ◌∷◌, map, Option, Some, None, codes, option_map, string_bytes}
 use Rattle.std.specs.Str.Parse.{IsNumeral, digits_value, without_leading_plus}
 use Rattle.nr_config.specs.Keys.{kind_of, IsWithin}
 use Rattle.nr_config.specs.declared.error.ConfigError.{ConfigError}
@@ -43,14 +43,22 @@ abbrev pub BlamesGiven : List ℕ → Option (List ℕ) → ConfigError → Type
 BlamesGiven key None why = ⊥
 BlamesGiven key (Some word) why = BlamesWord key word why
 
+-- the addresses: the one that a word gives, where there is a word, in the place of all
+abbrev pub given_or : List (List ℕ) → Option (List ℕ) → List (List ℕ)
+given_or addresses None = addresses
+given_or addresses (Some word) = word ∷ []
+
 -- each setting is what its word says, where there is one, and else as it was
 pub record Replaces (old : Settings) (given : Given) (new : Settings) : Type 0 where
-  pub listen : string_bytes new.listen ≡ unwrap_or (option_map string_bytes given.listen) (string_bytes old.listen)
+  pub listen : map string_bytes new.listen.items ≡ given_or (map string_bytes old.listen.items) (option_map string_bytes given.listen)
   pub nodes : IsGivenOr old.nodes (kind_of (codes "nodes")) (option_map string_bytes given.nodes) new.nodes
   pub places : new.places ≡ old.places
   pub workers : IsGivenOr old.workers (kind_of (codes "workers")) (option_map string_bytes given.workers) new.workers
   pub connections : IsGivenOr old.connections (kind_of (codes "connections")) (option_map string_bytes given.connections) new.connections
   pub queue_limit : new.queue_limit ≡ old.queue_limit
+  pub tcp_keepalive : new.tcp_keepalive ≡ old.tcp_keepalive
+  pub timeout : new.timeout ≡ old.timeout
+  pub shutdown_seconds : new.shutdown_seconds ≡ old.shutdown_seconds
 
 -- what is told of the first word that spells no number of its setting, or want of memory
 abbrev pub BlamesFirstWord : Given → ConfigError → Type 0

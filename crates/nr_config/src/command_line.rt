@@ -1,7 +1,7 @@
 // The words of the command line, read by `clap`: which task they name.
 ghost use Rattle.std.specs.Prelude.{◌≡◌, Some, false, codes, option_map, IfOk, IfErr, map, string_bytes};
 ghost use Rattle.clap.specs.Words.{with_rule, app_of, first_of, rows_of, rule_of, shape_of, with_subcommand, kind_of, subcommand_rows_of, first_value, found_of};
-ghost use Rattle.nr_config.specs.CommandLines.{AreGivenIn, command, file, config, word, run, script, serve, start, Describes, IsLocal, Names, Refuses, FindsTask, Finds, IsRefusal, IsMadeOf, Spells, Gives};
+ghost use Rattle.nr_config.specs.CommandLines.{AreGivenIn, command, file, config, word, flag, lasts_in, placing, run, script, serve, start, Describes, IsLocal, Names, Refuses, FindsTask, Finds, IsRefusal, IsMadeOf, Spells, Gives};
 
 use crate::given::Given;
 use clap::error::ErrorKind;
@@ -12,6 +12,15 @@ use thiserror::Error;
 // What `noderedis --version` prints behind the name.
 const VERSION: &str = "0.9.0";
 
+/// How long a server serves.
+#[derive(Clone, Copy, Debug, PartialEq, Eq)]
+pub enum Lasts {
+    /// Until it is killed.
+    UntilKilled,
+    /// Until standard input ends. Then it ends in order.
+    UntilInputEnds,
+}
+
 /// What the program is to do.
 #[derive(Debug, Drop, PartialEq, Eq)]
 pub enum Task {
@@ -19,8 +28,8 @@ pub enum Task {
     Run,
     /// Run the steps of the script of this name.
     Script(String),
-    /// Serve by TCP, with the settings in the file of this name, but for those that words give.
-    Serve(String, Given),
+    /// Serve by TCP for so long, with the settings in the file of this name, but for those that words give.
+    Serve(String, Given, Lasts),
 }
 
 /// Why the words of the command line give no task.
@@ -72,6 +81,17 @@ fn word<'a>(alloc: Global, name: &'a str, value: &'a str, help: &'a str) -> Arg<
         .action(ArgAction::Set)
 }
 
+// A word that takes no value.
+fn flag<'a>(alloc: Global, name: &'a str, help: &'a str) -> Arg<'a>
+    ensures rule { rule_of result ≡ flag name.entry.now }
+    ensures local { result.global ≡ false }
+{
+    Arg::new(alloc, name)
+        .long(name)
+        .help(help)
+        .action(ArgAction::SetTrue)
+}
+
 fn run<'a>(alloc: Global) -> Command<'a>
     ensures { Describes run result }
 {
@@ -96,8 +116,9 @@ fn taking<'a>(command: Command<'a>, arg: Arg<'a>) -> Result<Command<'a>, AllocEr
     command.arg(arg)
 }
 
-fn serve<'a>(alloc: Global) -> Result<Command<'a>, AllocError>
-    ensures { IfOk result (Describes serve) }
+// `serve`, with the words that stand in the place of settings.
+fn placing<'a>(alloc: Global) -> Result<Command<'a>, AllocError>
+    ensures { IfOk result (Describes placing) }
 {
     let bare = Command::new(alloc, "serve").about("Serves by TCP");
     let named = taking(bare, config(alloc))?;
@@ -109,6 +130,13 @@ fn serve<'a>(alloc: Global) -> Result<Command<'a>, AllocError>
     )?;
     let help = "Connections of a node: 1 to 1024";
     taking(staffed, word(alloc, "connections", "N", help))
+}
+
+fn serve<'a>(alloc: Global) -> Result<Command<'a>, AllocError>
+    ensures { IfOk result (Describes serve) }
+{
+    let help = "End in order once standard input ends";
+    taking(placing(alloc)?, flag(alloc, "until-input-ends", help))
 }
 
 fn start<'a>(alloc: Global) -> Command<'a>
@@ -182,11 +210,24 @@ fn given_in(alloc: Global, matches: &ArgMatches<'_>) -> Result<Given, AllocError
     })
 }
 
+// How long the server lasts: a flag that is given has the text `true`, and one that isn't the text `false`.
+fn lasts_in(matches: &ArgMatches<'_>) -> Lasts
+    ensures { result ≡ lasts_in (Some (codes "serve", rows_of (found_of matches.now))) }
+{
+    match text_in(matches, "until-input-ends") {
+        Some("true") => Lasts::UntilInputEnds,
+        _ => Lasts::UntilKilled,
+    }
+}
+
 fn serve_in(alloc: Global, matches: &ArgMatches<'_>) -> Result<Option<Task>, AllocError>
     ensures { IfOk result (λ task. FindsTask (Some (codes "serve", rows_of (found_of matches.now))) task) }
 {
     match value_in(alloc, matches, "config")? {
-        Some(file) => Ok(Some(Task::Serve(file, given_in(alloc, matches)?))),
+        Some(file) => {
+            let given = given_in(alloc, matches)?;
+            Ok(Some(Task::Serve(file, given, lasts_in(matches))))
+        }
         None => Ok(None),
     }
 }

@@ -1,6 +1,6 @@
 // Words of the command line that stand in the place of settings in the file.
-ghost use Rattle.std.specs.Prelude.{IsNone, IfSome, IfOk, IfErr, OnOk, Some, option_map, string_bytes};
-ghost use Rattle.nr_config.specs.Given.{IsRefusedFor, IsWordFor, IsGivenOr, IsTaken, Replaces, BlamesWord, BlamesGiven, BlamesFirstWord};
+ghost use Rattle.std.specs.Prelude.{◌≡◌, ◌≤◌, IsNone, IfSome, IfOk, IfErr, OnOk, Some, length, map, option_map, string_bytes};
+ghost use Rattle.nr_config.specs.Given.{given_or, IsRefusedFor, IsWordFor, IsGivenOr, IsTaken, Replaces, BlamesWord, BlamesGiven, BlamesFirstWord};
 ghost use Rattle.nr_config.specs.Keys.{kind_of, IsInRange};
 
 use crate::error::ConfigError;
@@ -60,8 +60,21 @@ fn number_or(
     }
 }
 
+// The addresses to listen at: the one that a word gives, where there is a word, in the place of all. Their memory serves for it, so that none is asked for.
+fn listen_or(word: Option<String>, mut addresses: Vec<String>) -> Vec<String>
+    requires { (1 ≤ length addresses.items) × (length addresses.items ≤ 16) }
+    ensures given { map string_bytes result.items ≡ given_or (map string_bytes addresses.items) (option_map string_bytes word) }
+    ensures range { (1 ≤ length result.items) × (length result.items ≤ 16) }
+{
+    if let Some(word) = word {
+        addresses.clear();
+        addresses.push_reserved(word);
+    }
+    addresses
+}
+
 impl Settings {
-    /// These settings, but where words are given, what these say.
+    /// These settings, but where words are given, what these say: an address stands in the place of all addresses.
     ///
     /// # Errors
     ///
@@ -74,12 +87,15 @@ impl Settings {
         let nodes = number_or(alloc, "nodes", &given.nodes, self.nodes)?;
         let workers = number_or(alloc, "workers", &given.workers, self.workers)?;
         Ok(Settings {
-            listen: given.listen.unwrap_or(self.listen),
+            listen: listen_or(given.listen, self.listen),
             nodes,
             places: self.places,
             workers,
             connections,
             queue_limit: self.queue_limit,
+            tcp_keepalive: self.tcp_keepalive,
+            timeout: self.timeout,
+            shutdown_seconds: self.shutdown_seconds,
         })
     }
 }

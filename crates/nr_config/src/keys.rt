@@ -4,6 +4,7 @@ ghost use Rattle.toml.specs.View.{view};
 ghost use Rattle.nr_config.specs.Keys.{kind_of, whole_number, fits, is_allowed, is_within};
 ghost use Rattle.nr_config.specs.Faults.{Blames};
 
+use crate::addresses::gives_addresses;
 use crate::error::ConfigError;
 use std::alloc::Global;
 use std::fmt;
@@ -12,8 +13,8 @@ use toml::Value;
 /// What the value of a setting has to be.
 #[derive(Clone, Copy, Debug, PartialEq, Eq)]
 pub enum Kind {
-    /// A text: an address and a port.
-    Address,
+    /// A text that isn't empty, an address and a port, or a list of 1 to 16 such texts.
+    Addresses,
     /// A whole number within the range.
     Number { least: usize, most: usize },
 }
@@ -25,7 +26,7 @@ impl fmt::Display for Kind {
 
     fn fmt<W: fmt::Write>(&self, f: &mut fmt::Formatter<W>) -> fmt::Result {
         match self {
-            Kind::Address => f.write_str("an address and a port"),
+            Kind::Addresses => f.write_str("an address and a port, or a list of them"),
             Kind::Number { least, most } => write!(f, "from {least} to {most}"),
         }
     }
@@ -43,10 +44,13 @@ pub fn kind_of(name: &str) -> Option<Kind>
 {
     match name {
         "connections" => number(1, 1_024),
-        "listen" => Some(Kind::Address),
+        "listen" => Some(Kind::Addresses),
         "nodes" => number(1, 8),
         "places" => number(2, 65_536),
         "queue_limit" => number(1_024, 1_073_741_824),
+        "shutdown_seconds" => number(0, 3_600),
+        "tcp_keepalive" => number(0, 86_400),
+        "timeout" => number(0, 2_147_483),
         "workers" => number(1, 16),
         _ => None,
     }
@@ -67,7 +71,7 @@ pub fn is_within(number: usize, kind: Kind) -> bool
     ensures { result ≡ is_within number kind }
 {
     match kind {
-        Kind::Address => false,
+        Kind::Addresses => false,
         Kind::Number { least, most } => least <= number && number <= most,
     }
 }
@@ -76,7 +80,7 @@ fn fits(kind: Kind, value: &Value) -> bool
     ensures { result ≡ fits kind (view value.now) }
 {
     match kind {
-        Kind::Address => value.is_str(),
+        Kind::Addresses => gives_addresses(value),
         Kind::Number { .. } => match whole_number(value) {
             Some(number) => is_within(number, kind),
             None => false,

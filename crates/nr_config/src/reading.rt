@@ -1,17 +1,18 @@
 // A settings file, read.
-ghost use Rattle.std.specs.Prelude.{◌≡◌, None, Some, IfOk, IfErr, OnOk, option_map};
+ghost use Rattle.std.specs.Prelude.{◌≡◌, ◌≤◌, ◌∷◌, [], None, Some, IfOk, IfErr, OnOk, codes, length, option_map};
 ghost use Rattle.toml.specs.Data.{Members, get_member};
 ghost use Rattle.toml.specs.Errors.{IsWithin};
 ghost use Rattle.toml.specs.View.{view, table_view};
 ghost use Rattle.toml.specs.Parse.{parse_document};
-ghost use Rattle.nr_config.specs.Keys.{HasNoFault, IsInRange, number_or, text_or};
+ghost use Rattle.nr_config.specs.Keys.{HasNoFault, IsInRange, addresses_or, bytes_of, number_or};
 ghost use Rattle.nr_config.specs.Faults.{BlamesFirst, IsMadeOf, Refuses, Sets};
 
+use crate::addresses::{addresses_in, only};
 use crate::error::ConfigError;
-use crate::keys::{check, copy, whole_number};
+use crate::keys::{check, whole_number};
 use crate::place::Place;
 use crate::settings::Settings;
-use std::alloc::Global;
+use std::alloc::{AllocError, Global};
 use toml::de::Error;
 use toml::{Table, Value};
 
@@ -63,13 +64,30 @@ fn number_at(table: &Table, name: &str, default: usize) -> usize
     }
 }
 
-fn text_at<'a>(table: &'a Table, name: &str, default: &'a str) -> &'a str
-    ensures { result.now ≡ text_or default.entry.now (get_member name.now (table_view table.now)) }
+// The addresses of a setting, each in memory of its own.
+fn addresses_at(
+    alloc: Global,
+    table: &Table,
+    name: &str,
+    default: &str,
+) -> Result<Vec<String>, AllocError>
+    ensures { IfOk result (λ addresses. bytes_of addresses ≡ addresses_or (default.now ∷ []) (get_member name.now (table_view table.now))) }
 {
     match value_at(table, name) {
-        Some(value) => value.as_str().unwrap_or(default),
-        None => default,
+        Some(value) => match addresses_in(alloc, value)? {
+            Some(addresses) => Ok(addresses),
+            None => only(alloc, default),
+        },
+        None => only(alloc, default),
     }
+}
+
+fn listen_at(alloc: Global, table: &Table) -> Result<Vec<String>, ConfigError>
+    ensures value { IfOk result (λ addresses. bytes_of addresses ≡ addresses_or (codes "127.0.0.1:6379" ∷ []) (get_member (codes "listen") (table_view table.now))) }
+    ensures range { IfOk result (λ addresses. (1 ≤ length addresses.items) × (length addresses.items ≤ 16)) }
+    ensures memory { IfErr result (λ error. error ≡ ConfigError.Memory) }
+{
+    addresses_at(alloc, table, "listen", "127.0.0.1:6379").map_err(|_| ConfigError::Memory)
 }
 
 impl Settings {
@@ -86,12 +104,15 @@ impl Settings {
         let table = read_table(alloc, text)?;
         check_all(alloc, &table)?;
         Ok(Settings {
-            listen: copy(alloc, text_at(&table, "listen", "127.0.0.1:6379"))?,
+            listen: listen_at(alloc, &table)?,
             nodes: number_at(&table, "nodes", 2),
             places: number_at(&table, "places", 1_024),
             workers: number_at(&table, "workers", 2),
             connections: number_at(&table, "connections", 256),
             queue_limit: number_at(&table, "queue_limit", 67_108_864),
+            tcp_keepalive: number_at(&table, "tcp_keepalive", 300),
+            timeout: number_at(&table, "timeout", 0),
+            shutdown_seconds: number_at(&table, "shutdown_seconds", 5),
         })
     }
 }

@@ -3,7 +3,7 @@ ghost use Rattle.std.specs.Prelude.{◌≡◌, ◌+◌, ◌*◌, ◌<◌, ◌≤
 ghost use Rattle.nr_crew.specs.Dealing.{DealsFrom, DealsOne, HasDealt};
 
 use nr_lane::Crew;
-use nr_service::{Accepts, Rings};
+use nr_service::{Accepts, Ends, Rings};
 
 // How many connections are dealt out between two waits at most.
 const MOST_DEALT: u32 = 64;
@@ -91,8 +91,56 @@ fn deal_waiting<L: Accepts, K: Rings>(
     number
 }
 
-/// Deals connections out until all shall stop, nobody serves any more, or none can come any more. False in that case alone.
-pub(crate) fn deal_out<L: Accepts, K: Rings>(main: &mut L, crew: &Crew<K>, shape: Shape) -> bool
+// Tells of a node, where it is down and it didn't hear of that yet.
+fn tell_of_fall<L: Accepts, K: Rings>(main: &mut L, crew: &Crew<K>, node: usize)
+    ensures { L.dealt main.new ≡ L.dealt main.old }
+{
+    let Some(connections) = crew.take_fall(node) else {
+        return;
+    };
+    main.hear_of_fall(node, connections);
+}
+
+// Tells of the nodes that are down, of which it didn't hear yet.
+fn tell_of_falls<L: Accepts, K: Rings>(main: &mut L, crew: &Crew<K>, shape: Shape)
+    ensures { L.dealt main.new ≡ L.dealt main.old }
+{
+    for node in 0..shape.nodes {
+        tell_of_fall(main, crew, node);
+    }
+}
+
+// Whether all end now: at once where that was told, and where they end in order once each rests.
+fn is_over<L: Accepts, K: Rings>(main: &mut L, crew: &Crew<K>) -> bool
+    ensures { L.dealt main.new ≡ L.dealt main.old }
+{
+    match main.ending() {
+        Ends::Not => false,
+        Ends::AtOnce => true,
+        Ends::InOrder => {
+            crew.end_in_order();
+            crew.are_at_rest()
+        }
+    }
+}
+
+// Waits, and hears what there is. None where it goes on; else whether connections could come yet.
+fn wait_once<L: Accepts, K: Rings>(main: &mut L, crew: &Crew<K>, shape: Shape) -> Option<bool>
+    ensures { L.dealt main.new ≡ L.dealt main.old }
+{
+    let can_come = main.wait();
+    tell_of_falls(main, crew, shape);
+    if !can_come {
+        return Some(false);
+    }
+    if is_over(main, crew) {
+        return Some(true);
+    }
+    None
+}
+
+// Deals connections out from number 0 on, as [`deal_out`] does, once that was told.
+fn deal_on<L: Accepts, K: Rings>(main: &mut L, crew: &Crew<K>, shape: Shape) -> bool
     ensures { HasDealt shape.nodes shape.workers (L.dealt main.old) (L.dealt main.new) }
 {
     let mut number = 0;
@@ -101,9 +149,23 @@ pub(crate) fn deal_out<L: Accepts, K: Rings>(main: &mut L, crew: &Crew<K>, shape
             return true;
         }
         number = deal_waiting(main, crew, shape, number);
-        if !main.wait() {
-            return false;
+        if let Some(can_come) = wait_once(main, crew, shape) {
+            return can_come;
         }
     }
     true
+}
+
+/// Deals connections out until all shall stop, nobody serves any more, all were told to end and rest or shall do so at once, or none can come any more. False where
+/// none can, or where whoever is to hear that all serve can't be told.
+pub(crate) fn deal_out<L: Accepts, K: Rings>(main: &mut L, crew: &Crew<K>, shape: Shape) -> bool
+    ensures { HasDealt shape.nodes shape.workers (L.dealt main.old) (L.dealt main.new) }
+{
+    if crew.is_stopped() {
+        return true;
+    }
+    if !main.begin() {
+        return false;
+    }
+    deal_on(main, crew, shape)
 }

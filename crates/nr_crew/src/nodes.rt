@@ -23,13 +23,14 @@ use std::sync::{Arc, Wait};
 use std::thread::Threads;
 
 /// How large a server is: its nodes and their workers, how many places its log has, 2 to 65,536, how many connections of a node are open at most, and how many bytes
-/// wait for one at most.
+/// wait for one at most; and after how many milliseconds without a byte one is closed that is subscribed to nothing, 0 for never.
 #[derive(Clone, Copy, Debug)]
 pub struct Size {
     pub shape: Shape,
     pub places: usize,
     pub connections: usize,
     pub limit: usize,
+    pub timeout: u64,
 }
 
 /// Where the connections of one worker come from, and its clock.
@@ -131,7 +132,16 @@ where
     let log = share_log(&built)?;
     let lanes = lanes_of(alloc, built, shape.workers, places)?;
     let (ran, main) = run_workers::<B, R, S, D, M, K, G, L>(
-        rt, alloc, lanes, &log, &crew, main, gate, shape, size.limit,
+        rt,
+        alloc,
+        lanes,
+        &log,
+        &crew,
+        main,
+        gate,
+        shape,
+        size.limit,
+        size.timeout,
     )?;
     Ok((
         Served {

@@ -160,6 +160,7 @@ struct Shared<'e, R, K, G> {
     crew: &'e Crew<K>,
     gate: &'e G,
     limit: usize,
+    timeout: u64,
 }
 
 impl<'e, R, K, G> Shared<'e, R, K, G> {
@@ -171,6 +172,7 @@ impl<'e, R, K, G> Shared<'e, R, K, G> {
             crew: self.crew,
             gate: self.gate,
             limit: self.limit,
+            timeout: self.timeout,
         }
     }
 }
@@ -196,8 +198,9 @@ where
         crew,
         gate,
         limit,
+        timeout,
     } = shared;
-    serve_lane(rt, alloc, lane, crew, gate, limit)
+    serve_lane(rt, alloc, lane, crew, gate, limit, timeout)
 }
 
 // Starts the thread of a lane, and keeps it. Whether it was started: else all that were are told to stop.
@@ -262,6 +265,7 @@ fn run_all<B, R, S, D, M, K, G, L>(
     gate: &G,
     shape: Shape,
     limit: usize,
+    timeout: u64,
 ) -> Result<(Ran<B, S, D, M>, L), Memory>
 where
     B: ServerName + Send + Sync,
@@ -297,6 +301,7 @@ where
                 crew,
                 gate,
                 limit,
+                timeout,
             };
             let has_all_threads = start_all(scope, &shared, lanes, &mut handles);
             let comes_more = deal_out(&mut main, crew, shape);
@@ -318,9 +323,10 @@ where
 
 /// Serves by these lanes, each on a thread of its own, and deals the connections out to them that come from `main`: connection number x, from 0 on, goes to node
 /// x mod nodes, worker (x / nodes) mod workers, or to that worker of the next node that takes it. The lanes stand in the order of their nodes, and of the workers of
-/// each: worker w of node n is lane n * workers + w. At most `limit` bytes wait for a connection. It ends once the gate stopped all workers, every
-/// node is down, one of them can't wait any more, no connection can come any more, or the crew is told to stop: then all end, and what they left is handed back with
-/// `main`.
+/// each: worker w of node n is lane n * workers + w. At most `limit` bytes wait for a connection, and one that is subscribed to nothing is closed
+/// once no byte came or went for `timeout` milliseconds, where that isn't 0. It ends once the gate stopped all workers, every node is down, one of them can't wait any
+/// more, no connection can come any more, `main` told to end, and all rest where that is to be in order, or the crew is told to stop: then all end, and what they left
+/// is handed back with `main`.
 ///
 /// # Errors
 ///
@@ -335,6 +341,7 @@ pub fn run_workers<B, R, S, D, M, K, G, L>(
     gate: &G,
     shape: Shape,
     limit: usize,
+    timeout: u64,
 ) -> Result<(Ran<B, S, D, M>, L), Memory>
 where
     B: ServerName + Send + Sync,
@@ -349,7 +356,7 @@ where
     ensures dealt { IfOk result (λ ran. HasDealt shape.nodes shape.workers (L.dealt main) (L.dealt ran.1)) }
     ensures all { IfOk result (λ ran. IfOk ran.0.ended (λ _. vec_len ran.0.lefts ≡ vec_len lanes)) }
 {
-    let ran_all = run_all(rt, alloc, lanes, crew, main, gate, shape, limit)?;
+    let ran_all = run_all(rt, alloc, lanes, crew, main, gate, shape, limit, timeout)?;
     let (mut ran, main) = ran_all;
     meet_marks(log, &mut ran.marks);
     desk_law();

@@ -10,8 +10,10 @@ use nr_service::{Answers, Client, Device, Ended, Gate, Moments, Rings, Service, 
 use std::alloc::Global;
 use std::sync::Wait;
 
-/// What was handed out for a client is written before more is, once more than this part of the limit waits for it.
+/// What was handed out for a client is written before more is, once more than this part of the limit waits for it, or so many bytes where that is less.
 const WRITTEN_PART: usize = 16;
+
+const MOST_WAITING: usize = 1_048_576;
 
 // A worker that ends before the others are to end stops them all: who was dealt to it would wait for ever, and so would the other nodes for its own. Where every node
 // is down each ends by itself, once its clients got what they still get.
@@ -44,6 +46,7 @@ pub(crate) fn serve_lane<'a, B, R, S, D, M, K, G>(
     crew: &'a Crew<K>,
     gate: &G,
     limit: usize,
+    timeout: u64,
 ) -> Leaving<B, S, D, M>
 where
     B: ServerName,
@@ -66,8 +69,11 @@ where
     let node = worker.shared().node();
     // More than the limit may wait there: the service lets go of a client for which it does.
     let most = limit.saturating_mul(2);
-    let desk = ServingDesk::new(alloc, rt, worker, number, crew, most, limit / WRITTEN_PART);
-    let mut service = Service::over(alloc, buffer, node, number, desk, device, clock, limit);
+    let enough = (limit / WRITTEN_PART).min(MOST_WAITING);
+    let desk = ServingDesk::new(alloc, rt, worker, number, crew, most, enough);
+    let mut service = Service::over(
+        alloc, buffer, node, number, desk, device, clock, limit, timeout,
+    );
     let ended = service.serve(&Stoppable { gate, crew });
     stop_behind(ended, crew);
     let mark = service.answers.take_mark();

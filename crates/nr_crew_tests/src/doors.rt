@@ -1,7 +1,7 @@
 // Connections on their way from the socket that listens to the doors of their lanes, and the bells that end waits there.
 use crate::asserted::holds;
 use nr_service::{Accepts, Device, Received, Rings, Stream};
-use nr_sockets::{Door, Entrance, Listener, Listening, Socket, open_lanes};
+use nr_sockets::{Door, Entrance, Listener, Listening, Socket, Terms, open_lanes};
 use std::io::{Read, Write};
 use std::net::TcpStream;
 use std::process::Abort;
@@ -14,7 +14,7 @@ use std::time::{Duration, Instant};
 use std::{io, thread};
 
 // Takes the next connection. Whether one came.
-fn takes<R: Wait>(listener: &mut Listener<'_, R>) -> bool {
+fn takes<R: Clock + Wait>(listener: &mut Listener<'_, R>) -> bool {
     for _ in 0..1_000 {
         if listener.accept() {
             return true;
@@ -100,22 +100,35 @@ fn ends_waits<R: Clock + Threads + Wait + Sync>(
     count == Some(10)
 }
 
-// Of 40 connections each fourth is turned away, without bytes. The others come to their lanes, each once, in the order in which they were dealt.
+/// What one gets that is turned away, and then its end.
+const TURNED_AWAY: &[u8] = b"-ERR max number of clients reached\r\n";
+
+// Of 40 connections each fourth is turned away, though it has sent something, and hears why. The others come to their lanes, each once, in the order in which they were dealt.
 #[test]
 fn doors(rt: HostRuntime) -> Result<(), Fail> {
-    let listening = Listening::listen(rt.alloc(), &rt, "127.0.0.1:0")?;
-    let address = listening.address()?;
+    let free = String::from_str(rt.alloc(), "127.0.0.1:0")?;
+    let listening = Listening::listen(rt.alloc(), &rt, &[free])
+        .ok()
+        .expect(&rt, "it listens");
+    let named = listening.named.first().expect(&rt, "an address");
+    let named = String::from_str(rt.alloc(), named.as_str())?;
     let (entrance, lookouts) = open_lanes(rt.alloc(), &rt, 3)?;
-    let mut listener = Listener::new(listening, &rt, &entrance);
+    let terms = Terms {
+        tcp_keepalive: 300,
+        input: None,
+        shutdown_seconds: 0,
+    };
+    let mut listener = Listener::new(rt.alloc(), listening, &rt, &entrance, terms);
     let mut clients = Vec::new(rt.alloc());
     for number in 0..40u8 {
-        let mut client = TcpStream::connect(&rt, address)?;
+        let mut client = TcpStream::connect(&rt, named.as_str())?;
         client.write_all(&[number])?;
         holds(&rt, "one comes", takes(&mut listener));
         if number % 4 == 3 {
             listener.turn_away();
-            let has_ended = !matches!(client.read(&mut [0u8]), Ok(1));
-            holds(&rt, "it is closed", has_ended);
+            let mut heard = Vec::new(rt.alloc());
+            client.read_to_end(&mut heard)?;
+            holds(&rt, "it hears why", heard.as_slice() == TURNED_AWAY);
         } else {
             listener.deal(usize::from(number % 4));
         }

@@ -65,7 +65,16 @@ where
     let log = refuse_first(rt, &built)?;
     let lanes = lanes_of(alloc, built, shape.workers, places)?;
     let (ran, main) = run_workers::<B, R, S, D, M, Silent, G, L>(
-        rt, alloc, lanes, &log, &crew, main, gate, shape, size.limit,
+        rt,
+        alloc,
+        lanes,
+        &log,
+        &crew,
+        main,
+        gate,
+        shape,
+        size.limit,
+        size.timeout,
     )?;
     Ok((
         Served {

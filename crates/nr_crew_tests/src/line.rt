@@ -1,6 +1,11 @@
 // A connection in memory: a client that sends its requests, and then no more.
 use nr_service::{Received, Sent, Stream};
 use std::alloc::Global;
+use std::sync::Arc;
+use std::sync::atomic::{AtomicUsize, Ordering};
+
+/// How many lines gave all that they send.
+pub(crate) type Given = Arc<AtomicUsize, Global>;
 
 /// A client's two streams of bytes, and what became of them.
 #[derive(Drop)]
@@ -21,6 +26,8 @@ pub(crate) struct Line {
     /// It failed, or is one that isn't to be served to the end.
     pub is_lost: bool,
     pub is_finished: bool,
+    /// In this it is counted once it gave all that it sends.
+    pub all_given: Option<Given>,
     input: Vec<u8>,
     given: usize,
     wanted: Vec<u8>,
@@ -40,11 +47,17 @@ impl Line {
             writes: usize::MAX,
             is_lost: false,
             is_finished: false,
+            all_given: None,
             input,
             given: 0,
             wanted,
             output: Vec::new(alloc),
         }
+    }
+
+    /// What it got.
+    pub(crate) fn output(&self) -> &[u8] {
+        &self.output
     }
 
     /// Whether it got all replies, and no more.
@@ -90,6 +103,11 @@ impl Stream for Line {
         }
         buffer[..count].copy_from_slice(&left[..count]);
         self.given = self.given.saturating_add(count);
+        if let Some(all_given) = &self.all_given
+            && self.given >= self.input.len()
+        {
+            all_given.fetch_add(1, Ordering::SeqCst);
+        }
         Received::Bytes(count)
     }
 

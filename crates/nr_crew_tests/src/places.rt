@@ -1,16 +1,17 @@
 // Workers over connections in memory: these come, are dealt into letter boxes, one a lane, and are kept once they went.
 use crate::falling::serve_falling;
-use crate::line::Line;
+use crate::line::{Given, Line};
 use crate::watch::{Held, Watch};
 use nr_blob::Memory;
 use nr_crew::{Place, ServeError, Served, Shape, Size, serve_nodes};
-use nr_service::{Accepts, Device, Moments, Silent};
+use nr_service::{Accepts, Device, Ends, Moments, Silent};
 use std::alloc::Global;
 use std::collections::VecDeque;
 use std::hash::RandomState;
 use std::process::Abort;
 use std::random::RandomSource;
-use std::sync::{Mutex, Wait};
+use std::sync::atomic::{AtomicUsize, Ordering};
+use std::sync::{Arc, Mutex, Wait};
 use std::thread;
 use std::thread::Threads;
 
@@ -103,6 +104,8 @@ struct Arrivals<'a, R> {
     dealt: Vec<Option<usize>>,
     // How many waits it takes.
     waits: u64,
+    // All are to end in order once so many lines have given all that they send, which are counted here.
+    ends: Option<(usize, Given)>,
 }
 
 impl<R: Wait + Abort> Accepts for Arrivals<'_, R> {
@@ -133,6 +136,13 @@ impl<R: Wait + Abort> Accepts for Arrivals<'_, R> {
         self.waits = self.waits.saturating_sub(1);
         self.waits > 0
     }
+
+    fn ending(&mut self) -> Ends {
+        match &self.ends {
+            Some((count, given)) if given.load(Ordering::SeqCst) >= *count => Ends::InOrder,
+            _ => Ends::Not,
+        }
+    }
 }
 
 /// A server of so many nodes, with so many workers each.
@@ -153,12 +163,15 @@ pub(crate) struct Trial {
     pub falls: bool,
     /// After how many waits no connection can come any more.
     pub waits: u64,
+    /// All end in order once all clients have given all that they send.
+    pub ends: bool,
 }
 
-/// What came of connections: those that went, the lanes to which all were dealt, how many workers ended, and why; and whether it was waited for too long.
+/// What came of connections: those that went, those that were left, the lanes to which all were dealt, how many workers ended, and why; and whether it was waited for too long.
 #[derive(Drop)]
 pub(crate) struct Came {
     pub gone: Vec<Line>,
+    pub left: Vec<Line>,
     pub dealt: Vec<Option<usize>>,
     pub workers: usize,
     pub ended: Result<(), ServeError>,
@@ -178,6 +191,7 @@ fn size_of<R: Abort>(rt: &R, trial: Trial) -> Size {
         places: trial.places,
         connections: trial.connections,
         limit: trial.limit,
+        timeout: 0,
     }
 }
 
@@ -234,6 +248,26 @@ where
     )
 }
 
+// Where all are to end in order: how many lines there are, and what counts those that gave all that they send.
+fn ends_of<R: Abort>(
+    rt: &R,
+    alloc: Global,
+    trial: Trial,
+    lines: &mut [Line],
+) -> Option<(usize, Given)> {
+    if !trial.ends {
+        return None;
+    }
+    let count = lines.len();
+    let given = Arc::new(alloc, AtomicUsize::new(0))
+        .ok()
+        .expect(rt, "memory");
+    for line in lines {
+        line.all_given = Some(Arc::try_clone(&given).ok().expect(rt, "memory"));
+    }
+    Some((count, given))
+}
+
 /// Serves these connections by a new server, each worker on a thread of its own, until all went that don't stay, or none can come any more.
 pub(crate) fn serve<R>(rt: &R, alloc: Global, trial: Trial, mut lines: Vec<Line>) -> Came
 where
@@ -246,6 +280,7 @@ where
         let empty = Mutex::new(VecDeque::new(alloc));
         letters.push(empty).ok().expect(rt, "memory");
     }
+    let ends = ends_of(rt, alloc, trial, &mut lines);
     lines.reverse();
     let arrivals = Arrivals {
         rt,
@@ -255,6 +290,7 @@ where
         held: None,
         dealt: Vec::new(alloc),
         waits: trial.waits,
+        ends,
     };
     let places = places_of(rt, alloc, &watch, &letters, trial.breaks);
     let keys = RandomState::new(rt).ok().expect(rt, "random bytes");
@@ -262,11 +298,16 @@ where
     let (served, arrivals) = served.ok().expect(rt, "memory");
     let workers = served.lefts.len();
     let mut gone = Vec::new(alloc);
+    let mut stayed = Vec::new(alloc);
     for mut left in served.lefts {
         gone.append(&mut left.device.gone).expect(rt, "memory");
+        for client in left.clients {
+            stayed.push(client.stream).ok().expect(rt, "memory");
+        }
     }
     Came {
         gone,
+        left: stayed,
         dealt: arrivals.dealt,
         workers,
         ended: served.ended,

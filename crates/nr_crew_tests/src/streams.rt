@@ -24,6 +24,7 @@ const TRIAL: Trial = Trial {
     breaks: Breaks::Never,
     falls: false,
     waits: u64::MAX,
+    ends: false,
 };
 
 const PING: (&[u8], &[u8]) = (b"PING\r\n", b"+PONG\r\n");
@@ -412,4 +413,62 @@ fn a_fallen_node_takes_none(rt: HostRuntime) {
     holds(&rt, "the other takes one", crew.admit(1) & !crew.are_down());
     crew.fall(1);
     holds(&rt, "both have", crew.are_down());
+}
+
+/// What a subscriber gets first, and each message behind that.
+const SUBSCRIBED: &[u8] = b"*3\r\n$9\r\nsubscribe\r\n$4\r\nnews\r\n:1\r\n";
+
+const MESSAGE: &[u8] = b"*3\r\n$7\r\nmessage\r\n$4\r\nnews\r\n$1\r\nm\r\n";
+
+// How many messages a subscriber got, behind the reply to its SUBSCRIBE, and nothing else; or by how many subscribers those of a publisher were got, which has 200
+// replies.
+fn messages_of<R: Abort>(rt: &R, alloc: Global, line: &Line) -> (usize, usize) {
+    let output = line.output();
+    if let Some(messages) = output.strip_prefix(SUBSCRIBED) {
+        let count = messages.len() / MESSAGE.len();
+        let whole = MESSAGE.repeat(alloc, count).ok().expect(rt, "memory");
+        holds(rt, "messages alone come", messages == whole.as_slice());
+        return (count, 0);
+    }
+    holds(rt, "each PUBLISH is answered", output.len() == 800);
+    let mut count = 0usize;
+    for reply in output.chunks(4) {
+        let digit = reply.get(1).copied().unwrap_or(b'0');
+        count = count.saturating_add(usize::from(digit.saturating_sub(b'0')));
+    }
+    (0, count)
+}
+
+// Six subscribers and twelve publishers at three nodes of two workers, none of whom ends: once all that they send was read, the server is told to end in order. By then
+// each PUBLISH was answered, and each message came that the replies count, across all nodes.
+#[test]
+fn an_end_in_order_owes_nothing(rt: HostRuntime) {
+    for _ in 0..3 {
+        let mut lines = Vec::new(rt.alloc());
+        for number in 0..18 {
+            let (input, times) = if number % 3 == 0 {
+                (b"SUBSCRIBE news\r\n".as_slice(), 1)
+            } else {
+                (b"PUBLISH news m\r\n".as_slice(), 200)
+            };
+            let mut line = client(&rt, rt.alloc(), 0, (input, b""), times);
+            line.stays = true;
+            lines.push(line).ok().expect(&rt, "memory");
+        }
+        let mut trial = TRIAL;
+        trial.nodes = 3;
+        trial.ends = true;
+        let came = serve(&rt, rt.alloc(), trial, lines);
+        holds(&rt, "nobody went", came.gone.is_empty());
+        holds(&rt, "the server ends well", came.ended == Ok(()));
+        holds(&rt, "all are left", came.left.len() == 18);
+        let mut got = 0usize;
+        let mut told = 0usize;
+        for line in &came.left {
+            let (messages, receivers) = messages_of(&rt, rt.alloc(), line);
+            got = got.saturating_add(messages);
+            told = told.saturating_add(receivers);
+        }
+        holds(&rt, "each message came", got == told);
+    }
 }

@@ -1,9 +1,10 @@
 // The server by TCP, over loopback, with two nodes of two workers.
 use crate::asserted::holds;
 use crate::watch::{Held, Watch};
-use nr_config::Settings;
+use nr_config::{Lasts, Settings};
 use nr_server::{listen_on, serve_by_tcp};
 use std::alloc::Global;
+use std::fs::Files;
 use std::hash::RandomState;
 use std::io::{BufRead, BufReader, Read, Write};
 use std::net::{Net, OpenListener, Shutdown, SocketAddr, TcpListener, TcpStream};
@@ -17,6 +18,7 @@ use std::{io, thread};
 
 /// A runtime with sockets and threads.
 trait Loopback: Clock
+    + Files
     + Net<Listener = TcpListener, Stream = TcpStream>
     + RandomSource
     + Threads
@@ -27,6 +29,7 @@ trait Loopback: Clock
 impl<R> Loopback for R
 where
     R: Clock
+        + Files
         + Net<Listener = TcpListener, Stream = TcpStream>
         + RandomSource
         + Threads
@@ -181,13 +184,17 @@ fn send_much<R: Loopback>(rt: &R, alloc: Global, address: SocketAddr) -> io::Res
 }
 
 fn settings<R: Abort>(rt: &R, alloc: Global, listen: &str) -> Settings {
+    let address = String::from_str(alloc, listen).ok().expect(rt, "memory");
     Settings {
-        listen: String::from_str(alloc, listen).ok().expect(rt, "memory"),
+        listen: vec![in alloc; address].ok().expect(rt, "memory"),
         nodes: 2,
         places: 1_024,
         workers: 2,
         connections: 16,
         queue_limit: 67_108_864,
+        tcp_keepalive: 300,
+        timeout: 0,
+        shutdown_seconds: 5,
     }
 }
 
@@ -197,8 +204,12 @@ fn serves<R: Loopback>(rt: &R, alloc: Global, listen: &str, clients: Clients, wh
     let listening = listen_on(alloc, rt, &settings)
         .ok()
         .expect(rt, "it listens");
-    let address = listening.address().ok().expect(rt, "an address");
-    let named = format!(in alloc; "{address}").ok().expect(rt, "memory");
+    let named = listening.named.first().expect(rt, "an address");
+    let address = named
+        .as_str()
+        .parse::<SocketAddr>()
+        .ok()
+        .expect(rt, "an address");
     let is_there = listen.ends_with(":0") | (named.as_str() == listen);
     holds(rt, "it listens where it is told", is_there);
     let keys = RandomState::new(rt).ok().expect(rt, "random bytes");
@@ -206,7 +217,13 @@ fn serves<R: Loopback>(rt: &R, alloc: Global, listen: &str, clients: Clients, wh
     let watch = Watch::new(1, Held::Nobody);
     let (served, is_so) = thread::join(
         rt,
-        || serve_by_tcp(rt, alloc, keys, &settings, listening, &watch),
+        || {
+            let lasts = Lasts::UntilKilled;
+            let (out, errors) = (Vec::new(alloc), Vec::new(alloc));
+            serve_by_tcp(
+                rt, alloc, keys, &settings, listening, lasts, out, errors, &watch,
+            )
+        },
         || {
             let is_so = match clients {
                 Clients::Count => count(rt, alloc, address),

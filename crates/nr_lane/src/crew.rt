@@ -7,8 +7,12 @@ use nr_service::Rings;
 use std::alloc::Global;
 use std::sync::atomic::{AtomicBool, AtomicU64, AtomicUsize, Ordering};
 
-/// What the threads of a server tell one another: how many connections each node has, which nodes are down, how many workers serve yet, that all shall stop, and the
-/// bells that wake who sleeps. Hints alone: nothing that is proved rests on them. The threads share it.
+/// What the threads of a server tell one another: how many connections each node has, which nodes are down, how many workers serve yet, that all shall stop, at once or in
+/// order, which of them rest then, and the bells that wake who sleeps. Hints alone: nothing that is proved rests on them. The threads share it.
+///
+/// An end in order: no bytes are read any more, and a worker rests behind a turn in which it had nothing to do and nothing was left to be written. What it does for
+/// others, as an entry that it puts into the log, or bytes that it makes for another's connection, raises a number behind that. So once each worker rests by a turn
+/// that it began behind the last rise, none can have anything to do: who has has not rested since, until it has raised the number itself.
 #[derive(Drop)]
 pub struct Crew<K> {
     bells: K,
@@ -17,10 +21,35 @@ pub struct Crew<K> {
     connections: usize,
     // Of each node, how many of its connections are open, or on their way to it.
     taken: Vec<AtomicUsize>,
-    // A bit for each node that is down, node 0's the lowest.
+    // A bit for each node that is down, node 0's the lowest, and for each of them of which nobody heard yet.
     downs: AtomicU64,
+    unheard: AtomicU64,
+    // Of each node, how many of its connections were open as it fell.
+    fallen: Vec<AtomicUsize>,
     serving: AtomicUsize,
     stops: AtomicBool,
+    // All shall end in order, and how often something was passed on since.
+    ends: AtomicBool,
+    rises: AtomicU64,
+    // Of each lane, behind how many of these it rests, and one more; 0 where it doesn't.
+    rests: Vec<AtomicU64>,
+}
+
+// So many numbers that threads share, each 0.
+fn counts(alloc: Global, count: usize) -> Result<Vec<AtomicUsize>, Memory> {
+    let mut made = Vec::with_capacity(alloc, count)?;
+    for _ in 0..count {
+        made.push(AtomicUsize::new(0))?;
+    }
+    Ok(made)
+}
+
+fn long_counts(alloc: Global, count: usize) -> Result<Vec<AtomicU64>, Memory> {
+    let mut made = Vec::with_capacity(alloc, count)?;
+    for _ in 0..count {
+        made.push(AtomicU64::new(0))?;
+    }
+    Ok(made)
 }
 
 impl<K: Rings> Crew<K> {
@@ -35,10 +64,9 @@ impl<K: Rings> Crew<K> {
     where
         K: Drop,
     {
-        let mut taken = Vec::with_capacity(alloc, nodes)?;
-        for _ in 0..nodes {
-            taken.push(AtomicUsize::new(0))?;
-        }
+        let taken = counts(alloc, nodes)?;
+        let fallen = counts(alloc, nodes)?;
+        let rests = long_counts(alloc, nodes.saturating_mul(workers))?;
         Ok(Crew {
             bells,
             nodes,
@@ -46,8 +74,13 @@ impl<K: Rings> Crew<K> {
             connections,
             taken,
             downs: AtomicU64::new(0),
+            unheard: AtomicU64::new(0),
+            fallen,
             serving: AtomicUsize::new(0),
             stops: AtomicBool::new(false),
+            ends: AtomicBool::new(false),
+            rises: AtomicU64::new(0),
+            rests,
         })
     }
 
@@ -96,11 +129,25 @@ impl<K: Rings> Crew<K> {
         }
     }
 
-    /// A node is down from now on.
+    /// A node is down from now on. Which of its workers finds that first tells it.
     pub fn fall(&self, node: usize) {
-        if node < 64 {
-            self.downs.fetch_or(1 << node, Ordering::SeqCst);
+        if node >= 64 || self.downs.fetch_or(1 << node, Ordering::SeqCst) & (1 << node) != 0 {
+            return;
         }
+        if let (Some(fallen), Some(taken)) = (self.fallen.get(node), self.taken.get(node)) {
+            fallen.store(taken.load(Ordering::SeqCst), Ordering::SeqCst);
+        }
+        self.unheard.fetch_or(1 << node, Ordering::SeqCst);
+    }
+
+    /// How many connections of a node were open as it fell, where it is down and that wasn't asked since.
+    pub fn take_fall(&self, node: usize) -> Option<usize> {
+        if node >= 64 || self.unheard.load(Ordering::SeqCst) & (1 << node) == 0 {
+            return None;
+        }
+        self.unheard.fetch_and(!(1 << node), Ordering::SeqCst);
+        let fallen = self.fallen.get(node)?;
+        Some(fallen.load(Ordering::SeqCst))
     }
 
     /// Whether a node is known to be down.
@@ -143,6 +190,38 @@ impl<K: Rings> Crew<K> {
         self.stops.load(Ordering::SeqCst)
     }
 
+    /// All shall end in order: they are woken.
+    pub fn end_in_order(&self) {
+        if !self.ends.swap(true, Ordering::SeqCst) {
+            self.ring_all();
+        }
+    }
+
+    /// Whether all shall end in order.
+    pub fn is_ending(&self) -> bool {
+        self.ends.load(Ordering::SeqCst)
+    }
+
+    /// How often something was passed on since all shall end in order. A worker asks as its turn begins, and says it as it rests behind that.
+    pub fn rises(&self) -> u64 {
+        self.rises.load(Ordering::SeqCst)
+    }
+
+    /// A worker of a node rests behind a turn that it began behind so many rises.
+    pub fn rest(&self, node: usize, worker: usize, rises: u64) {
+        if let Some(rest) = self.rests.get(self.lane(node, worker)) {
+            rest.store(rises.saturating_add(1), Ordering::SeqCst);
+        }
+    }
+
+    /// Whether each worker rests behind a turn that it began behind the last rise: none has anything to do any more. Linear in their number.
+    pub fn are_at_rest(&self) -> bool {
+        let rises = self.rises().saturating_add(1);
+        self.rests
+            .iter()
+            .all(|rest| rest.load(Ordering::SeqCst) == rises)
+    }
+
     /// Wakes everybody.
     pub fn ring_all(&self) {
         for node in 0..self.nodes {
@@ -180,16 +259,29 @@ impl<K: Rings> Crew<K> {
     }
 
     /// Passes on what the turns of a worker of a node found for others: it wakes those of its node that got something; where an entry was put into the log, a worker of
-    /// each other node that has connections; and where the log was full, of each other node.
+    /// each other node that has connections; and where the log was full, of each other node. Where all shall end in order it raises the number of what was passed on, and
+    /// wakes everybody.
     pub(crate) fn pass_on(&self, node: usize, worker: usize, news: &News) {
+        if news.is_none() {
+            return;
+        }
+        if self.is_ending() {
+            self.rises.fetch_add(1, Ordering::SeqCst);
+            self.ring_all();
+            return;
+        }
         if news.others != 0 {
             self.ring_others(node, news.others);
         }
-        if !news.has_put && !news.was_full {
-            return;
+        if news.has_put || news.was_full {
+            self.ring_nodes(node, worker, news.was_full);
         }
+    }
+
+    // Wakes a worker of each other node that has connections, or of each other node at all.
+    fn ring_nodes(&self, node: usize, worker: usize, are_all: bool) {
         for other in 0..self.nodes {
-            if other != node && (news.was_full || self.has_clients(other)) {
+            if other != node && (are_all || self.has_clients(other)) {
                 self.ring(other, worker);
             }
         }

@@ -23,6 +23,11 @@ impl News {
         }
     }
 
+    /// Whether there is none.
+    pub(crate) fn is_none(&self) -> bool {
+        self.others == 0 && !self.has_put && !self.was_full
+    }
+
     /// What a turn found is added.
     pub(crate) fn add(&mut self, turned: Turned) {
         self.others |= turned.others;

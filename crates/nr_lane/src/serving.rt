@@ -44,6 +44,8 @@ pub struct ServingDesk<'a, R, B: ServerName, K> {
     has_cut: bool,
     // How many works it has done, counted to 256.
     works: u8,
+    // How often workers had passed something on as its last work began, where all shall end in order.
+    rises: u64,
 }
 
 impl<'a, R, B: ServerName, K> Model for ServingDesk<'a, R, B, K> {
@@ -90,7 +92,13 @@ impl<'a, R: Wait, B: ServerName, K: Rings> ServingDesk<'a, R, B, K> {
             enough,
             has_cut: false,
             works: 0,
+            rises: 0,
         }
+    }
+
+    // Whether nothing is left to be done, and nothing to be written. Linear in its connections, and asked only where all shall end in order.
+    fn has_nothing_to_do(&self) -> bool {
+        !self.is_busy && !self.desk.is_at_work() && self.desk.are_written()
     }
 
     /// Its mark, in whose place it has one that keeps nothing: for when it ends. Constant.
@@ -169,6 +177,7 @@ impl<'a, R: Wait, B: ServerName, K: Rings> Answers for ServingDesk<'a, R, B, K> 
     /// At most 64 turns of its node. Where memory runs out what is left waits. A work behind one in which a queue was cut hears which ones its node has cut, and so
     /// does each 64th.
     fn work(&mut self) -> Result<(), Memory> {
+        self.rises = self.crew.rises();
         self.desk.forget_told();
         self.works = self.works.wrapping_add(1);
         let is_time = self.has_cut || self.works % WORKS_TO_HEAR == 0;
@@ -192,6 +201,13 @@ impl<'a, R: Wait, B: ServerName, K: Rings> Answers for ServingDesk<'a, R, B, K> 
     fn pass_on(&self) {
         let news = self.news.replace(News::none());
         self.crew.pass_on(self.desk.node(), self.worker, &news);
+        if self.crew.is_ending() && news.is_none() && self.has_nothing_to_do() {
+            self.crew.rest(self.desk.node(), self.worker, self.rises);
+        }
+    }
+
+    fn is_listening(&self, conn: ConnId) -> bool {
+        self.desk.is_listening(conn)
     }
 
     fn told(&self, place: usize) -> Option<ConnId> {

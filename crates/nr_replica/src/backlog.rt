@@ -7,18 +7,18 @@ use nr_blob::Memory;
 use std::alloc::Global;
 use std::collections::BTreeMap;
 
-/// How many turns a node is held up for a worker that hands nothing out, before a sixteenth more may wait.
+/// How many turns a node is held up for a worker that hands nothing out, before a share more may wait ([`share_of`](crate::share_of)).
 const MOST_TURNS: u32 = 1_000;
 
-/// How many sixteenths of its limit may wait for a connection at most, beyond the first.
-const MOST_EXTRA: usize = 15;
+/// How many shares of its limit may wait for a connection at most, beyond the first.
+const MOST_EXTRA: usize = 1_023;
 
 /// What waits for the connections of one worker.
 #[derive(Clone, Copy)]
 pub(crate) struct Backlog {
     // The connection for which more came to wait than may, the last of them, until something is handed out for it.
     pub(crate) marked: Option<u64>,
-    // How many sixteenths of its limit may wait for a connection, beyond the first.
+    // How many shares of its limit may wait for a connection, beyond the first.
     pub(crate) extra: usize,
     // How many turns were held up since that many may wait.
     pub(crate) turns: u32,
@@ -27,7 +27,7 @@ pub(crate) struct Backlog {
 }
 
 impl Backlog {
-    // One sixteenth may wait for each connection, and no turn was held up.
+    // One share may wait for each connection, and no turn was held up.
     fn new() -> Backlog
         ensures { result ≡ idle }
     {
@@ -87,7 +87,7 @@ impl Backlog {
         self.count_turn()
     }
 
-    // Counts a turn that is held up. Where as many were as may be a sixteenth more may wait from now on, and the answer is false.
+    // Counts a turn that is held up. Where as many were as may be a share more may wait from now on, and the answer is false.
     fn count_turn(&mut self) -> bool
         ensures counted { result ≡ true → (self.old.turns < 1000) × (self.new ≡ record self.old { turns = self.old.turns + 1 }) }
         ensures over { result ≡ false → (1000 ≤ self.old.turns) × (self.new ≡ with_more self.old) }

@@ -2,7 +2,7 @@
 #![tactic(auto)]
 
 pub use offer::{Offer, OfferError};
-pub use outbox::Piece;
+pub use outbox::{Piece, share_of};
 pub use replica::Replica;
 pub use spares::Spares;
 

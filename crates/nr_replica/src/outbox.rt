@@ -5,7 +5,7 @@ ghost use Rattle.nr_model.specs.Connections.{is_some_bytes};
 ghost use Rattle.nr_model.specs.Replies.{reply_text};
 ghost use Rattle.nr_resp.specs.Shown.{shown_reply};
 ghost use Rattle.nr_entry.specs.Jobs.{connection_of};
-ghost use Rattle.nr_replica.specs.Backlogs.{IsBacklog};
+ghost use Rattle.nr_replica.specs.Backlogs.{IsBacklog, share_of};
 ghost use Rattle.nr_replica.specs.declared.outbox.Put.TheVariants as outcomes;
 ghost use Rattle.nr_model.specs.Queues.{Queue, put, takes, with_bytes, cut_off, handing, most_bytes};
 
@@ -68,6 +68,11 @@ impl Model for Outbox {
 
 /// The most bytes that ever come to a queue, 2^63.
 const MOST_BYTES: u64 = 9_223_372_036_854_775_808;
+
+// At most this part of what may wait for a connection does before its node stops for it, and at most so many bytes.
+const SHARE_PART: usize = 16;
+
+const MOST_SHARE: usize = 1_048_576;
 
 /// The most bytes that are copied out where all that waits is handed out: then the buffer stays for those that come next.
 pub(crate) const MOST_COPIED: usize = 1024;
@@ -231,14 +236,22 @@ impl Outbox {
         self.is_cut
     }
 
-    /// Whether it isn't cut, and more waits than a sixteenth of its limit and so many more sixteenths.
+    /// Whether it isn't cut, and more waits than the share of its limit for which a node goes on, and so many more of these.
     pub(crate) fn is_above(&self, extra: usize) -> bool
         ensures { result ≡ true → IsBacklog self.now }
     {
-        let sixteenth = self.limit / 16;
-        let allowed = sixteenth.saturating_mul(extra).saturating_add(sixteenth);
+        let share = share_of(self.limit);
+        let allowed = share.saturating_mul(extra).saturating_add(share);
         !self.is_cut && self.len() > allowed
     }
+}
+
+/// How many bytes of so many that may wait for a connection do so before its node stops for it: a sixteenth, or 1,048,576 where that is less. A socket takes as many at
+/// once, so that what is handed out at once doesn't pile up behind it.
+pub fn share_of(limit: usize) -> usize
+    ensures { result ≡ share_of limit }
+{
+    (limit / SHARE_PART).min(MOST_SHARE)
 }
 
 // No bytes, with room for those that come next: a spare buffer's, else for as many as came last. Without memory for it there is none.

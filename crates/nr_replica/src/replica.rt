@@ -209,9 +209,9 @@ impl Replica {
         self.members.take_piece(self.alloc, serial, most, spares)
     }
 
-    /// Whether no entry is to be applied yet: so much waits for a connection that it is to be handed out first. That is more than a sixteenth of its limit; or where
-    /// its worker has held the node up for 1,000 of these calls, and handed nothing out for that connection, more than a sixteenth more, and so on, up to
-    /// the limit. It is a hint: an entry may be applied all the same. One compare where nothing came above that, else logarithmic for each worker.
+    /// Whether no entry is to be applied yet: so much waits for a connection that it is to be handed out first. That is more than a share of its limit
+    /// ([`share_of`](crate::share_of)); or where its worker has held the node up for 1,000 of these calls, and handed nothing out for that connection, more than
+    /// a share more, and so on, up to the limit. It is a hint: an entry may be applied all the same. One compare where nothing came above that, else logarithmic for each worker.
     pub fn holds_back(&mut self) -> bool
         ensures reason { result ≡ true → HasBacklog self.old.members }
         ensures same { self.new ≡ self.old }

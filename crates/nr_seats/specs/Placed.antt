@@ -6,7 +6,7 @@ use Rattle.std.specs.Coded.{Coded, coded×, coded_ℕ, coded_list}
 use Rattle.nr_model.specs.Bytes.{Bytes}
 use Rattle.nr_model.specs.Items.{Item}
 use Rattle.nr_entry.specs.Jobs.{item_of}
-use Rattle.nr_seats.specs.Seated.{SeatState, coded_seat, takes, HasFed, HasStopped}
+use Rattle.nr_seats.specs.Seated.{SeatState, coded_seat, listens, takes, HasFed, HasStopped}
 use Rattle.nr_seats.specs.declared.seats.Closed.{Closed}
 use Rattle.nr_seats.specs.declared.seats.Closed.TheVariants.{Absent, Ended, Last}
 
@@ -28,6 +28,11 @@ pub record IsPut (serial : ℕ) (seat : Option SeatState) (old new : SeatsState)
 abbrev pub takes_here : Option SeatState → Bool
 takes_here None = false
 takes_here (Some s) = takes s
+
+-- whether there is a seat for which messages may come
+abbrev pub listens_here : Option SeatState → Bool
+listens_here None = false
+listens_here (Some s) = listens s
 
 -- the bytes that wait, none where there is no seat
 abbrev pub pending_here : Option SeatState → Bytes

@@ -4,7 +4,7 @@ use Rattle.std.specs.Coded.{Coded, code_by, coded×, coded_ℕ, coded_bool}
 use Rattle.nr_model.specs.Bytes.{Bytes}
 use Rattle.nr_model.specs.Keyspace.{coded_bytes}
 use Rattle.nr_model.specs.Items.{Connection, Item, End}
-use Rattle.nr_model.specs.Modes.{plain}
+use Rattle.nr_model.specs.Modes.{is_subscribed, plain}
 use Rattle.nr_model.specs.Asked.{jobs_from}
 use Rattle.nr_session.specs.SessionState.{SessionState, coded_session, framed, asked, request_jobs, AddsFront, ends}
 
@@ -32,6 +32,10 @@ fresh_seat c = record { session = fresh_session c; pending = []; handed = 0; cut
 -- whether bytes are taken from it
 abbrev pub takes : SeatState → Bool
 takes s = not s.session.ended && not s.cut
+
+-- whether messages may come for it, since it is subscribed to something
+abbrev pub listens : SeatState → Bool
+listens s = is_subscribed s.session.mode
 
 -- no more bytes are taken from it
 abbrev pub cut_off : SeatState → SeatState

@@ -5,7 +5,7 @@ ghost use Rattle.std.specs.Option.{option_map};
 ghost use Rattle.nr_model.specs.Keyspace.{last_moment};
 ghost use Rattle.nr_entry.specs.Jobs.{connection_of, item_of, items_of};
 ghost use Rattle.nr_seats.specs.Portions.{portion_of, Grows};
-ghost use Rattle.nr_seats.specs.Seated.{fresh_seat, takes, cut_off, with_bytes, with_written, HasFed, HasStopped, HasAccepted, last_job, closed_seat};
+ghost use Rattle.nr_seats.specs.Seated.{fresh_seat, listens, takes, cut_off, with_bytes, with_written, HasFed, HasStopped, HasAccepted, last_job, closed_seat};
 
 use nr_entry::{ConnId, Job};
 use nr_node::Handed;
@@ -54,6 +54,13 @@ impl Seat {
         ensures { result ≡ takes self.now }
     {
         !self.session.has_ended() && !self.is_cut
+    }
+
+    /// Whether messages may come for the connection, since it is subscribed to something.
+    pub fn is_listening(&self) -> bool
+        ensures { result ≡ listens self.now }
+    {
+        self.session.is_subscribed()
     }
 
     /// Feeds bytes that came from the connection, at a moment in milliseconds, at most 2^53. The jobs that they ask for stand behind those

@@ -5,7 +5,7 @@ ghost use Rattle.std.specs.Option.{option_map};
 ghost use Rattle.nr_model.specs.Keyspace.{last_moment};
 ghost use Rattle.nr_entry.specs.Jobs.{connection_of, item_of, items_of};
 ghost use Rattle.nr_seats.specs.Seated.{cut_off, fresh_seat, with_written, last_job};
-ghost use Rattle.nr_seats.specs.Placed.{seat_at, IsPut, takes_here, pending_here, FeedsSeat, StopsSeat, closed_seen};
+ghost use Rattle.nr_seats.specs.Placed.{seat_at, IsPut, listens_here, takes_here, pending_here, FeedsSeat, StopsSeat, closed_seen};
 ghost use Rattle.nr_seats.specs.Portions.{portion_of, Accepts};
 
 use crate::seat::Seat;
@@ -93,6 +93,23 @@ impl Seats {
             Some(seat) => seat.takes(),
             None => false,
         }
+    }
+
+    /// Whether it is open, and messages may come for it, since it is subscribed to something. Logarithmic.
+    pub fn is_listening(&self, serial: u64) -> bool
+        ensures { result ≡ listens_here (seat_at serial self.now) }
+    {
+        match self.by_serial.get(&serial) {
+            Some(seat) => seat.is_listening(),
+            None => false,
+        }
+    }
+
+    /// Whether nothing waits to be written for any connection that is open here. A hint. Linear in these.
+    pub fn are_written(&self) -> bool {
+        self.by_serial
+            .values()
+            .all(|seat| seat.pending().is_empty())
     }
 
     /// Feeds bytes that came from a connection, as [`Seat::feed`] does. Logarithmic, and linear in the bytes.

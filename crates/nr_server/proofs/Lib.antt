@@ -5,3 +5,4 @@ pub mod Whole
 pub mod Ended
 pub mod Read
 pub mod Both
+mod Unheard

@@ -9,3 +9,4 @@ pub mod Files
 pub mod Plays
 pub mod Serving
 pub mod Listening
+pub mod Notices

@@ -1,5 +1,5 @@
 -- What is told of how the workers of a server ended.
-use Rattle.std.specs.Prelude.{Result, Ok, Err}
+use Rattle.std.specs.Prelude.{Bool, cond, Result, Ok, Err}
 use Rattle.nr_crew.specs.declared.running.ServeError.{ServeError}
 use Rattle.nr_crew.specs.declared.running.ServeError.TheVariants.{Memory, Device, NoThread}
 use Rattle.nr_server.specs.declared.fault.Fault.{Fault}
@@ -10,3 +10,7 @@ told_of (Ok tt) = Ok tt
 told_of (Err Memory) = Err faults.Memory
 told_of (Err Device) = Err faults.Listener
 told_of (Err NoThread) = Err faults.NoThread
+
+-- who can't say where it listens failed to write, whatever else came of it
+abbrev pub ended_by : Result (Unit {0}) ServeError → Bool → Result (Unit {0}) Fault
+ended_by ended is_mute = cond is_mute (Err faults.Write) (told_of ended)

@@ -4,6 +4,7 @@
 
 pub use fault::Fault;
 pub use line::{Ran, run_on};
+pub use notice::Notice;
 pub use refusal::Refusal;
 pub use run::{Done, Served, serve_stream};
 pub use script::play_on;
@@ -14,6 +15,8 @@ mod bytes;
 mod fault;
 mod joined;
 mod line;
+mod notice;
+mod reception;
 mod refusal;
 mod run;
 mod script;

@@ -106,7 +106,7 @@ pub fn serve_stream<S: Stream + Drop, M: Moments + Drop>(
     ensures { IfOk result (IsServed S.received S.sent S.course M.gives clock) }
 {
     let answering = Answering::new(alloc, keys, alone())?;
-    let mut service = Service::new(alloc, 0, 0, answering, Nowhere, clock, LIMIT)?;
+    let mut service = Service::new(alloc, 0, 0, answering, Nowhere, clock, LIMIT, 0)?;
     if !service.admit(stream)? {
         return Err(Memory);
     }

@@ -1,42 +1,79 @@
 // Serving by TCP: each worker of each node on a thread of its own.
-ghost use Rattle.std.specs.Prelude.{◌≡◌, ◌*◌, IfOk, IfErr, string_bytes};
+ghost use Rattle.std.specs.Prelude.{◌≡◌, ◌+◌, ◌*◌, IfOk, IfErr};
 ghost use Rattle.std.specs.Vec.{vec_len};
 ghost use Rattle.nr_crew.specs.Dealing.{HasDealt};
 ghost use Rattle.nr_crew.specs.Together.{AreServedTogether};
-ghost use Rattle.nr_server.specs.Listening.{IsUnheard};
-ghost use Rattle.nr_server.specs.Serving.{told_of};
+ghost use Rattle.nr_server.specs.Listening.{IsRefused, IsUnheardOf};
+ghost use Rattle.nr_server.specs.Serving.{ended_by, told_of};
+ghost use Rattle.nr_sockets.specs.Addresses.{AreSaid};
 
 use crate::fault::Fault;
+use crate::reception::{Begins, Reception};
 use crate::refusal::Refusal;
 use nr_blob::Memory;
-use nr_config::Settings;
+use nr_config::{Lasts, Settings};
 use nr_crew::{Place, ServeError, Served, Shape, Size, serve_nodes};
 use nr_service::{Accepts, Device, Gate, MachineClock, Moments, Rings, Stream};
-use nr_sockets::{Door, Entrance, Listener, Listening, Lookout, Socket, open_lanes};
+use nr_sockets::{
+    Door, Entrance, Listener, Listening, Lookout, Socket, Terms, Unheard, most_descriptors,
+    open_lanes,
+};
 use std::alloc::Global;
+use std::fs::Files;
 use std::hash::RandomState;
-use std::io::{Error, ErrorKind};
+use std::io::{Error, ErrorKind, Write};
 use std::net::Net;
+use std::os::fd::RawFd;
 use std::rt::Clock;
 use std::sync::Wait;
-use std::thread::Threads;
+use std::thread::{self, Threads};
+
+/// The descriptor of standard input.
+const STANDARD_INPUT: RawFd = 0;
+
+// The fault of an address at which nobody can listen.
+fn refused(alloc: Global, address: &str, error: &Error) -> Result<Fault, Memory>
+    ensures { IfOk result (IsRefused address.now) }
+{
+    if error.kind() == ErrorKind::OutOfMemory {
+        return Ok(Fault::Memory);
+    }
+    let address = String::from_str(alloc, address)?;
+    Ok(Fault::CannotListen(address, Refusal::of(error)))
+}
+
+// The same, by its place among these, of which it is one.
+fn unheard(
+    alloc: Global,
+    addresses: &[String],
+    place: usize,
+    error: &Error,
+) -> Result<Fault, Memory>
+    ensures { IfOk result (IsUnheardOf addresses.now) }
+{
+    let Some(address) = addresses.get(place) else {
+        return Ok(Fault::Memory);
+    };
+    let fault = refused(alloc, address.as_str(), error)?;
+    Ok(fault)
+}
 
 /// Listens where the settings say.
 ///
 /// # Errors
 ///
-/// `CannotListen` where the system refuses it, with what it says; `Memory` where memory runs out.
-pub fn listen_on<N: Net>(alloc: Global, net: &N, settings: &Settings) -> Result<Listening, Fault>
-    ensures named { IfOk result (λ listening. string_bytes listening.named ≡ string_bytes settings.now.listen) }
-    ensures refused { IfErr result (IsUnheard settings.now) }
+/// `CannotListen` where the system refuses an address, with what it says; `Memory` where memory runs out.
+pub fn listen_on<R: Files + Net>(
+    alloc: Global,
+    rt: &R,
+    settings: &Settings,
+) -> Result<Listening, Fault>
+    ensures named { IfOk result (λ listening. AreSaid settings.now.listen.items listening.named.items) }
+    ensures refused { IfErr result (IsUnheardOf settings.now.listen.items) }
 {
-    match Listening::listen(alloc, net, settings.listen.as_str()) {
+    match Listening::listen(alloc, rt, &settings.listen) {
         Ok(listening) => Ok(listening),
-        Err(error) if error.kind() == ErrorKind::OutOfMemory => Err(Fault::Memory),
-        Err(error) => {
-            let address = String::from_str(alloc, settings.listen.as_str())?;
-            Err(Fault::CannotListen(address, Refusal::of(&error)))
-        }
+        Err(Unheard { place, error }) => Err(unheard(alloc, &settings.listen, place, &error)?),
     }
 }
 
@@ -47,6 +84,7 @@ fn size_of(settings: &Settings) -> Size
     ensures places { result.places ≡ settings.now.places }
     ensures connections { result.connections ≡ settings.now.connections }
     ensures limit { result.limit ≡ settings.now.queue_limit }
+    ensures timeout { result.timeout ≡ settings.now.timeout * 1000 }
 {
     Size {
         shape: Shape {
@@ -56,6 +94,7 @@ fn size_of(settings: &Settings) -> Size
         places: settings.places,
         connections: settings.connections,
         limit: settings.queue_limit,
+        timeout: settings.timeout as u64 * 1_000,
     }
 }
 
@@ -158,23 +197,74 @@ fn places_of<'a, R>(
     Ok(places)
 }
 
-/// Serves the connections that come where this listens, by the settings, until the gate stops all workers.
+/// How many descriptors a server of this size takes where each node has all its connections: one each, two for each worker, and 16 for all else.
+fn descriptors_of(settings: &Settings) -> u64
+    ensures { result ≡ settings.now.nodes * settings.now.connections + 2 * (settings.now.nodes * settings.now.workers) + 16 }
+{
+    let connections = settings.nodes * settings.connections;
+    let lanes = settings.nodes * settings.workers;
+    (connections + 2 * lanes + 16) as u64
+}
+
+// What is told as it begins.
+fn begins_of<R: Threads>(rt: &R, settings: &Settings) -> Begins {
+    Begins {
+        threads: settings.nodes * settings.workers,
+        processors: thread::available_parallelism(rt)
+            .ok()
+            .map(|count| count.get()),
+        descriptors: most_descriptors(),
+        wanted: descriptors_of(settings),
+    }
+}
+
+// On which terms connections are taken.
+fn terms_of(settings: &Settings, lasts: Lasts) -> Terms {
+    Terms {
+        tcp_keepalive: settings.tcp_keepalive as u32,
+        input: match lasts {
+            Lasts::UntilInputEnds => Some(STANDARD_INPUT),
+            Lasts::UntilKilled => None,
+        },
+        shutdown_seconds: settings.shutdown_seconds as u32,
+    }
+}
+
+// What is told of how the server ended, which may have had nobody to hear where it listens.
+fn ended_by(ended: Result<(), ServeError>, is_mute: bool) -> Result<(), Fault>
+    ensures { result ≡ ended_by ended is_mute }
+{
+    if is_mute {
+        return Err(Fault::Write);
+    }
+    told_of(ended)
+}
+
+/// Serves the connections that come where this listens, by the settings, until the gate stops all workers, or, where it lasts until its input ends, that has ended:
+/// then nothing more is taken or read, and it ends once all that was read is executed and all that was answered is written, or `shutdown_seconds` are over. On `out`
+/// stands where it listens, a line for each address, once all workers serve; on `errors` by how many threads, and then a line for each node that falls, for
+/// connections that are turned away or find no descriptor, at most one a minute each, and for the end of the input.
 ///
 /// # Errors
 ///
 /// `Memory` where memory runs out, also where every node is down by that; `Listener` where no connection can come any more, or the system has no descriptors for the
-/// workers; `NoThread` where it has no thread for one of them.
-pub fn serve_by_tcp<R, G>(
+/// workers; `NoThread` where it has no thread for one of them; `Write` where `out` takes nothing.
+pub fn serve_by_tcp<R, G, O, E>(
     rt: &R,
     alloc: Global,
     keys: RandomState,
     settings: &Settings,
     listening: Listening,
+    lasts: Lasts,
+    out: O,
+    errors: E,
     gate: &G,
 ) -> Result<(), Fault>
 where
-    R: Clock + Net + Threads + Wait + Sync,
+    R: Clock + Files + Net + Threads + Wait + Sync,
     G: Gate + Sync,
+    O: Write + Drop,
+    E: Write + Drop,
 {
     let lanes = settings.nodes * settings.workers;
     let (entrance, lookouts) = match open_lanes(alloc, rt, lanes) {
@@ -185,15 +275,21 @@ where
     let bells = Bells {
         entrance: &entrance,
     };
-    let listener = Listener::new(listening, rt, &entrance);
-    let (served, _listener) = serve_on::<
+    let terms = terms_of(settings, lasts);
+    let listener = Listener::new(alloc, listening, rt, &entrance, terms);
+    let clock = MachineClock { runtime: rt };
+    let begins = begins_of(rt, settings);
+    let reception = Reception::new(listener, clock, out, errors, begins);
+    let (served, mut reception) = serve_on::<
         R,
         Socket,
         Door<'_, R>,
         MachineClock<'_, R>,
         Bells<'_>,
         G,
-        Listener<'_, R>,
-    >(rt, alloc, keys, settings, places, bells, listener, gate)?;
-    told_of(served.ended)
+        Reception<'_, R, MachineClock<'_, R>, O, E>,
+    >(rt, alloc, keys, settings, places, bells, reception, gate)?;
+    reception.listener.listening.leave(rt);
+    reception.tell_end();
+    ended_by(served.ended, reception.is_mute)
 }

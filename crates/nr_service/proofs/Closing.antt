@@ -16,6 +16,7 @@ use Rattle.nr_service.specs.declared.answers.Standing.{Standing}
 use Rattle.nr_service.specs.declared.client.Ending.{Ending}
 use Rattle.nr_service.specs.Devices.{Parting, PartsWith}
 use Rattle.nr_service.specs.declared.client.Client.{Client}
+use Rattle.nr_service.specs.declared.leaving.Bounds.{Bounds}
 use Rattle.nr_service.specs.Stories.{Occurrence, Closed, Story, Past, Kept, IsShut, IsClosed, opened_in, fed_in, handed_in, going_on}
 use Rattle.nr_service.proofs.Occurrences.{fed_still, handed_still, going_none, going_both}
 use Rattle.nr_service.proofs.Served.{others_served, served_moved}
@@ -64,14 +65,14 @@ parts_then {S} xs ys (Some before) b c p q =
 
 -- none was closed
 pub lets_none : {A S D : Type 0} (was_received was_sent : S → Option Bytes) (course : S → Option Course) (is_past : A → Past) (keeps : A → Kept)
-    (stands : A → Connection → Standing → Type 0) (busy : A → Bool) (is_gone : A → Connection → Type 0) (parted : D → Option (List (Parting S))) (limit : ℕ) (state : A)
+    (stands : A → Connection → Standing → Type 0) (busy : A → Bool) (is_gone : A → Connection → Type 0) (parted : D → Option (List (Parting S))) (bounds : Bounds) (state : A)
     (device : D) (clients : List (Client S))
-    → LetsGo was_received was_sent course is_past keeps stands busy is_gone parted limit state state device device clients clients
-lets_none {A} {S} was_received was_sent course is_past keeps stands busy is_gone parted limit state device clients = record {
+    → LetsGo was_received was_sent course is_past keeps stands busy is_gone parted bounds state state device device clients clients
+lets_none {A} {S} was_received was_sent course is_past keeps stands busy is_gone parted bounds state device clients = record {
   gone = [];
   all = IsPermutation-refl clients;
   in_turn = refl;
-  each = All-nil (HasGone {A = A} {S = S} keeps stands busy is_gone limit);
+  each = All-nil (HasGone {A = A} {S = S} keeps stands busy is_gone bounds);
   parts = parts_none (parted device);
   further = λ story a.
       subst (λ (s : Story). AreServed was_received was_sent course (is_past state) (keeps state) s clients) (sym (going_none story)) a;
@@ -84,11 +85,11 @@ gone_then (one ∷ xs) ys a b c p q = (p.0, gone_then xs ys one.after b c p.1 q)
 
 -- one step behind another
 pub lets_then : {A S D : Type 0} (was_received was_sent : S → Option Bytes) (course : S → Option Course) (is_past : A → Past) (keeps : A → Kept)
-    (stands : A → Connection → Standing → Type 0) (busy : A → Bool) (is_gone : A → Connection → Type 0) (parted : D → Option (List (Parting S))) (limit : ℕ) (a b c : A)
-    (d e f : D) (xs ys zs : List (Client S)) → LetsGo was_received was_sent course is_past keeps stands busy is_gone parted limit a b d e xs ys
-    → LetsGo was_received was_sent course is_past keeps stands busy is_gone parted limit b c e f ys zs
-    → LetsGo was_received was_sent course is_past keeps stands busy is_gone parted limit a c d f xs zs
-lets_then {A} {S} {D} was_received was_sent course is_past keeps stands busy is_gone parted limit a b c d e f xs ys zs p q =
+    (stands : A → Connection → Standing → Type 0) (busy : A → Bool) (is_gone : A → Connection → Type 0) (parted : D → Option (List (Parting S))) (bounds : Bounds) (a b c : A)
+    (d e f : D) (xs ys zs : List (Client S)) → LetsGo was_received was_sent course is_past keeps stands busy is_gone parted bounds a b d e xs ys
+    → LetsGo was_received was_sent course is_past keeps stands busy is_gone parted bounds b c e f ys zs
+    → LetsGo was_received was_sent course is_past keeps stands busy is_gone parted bounds a c d f xs zs
+lets_then {A} {S} {D} was_received was_sent course is_past keeps stands busy is_gone parted bounds a b c d e f xs ys zs p q =
     let first = map client_of p.gone in
     let second = map client_of q.gone in
     record {
@@ -98,7 +99,7 @@ lets_then {A} {S} {D} was_received was_sent course is_past keeps stands busy is_
           (subst (IsPermutation (first ++ ys)) (sym (append_assoc first second zs))
           (IsPermutation-append_right first ys (second ++ zs) q.all)));
       in_turn = gone_then p.gone q.gone a b c p.in_turn q.in_turn;
-      each = All-append (HasGone keeps stands busy is_gone limit) p.gone q.gone p.each q.each;
+      each = All-append (HasGone keeps stands busy is_gone bounds) p.gone q.gone p.each q.each;
       parts = subst (λ (more : List (Parting S)). PartsWith more (parted d) (parted f)) (sym (map-append parting_of p.gone q.gone))
           (parts_then (map parting_of p.gone) (map parting_of q.gone) (parted d) (parted e) (parted f) p.parts q.parts);
       further = λ story s.
@@ -121,12 +122,12 @@ shut_bytes c was_gone shut (inr is) = (ap fed_in is.0, ap handed_in is.0)
 
 -- one of them is some, where it was over
 pub lets_one : {A S D : Type 0} (was_received was_sent : S → Option Bytes) (course : S → Option Course) (is_past : A → Past) (keeps : A → Kept)
-    (stands : A → Connection → Standing → Type 0) (busy : A → Bool) (is_gone : A → Connection → Type 0) (parted : D → Option (List (Parting S))) (limit : ℕ)
+    (stands : A → Connection → Standing → Type 0) (busy : A → Bool) (is_gone : A → Connection → Type 0) (parted : D → Option (List (Parting S))) (bounds : Bounds)
     (ending : Ending) (index : ℕ) (before after : A) (device_before device_after : D) (old new : List (Client S)) (client : Client S)
-    → index < length old → client ≡ get_or old index client → IsEnding (keeps before) (stands before) (busy before) limit client (Some ending)
+    → index < length old → client ≡ get_or old index client → IsEnding (keeps before) (stands before) (busy before) bounds client (Some ending)
     → LetsGoOne was_received was_sent course is_past keeps is_gone parted ending index before after device_before device_after old new
-    → LetsGo was_received was_sent course is_past keeps stands busy is_gone parted limit before after device_before device_after old new
-lets_one {A} {S} {D} was_received was_sent course is_past keeps stands busy is_gone parted limit ending index before after device_before device_after old new client
+    → LetsGo was_received was_sent course is_past keeps stands busy is_gone parted bounds before after device_before device_after old new
+lets_one {A} {S} {D} was_received was_sent course is_past keeps stands busy is_gone parted bounds ending index before after device_before device_after old new client
     within is over one =
     let told = shut_as one.client ending before after (is_gone before (connection one.client)) one.shut one.is in
     let same : one.client ≡ client = one.at ∙ get_or_within old index one.client client within ∙ sym is in
@@ -135,11 +136,11 @@ lets_one {A} {S} {D} was_received was_sent course is_past keeps stands busy is_g
       gone = gone ∷ [];
       all = one.moved;
       in_turn = (refl, refl);
-      each = All-cons (HasGone keeps stands busy is_gone limit) gone [] (record {
-        over = subst (λ (x : Client S). IsEnding (keeps before) (stands before) (busy before) limit x (Some ending)) (sym same) over;
+      each = All-cons (HasGone keeps stands busy is_gone bounds) gone [] (record {
+        over = subst (λ (x : Client S). IsEnding (keeps before) (stands before) (busy before) bounds x (Some ending)) (sym same) over;
         shut = subst (λ (shut : List Occurrence). IsShut (connection one.client) (is_gone before (connection one.client)) shut) told.1 one.is;
         away = one.gone;
-      }) (All-nil (HasGone keeps stands busy is_gone limit));
+      }) (All-nil (HasGone keeps stands busy is_gone bounds));
       parts = one.parts;
       further = λ story s.
           subst (λ (shut : List Occurrence). AreServed was_received was_sent course (is_past after) (keeps after) (going_on story shut) new) told.1

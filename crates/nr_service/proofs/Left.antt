@@ -22,6 +22,7 @@ use Rattle.nr_service.specs.declared.answers.Standing.{Standing}
 use Rattle.nr_service.specs.declared.client.Client.{Client}
 use Rattle.nr_service.specs.declared.client.Ending.{Ending}
 use Rattle.nr_service.specs.declared.client.Ending.TheVariants as endings
+use Rattle.nr_service.specs.declared.leaving.Bounds.{Bounds}
 use Rattle.nr_service.specs.Stories.{Occurrence, Story, Past, Kept, IsLeftOf, fed_in, handed_in, bytes_fed, bytes_handed, going_on}
 use Rattle.nr_service.proofs.Apart.{flips}
 use Rattle.nr_service.proofs.Closing.{closes_fed, closes_opened, parts_then}
@@ -264,6 +265,7 @@ leaves_weaker was_received was_sent course is_past is_left keeps few many a b xs
 -- one was taken from the list, its stream was given back, and it couldn't be closed
 stream_parting : {S : Type 0} (ending : Ending) (stream : S) → stream_of (parting ending stream) ≡ stream
 stream_parting endings.Finished stream = refl
+stream_parting endings.Silent stream = refl
 stream_parting endings.Lost stream = refl
 
 pub loses_one : {A S D : Type 0} (was_received was_sent : S → Option Bytes) (course : S → Option Course) (is_past is_left : A → Past) (keeps : A → Kept)
@@ -304,11 +306,11 @@ gone_streams {A} {S} (one ∷ gone) = λ i. stream_parting one.ending one.client
 -- some were let go, and then others went
 pub loses_then : {A S D : Type 0} (was_received was_sent : S → Option Bytes) (course : S → Option Course) (is_past is_left : A → Past) (keeps : A → Kept)
     (stands : A → Connection → Standing → Type 0) (busy : A → Bool) (is_gone : A → Connection → Type 0) (parted : D → Option (List (Parting S)))
-    (limit : ℕ) (a b c : A) (d e f : D) (xs ys zs : List (Client S))
-    → LetsGo was_received was_sent course is_past keeps stands busy is_gone parted limit a b d e xs ys
+    (bounds : Bounds) (a b c : A) (d e f : D) (xs ys zs : List (Client S))
+    → LetsGo was_received was_sent course is_past keeps stands busy is_gone parted bounds a b d e xs ys
     → Loses was_received was_sent course is_past is_left keeps parted b c e f ys zs
     → Loses was_received was_sent course is_past is_left keeps parted a c d f xs zs
-loses_then {A} {S} {D} was_received was_sent course is_past is_left keeps stands busy is_gone parted limit a b c d e f xs ys zs p q =
+loses_then {A} {S} {D} was_received was_sent course is_past is_left keeps stands busy is_gone parted bounds a b c d e f xs ys zs p q =
     let went = map client_of p.gone in
     let moved : IsPermutation xs ((went ++ q.missing) ++ zs) =
     IsPermutation-trans xs (went ++ ys) ((went ++ q.missing) ++ zs) p.all

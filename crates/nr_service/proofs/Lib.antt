@@ -1,6 +1,7 @@
 pub mod Occurrences
 pub mod Apart
 pub mod Known
+pub mod Heard
 pub mod Served
 pub mod Feeding
 pub mod Working

@@ -15,6 +15,7 @@ use Rattle.nr_service.specs.Stories.{Kept, KeepsOthers, kept_bytes}
 use Rattle.nr_service.specs.Sweeps.{AreSent, GoesOnAt, GoOn, IsSent, IsSentOrBroken, LooksSoon, WritesAt}
 use Rattle.nr_service.specs.declared.answers.Standing.{Standing}
 use Rattle.nr_service.specs.declared.client.Client.{Client}
+use Rattle.nr_service.specs.declared.leaving.Bounds.{Bounds}
 use Rattle.nr_service.proofs.Apart.{flips}
 use Rattle.nr_service.proofs.Working.{get_or_within}
 
@@ -90,17 +91,17 @@ sent_more {A} {S} keeps place at busy_before busy_after before after old new is 
     ]
 
 -- one more goes on
-pub go_on_more : {A S : Type 0} (keeps : A → Kept) (stands : A → Connection → Standing → Type 0) (busy : A → Bool) (limit place at : ℕ)
+pub go_on_more : {A S : Type 0} (keeps : A → Kept) (stands : A → Connection → Standing → Type 0) (busy : A → Bool) (bounds : Bounds) (place at : ℕ)
     (from : ℕ) (first before after : A) (all old new : List (Client S)) → place ≡ at → from ≡ at + 1 → at < length all → old ≡ all → before ≡ first
-    → GoesOnAt keeps stands busy limit place before after old new
-    → AllWithin (λ client. IsEnding (keeps first) (stands first) (busy first) limit client None) all from (length all)
-    → AllWithin (λ client. IsEnding (keeps first) (stands first) (busy first) limit client None) all at (length all)
-go_on_more {A} {S} keeps stands busy limit place at from first before after all old new is next within same_clients same goes so_far = λ k client low high.
+    → GoesOnAt keeps stands busy bounds place before after old new
+    → AllWithin (λ client. IsEnding (keeps first) (stands first) (busy first) bounds client None) all from (length all)
+    → AllWithin (λ client. IsEnding (keeps first) (stands first) (busy first) bounds client None) all at (length all)
+go_on_more {A} {S} keeps stands busy bounds place at from first before after all old new is next within same_clients same goes so_far = λ k client low high.
     elim (at_or_behind at k low) [
       | inl here ↦
-          subst (λ (i : ℕ). IsEnding (keeps first) (stands first) (busy first) limit (get_or all i client) None) (is ∙ sym here)
-          (subst (λ (a : A). IsEnding (keeps a) (stands a) (busy a) limit (get_or all place client) None) same
-          (subst (λ (clients : List (Client S)). IsEnding (keeps before) (stands before) (busy before) limit (get_or clients place client) None) same_clients
+          subst (λ (i : ℕ). IsEnding (keeps first) (stands first) (busy first) bounds (get_or all i client) None) (is ∙ sym here)
+          (subst (λ (a : A). IsEnding (keeps a) (stands a) (busy a) bounds (get_or all place client) None) same
+          (subst (λ (clients : List (Client S)). IsEnding (keeps before) (stands before) (busy before) bounds (get_or clients place client) None) same_clients
           (goes.here client (subst (λ (clients : List (Client S)). place < length clients) (sym same_clients) (omega (arith, is))))))
       | inr behind ↦ so_far k client (omega arith) high
     ]
@@ -109,40 +110,40 @@ go_on_more {A} {S} keeps stands busy limit place at from first before after all 
     at_or_behind i k low = elim (cases_Bool (ltb i k)) [ inl behind ↦ inr (ltb-true i k behind) | inr at ↦ inl (omega (arith, ltb-false i k at)) ]
 
 -- one that goes on isn't broken
-sound_going : {S : Type 0} (keeps : Kept) (stands : Connection → Standing → Type 0) (busy : Bool) (limit : ℕ) (client : Client S)
-    → IsEnding keeps stands busy limit client None → IsSentOrBroken keeps client → IsSent keeps client
-sound_going keeps stands busy limit client goes (inl sent) = sent
-sound_going keeps stands busy limit client goes (inr broken) = absurd (true≢false (sym broken ∙ goes.0.sound))
+sound_going : {S : Type 0} (keeps : Kept) (stands : Connection → Standing → Type 0) (busy : Bool) (bounds : Bounds) (client : Client S)
+    → IsEnding keeps stands busy bounds client None → IsSentOrBroken keeps client → IsSent keeps client
+sound_going keeps stands busy bounds client goes (inl sent) = sent
+sound_going keeps stands busy bounds client goes (inr broken) = absurd (true≢false (sym broken ∙ goes.0.sound))
 
 -- all were looked at
-all_sent : {A S : Type 0} (keeps : A → Kept) (stands : A → Connection → Standing → Type 0) (busy : A → Bool) (limit : ℕ) (before after : A)
-    (old new : List (Client S)) → GoOn keeps stands busy limit true before after old new → All (IsSentOrBroken (keeps before)) old
-    → AreSent (keeps after) (stands after) (busy after) limit new
-all_sent {A} {S} keeps stands busy limit before after old new goes sent =
-    subst (λ (a : A). AreSent (keeps a) (stands a) (busy a) limit new) (sym goes.answers)
-    (subst (λ (clients : List (Client S)). AreSent (keeps before) (stands before) (busy before) limit clients) (sym goes.clients)
+all_sent : {A S : Type 0} (keeps : A → Kept) (stands : A → Connection → Standing → Type 0) (busy : A → Bool) (bounds : Bounds) (before after : A)
+    (old new : List (Client S)) → GoOn keeps stands busy bounds true before after old new → All (IsSentOrBroken (keeps before)) old
+    → AreSent (keeps after) (stands after) (busy after) bounds new
+all_sent {A} {S} keeps stands busy bounds before after old new goes sent =
+    subst (λ (a : A). AreSent (keeps a) (stands a) (busy a) bounds new) (sym goes.answers)
+    (subst (λ (clients : List (Client S)). AreSent (keeps before) (stands before) (busy before) bounds clients) (sym goes.clients)
     (λ k client high. (
       goes.each refl k client high,
-      sound_going (keeps before) (stands before) (busy before) limit (get_or old k client) (goes.each refl k client high) (sent k client high),
+      sound_going (keeps before) (stands before) (busy before) bounds (get_or old k client) (goes.each refl k client high) (sent k client high),
     )))
 
-pub looked : {A S : Type 0} (keeps : A → Kept) (stands : A → Connection → Standing → Type 0) (busy : A → Bool) (limit : ℕ) (before after : A)
+pub looked : {A S : Type 0} (keeps : A → Kept) (stands : A → Connection → Standing → Type 0) (busy : A → Bool) (bounds : Bounds) (before after : A)
     (old new : List (Client S)) (first last : ℕ) (is_all is_all_before rests_before rests is_busy : Bool) → LooksSoon first last (is_all ≡ true)
     → is_all_before ≡ is_all → (is_busy ≡ false → rests ≡ false) → (rests ≡ false → rests_before ≡ false)
     → (is_all ≡ true → rests_before ≡ false → IsDistinct same_connection (map connection old) → All (IsSentOrBroken (keeps before)) old)
-    → (rests ≡ false → GoOn keeps stands busy limit is_all_before before after old new)
+    → (rests ≡ false → GoOn keeps stands busy bounds is_all_before before after old new)
     → LooksSoon first last (is_busy ≡ false → IsDistinct same_connection (map connection old)
-    → AreSent (keeps after) (stands after) (busy after) limit new)
-looked keeps stands busy limit before after old new first last is_all is_all_before rests_before rests is_busy (inl now) same calm calm_before sent goes =
+    → AreSent (keeps after) (stands after) (busy after) bounds new)
+looked keeps stands busy bounds before after old new first last is_all is_all_before rests_before rests is_busy (inl now) same calm calm_before sent goes =
     inl (
       now.0,
       λ rest apart.
           let quiet = calm rest in
-          all_sent keeps stands busy limit before after old new
-          (subst (λ (b : Bool). GoOn keeps stands busy limit b before after old new) (same ∙ now.1) (goes quiet))
+          all_sent keeps stands busy bounds before after old new
+          (subst (λ (b : Bool). GoOn keeps stands busy bounds b before after old new) (same ∙ now.1) (goes quiet))
           (sent now.1 (calm_before quiet) apart),
     )
-looked keeps stands busy limit before after old new first last is_all is_all_before rests_before rests is_busy (inr soon) same calm calm_before sent goes =
+looked keeps stands busy bounds before after old new first last is_all is_all_before rests_before rests is_busy (inr soon) same calm calm_before sent goes =
     inr soon
 
 -- no work was at hand, by none of two signs

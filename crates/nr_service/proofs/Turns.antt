@@ -27,7 +27,7 @@ use Rattle.nr_service.proofs.Served.{has_then, has_weaker}
 use Rattle.nr_service.proofs.Timed.{fed_then, fed_unread, none_timed}
 use Rattle.nr_service.specs.Streams.{Course}
 use Rattle.nr_service.specs.Sweeps.{AreSent, LooksSoon}
-use Rattle.nr_service.specs.Turns.{IsSameWorker, Turns, most_accepted}
+use Rattle.nr_service.specs.Turns.{IsSameWorker, Turns, bounds_of, most_accepted}
 
 -- none were given back of nobody
 none_back : {S : Type 0} (known : Option (List (Parting S))) → AreGivenBack [] known
@@ -167,10 +167,10 @@ pub took : {A S D M : Type 0} (was_received was_sent : S → Option Bytes) (cour
     → Reads gives old.clock new.clock old.moment new.moment
     → Exchanges was_received was_sent course is_past is_settled keeps busy new.moment a b xs ys
     → map connection ys ≡ map connection xs
-    → LetsGo was_received was_sent course is_past keeps stands busy is_gone parted new.limit b new.answers d e ys new.clients.items
+    → LetsGo was_received was_sent course is_past keeps stands busy is_gone parted (bounds_of new) b new.answers d e ys new.clients.items
     → IsSameWorker old new → parted new.device ≡ parted e → (busy new.answers ≡ true → is_busy ≡ true)
     → LooksSoon old.until new.until (is_busy ≡ false → IsDistinct same_connection (map connection ys)
-    → AreSent (keeps new.answers) (stands new.answers) (busy new.answers) new.limit new.clients.items)
+    → AreSent (keeps new.answers) (stands new.answers) (busy new.answers) (bounds_of new) new.clients.items)
     → waits e new.device is_busy told → told ≡ answer
     → Turns was_received was_sent course is_past is_settled keeps stands busy is_full is_placed is_gone parted waits gives answer old new
 took was_received was_sent course gives is_past is_settled keeps stands busy is_full is_placed is_gone parted waits told answer is_busy a b d e xs ys old new

@@ -3,9 +3,11 @@ use Rattle.std.specs.Prelude.{◌≡◌, ◌≢◌, ℕ, ◌<◌, Bool, true, fa
 use Rattle.nr_model.specs.Bytes.{Bytes}
 use Rattle.nr_model.specs.Items.{Connection}
 use Rattle.nr_service.specs.Serving.{connection, streams_of, IsLeft, IsWithin, AreServed}
+use Rattle.nr_service.specs.Silence.{IsSilent}
 use Rattle.nr_service.specs.declared.client.Client.{Client}
 use Rattle.nr_service.specs.declared.client.Ending.{Ending}
 use Rattle.nr_service.specs.declared.client.Ending.TheVariants as endings
+use Rattle.nr_service.specs.declared.leaving.Bounds.{Bounds}
 use Rattle.nr_service.specs.Devices.{Parting, Finished, Abandoned, GivesBack, PartsWith}
 use Rattle.nr_service.specs.Stories.{Occurrence, Closed, Story, Past, Kept, IsShut, opened_in, fed_in, going_on, kept_bytes}
 use Rattle.nr_service.specs.declared.answers.Standing.{Standing}
@@ -20,16 +22,21 @@ kept_for keeps client = kept_bytes (keeps (connection client))
 abbrev pub TakesNone : (Connection → Standing → Type 0) → Connection → Type 0
 TakesNone stands c = (standing : Standing) × stands c standing × (standing ≢ standings.Open)
 
--- How a client ends, where so many bytes may wait for one. It is lost where its stream failed or more waits for it; else it has finished where nothing
--- waits for it, what answers isn't busy, and its input has ended or its connection takes no more bytes; else it goes on.
-abbrev pub IsEnding : {S : Type 0} → Kept → (Connection → Standing → Type 0) → Bool → ℕ → Client S → Option Ending → Type 0
-IsEnding keeps stands busy limit client None =
-    IsWithin keeps limit client
-    × ((0 < length (kept_for keeps client)) ⊎ (busy ≡ true) ⊎ ((client.is_ending ≡ false) × stands (connection client) standings.Open))
-IsEnding keeps stands busy limit client (Some endings.Finished) =
-    IsWithin keeps limit client × (kept_for keeps client ≡ []) × (busy ≡ false)
+-- How a client ends by these bounds. It is lost where its stream failed or more waits for it than may; else, where nothing waits for it and what answers
+-- isn't busy, it has finished where its input has ended or its connection takes no more bytes, and else it is silent where it was so for too long; and
+-- else it goes on.
+abbrev pub IsEnding : {S : Type 0} → Kept → (Connection → Standing → Type 0) → Bool → Bounds → Client S → Option Ending → Type 0
+IsEnding keeps stands busy bounds client None =
+    IsWithin keeps bounds.limit client
+    × ((0 < length (kept_for keeps client)) ⊎ (busy ≡ true)
+    ⊎ ((client.is_ending ≡ false) × stands (connection client) standings.Open × (¬ IsSilent bounds client)))
+IsEnding keeps stands busy bounds client (Some endings.Finished) =
+    IsWithin keeps bounds.limit client × (kept_for keeps client ≡ []) × (busy ≡ false)
     × ((client.is_ending ≡ true) ⊎ TakesNone stands (connection client))
-IsEnding keeps stands busy limit client (Some endings.Lost) = (client.is_broken ≡ true) ⊎ (limit < length (kept_for keeps client))
+IsEnding keeps stands busy bounds client (Some endings.Silent) =
+    IsWithin keeps bounds.limit client × (kept_for keeps client ≡ []) × (busy ≡ false) × (client.is_ending ≡ false)
+    × stands (connection client) standings.Open × IsSilent bounds client
+IsEnding keeps stands busy bounds client (Some endings.Lost) = (client.is_broken ≡ true) ⊎ (bounds.limit < length (kept_for keeps client))
 
 -- A client that was let go, how it ended, and whether its connection was closed by that: else it took no room any more. And what answers before and
 -- behind that.
@@ -48,6 +55,7 @@ shut_by (one ∷ gone) = cond one.closed (Closed (connection one.client) ∷ shu
 -- how a stream is given back to its device
 abbrev pub parting : {S : Type 0} → Ending → S → Parting S
 parting endings.Finished stream = Finished stream
+parting endings.Silent stream = Finished stream
 parting endings.Lost stream = Abandoned stream
 
 abbrev pub parting_of : {A S : Type 0} → Gone A S → Parting S
@@ -58,8 +66,8 @@ client_of one = one.client
 
 -- It was over where it went, and was closed then, unless it took no room any more. It takes none behind that.
 pub record HasGone {A S : Type 0} (keeps : A → Kept) (stands : A → Connection → Standing → Type 0) (busy : A → Bool)
-    (is_gone : A → Connection → Type 0) (limit : ℕ) (one : Gone A S) : Type 0 where
-  pub over : IsEnding (keeps one.before) (stands one.before) (busy one.before) limit one.client (Some one.ending)
+    (is_gone : A → Connection → Type 0) (bounds : Bounds) (one : Gone A S) : Type 0 where
+  pub over : IsEnding (keeps one.before) (stands one.before) (busy one.before) bounds one.client (Some one.ending)
   pub shut : IsShut (connection one.client) (is_gone one.before (connection one.client)) (shut_by (one ∷ []))
   pub away : is_gone one.after (connection one.client)
 
@@ -88,11 +96,11 @@ pub record LetsGoOne {A S D : Type 0} (was_received was_sent : S → Option Byte
 -- connections of those that are gone, in order.
 pub record LetsGo {A S D : Type 0} (was_received was_sent : S → Option Bytes) (course : S → Option Course) (is_past : A → Past) (keeps : A → Kept)
     (stands : A → Connection → Standing → Type 0) (busy : A → Bool) (is_gone : A → Connection → Type 0) (parted : D → Option (List (Parting S)))
-    (limit : ℕ) (before after : A) (device_before device_after : D) (old new : List (Client S)) : Type 0 where
+    (bounds : Bounds) (before after : A) (device_before device_after : D) (old new : List (Client S)) : Type 0 where
   pub gone : List (Gone A S)
   pub all : IsPermutation old (map client_of gone ++ new)
   pub in_turn : AreGone before gone after
-  pub each : All (HasGone keeps stands busy is_gone limit) gone
+  pub each : All (HasGone keeps stands busy is_gone bounds) gone
   pub parts : PartsWith (map parting_of gone) (parted device_before) (parted device_after)
   pub further : (story : Story) → AreServed was_received was_sent course (is_past before) (keeps before) story old
       → AreServed was_received was_sent course (is_past after) (keeps after) (going_on story (shut_by gone)) new

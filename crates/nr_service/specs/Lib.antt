@@ -4,6 +4,7 @@ pub mod Readings
 pub mod Devices
 pub mod Dealt
 pub mod Serving
+pub mod Silence
 pub mod Steps
 pub mod Arriving
 pub mod Leaving

@@ -10,17 +10,23 @@ use Rattle.nr_service.specs.Serving.{connection}
 use Rattle.nr_service.specs.Steps.{Accepts, Exchanges}
 use Rattle.nr_service.specs.Sweeps.{AreSent, LooksSoon}
 use Rattle.nr_service.specs.declared.client.Client.{Client}
+use Rattle.nr_service.specs.declared.leaving.Bounds.{Bounds}
 use Rattle.nr_service.specs.declared.service.Service.{Service}
 use Rattle.nr_service.specs.Devices.{Parting}
 use Rattle.nr_service.specs.Stories.{Past, Kept}
 use Rattle.nr_service.specs.declared.answers.Standing.{Standing}
 use Rattle.nr_service.specs.Streams.{Course}
 
--- which worker of which node it is, and how many bytes may wait for a client, are as before
+-- which worker of which node it is, how many bytes may wait for a client, and how long one may be silent, are as before
 pub record IsSameWorker {A S D M : Type 0} (old new : Service A S D M) : Type 0 where
   pub node_is : new.node ≡ old.node
   pub worker_is : new.worker ≡ old.worker
   pub limit_is : new.limit ≡ old.limit
+  pub timeout_is : new.timeout ≡ old.timeout
+
+-- by what a service judges its clients, at its moment
+abbrev pub bounds_of : {A S D M : Type 0} → Service A S D M → Bounds
+bounds_of service = record { limit = service.limit; timeout = service.timeout; now = service.moment }
 
 -- how many connections are accepted at most in a turn
 abbrev pub most_accepted : ℕ
@@ -46,7 +52,7 @@ pub record Turns {A S D M : Type 0} (was_received was_sent : S → Option Bytes)
   pub reads : Reads gives old.clock new.clock old.moment new.moment
   pub exchanges : Exchanges was_received was_sent course is_past is_settled keeps busy new.moment opened worked taken served
   pub same : map connection served ≡ map connection taken
-  pub lets_go : LetsGo was_received was_sent course is_past keeps stands busy is_gone parted new.limit worked new.answers device left_device served
+  pub lets_go : LetsGo was_received was_sent course is_past keeps stands busy is_gone parted (bounds_of new) worked new.answers device left_device served
       new.clients.items
   pub worker : IsSameWorker old new
   pub parts_none : parted new.device ≡ parted left_device
@@ -57,4 +63,4 @@ pub record Turns {A S D M : Type 0} (was_received was_sent : S → Option Bytes)
   -- all clients were looked at, or there are fewer turns until they are: where nothing more can be done at once behind that, each goes on, and what is
   -- kept for it is sent as far as its stream takes it
   pub looked : LooksSoon old.until new.until (is_busy ≡ false → IsDistinct same_connection (map connection served)
-      → AreSent (keeps new.answers) (stands new.answers) (busy new.answers) new.limit new.clients.items)
+      → AreSent (keeps new.answers) (stands new.answers) (busy new.answers) (bounds_of new) new.clients.items)

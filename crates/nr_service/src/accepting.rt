@@ -4,6 +4,7 @@ ghost use Rattle.std.specs.Vec.{vec_len, vec_capacity};
 ghost use Rattle.nr_entry.specs.Jobs.{connection_of};
 ghost use Rattle.nr_service.specs.Arriving.{ArrivesFew, ArrivesUntil};
 ghost use Rattle.nr_service.specs.Devices.{PartsWith, turned_away};
+ghost use Rattle.nr_service.specs.Silence.{OpensAt};
 ghost use Rattle.nr_service.specs.Stories.{IsLeftOf, IsOpened, Keeps};
 ghost use Rattle.nr_service.specs.Streams.{fresh_course};
 ghost use Rattle.nr_service.specs.Steps.{Accepts, IsTakenOn, next_number};
@@ -46,14 +47,15 @@ fn open_one<A: Answers, S: Stream>(
     Ok(opened)
 }
 
-// Serves a stream from now on, on which nothing was received or sent. False where there was no room for it, or no memory for one more client: then
-// it is abandoned.
+// Serves a stream from now on, on which nothing was received or sent, at a moment in milliseconds. False where there was no room for it, or no memory
+// for one more client: then it is abandoned.
 pub(crate) fn take_on<A: Answers, S: Stream + Drop, D: Device<S>>(
     answers: &mut A,
     device: &mut D,
     clients: &mut Vec<Client<S>>,
     accepted: &mut u64,
     signs: &mut Signs,
+    moment: u64,
     stream: S,
 ) -> Result<bool, Memory>
     requires received { IfSome (S.received stream) (λ bytes. bytes ≡ []) }
@@ -65,6 +67,7 @@ pub(crate) fn take_on<A: Answers, S: Stream + Drop, D: Device<S>>(
     ensures taken { IfOk result (λ is_taken. IsTakenOn (A.is_placed answers.old answers.new accepted.old) is_taken stream clients.old.items
         clients.new.items) }
     ensures device { IfOk result (λ is_taken. PartsWith (turned_away is_taken stream) (D.parted device.old) (D.parted device.new)) }
+    ensures heard { OnOk result (OpensAt moment clients.old.items clients.new.items) }
     ensures counted { accepted.new ≡ next_number accepted.old }
     ensures full { IfOk result (λ is_taken. is_taken ≡ false → A.is_full answers.old) }
     ensures arrives { OnOk result (ArrivesFew 1 A.is_full A.is_placed D.parted answers.old answers.new accepted.old accepted.new device.old device.new
@@ -77,17 +80,18 @@ pub(crate) fn take_on<A: Answers, S: Stream + Drop, D: Device<S>>(
         return Ok(false);
     };
     signs.has_news = true;
-    clients.push(Client::new(conn, stream))?;
+    clients.push(Client::new(conn, stream, moment))?;
     Ok(true)
 }
 
-// Accepts one, where one waits.
+// Accepts one, where one waits, at a moment in milliseconds.
 fn accept_one<A: Answers, S: Stream + Drop, D: Device<S>>(
     answers: &mut A,
     device: &mut D,
     clients: &mut Vec<Client<S>>,
     accepted: &mut u64,
     signs: &mut Signs,
+    moment: u64,
 ) -> Result<bool, Memory>
     ensures ok { OnOk result (Accepts S.received S.sent S.course A.is_past A.kept answers.old answers.new clients.old.items clients.new.items) }
     ensures err { OnErr result (ArrivesUntil 1 S.received S.sent S.course A.is_past A.is_left A.kept A.is_full A.is_placed D.parted answers.old answers.new
@@ -99,17 +103,18 @@ fn accept_one<A: Answers, S: Stream + Drop, D: Device<S>>(
     let Some(stream) = device.accept()? else {
         return Ok(false);
     };
-    take_on(answers, device, clients, accepted, signs, stream)?;
+    take_on(answers, device, clients, accepted, signs, moment, stream)?;
     Ok(true)
 }
 
-/// Accepts what waits, at most 64 connections.
+/// Accepts what waits, at most 64 connections, at a moment in milliseconds.
 pub(crate) fn accept_each<A: Answers, S: Stream + Drop, D: Device<S>>(
     answers: &mut A,
     device: &mut D,
     clients: &mut Vec<Client<S>>,
     accepted: &mut u64,
     signs: &mut Signs,
+    moment: u64,
 ) -> Result<(), Memory>
     ensures ok { OnOk result (Accepts S.received S.sent S.course A.is_past A.kept answers.old answers.new clients.old.items clients.new.items) }
     ensures err { OnErr result (ArrivesUntil most_accepted S.received S.sent S.course A.is_past A.is_left A.kept A.is_full A.is_placed D.parted answers.old answers.new
@@ -118,7 +123,7 @@ pub(crate) fn accept_each<A: Answers, S: Stream + Drop, D: Device<S>>(
         device.new clients.old.items clients.new.items) }
 {
     for _ in 0..MOST_ACCEPTED {
-        let more = accept_one(answers, device, clients, accepted, signs)?;
+        let more = accept_one(answers, device, clients, accepted, signs, moment)?;
         if !more {
             return Ok(());
         }

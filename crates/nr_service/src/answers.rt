@@ -105,6 +105,11 @@ pub trait Answers {
     /// A connection that the last work changed, the first at place 0 and so on. A hint: one of which nothing is told is looked at later.
     fn told(&self, place: usize) -> Option<ConnId>;
 
+    /// Whether messages may come to a connection by what it is subscribed to, so that its silence is none. A hint.
+    fn is_listening(&self, _: ConnId) -> bool {
+        false
+    }
+
     /// The bytes that it keeps for a connection.
     fn pending(&self, conn: ConnId) -> &[u8]
         ensures { result.now ≡ kept_bytes (kept self.now (connection_of conn)) };

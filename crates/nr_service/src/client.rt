@@ -13,6 +13,8 @@ pub(crate) const MOST_ROOM: usize = 65_536;
 pub enum Ending {
     /// All was written that it gets.
     Finished,
+    /// Nothing came from it for too long.
+    Silent,
     /// Its stream failed, or more waits for it than may.
     Lost,
 }
@@ -36,15 +38,22 @@ pub struct Client<S> {
     pub room: usize,
     /// So many were there when it was read last.
     pub has_filled: bool,
+    /// The moment, in milliseconds, at which a byte of it came or was taken by its stream last, or at which it was seen to be one that messages may
+    /// come to. At first that of the service as it was opened, and then that at which it was looked at first.
+    pub heard: u64,
+    /// It wasn't looked at yet.
+    pub is_new: bool,
 }
 
 impl<S> Client<S> {
-    pub(crate) fn new(conn: ConnId, stream: S) -> Self
+    /// The client of a connection that was opened at a moment, in milliseconds.
+    pub(crate) fn new(conn: ConnId, stream: S, heard: u64) -> Self
         ensures conn { result.conn ≡ conn }
         ensures stream { result.stream ≡ stream }
         ensures going { result.is_ending ≡ false }
         ensures sound { result.is_broken ≡ false }
         ensures empty { result.is_full ≡ false }
+        ensures heard { result.heard ≡ heard }
     {
         Client {
             conn,
@@ -55,6 +64,8 @@ impl<S> Client<S> {
             is_held: false,
             room: FIRST_ROOM,
             has_filled: false,
+            heard,
+            is_new: true,
         }
     }
 }

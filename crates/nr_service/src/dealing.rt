@@ -2,12 +2,30 @@
 ghost use Rattle.std.specs.Prelude.{◌≡◌, ◌∷◌, ◌++◌, [], Some, None};
 ghost use Rattle.nr_service.specs.Dealt.{Deals};
 
+/// Whether the threads of a server go on, as the one that deals connections out is told.
+#[derive(Clone, Copy, Debug, PartialEq, Eq)]
+pub enum Ends {
+    /// They go on.
+    Not,
+    /// They end in order: nothing more is taken or read, and they end once what was read is executed, and what was answered is written.
+    InOrder,
+    /// They end at once.
+    AtOnce,
+}
+
 /// Where connections come from, for the thread that deals them out to those that serve them: the lanes, numbered from 0 on.
 pub trait Accepts {
     ghost use Rattle.std.specs.Prelude.{ℕ, Option, None, List};
 
     // What became of the connections that it took, in order, where that is known: the lane to which each was dealt, none where it was turned away.
     ghost dealt: { Self → Option (List (Option ℕ)) } = { λ _. None };
+
+    /// Every lane is served by now. False where whoever is to hear of that can't be told: then all end.
+    fn begin(&mut self) -> bool
+        ensures { dealt self.new ≡ dealt self.old }
+    {
+        true
+    }
 
     /// Takes the next connection that waits, and holds it until it is dealt or turned away. Whether there was one.
     fn accept(&mut self) -> bool
@@ -17,13 +35,25 @@ pub trait Accepts {
     fn deal(&mut self, lane: usize)
         ensures { Deals (Some lane ∷ []) (dealt self.old) (dealt self.new) };
 
-    /// Closes the one that it holds, without bytes.
+    /// Closes the one that it holds: there is no room for it.
     fn turn_away(&mut self)
         ensures { Deals (None ∷ []) (dealt self.old) (dealt self.new) };
 
     /// Waits until a connection may wait to be taken, at most 10 milliseconds. False where none can come any more.
     fn wait(&mut self) -> bool
         ensures { dealt self.new ≡ dealt self.old };
+
+    /// Whether the threads go on. It is asked behind each wait.
+    fn ending(&mut self) -> Ends
+        ensures { dealt self.new ≡ dealt self.old }
+    {
+        Ends::Not
+    }
+
+    /// Hears that a node is down, by which so many of its connections are closed.
+    fn hear_of_fall(&mut self, _: usize, _: usize)
+        ensures { dealt self.new ≡ dealt self.old }
+    {}
 }
 
 /// Wakes the threads of a server. Nothing that is proved rests on it: one that isn't woken looks by itself, at most 10 milliseconds later.

@@ -1,7 +1,8 @@
 // Letting go of the clients that are over.
-ghost use Rattle.std.specs.Prelude.{◌≡◌, ◌<◌, false, [], ◌∷◌, OnOk, OnErr, length};
+ghost use Rattle.std.specs.Prelude.{◌≡◌, ◌<◌, ◌↔◌, false, [], ◌∷◌, IsTrue, OnOk, OnErr, length};
 ghost use Rattle.nr_service.specs.Leaving.{IsEnding, LetsGo, LetsGoOne, Loses, parting};
 ghost use Rattle.nr_service.specs.Devices.{PartsWith};
+ghost use Rattle.nr_service.specs.Silence.{IsSilent};
 ghost use Rattle.nr_service.specs.Sweeps.{GoesOnAt, GoOn};
 
 use crate::answers::Answers;
@@ -12,12 +13,29 @@ use crate::signs::Signs;
 use crate::stream::Stream;
 use nr_blob::Memory;
 
+/// By what clients are judged: how many bytes may wait for one, and, in milliseconds, for how long one may be silent, where that is bounded at all,
+/// and what the moment is.
+#[derive(Clone, Copy)]
+pub(crate) struct Bounds {
+    pub limit: usize,
+    /// After so long one is silent for too long. 0: never.
+    pub timeout: u64,
+    pub now: u64,
+}
+
+// Whether a client is silent for too long. Where the clock went back behind the moment at which it was heard it isn't.
+fn is_silent<S>(client: &Client<S>, bounds: Bounds) -> bool
+    ensures { IsTrue result ↔ IsSilent bounds client.now }
+{
+    bounds.timeout > 0 && bounds.timeout <= bounds.now.saturating_sub(client.heard)
+}
+
 // How a client ends that is over, `None` where it is served further.
-fn ending_of<A: Answers, S>(answers: &A, client: &Client<S>, limit: usize) -> Option<Ending>
-    ensures { IsEnding (A.kept answers.now) (A.stands answers.now) (A.busy answers.now) limit client.now result }
+fn ending_of<A: Answers, S>(answers: &A, client: &Client<S>, bounds: Bounds) -> Option<Ending>
+    ensures { IsEnding (A.kept answers.now) (A.stands answers.now) (A.busy answers.now) bounds client.now result }
 {
     let waiting = answers.pending(client.conn).len();
-    if client.is_broken || waiting > limit {
+    if client.is_broken || waiting > bounds.limit {
         return Some(Ending::Lost);
     }
     if waiting > 0 || answers.is_busy() {
@@ -25,6 +43,9 @@ fn ending_of<A: Answers, S>(answers: &A, client: &Client<S>, limit: usize) -> Op
     }
     if client.is_ending || !is_open(answers, client.conn) {
         return Some(Ending::Finished);
+    }
+    if is_silent(client, bounds) {
+        return Some(Ending::Silent);
     }
     None
 }
@@ -35,6 +56,7 @@ pub(crate) fn part<S: Stream, D: Device<S>>(device: &mut D, stream: S, ending: E
 {
     match ending {
         Ending::Finished => device.finish(stream),
+        Ending::Silent => device.finish(stream),
         Ending::Lost => device.abandon(stream),
     }
 }
@@ -60,33 +82,36 @@ fn let_go<A: Answers, S: Stream, D: Device<S>>(
     Ok(())
 }
 
-// Closes the client at this place, where there is one and it is over, and lets go of its stream. The last one stands there then.
+// Closes the client at this place, where there is one and it is over, and lets go of its stream. The last one stands there then. Where nothing was read
+// in this turn nobody is silent: such a client is looked at in the next one.
 fn let_go_at<A: Answers, S: Stream, D: Device<S>>(
     answers: &mut A,
     device: &mut D,
     clients: &mut Vec<Client<S>>,
     place: usize,
-    moment: u64,
-    limit: usize,
+    bounds: Bounds,
     signs: &mut Signs,
 ) -> Result<(), Memory>
-    ensures gone { OnOk result (LetsGo S.received S.sent S.course A.is_past A.kept A.stands A.busy A.is_gone D.parted limit answers.old answers.new
+    ensures gone { OnOk result (LetsGo S.received S.sent S.course A.is_past A.kept A.stands A.busy A.is_gone D.parted bounds answers.old answers.new
         device.old device.new clients.old.items clients.new.items) }
     ensures left { OnErr result (Loses S.received S.sent S.course A.is_past A.is_left A.kept D.parted answers.old answers.new device.old device.new
         clients.old.items clients.new.items) }
     ensures all { signs.new.is_all ≡ signs.old.is_all }
     ensures calm { OnOk result (signs.new.is_busy ≡ false → signs.old.is_busy ≡ false) }
-    ensures goes_on { OnOk result (signs.new.is_busy ≡ false → GoesOnAt A.kept A.stands A.busy limit place answers.old answers.new clients.old.items
+    ensures goes_on { OnOk result (signs.new.is_busy ≡ false → GoesOnAt A.kept A.stands A.busy bounds place answers.old answers.new clients.old.items
         clients.new.items) }
 {
     if place >= clients.len() {
         return Ok(());
     }
-    let Some(ending) = ending_of(answers, &clients[place], limit) else {
+    let Some(ending) = ending_of(answers, &clients[place], bounds) else {
         return Ok(());
     };
+    if signs.puts_off(ending) {
+        return Ok(());
+    }
     signs.let_go(&clients[place]);
-    let_go(answers, device, clients, place, moment, ending)?;
+    let_go(answers, device, clients, place, bounds.now, ending)?;
     signs.visits.moved(clients, place);
     Ok(())
 }
@@ -96,24 +121,23 @@ pub(crate) fn let_go_listed<A: Answers, S: Stream, D: Device<S>>(
     answers: &mut A,
     device: &mut D,
     clients: &mut Vec<Client<S>>,
-    moment: u64,
-    limit: usize,
+    bounds: Bounds,
     signs: &mut Signs,
 ) -> Result<(), Memory>
-    ensures gone { OnOk result (LetsGo S.received S.sent S.course A.is_past A.kept A.stands A.busy A.is_gone D.parted limit answers.old answers.new
+    ensures gone { OnOk result (LetsGo S.received S.sent S.course A.is_past A.kept A.stands A.busy A.is_gone D.parted bounds answers.old answers.new
         device.old device.new clients.old.items clients.new.items) }
     ensures left { OnErr result (Loses S.received S.sent S.course A.is_past A.is_left A.kept D.parted answers.old answers.new device.old device.new
         clients.old.items clients.new.items) }
     ensures all { signs.new.is_all ≡ signs.old.is_all }
     ensures calm { OnOk result (signs.new.is_busy ≡ false → signs.old.is_busy ≡ false) }
-    ensures go_on { OnOk result (signs.new.is_busy ≡ false → GoOn A.kept A.stands A.busy limit signs.old.is_all answers.old answers.new clients.old.items
+    ensures go_on { OnOk result (signs.new.is_busy ≡ false → GoOn A.kept A.stands A.busy bounds signs.old.is_all answers.old answers.new clients.old.items
         clients.new.items) }
 {
     let mut left = signs.count(clients.len());
     while left > 0 {
         left -= 1;
         let place = signs.place(left);
-        let_go_at(answers, device, clients, place, moment, limit, signs)?;
+        let_go_at(answers, device, clients, place, bounds, signs)?;
     }
     Ok(())
 }

@@ -1,10 +1,11 @@
 // Reading what is there, and feeding it.
-ghost use Rattle.std.specs.Prelude.{◌≡◌, false, [], OnOk, OnErr, map};
+ghost use Rattle.std.specs.Prelude.{◌≡◌, ◌⊎◌, false, [], OnOk, OnErr, map};
 ghost use Rattle.std.specs.Bool.{OnTrue, OnFalse};
 ghost use Rattle.nr_entry.specs.Jobs.{connection_of};
 ghost use Rattle.nr_service.specs.Leaving.{TakesNone};
 ghost use Rattle.nr_service.specs.Readings.{IsFedAmong, IsFedAtRest, IsFedTo, IsNeverFed};
 ghost use Rattle.nr_service.specs.Serving.{connection};
+ghost use Rattle.nr_service.specs.Silence.{IsHeard};
 ghost use Rattle.nr_service.specs.Steps.{Leaves, LeavesOne, Serves, ServesOne};
 ghost use Rattle.nr_service.specs.declared.answers.Standing.TheVariants as standings;
 
@@ -43,10 +44,12 @@ fn take_in<A: Answers, S: Stream>(
         (connection client.old)) answers.old answers.new client.old client.new) }
     ensures err { OnErr result (LeavesOne S.received S.sent S.course A.is_past A.is_left A.kept IsNeverFed answers.old answers.new client.old client.new) }
     ensures conn { client.new.conn ≡ client.old.conn }
+    ensures heard { IsHeard moment client.old.heard client.new.heard (S.received client.old.stream) (S.received client.new.stream) }
     ensures all { signs.new.is_all ≡ signs.old.is_all }
 {
     match client.stream.receive(buffer) {
         Received::Bytes(count) => {
+            client.heard = moment;
             answers.feed(client.conn, moment, &buffer[..count])?;
             client.has_filled = count == buffer.len();
             signs.note_rest(client.conn, client.has_filled);
@@ -56,6 +59,16 @@ fn take_in<A: Answers, S: Stream>(
         Received::Failed => client.is_broken = true,
     }
     Ok(())
+}
+
+// When a client that is looked at counts as heard last, before it is read: at this moment, where it wasn't looked at before, or messages may come to it.
+fn heard_by<A: Answers, S>(answers: &A, client: &Client<S>, moment: u64) -> u64
+    ensures { (result ≡ moment) ⊎ (result ≡ client.now.heard) }
+{
+    if client.is_new || answers.is_listening(client.conn) {
+        return moment;
+    }
+    client.heard
 }
 
 // Reads one that takes bytes, unless it is held back, as much as its room takes.
@@ -71,8 +84,11 @@ fn read_one<A: Answers, S: Stream>(
         (connection client.old)) answers.old answers.new client.old client.new) }
     ensures err { OnErr result (LeavesOne S.received S.sent S.course A.is_past A.is_left A.kept IsNeverFed answers.old answers.new client.old client.new) }
     ensures conn { client.new.conn ≡ client.old.conn }
+    ensures heard { IsHeard moment client.old.heard client.new.heard (S.received client.old.stream) (S.received client.new.stream) }
     ensures all { signs.new.is_all ≡ signs.old.is_all }
 {
+    client.heard = heard_by(answers, client, moment);
+    client.is_new = false;
     client.is_held = false;
     client.has_filled = false;
     if client.is_ending || client.is_broken {

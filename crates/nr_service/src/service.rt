@@ -8,6 +8,7 @@ ghost use Rattle.nr_service.specs.Devices.{PartsWith, turned_away};
 ghost use Rattle.nr_service.specs.Endings.{BreaksOff, ByCause, ByEnding, GoesOn, IsDone, IsGoing, RanOut, TakesTurns, most_turns_down};
 ghost use Rattle.nr_service.specs.Readings.{IsFedAmong, IsNeverFed, Reads};
 ghost use Rattle.nr_service.specs.Serving.{connection, IsServing};
+ghost use Rattle.nr_service.specs.Silence.{OpensAt};
 ghost use Rattle.nr_service.specs.Streams.{fresh_course};
 ghost use Rattle.nr_service.specs.Steps.{Accepts, Exchanges, IsTakenOn, Leaves, Serves, next_number};
 ghost use Rattle.nr_service.specs.Sweeps.{IsSentOrBroken, LooksSoon};
@@ -20,7 +21,7 @@ use crate::client::{Client, MOST_ROOM};
 use crate::device::Device;
 use crate::ended::Ended;
 use crate::gate::{Gate, Go};
-use crate::leaving::let_go_listed;
+use crate::leaving::{Bounds, let_go_listed};
 use crate::moments::Moments;
 use crate::reading::read_listed;
 use crate::signs::Signs;
@@ -45,6 +46,8 @@ pub struct Service<A, S, D, M> {
     pub worker: usize,
     /// How many bytes may wait for a client. It isn't read while more than a sixteenth of them do.
     pub limit: usize,
+    /// After how many milliseconds without a byte a client is closed that is subscribed to nothing. 0: never.
+    pub timeout: u64,
     /// The moment at which bytes are fed, in milliseconds: the last that the clock gave, at first 0.
     pub moment: u64,
     /// How many connections were accepted, also those for which there was no room.
@@ -122,7 +125,7 @@ fn exchange_each<A: Answers, S: Stream>(
     work_left(answers, clients, signs)?;
     read_listed(answers, clients, moment, limit, buffer, signs)?;
     work(answers, signs)?;
-    write_listed(answers, clients, limit, signs);
+    write_listed(answers, clients, moment, limit, signs);
     Ok(())
 }
 
@@ -146,6 +149,7 @@ where
         device: D,
         clock: M,
         limit: usize,
+        timeout: u64,
     ) -> Result<Self, Memory>
         ensures node { IfOk result (λ service. service.node ≡ node) }
         ensures worker { IfOk result (λ service. service.worker ≡ worker) }
@@ -157,11 +161,14 @@ where
         ensures clock { IfOk result (λ service. service.clock ≡ clock) }
         ensures moment { IfOk result (λ service. service.moment ≡ 0) }
         ensures limit { IfOk result (λ service. service.limit ≡ limit) }
+        ensures timeout { IfOk result (λ service. service.timeout ≡ timeout) }
         ensures accepted { IfOk result (λ service. service.accepted ≡ 0) }
         ensures until { IfOk result (λ service. service.until ≡ 0) }
     {
         let buffer = read_buffer(alloc)?;
-        Ok(Self::over(alloc, buffer, node, worker, answers, device, clock, limit))
+        Ok(Self::over(
+            alloc, buffer, node, worker, answers, device, clock, limit, timeout,
+        ))
     }
 
     /// A service without a client, of what answers and was fed nothing yet, with room that was taken before. It takes no memory.
@@ -174,6 +181,7 @@ where
         device: D,
         clock: M,
         limit: usize,
+        timeout: u64,
     ) -> Self
         ensures node { result.node ≡ node }
         ensures worker { result.worker ≡ worker }
@@ -185,6 +193,7 @@ where
         ensures clock { result.clock ≡ clock }
         ensures moment { result.moment ≡ 0 }
         ensures limit { result.limit ≡ limit }
+        ensures timeout { result.timeout ≡ timeout }
         ensures accepted { result.accepted ≡ 0 }
         ensures until { result.until ≡ 0 }
     {
@@ -196,6 +205,7 @@ where
             node,
             worker,
             limit,
+            timeout,
             moment: 0,
             accepted: 0,
             until: 0,
@@ -222,9 +232,11 @@ where
         ensures device { IfOk result (λ is_taken. PartsWith (turned_away is_taken stream) (D.parted self.old.device) (D.parted self.new.device)) }
         ensures counted { self.new.accepted ≡ next_number self.old.accepted }
         ensures full { IfOk result (λ is_taken. is_taken ≡ false → A.is_full self.old.answers) }
+        ensures heard { OnOk result (OpensAt self.old.moment self.old.clients.items self.new.clients.items) }
         ensures clock { self.new.clock ≡ self.old.clock }
         ensures moment { self.new.moment ≡ self.old.moment }
         ensures limit { self.new.limit ≡ self.old.limit }
+        ensures timeout { self.new.timeout ≡ self.old.timeout }
         ensures node { self.new.node ≡ self.old.node }
         ensures worker { self.new.worker ≡ self.old.worker }
         ensures until { self.new.until ≡ self.old.until }
@@ -235,6 +247,7 @@ where
             &mut self.clients,
             &mut self.accepted,
             &mut self.signs,
+            self.moment,
             stream,
         )
     }
@@ -250,6 +263,7 @@ where
         ensures device { self.new.device ≡ self.old.device }
         ensures accepted { self.new.accepted ≡ self.old.accepted }
         ensures limit { self.new.limit ≡ self.old.limit }
+        ensures timeout { self.new.timeout ≡ self.old.timeout }
         ensures node { self.new.node ≡ self.old.node }
         ensures worker { self.new.worker ≡ self.old.worker }
         ensures looks { LooksSoon self.old.until self.new.until (self.new.signs.is_all ≡ true) }
@@ -290,6 +304,7 @@ where
         ensures device { self.new.device ≡ self.old.device }
         ensures accepted { self.new.accepted ≡ self.old.accepted }
         ensures limit { self.new.limit ≡ self.old.limit }
+        ensures timeout { self.new.timeout ≡ self.old.timeout }
         ensures node { self.new.node ≡ self.old.node }
         ensures worker { self.new.worker ≡ self.old.worker }
         ensures until { LooksSoon self.old.until self.new.until (Unit {0}) }
@@ -300,8 +315,9 @@ where
 
     /// Takes a turn: accepts at most 64 of the connections that wait, exchanges bytes with the clients that are looked at, closes those of them that
     /// are over, and waits where nothing more can be done at once. A client is over where its stream failed or more than `limit` bytes wait for
-    /// it, and, once all was written, where its input has ended or it takes no more bytes. Beside the exchange a turn takes a few steps for each
-    /// client that is looked at.
+    /// it, and, once all was written, where its input has ended, or it takes no more bytes, or, unless `timeout` is 0, it has been silent for so many
+    /// milliseconds up to the moment of this turn: no byte of it came or was taken by its stream, and no messages may come to it. In a turn in which
+    /// nothing is read, since what answers is busy, a silent one stays. Beside the exchange a turn takes a few steps for each client that is looked at.
     ///
     /// # Errors
     ///
@@ -313,6 +329,7 @@ where
             → IfErr result (λ ended. ByEnding ended (IsServing S.received S.sent S.course M.gives A.is_past A.kept D.parted first setup self.new)
             (RanOut S.received S.sent M.gives A.is_left D.parted first setup self.new)) }
         ensures limit { self.new.limit ≡ self.old.limit }
+        ensures timeout { self.new.timeout ≡ self.old.timeout }
         ensures node { self.new.node ≡ self.old.node }
         ensures worker { self.new.worker ≡ self.old.worker }
         ensures turned { OnOk result (Turns S.received S.sent S.course A.is_past A.is_settled A.kept A.stands A.busy A.is_full A.is_placed A.is_gone D.parted D.waits M.gives true
@@ -327,14 +344,18 @@ where
             &mut self.clients,
             &mut self.accepted,
             &mut self.signs,
+            self.moment,
         )?;
         self.exchange_listed()?;
         let_go_listed(
             &mut self.answers,
             &mut self.device,
             &mut self.clients,
-            self.moment,
-            self.limit,
+            Bounds {
+                limit: self.limit,
+                timeout: self.timeout,
+                now: self.moment,
+            },
             &mut self.signs,
         )?;
         self.answers.pass_on();

@@ -2,7 +2,7 @@
 ghost use Rattle.std.specs.Prelude.{◌≡◌, ◌||◌, true};
 ghost use Rattle.nr_service.specs.Sweeps.{LooksSoon};
 
-use crate::client::Client;
+use crate::client::{Client, Ending};
 use crate::device::Device;
 use crate::stream::Stream;
 use crate::visits::Visits;
@@ -18,6 +18,8 @@ pub(crate) struct Signs {
     pub is_busy: bool,
     /// All clients are looked at, and not only those that are listed.
     pub is_all: bool,
+    /// Nothing was read in this turn, since what answers was busy.
+    pub is_unread: bool,
     pub visits: Visits,
 }
 
@@ -27,6 +29,7 @@ impl Signs {
             has_news: false,
             is_busy: false,
             is_all: true,
+            is_unread: false,
             visits: Visits::new(alloc),
         }
     }
@@ -43,6 +46,7 @@ impl Signs {
     {
         let is_due = self.visits.begin(device, clients);
         self.is_all = is_due || until == 0;
+        self.is_unread = false;
         if self.is_all {
             return self.visits.look_at_all();
         }
@@ -71,11 +75,12 @@ impl Signs {
         }
     }
 
-    /// Those that are looked at in this turn are looked at in the next one too.
+    /// Nothing is read in this turn: those that are looked at in it are looked at in the next one too.
     pub(crate) fn put_off<S>(&mut self, clients: &[Client<S>])
         ensures all { self.new.is_all ≡ self.old.is_all }
         ensures busy { self.new.is_busy ≡ self.old.is_busy }
     {
+        self.is_unread = true;
         if self.is_all {
             self.visits.put_off_all();
         } else {
@@ -91,6 +96,17 @@ impl Signs {
         self.has_news = true;
         self.is_busy = true;
         self.visits.forget(client);
+    }
+
+    /// Whether a client that would end so isn't let go of before it was read: nobody is silent in a turn in which nothing was read. Then more can be done
+    /// at once.
+    pub(crate) fn puts_off(&mut self, ending: Ending) -> bool
+        ensures all { self.new.is_all ≡ self.old.is_all }
+        ensures busy { self.new.is_busy ≡ (self.old.is_busy || result) }
+    {
+        let is_unheard = self.is_unread && ending == Ending::Silent;
+        self.is_busy |= is_unheard;
+        is_unheard
     }
 
     /// Whether more can be done at once for this connection.

@@ -4,6 +4,7 @@ ghost use Rattle.std.specs.List.{IsDistinct};
 ghost use Rattle.nr_model.specs.Items.{same_connection};
 ghost use Rattle.nr_service.specs.Readings.{IsNeverFed};
 ghost use Rattle.nr_service.specs.Serving.{connection};
+ghost use Rattle.nr_service.specs.Silence.{IsHeard};
 ghost use Rattle.nr_service.specs.Steps.{Serves, ServesOne, settled_past};
 ghost use Rattle.nr_service.specs.Stories.{KeepsOthers, kept_bytes};
 ghost use Rattle.nr_service.specs.Sweeps.{IsSentOrBroken, IsWrittenOn, WritesAt, most_written};
@@ -42,10 +43,16 @@ struct Tried {
 }
 
 // Tries once to write what is kept for one, at most so many bytes, where anything is kept and its stream hasn't failed. What isn't taken stays.
-fn write_some<A: Answers, S: Stream>(answers: &mut A, client: &mut Client<S>, most: usize) -> Tried
+fn write_some<A: Answers, S: Stream>(
+    answers: &mut A,
+    client: &mut Client<S>,
+    moment: u64,
+    most: usize,
+) -> Tried
     ensures served { ServesOne S.received S.sent S.course (settled_past A.is_past A.is_settled) A.kept IsNeverFed answers.old answers.new
         client.old client.new }
     ensures conn { client.new.conn ≡ client.old.conn }
+    ensures heard { IsHeard moment client.old.heard client.new.heard (S.sent client.old.stream) (S.sent client.new.stream) }
     ensures others { KeepsOthers (connection client.old) (A.kept answers.old) (A.kept answers.new) }
     ensures kept { result.kept ≡ length (kept_bytes (A.kept answers.old (connection client.old))) }
     ensures left { length (kept_bytes (A.kept answers.new (connection client.old))) + result.taken ≡ result.kept }
@@ -61,6 +68,7 @@ fn write_some<A: Answers, S: Stream>(answers: &mut A, client: &mut Client<S>, mo
         Sent::Bytes(taken) => {
             answers.written(client.conn, taken);
             client.is_full = false;
+            client.heard = moment;
             Tried { kept, taken }
         }
         Sent::Nothing => {
@@ -80,6 +88,7 @@ fn write_on<A: Answers, S: Stream>(
     answers: &mut A,
     client: &mut Client<S>,
     first: Tried,
+    moment: u64,
     most: usize,
 ) -> usize
     requires kept { length (kept_bytes (A.kept answers.old (connection client.old))) + first.taken ≡ first.kept }
@@ -88,6 +97,7 @@ fn write_on<A: Answers, S: Stream>(
     ensures served { ServesOne S.received S.sent S.course (settled_past A.is_past A.is_settled) A.kept IsNeverFed answers.old answers.new
         client.old client.new }
     ensures conn { client.new.conn ≡ client.old.conn }
+    ensures heard { IsHeard moment client.old.heard client.new.heard (S.sent client.old.stream) (S.sent client.new.stream) }
     ensures others { KeepsOthers (connection client.old) (A.kept answers.old) (A.kept answers.new) }
     ensures left { result ≡ length (kept_bytes (A.kept answers.new (connection client.old))) }
     ensures on { IsWrittenOn most first.kept result (IsSentOrBroken (A.kept answers.new) client.new) }
@@ -98,7 +108,7 @@ fn write_on<A: Answers, S: Stream>(
         return left;
     }
     while left > 0 && most > 0 {
-        let next = write_some(answers, client, most);
+        let next = write_some(answers, client, moment, most);
         if next.taken == 0 {
             return left;
         }
@@ -113,12 +123,14 @@ fn write_on<A: Answers, S: Stream>(
 fn write_one<A: Answers, S: Stream>(
     answers: &mut A,
     client: &mut Client<S>,
+    moment: u64,
     limit: usize,
     signs: &mut Signs,
 )
     ensures served { ServesOne S.received S.sent S.course (settled_past A.is_past A.is_settled) A.kept IsNeverFed answers.old answers.new
         client.old client.new }
     ensures conn { client.new.conn ≡ client.old.conn }
+    ensures heard { IsHeard moment client.old.heard client.new.heard (S.sent client.old.stream) (S.sent client.new.stream) }
     ensures all { signs.new.is_all ≡ signs.old.is_all }
     ensures calm { signs.new.is_busy ≡ false → signs.old.is_busy ≡ false }
     ensures sent { signs.new.is_busy ≡ false → IsSentOrBroken (A.kept answers.new) client.new }
@@ -127,10 +139,10 @@ fn write_one<A: Answers, S: Stream>(
         (length (kept_bytes (A.kept answers.new (connection client.old)))) (IsSentOrBroken (A.kept answers.new) client.new) }
 {
     let most = most_written(limit);
-    let first = write_some(answers, client, most);
+    let first = write_some(answers, client, moment, most);
     client.room = room_behind(client.room, client.has_filled, first.kept);
     client.has_filled = false;
-    let left = write_on(answers, client, first, most);
+    let left = write_on(answers, client, first, moment, most);
     let goes_on = left > 0 && !client.is_full && !client.is_broken;
     let is_free = client.is_held && left <= limit / HELD_PART;
     signs.note_rest(client.conn, goes_on | is_free);
@@ -141,6 +153,7 @@ fn write_at<A: Answers, S: Stream>(
     answers: &mut A,
     clients: &mut [Client<S>],
     place: usize,
+    moment: u64,
     limit: usize,
     signs: &mut Signs,
 )
@@ -153,13 +166,14 @@ fn write_at<A: Answers, S: Stream>(
     if place >= clients.len() {
         return;
     }
-    write_one(answers, &mut clients[place], limit, signs);
+    write_one(answers, &mut clients[place], moment, limit, signs);
 }
 
-/// Writes for each client that is looked at and for which bytes are kept. Linear in their number and the bytes.
+/// Writes for each client that is looked at and for which bytes are kept, at a moment in milliseconds. Linear in their number and the bytes.
 pub(crate) fn write_listed<A: Answers, S: Stream>(
     answers: &mut A,
     clients: &mut [Client<S>],
+    moment: u64,
     limit: usize,
     signs: &mut Signs,
 )
@@ -172,6 +186,6 @@ pub(crate) fn write_listed<A: Answers, S: Stream>(
 {
     for visit in 0..signs.count(clients.len()) {
         let place = signs.place(visit);
-        write_at(answers, clients, place, limit, signs);
+        write_at(answers, clients, place, moment, limit, signs);
     }
 }

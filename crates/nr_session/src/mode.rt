@@ -127,6 +127,13 @@ impl Mode {
         }
     }
 
+    /// Whether there are subscriptions. Constant.
+    pub(crate) fn is_subscribed(&self) -> bool
+        ensures { result ≡ modes.is_subscribed self.now }
+    {
+        self.held.count() > 0
+    }
+
     // A faulty request spoils an open transaction.
     fn spoil(&mut self)
         ensures { self.new ≡ modes.spoiled self.old }
@@ -139,7 +146,7 @@ impl Mode {
     fn known(&mut self, cmd: Cmd) -> Result<JobKind, Memory>
         ensures { IfOk result (λ kind. modes.known_answer (call_of cmd) self.old ≡ asks (deed_of kind) self.new) }
     {
-        if self.held.count() > 0 {
+        if self.is_subscribed() {
             return self.when_subscribed(cmd);
         }
         match self.transaction.take() {

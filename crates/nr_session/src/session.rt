@@ -6,7 +6,7 @@ ghost use Rattle.nr_model.specs.Asked.{jobs_from};
 ghost use Rattle.nr_resp.specs.Frames.{frames_seen};
 ghost use Rattle.nr_resp.specs.Stream.{open_at};
 ghost use Rattle.nr_entry.specs.Jobs.{connection_of, item_of, items_of};
-ghost use Rattle.nr_model.specs.Modes.{plain};
+ghost use Rattle.nr_model.specs.Modes.{is_subscribed, plain};
 ghost use Rattle.nr_session.specs.SessionState.{framed, asked, request_jobs, IsFrontOf, AddsFront, ends};
 
 use crate::jobs::{push_close, push_jobs};
@@ -148,6 +148,13 @@ impl Session {
         ensures { result ≡ self.now.ended }
     {
         self.life != Life::Open
+    }
+
+    /// Whether its connection is subscribed to something, by all that it was fed. Constant.
+    pub fn is_subscribed(&self) -> bool
+        ensures { result ≡ is_subscribed self.now.mode }
+    {
+        self.mode.is_subscribed()
     }
 
     /// Whether so many more bytes can be counted: the count of all that it was fed goes up to 2^64 - 2.

@@ -1,2 +1,4 @@
 mod Heard
 mod Numbered
+mod Saying
+mod Told

@@ -1,14 +1,14 @@
 // The door of a lane: the sockets of the connections that its thread serves, and which of them are ready.
-ghost use Rattle.std.specs.Prelude.{◌≡◌, ◌≤◌, true, false, [], length, IfOk, IfSome, IsOk};
+ghost use Rattle.std.specs.Prelude.{◌≡◌, ◌≤◌, true, false, [], None, length, IfOk, IfSome, IsOk};
 ghost use Rattle.nr_service.specs.Streams.{fresh_course};
 
 use crate::entrance::{Entrance, Lane, Lookout, WAKER};
 use crate::lingering::{Lingering, PIECE};
+use crate::peer::Peer;
 use crate::readiness::{Readiness, Shared};
 use crate::socket::Socket;
 use crate::waiting::longest_wait;
 use mio::event::Event;
-use mio::net::TcpStream;
 use mio::{Events, Interest, Poll, Token};
 use nr_blob::Memory;
 use nr_service::{Device, Ready, Stream};
@@ -16,7 +16,6 @@ use nr_transcript::Transcript;
 use slab::Slab;
 use std::alloc::Global;
 use std::io::{self, Error, ErrorKind};
-use std::net::Shutdown;
 use std::rt::Clock;
 use std::sync::{Arc, Wait};
 use std::time::{Duration, Instant};
@@ -48,6 +47,8 @@ pub struct Door<'a, R> {
     // Whether one of those may be read, and how many waits there may be before they are looked at anyway.
     is_lingering_ready: bool,
     waits: u32,
+    // Whether nothing more is taken or read.
+    is_closed: bool,
     pub ghost few_linger: { length lingering.items ≤ 1024 },
 }
 
@@ -78,6 +79,7 @@ impl<'a, R> Door<'a, R> {
             dropped: vec![in alloc; 0; PIECE]?,
             is_lingering_ready: false,
             waits: MOST_WAITS,
+            is_closed: false,
         })
     }
 
@@ -87,7 +89,7 @@ impl<'a, R> Door<'a, R> {
     }
 
     // The socket of a connection, or `None` where memory or the system refuses it.
-    fn socket(&mut self, mut stream: TcpStream) -> Option<Socket>
+    fn socket(&mut self, mut stream: Peer) -> Option<Socket>
         ensures { IfSome result (λ socket. (socket.received.bytes ≡ []) × (socket.sent.bytes ≡ [])) }
     {
         let readiness = Arc::new(self.alloc, Readiness::new()).ok()?;
@@ -98,7 +100,7 @@ impl<'a, R> Door<'a, R> {
             Token(place),
             Interest::READABLE | Interest::WRITABLE | Interest::PRIORITY,
         );
-        let set = stream.set_nodelay(true);
+        let set = stream.set_nodelay();
         if registered.is_err() || set.is_err() {
             self.ready.try_remove(place);
             return None;
@@ -112,14 +114,14 @@ impl<'a, R> Door<'a, R> {
         })
     }
 
-    // Whether the thread sleeps until something is told of: no work is at hand, none that lingers may be read, no letter is there, and nobody rang.
+    // Whether the thread sleeps until something is told of: no work is at hand, none that lingers may be read, no letter is to be taken, and nobody rang.
     fn falls_asleep(&self, is_busy: bool) -> bool
         ensures idle { result ≡ true → is_busy ≡ false }
         ensures dropped { result ≡ true → self.now.is_lingering_ready ≡ false }
     {
         !is_busy
             && !self.is_lingering_ready
-            && self.lane.letters.is_empty()
+            && (self.is_closed || self.lane.letters.is_empty())
             && self.lane.bell.may_sleep()
     }
 
@@ -141,6 +143,14 @@ impl<'a, R> Door<'a, R> {
         }
     }
 
+    // Reads nothing more, where it is told so, but of those that linger.
+    fn heed(&mut self) {
+        if !self.is_closed && self.lane.is_closed() {
+            self.is_closed = true;
+            deafen(&self.ready);
+        }
+    }
+
     // Whether those that linger are to be looked at: one of them may be read, or it is time to.
     fn has_to_linger(&mut self) -> bool {
         self.waits = self.waits.saturating_sub(1);
@@ -149,10 +159,14 @@ impl<'a, R> Door<'a, R> {
 }
 
 impl<R: Wait> Door<'_, R> {
-    // The socket of the next letter of which one can be made. Those before it are lost.
+    // The socket of the next letter of which one can be made, and none once nothing more is taken. Those before it are lost.
     fn next(&mut self) -> Option<Socket>
-        ensures { IfSome result (λ socket. (socket.received.bytes ≡ []) × (socket.sent.bytes ≡ [])) }
+        ensures fresh { IfSome result (λ socket. (socket.received.bytes ≡ []) × (socket.sent.bytes ≡ [])) }
+        ensures closed { self.old.is_closed ≡ true → result ≡ None }
     {
+        if self.is_closed {
+            return None;
+        }
         for _ in 0..MOST_TRIES {
             let stream = self.lane.letters.take(self.runtime)?;
             match self.socket(stream) {
@@ -214,6 +228,13 @@ fn has_more(ready: &Slab<Shared>, place: usize) -> bool {
     }
 }
 
+// Nothing more is read of any, but of those that linger.
+fn deafen(ready: &Slab<Shared>) {
+    for (_, readiness) in ready {
+        readiness.set_deaf();
+    }
+}
+
 // Lists a place. Where there is no room for it, it is found later.
 fn list(listed: &mut Vec<usize>, place: usize) {
     let _ = listed.push(place);
@@ -256,6 +277,7 @@ impl<R: Clock + Wait> Device<Socket> for Door<'_, R> {
         let longest = Duration::from_millis(longest_wait(!is_asleep));
         let waited = self.poll.poll(&mut self.events, Some(longest));
         self.lane.bell.wakes();
+        self.heed();
         self.note();
         if self.has_to_linger() {
             self.linger();
@@ -271,7 +293,7 @@ impl<R: Clock + Wait> Device<Socket> for Door<'_, R> {
     }
 
     fn finish(&mut self, socket: Socket) {
-        if socket.stream.shutdown(Shutdown::Write).is_ok() {
+        if socket.stream.end().is_ok() {
             self.keep(socket);
         } else {
             self.abandon(socket);

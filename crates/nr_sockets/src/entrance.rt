@@ -3,13 +3,14 @@ ghost use Rattle.std.specs.Prelude.{ℕ, ◌≡◌, IfOk, Some, length, slice_ge
 
 use crate::bell::Bell;
 use crate::letters::LetterBox;
-use mio::net::TcpStream;
+use crate::peer::Peer;
 use mio::{Events, Poll, Token, Waker};
 use nr_service::Rings;
 use std::alloc::Global;
 use std::io;
 use std::net::Net;
 use std::sync::Wait;
+use std::sync::atomic::{AtomicBool, Ordering};
 
 /// The token of a lane's waker. Those of sockets are their places.
 pub(crate) const WAKER: Token = Token(usize::MAX);
@@ -22,6 +23,20 @@ const MOST_EVENTS: usize = 1_024;
 pub(crate) struct Lane {
     pub(crate) bell: Bell,
     pub(crate) letters: LetterBox,
+    // Whether it takes and reads nothing more.
+    is_closed: AtomicBool,
+}
+
+impl Lane {
+    /// Whether it takes and reads nothing more.
+    pub(crate) fn is_closed(&self) -> bool {
+        self.is_closed.load(Ordering::SeqCst)
+    }
+
+    fn close(&self) {
+        self.is_closed.store(true, Ordering::SeqCst);
+        self.bell.ring();
+    }
 }
 
 /// The bells and the letter boxes of all lanes, which are numbered from 0 on. All threads share it.
@@ -44,12 +59,20 @@ impl Entrance {
     }
 
     /// Puts a connection into the letter box of a lane, and rings there. It is closed where memory is refused, or there is no such lane.
-    pub(crate) fn hand_in<R: Wait>(&self, runtime: &R, lane: usize, stream: TcpStream) {
+    pub(crate) fn hand_in<R: Wait>(&self, runtime: &R, lane: usize, peer: Peer) {
         let Some(lane) = self.lanes.get(lane) else {
             return;
         };
-        if lane.letters.put(runtime, stream) {
+        if lane.letters.put(runtime, peer) {
             lane.bell.ring();
+        }
+    }
+
+    /// From now on no lane takes a connection that waits in its letter box, or reads from one of its own: each of these answers that there is nothing.
+    /// What sockets that linger still get is dropped as before.
+    pub fn stop_reading(&self) {
+        for lane in &self.lanes {
+            lane.close();
         }
     }
 
@@ -81,6 +104,7 @@ fn open_lane<N: Net>(alloc: Global, net: &N, lane: usize) -> io::Result<(Lane, L
         Lane {
             bell: Bell::new(waker),
             letters: LetterBox::new(alloc),
+            is_closed: AtomicBool::new(false),
         },
         Lookout { lane, poll, events },
     ))

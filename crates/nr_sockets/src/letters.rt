@@ -1,5 +1,5 @@
 // A letter box: connections go through it from the thread that took them to the one that serves them.
-use mio::net::TcpStream;
+use crate::peer::Peer;
 use std::alloc::Global;
 use std::collections::VecDeque;
 use std::sync::atomic::{AtomicU64, AtomicUsize, Ordering};
@@ -12,7 +12,7 @@ pub(crate) struct LetterBox {
     count: AtomicUsize,
     // How many became no connection since that was last asked.
     lost: AtomicU64,
-    letters: Mutex<VecDeque<TcpStream>>,
+    letters: Mutex<VecDeque<Peer>>,
 }
 
 impl LetterBox {
@@ -30,9 +30,9 @@ impl LetterBox {
     }
 
     /// Puts a connection in. False where memory is refused: then it is closed, and counted as lost.
-    pub(crate) fn put<R: Wait>(&self, runtime: &R, stream: TcpStream) -> bool {
+    pub(crate) fn put<R: Wait>(&self, runtime: &R, peer: Peer) -> bool {
         let mut letters = self.letters.lock(runtime);
-        let is_put = letters.push_back(stream).is_ok();
+        let is_put = letters.push_back(peer).is_ok();
         if is_put {
             self.count.store(letters.len(), Ordering::SeqCst);
         } else {
@@ -42,14 +42,14 @@ impl LetterBox {
     }
 
     /// Takes out the one that was put in first.
-    pub(crate) fn take<R: Wait>(&self, runtime: &R) -> Option<TcpStream> {
+    pub(crate) fn take<R: Wait>(&self, runtime: &R) -> Option<Peer> {
         if self.is_empty() {
             return None;
         }
         let mut letters = self.letters.lock(runtime);
-        let stream = letters.pop_front();
+        let peer = letters.pop_front();
         self.count.store(letters.len(), Ordering::SeqCst);
-        stream
+        peer
     }
 
     /// Counts one that became no connection.

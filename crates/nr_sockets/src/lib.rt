@@ -1,18 +1,32 @@
-//! Connections by TCP, served in lanes, each by a thread: sockets that never wait, and what tells which of them are ready. One thread listens and
-//! deals connections out. They come to a lane through its letter box, and its bell ends its wait.
+//! Connections by TCP and through Unix sockets, served in lanes, each by a thread: sockets that never wait, and what tells which of them are ready. One
+//! thread listens and deals connections out. They come to a lane through its letter box, and its bell ends its wait. Once an input ends nothing more is
+//! taken or read.
 #![tactic(auto)]
 
+pub use addresses::unix_path;
 pub use door::Door;
 pub use entrance::{Entrance, Lookout, open_lanes};
-pub use listener::{Listener, Listening};
+pub use limits::most_descriptors;
+pub use listener::{Listener, Terms};
+pub use listening::{Listening, Unheard};
+pub use peer::Peer;
 pub use socket::Socket;
 
+mod addresses;
 mod bell;
 mod door;
+mod ear;
 mod entrance;
+mod farewells;
+mod input;
+mod keepalive;
 mod letters;
+mod limits;
 mod lingering;
 mod listener;
+mod listening;
+mod peer;
 mod readiness;
 mod socket;
+mod socket_file;
 mod waiting;

@@ -4,8 +4,8 @@ use std::sync::Arc;
 use std::sync::atomic::{AtomicBool, Ordering};
 
 /// Whether bytes may be there to be read, and room for bytes to be written, and whether the peer sends no more: the end of what it sent is
-/// told of once, maybe long before it is read. Whether it ever sent an urgent byte: a read stops in front of one, though more is there behind it. And
-/// whether the socket lingers. The socket and the list of all sockets share it.
+/// told of once, maybe long before it is read. Whether it ever sent an urgent byte: a read stops in front of one, though more is there behind it.
+/// Whether the socket lingers. And whether nothing more is read of it. The socket and the list of all sockets share it.
 #[derive(Drop)]
 pub(crate) struct Readiness {
     is_readable: AtomicBool,
@@ -13,6 +13,7 @@ pub(crate) struct Readiness {
     is_ending: AtomicBool,
     is_urgent: AtomicBool,
     is_lingering: AtomicBool,
+    is_deaf: AtomicBool,
 }
 
 pub(crate) type Shared = Arc<Readiness, Global>;
@@ -26,11 +27,13 @@ impl Readiness {
             is_ending: AtomicBool::new(false),
             is_urgent: AtomicBool::new(false),
             is_lingering: AtomicBool::new(false),
+            is_deaf: AtomicBool::new(false),
         }
     }
 
+    /// Whether bytes may be there that are to be read.
     pub(crate) fn is_readable(&self) -> bool {
-        self.is_readable.load(Ordering::Relaxed)
+        self.is_readable.load(Ordering::Relaxed) && !self.is_deaf.load(Ordering::Relaxed)
     }
 
     pub(crate) fn is_writable(&self) -> bool {
@@ -62,8 +65,15 @@ impl Readiness {
         self.is_lingering.load(Ordering::Relaxed)
     }
 
+    /// It lingers from now on: what comes is read, and dropped.
     pub(crate) fn set_lingering(&self) {
         self.is_lingering.store(true, Ordering::Relaxed);
+        self.is_deaf.store(false, Ordering::Relaxed);
+    }
+
+    /// Nothing more is read of it, unless it lingers.
+    pub(crate) fn set_deaf(&self) {
+        self.is_deaf.store(!self.is_lingering(), Ordering::Relaxed);
     }
 
     pub(crate) fn set_readable(&self, may_be: bool) {

@@ -4,8 +4,8 @@ ghost use Rattle.std.specs.Prelude.{◌≡◌, ◌≤◌, ◌<◌, ◌++◌, len
 ghost use Rattle.nr_service.specs.Streams.{received_count, sent_count, IsSomeReceived, IsSomeSent};
 ghost use Rattle.nr_service.specs.declared.stream.Received.TheVariants as received_as;
 
+use crate::peer::Peer;
 use crate::readiness::Shared;
-use mio::net::TcpStream;
 use nr_service::{Received, Sent, Stream};
 use nr_transcript::Transcript;
 use std::io::{Error, ErrorKind, Read, Write};
@@ -23,7 +23,7 @@ pub struct Channel<T> {
 }
 
 /// A connection's socket.
-pub type Socket = Channel<TcpStream>;
+pub type Socket = Channel<Peer>;
 
 // Whether a call is to be tried again once the system tells of a change.
 fn would_wait(error: &Error) -> bool {

@@ -178,7 +178,7 @@ fn came_of(
         turns: 100_000,
     };
     let clock = MachineClock { runtime: rt };
-    let mut service = Service::new(alloc, 0, 0, answering, crowd, clock, 1_048_576)?;
+    let mut service = Service::new(alloc, 0, 0, answering, crowd, clock, 1_048_576, 0)?;
     if service.serve(&Open) != Ended::Device {
         return Ok(None);
     }

@@ -253,7 +253,7 @@ fn came_of<R: Abort, M: Moments + Drop>(
         busy: 0,
         calm: 0,
     };
-    let mut service = Service::new(alloc, 0, 0, answering, desk, clock, 67_108_864)?;
+    let mut service = Service::new(alloc, 0, 0, answering, desk, clock, 67_108_864, 0)?;
     if service.serve(&Open) != Ended::Device {
         return Ok(None);
     }

@@ -1,5 +1,5 @@
 // Settings and words: that calls succeed with memory at hand, the lines of faults, and what TOML and `clap` make of plain texts.
-use nr_config::{ConfigError, Given, Settings, Task, WordsError, words};
+use nr_config::{ConfigError, Given, Lasts, Settings, Task, WordsError, words};
 use nr_server::settings_on;
 use std::alloc::Global;
 use std::test::Fail;
@@ -8,16 +8,20 @@ use std::test::Fail;
 
 // Settings files. The settings are shown in the order of the struct, a fault by its line, with the reason behind
 // it where there is one: a range, or the line and the column.
-static FILES: [&str; 18] = [
-    "127.0.0.1:6379 2 1024 2 256 67108864||# all as it is\n|nodes = 2",
-    "[::]:1 1 2 1 1 1024|listen = \"[::]:1\"\nnodes = 1\nplaces = 2\nworkers = 1\nconnections = 1\nqueue_limit = 1024",
-    "é 8 65536 16 1024 1073741824|queue_limit = 1_073_741_824\nconnections = 1024\r\nworkers = 0x10\nplaces = +65536\nnodes = 8\nlisten = 'é'",
+static FILES: [&str; 22] = [
+    "127.0.0.1:6379 2 1024 2 256 67108864 300 0 5||# all as it is\n|nodes = 2|tcp_keepalive = 300\ntimeout = 0\nshutdown_seconds = 5",
+    "[::]:1 1 2 1 1 1024 0 0 0|listen = \"[::]:1\"\nnodes = 1\nplaces = 2\nworkers = 1\nconnections = 1\nqueue_limit = 1024\ntcp_keepalive = 0\nshutdown_seconds = 0|listen = ['[::]:1']\nnodes = 1\nplaces = 2\nworkers = 1\nconnections = 1\nqueue_limit = 1024\ntcp_keepalive = 0\nshutdown_seconds = 0",
+    "é 8 65536 16 1024 1073741824 86400 2147483 3600|queue_limit = 1_073_741_824\nconnections = 1024\r\nworkers = 0x10\nplaces = +65536\nnodes = 8\nlisten = 'é'\ntcp_keepalive = 86_400\ntimeout = 2147483\nshutdown_seconds = 3600",
+    "a:1,unix:/b 2 1024 2 256 67108864 300 0 5|listen = ['a:1', 'unix:/b']",
     "settings: bad value nodes\n  from 1 to 8|nodes = 0|nodes = 9|port = 1\nnodes = 0|nodes = \"2\"|nodes = 2.0|nodes = -1|nodes = 9223372036854775807|[nodes]|nodes.x = 1",
     "settings: bad value places\n  from 2 to 65536|places = 1|places = 65537|workers = 17\nplaces = 65537",
     "settings: bad value workers\n  from 1 to 16|workers = 0|workers = 17",
     "settings: bad value connections\n  from 1 to 1024|connections = 0|connections = 1025",
     "settings: bad value queue_limit\n  from 1024 to 1073741824|queue_limit = 1023|queue_limit = 1073741825|workers = 0\nqueue_limit = 0",
-    "settings: bad value listen\n  an address and a port|listen = 6379|listen = [\"127.0.0.1\"]",
+    "settings: bad value listen\n  an address and a port, or a list of them|listen = 6379|listen = []|listen = ['a:1', 2]|listen = ['']|listen = ''|listen = [['a:1']]|listen = ['1','2','3','4','5','6','7','8','9','10','11','12','13','14','15','16','17']",
+    "settings: bad value tcp_keepalive\n  from 0 to 86400|tcp_keepalive = -1|tcp_keepalive = 86401",
+    "settings: bad value timeout\n  from 0 to 2147483|timeout = -1|timeout = 2147484|tcp_keepalive = 0\ntimeout = true\nworkers = 0",
+    "settings: bad value shutdown_seconds\n  from 0 to 3600|shutdown_seconds = 3601|shutdown_seconds = '5'",
     "settings: unknown key port|port = 1|workers = 0\nport = 1\nnodes = 8",
     "settings: unknown key Nodes|Nodes = 1\nnodes = 9",
     "settings: unknown key server|[server]\nnodes = 1|server.nodes = 1",
@@ -30,34 +34,55 @@ static FILES: [&str; 18] = [
 ];
 
 // Command lines, with the program's own name. Of `serve` the file is shown, and then what stands in the place of the address, of the nodes, of the
-// workers and of the connections.
-static LINES: [&str; 7] = [
+// workers and of the connections, and whether it lasts until its input ends.
+static LINES: [&str; 8] = [
     "run|noderedis run",
     "script F|noderedis script F",
-    "serve F - - - -|noderedis serve --config F|n serve --config=F",
-    "serve F A 1 - -|n serve --config F --listen A --nodes 1|n serve --nodes=1 --listen=A --config=F",
-    "serve F - - many 0|n serve --workers many --config F --connections 0",
+    "serve F - - - - UntilKilled|noderedis serve --config F|n serve --config=F",
+    "serve F - - - - UntilInputEnds|n serve --config F --until-input-ends|n serve --until-input-ends --config F",
+    "serve F A 1 - - UntilKilled|n serve --config F --listen A --nodes 1|n serve --nodes=1 --listen=A --config=F",
+    "serve F - - many 0 UntilInputEnds|n serve --until-input-ends --workers many --config F --connections 0",
     "asked|n --help|n serve --help|n --version|n -V",
-    "refused||n|n walk|n run a|n script|n script a b|n serve|n serve F|n serve --config|n serve --config a --config b|n serve --nodes 2|n serve --config a --nodes|n serve --config a --nodes 1 --nodes 1|n serve --config a --places 4|n run --nodes 2|n --nodes 2 serve --config a",
+    "refused||n|n walk|n run a|n script|n script a b|n serve|n serve F|n serve --config|n serve --config a --config b|n serve --nodes 2|n serve --config a --nodes|n serve --config a --nodes 1 --nodes 1|n serve --config a --places 4|n run --nodes 2|n --nodes 2 serve --config a|n serve --until-input-ends|n serve --config a --until-input-ends=1|n serve --config a --until-input-ends b|n run --until-input-ends",
 ];
 
 // Words in the place of settings, behind a file that has nodes, workers and an address.
 static PLACED: [&str; 7] = [
-    "a:1 3 1024 4 256 67108864|",
-    "a:1 1 1024 4 256 67108864|--nodes 1|--nodes 01|--nodes +1",
-    "b:2 8 1024 16 1024 67108864|--listen b:2 --nodes 8 --workers 16 --connections 1024",
+    "a:1,c:3 3 1024 4 256 67108864 300 7 5|",
+    "a:1,c:3 1 1024 4 256 67108864 300 7 5|--nodes 1|--nodes 01|--nodes +1",
+    "b:2 8 1024 16 1024 67108864 300 7 5|--listen b:2 --nodes 8 --workers 16 --connections 1024",
     "settings: bad value nodes\n  from 1 to 8|--nodes 0|--nodes 9|--nodes two|--nodes 2.0|--nodes=-1|--nodes=|--nodes 18446744073709551617|--workers 17 --nodes 9",
     "settings: bad value workers\n  from 1 to 16|--workers 0|--nodes 2 --workers 17",
     "settings: bad value connections\n  from 1 to 1024|--connections 1025|--nodes 9 --workers 0 --connections 0",
     "no settings|--places 4",
 ];
 
+// The addresses, with commas between them.
+fn addresses(alloc: Global, listen: &[String]) -> Result<String, Fail> {
+    let mut shown = String::new(alloc);
+    for address in listen {
+        if !shown.is_empty() {
+            shown.push_str(",")?;
+        }
+        shown.push_str(address.as_str())?;
+    }
+    Ok(shown)
+}
+
 fn settings(alloc: Global, read: Result<Settings, ConfigError>) -> Result<String, Fail> {
     match read {
-        Ok(s) => Ok(format!(in alloc;
-            "{} {} {} {} {} {}",
-            s.listen, s.nodes, s.places, s.workers, s.connections, s.queue_limit
-        )?),
+        Ok(s) => {
+            let listen = addresses(alloc, &s.listen)?;
+            let (keepalive, timeout) = (s.tcp_keepalive, s.timeout);
+            let size = format!(in alloc;
+                "{} {} {} {} {}",
+                s.nodes, s.places, s.workers, s.connections, s.queue_limit
+            )?;
+            Ok(format!(in alloc;
+                "{listen} {size} {keepalive} {timeout} {}",
+                s.shutdown_seconds
+            )?)
+        }
         Err(error) => Ok(format!(in alloc; "{error}")?),
     }
 }
@@ -77,17 +102,21 @@ fn shown(word: &Option<String>) -> &str {
     }
 }
 
-fn served(alloc: Global, file: &str, given: &Given) -> Result<String, Fail> {
+fn served(alloc: Global, file: &str, given: &Given, lasts: Lasts) -> Result<String, Fail> {
     let (listen, nodes) = (shown(&given.listen), shown(&given.nodes));
     let (workers, connections) = (shown(&given.workers), shown(&given.connections));
-    Ok(format!(in alloc; "serve {file} {listen} {nodes} {workers} {connections}")?)
+    let lasts = match lasts {
+        Lasts::UntilKilled => "UntilKilled",
+        Lasts::UntilInputEnds => "UntilInputEnds",
+    };
+    Ok(format!(in alloc; "serve {file} {listen} {nodes} {workers} {connections} {lasts}")?)
 }
 
 fn task(alloc: Global, line: &str) -> Result<String, Fail> {
     match read(alloc, line)? {
         Ok(Task::Run) => Ok(format!(in alloc; "run")?),
         Ok(Task::Script(file)) => Ok(format!(in alloc; "script {file}")?),
-        Ok(Task::Serve(file, given)) => served(alloc, file.as_str(), &given),
+        Ok(Task::Serve(file, given, lasts)) => served(alloc, file.as_str(), &given, lasts),
         Err(WordsError::Asked(_text)) => Ok(format!(in alloc; "asked")?),
         Err(WordsError::Refused(_text)) => Ok(format!(in alloc; "refused")?),
         Err(WordsError::Memory) => Ok(format!(in alloc; "memory")?),
@@ -125,8 +154,8 @@ fn reads_words(rt: HostRuntime) -> Result<(), Fail> {
 fn placed(alloc: Global, given: &str) -> Result<String, Fail> {
     let line = format!(in alloc; "n serve --config F {given}")?;
     match read(alloc, line.as_str())? {
-        Ok(Task::Serve(_, given)) => {
-            let text = "nodes = 3\nworkers = 4\nlisten = 'a:1'";
+        Ok(Task::Serve(_, given, _)) => {
+            let text = "nodes = 3\nworkers = 4\nlisten = ['a:1', 'c:3']\ntimeout = 7";
             let file = Settings::from_text(alloc, text);
             settings(alloc, file.and_then(|file| file.replaced(alloc, given)))
         }

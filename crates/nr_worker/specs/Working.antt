@@ -26,7 +26,7 @@ use Rattle.nr_combiner.specs.declared.answering.Turned.{Turned}
 use Rattle.nr_combiner.specs.declared.worker.TheConstants.{MOST_JOBS}
 use Rattle.nr_combiner.specs.Workers.{WorkerState, coded_worker, HasPosted}
 use Rattle.nr_seats.specs.Seated.{SeatState, cut_off, fresh_seat, last_job, with_written}
-use Rattle.nr_seats.specs.Placed.{FeedsSeat, IsPut, SeatsState, StopsSeat, coded_seats, seat_at, takes_here}
+use Rattle.nr_seats.specs.Placed.{FeedsSeat, IsPut, SeatsState, StopsSeat, coded_seats, listens_here, seat_at, takes_here}
 use Rattle.nr_seats.specs.Portions.{Accepts, EachSeat, HandsOut, portion_of}
 use Rattle.nr_worker.specs.Desk.{AllPosted, DeskState, IsLed, Served, asked_of}
 use Rattle.nr_worker.specs.Law.{GoesTo}
@@ -229,6 +229,10 @@ pub record CutsOff (serial : ℕ) (v w : WorkState) : Type 0 where
 -- whether bytes are taken from a connection
 abbrev pub takes_from : Connection → WorkState → Bool
 takes_from c v = c.node == v.worker.node && takes_here (seat_at c.serial v.seats)
+
+-- whether messages may come for a connection, since it is subscribed to something
+abbrev pub listens_to : Connection → WorkState → Bool
+listens_to c v = c.node == v.worker.node && listens_here (seat_at c.serial v.seats)
 
 -- Bytes were fed to a seat, and the jobs that they ask for stand behind the others, none of which is late then; nothing else changed.
 pub record Feeds (serial moment : ℕ) (bytes : Bytes) (v w : WorkState) : Type 0 where

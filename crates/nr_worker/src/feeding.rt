@@ -3,7 +3,7 @@ ghost use Rattle.std.specs.Prelude.{◌≡◌, ◌≤◌, true};
 ghost use Rattle.std.specs.Bool.{OnTrue, OnFalse};
 ghost use Rattle.nr_model.specs.Keyspace.{last_moment};
 ghost use Rattle.nr_entry.specs.Jobs.{connection_of};
-ghost use Rattle.nr_worker.specs.Working.{all_fed, takes_from, Feeds, Goes, Stops};
+ghost use Rattle.nr_worker.specs.Working.{all_fed, listens_to, takes_from, Feeds, Goes, Stops};
 
 use crate::desk::Desk;
 use nr_combiner::ServerName;
@@ -16,6 +16,13 @@ impl<'a, R: Wait, B: ServerName> Desk<'a, R, B> {
         ensures { result ≡ takes_from (connection_of conn) self.now }
     {
         conn.node == self.worker.shared().node() && self.seats.takes(conn.serial)
+    }
+
+    /// Whether messages may come for a connection: it is of this node and open here, and subscribed to something. Logarithmic.
+    pub fn is_listening(&self, conn: ConnId) -> bool
+        ensures { result ≡ listens_to (connection_of conn) self.now }
+    {
+        conn.node == self.worker.shared().node() && self.seats.is_listening(conn.serial)
     }
 
     /// Feeds bytes that came from a connection, at a moment in milliseconds, at most 2^53. The jobs that they ask for wait behind the others. False where memory runs

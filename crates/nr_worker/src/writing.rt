@@ -22,6 +22,11 @@ impl<'a, R: Wait, B: ServerName> Desk<'a, R, B> {
         self.seats.pending(serial)
     }
 
+    /// Whether nothing waits to be written for any connection that is open here. A hint. Linear in these.
+    pub fn are_written(&self) -> bool {
+        self.seats.are_written()
+    }
+
     /// So many of these were written, and are let go of; their memory is kept for what its node hands out next. Logarithmic.
     pub fn written(&mut self, serial: u64, count: usize)
         requires { count ≤ length (pending_here (seat_at serial self.old.seats)) }

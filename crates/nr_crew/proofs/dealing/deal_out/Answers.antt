@@ -1,25 +1,27 @@
-use Rattle.nr_crew.proofs.Dealt.{deals_before, deals_on}
+use Rattle.nr_crew.proofs.Dealt.{deals_before, deals_behind, deals_none}
 use Rattle.nr_crew.proofs.dealing.deal_out.Goals as goal
 
-pub returns-then-not-wait : goal.returns-then-not-wait
-returns-then-not-wait g c =
+pub returns-then-is_stopped : goal.returns-then-is_stopped
+returns-then-is_stopped g c = record { last = 0; dealt = deals_none c.args.shape.nodes c.args.shape.workers 0 (g.L.Accepts.dealt c.args.main.now) }
+
+pub returns-then-not-begin : goal.returns-then-not-begin
+returns-then-not-begin g c =
     let dealt = g.L.Accepts.dealt in
     let nodes = c.args.shape.nodes in
     let workers = c.args.shape.workers in
     record {
-      last = c.deal_waiting-number.result;
-      dealt = deals_before nodes workers 0 c.deal_waiting-number.result (dealt c.args.main.now) (dealt c.deal_waiting-number.new.main) (dealt c.wait.new.self)
-          c.wait.ensures
-          (deals_on nodes workers 0 c.loop.number c.deal_waiting-number.result (dealt c.args.main.now) (dealt c.loop.main) (dealt c.deal_waiting-number.new.main)
-          c.loop.invariant c.deal_waiting-number.ensures);
+      last = 0;
+      dealt = deals_before nodes workers 0 0 (dealt c.args.main.now) (dealt c.args.main.now) (dealt c.begin.new.self) c.begin.ensures
+          (deals_none nodes workers 0 (dealt c.args.main.now));
     }
 
-pub loop-preserved : goal.loop-preserved
-loop-preserved g c =
+pub returns : goal.returns
+returns g c =
     let dealt = g.L.Accepts.dealt in
     let nodes = c.args.shape.nodes in
     let workers = c.args.shape.workers in
-    deals_before nodes workers 0 c.deal_waiting-number.result (dealt c.args.main.now) (dealt c.deal_waiting-number.new.main) (dealt c.wait.new.self)
-    c.wait.ensures
-    (deals_on nodes workers 0 c.loop.number c.deal_waiting-number.result (dealt c.args.main.now) (dealt c.loop.main) (dealt c.deal_waiting-number.new.main)
-    c.loop.invariant c.deal_waiting-number.ensures)
+    record {
+      last = c.deal_on.ensures.last;
+      dealt = deals_behind nodes workers 0 c.deal_on.ensures.last (dealt c.args.main.now) (dealt c.begin.new.self) (dealt c.deal_on.new.main)
+          c.begin.ensures c.deal_on.ensures.dealt;
+    }

@@ -1,6 +1,7 @@
 -- There was no room for it, or it is served further.
 use Rattle.std.proofs.Common.{arith, [], ◌∷◌, ◌++◌, refl, ap, ◌∙◌}
 use Rattle.nr_service.proofs.Arrived.{arrives_away, arrives_one, away_none, until_now}
+use Rattle.nr_service.proofs.Heard.{opens_none, opens_one}
 use Rattle.nr_service.proofs.Left.{on_err}
 use Rattle.nr_service.proofs.Working.{opened_none, opened_behind}
 use Rattle.nr_service.proofs.accepting.take_on.Goals as goal
@@ -33,6 +34,13 @@ returns-in_err-conn-clause-err g c = on_err c.from_residual.result _ (rw c.open_
 pub returns-in_err-push-clause-err : goal.returns-in_err-push-clause-err
 returns-in_err-push-clause-err g c =
     let room = rw c.in-Some.is at c.in_ok-conn.ensures.room in absurd (omega (arith, c.in_err-push.ensures.full, room))
+
+pub returns-in_default-clause-heard : goal.returns-in_default-clause-heard
+returns-in_default-clause-heard g c = rw c.open_one.ensures.items (opens_none _ _)
+
+pub returns-clause-heard : goal.returns-clause-heard
+returns-clause-heard g c =
+    opens_one _ _ _ c.new.result (c.in_ok-push.ensures.items ∙ ap (λ l. l ++ c.new.result ∷ []) c.open_one.ensures.items) c.new.ensures.heard
 
 pub returns-in_default-clause-full : goal.returns-in_default-clause-full
 returns-in_default-clause-full g c = λ none. rw c.in_default.is at c.in_ok-conn.ensures.full

@@ -23,6 +23,9 @@ returns-in_default-clause-goes_on g c = λ rests. record {
   answers = refl;
   here = λ client low.
       subst (λ (x : _). IsEnding (g.A.Answers.kept c.args.answers.now) (g.A.Answers.stands c.args.answers.now) (g.A.Answers.busy c.args.answers.now)
-      c.args.limit x None)
+      c.args.bounds x None)
       (c.index.ensures ∙ get_or_within _ c.args.place _ client low) (rw c.in_default.is at c.ending_of.ensures);
 }
+
+pub returns-then-puts_off-clause-gone : goal.returns-then-puts_off-clause-gone
+returns-then-puts_off-clause-gone g c = lets_none _ _ _ _ _ _ _ _ _ _ _ _ _

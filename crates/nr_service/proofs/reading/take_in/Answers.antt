@@ -1,8 +1,8 @@
 -- What came was fed; else nothing was done.
-use Rattle.std.proofs.Common.{take, refl, ◌∙◌}
+use Rattle.std.proofs.Common.{inr, take, refl, ◌∙◌}
 use Rattle.nr_service.specs.Streams.{course_received}
 use Rattle.nr_service.specs.declared.stream.Received.TheVariants as received
-use Rattle.nr_service.proofs.Known.{course_still, course_then, same_course}
+use Rattle.nr_service.proofs.Known.{course_still, course_then, grows_none, same_course}
 use Rattle.nr_service.proofs.Left.{leaves_fed, on_err}
 use Rattle.nr_service.proofs.Feeding.{fed_one, nothing_read}
 use Rattle.nr_service.proofs.reading.take_in.Goals as goal
@@ -31,3 +31,12 @@ pub returns-in_err-feed-in-Bytes-clause-err : goal.returns-in_err-feed-in-Bytes-
 returns-in_err-feed-in-Bytes-clause-err g c =
     on_err c.from_residual.result _
     (leaves_fed _ _ _ _ _ _ _ _ _ _ _ (take c.in-Bytes.count c.receive.new.buffer) refl c.in-Bytes.ensures.received c.in-Bytes.ensures.sent c.in_err-feed-in-Bytes.ensures.left)
+
+pub returns-in-Nothing-clause-heard : goal.returns-in-Nothing-clause-heard
+returns-in-Nothing-clause-heard g c = inr (refl, grows_none c.receive.new.buffer _ _ c.in-Nothing.ensures.received)
+
+pub returns-in-End-clause-heard : goal.returns-in-End-clause-heard
+returns-in-End-clause-heard g c = inr (refl, grows_none c.receive.new.buffer _ _ c.in-End.ensures.received)
+
+pub returns-in-Failed-clause-heard : goal.returns-in-Failed-clause-heard
+returns-in-Failed-clause-heard g c = inr (refl, grows_none c.receive.new.buffer _ _ c.in-Failed.ensures.received)

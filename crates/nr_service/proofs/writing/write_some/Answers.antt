@@ -1,8 +1,8 @@
 -- What was taken was written; else nothing was done.
-use Rattle.std.proofs.Common.{take, refl}
+use Rattle.std.proofs.Common.{inr, take, refl}
 use Rattle.nr_service.specs.Streams.{course_sent}
 use Rattle.nr_service.specs.declared.stream.Sent.TheVariants as sent
-use Rattle.nr_service.proofs.Known.{course_then, grows_in_front}
+use Rattle.nr_service.proofs.Known.{course_then, grows_in_front, grows_none}
 use Rattle.nr_service.proofs.Feeding.{nothing_written, written_one}
 use Rattle.nr_service.proofs.writing.write_some.Goals as goal
 
@@ -22,3 +22,9 @@ pub returns-in-Failed-clause-served : goal.returns-in-Failed-clause-served
 returns-in-Failed-clause-served g c =
     nothing_written _ _ _ _ _ _ _ _ _ (take c.min.result c.pending-pending.result.now) refl c.in-Failed.ensures.received c.in-Failed.ensures.sent
     (course_then _ _ (course_sent sent.Failed) _ _ _ _ _ _ c.in-Failed.ensures.course (λ course was. (was.0, refl, was.2)))
+
+pub returns-in-Nothing-clause-heard : goal.returns-in-Nothing-clause-heard
+returns-in-Nothing-clause-heard g c = inr (refl, grows_none (take c.min.result c.pending-pending.result.now) _ _ c.in-Nothing.ensures.sent)
+
+pub returns-in-Failed-clause-heard : goal.returns-in-Failed-clause-heard
+returns-in-Failed-clause-heard g c = inr (refl, grows_none (take c.min.result c.pending-pending.result.now) _ _ c.in-Failed.ensures.sent)

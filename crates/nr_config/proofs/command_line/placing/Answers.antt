@@ -1,7 +1,7 @@
 use Rattle.std.proofs.Common.{◌≡◌, ◌∙◌, ap₂, codes, rules, subst, IfOk}
 use Rattle.clap.specs.Words.{app_of, new_app, with_rule}
 use Rattle.nr_config.specs.CommandLines.{Describes}
-use Rattle.nr_config.proofs.command_line.serve.Goals as goal
+use Rattle.nr_config.proofs.command_line.placing.Goals as goal
 
 pub returns : goal.returns
 returns c =

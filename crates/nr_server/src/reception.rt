@@ -1,0 +1,174 @@
+// The thread that takes connections, as it tells an operator what there is to know.
+use crate::notice::{Notice, Repeated};
+use jiff::Timestamp;
+use nr_service::{Accepts, Ends, Moments};
+use nr_sockets::Listener;
+use std::io::{self, Write};
+use std::rt::Clock;
+use std::sync::Wait;
+
+/// What is told as the server begins to serve: by how many threads, how many processors there are, how many descriptors may be open, and how many it would take
+/// where each node had all its connections.
+#[derive(Clone, Copy, Debug)]
+pub(crate) struct Begins {
+    pub(crate) threads: usize,
+    pub(crate) processors: Option<usize>,
+    pub(crate) descriptors: Option<u64>,
+    pub(crate) wanted: u64,
+}
+
+/// Takes connections, and tells an operator of what there is to know: on one writer where it listens, once that is so, and on another all else. Where that one takes
+/// nothing the server serves on.
+#[derive(Drop)]
+pub(crate) struct Reception<'a, R, M, O, E> {
+    pub(crate) listener: Listener<'a, R>,
+    /// It couldn't be told where it listens.
+    pub(crate) is_mute: bool,
+    clock: M,
+    out: O,
+    errors: E,
+    begins: Begins,
+    // The last moment that the clock gave, in milliseconds.
+    moment: u64,
+    turned_away: Repeated,
+    short: Repeated,
+    ends: Ends,
+}
+
+// Tells by how many threads it serves, and where there are fewer processors, or fewer descriptors than it may want, also that.
+fn tell_beginning<E: Write>(errors: &mut E, begins: Begins) -> io::Result<()> {
+    writeln!(errors, "noderedis: {} threads serve", begins.threads)?;
+    if let Some(processors) = begins.processors
+        && begins.threads > processors
+    {
+        writeln!(errors, "  more than the {processors} processors")?;
+    }
+    if let Some(descriptors) = begins.descriptors
+        && begins.wanted > descriptors
+    {
+        let wanted = begins.wanted;
+        writeln!(
+            errors,
+            "  {descriptors} descriptors may be open, and all connections want {wanted}"
+        )?;
+    }
+    errors.flush()
+}
+
+// Tells where it listens, in a line for each address.
+fn tell_addresses<O: Write>(out: &mut O, named: &[String]) -> io::Result<()> {
+    for address in named {
+        writeln!(out, "noderedis: listening on {address}")?;
+    }
+    out.flush()
+}
+
+// Tells this, with the time at this moment in milliseconds.
+fn tell<E: Write>(errors: &mut E, moment: u64, notice: Notice) -> io::Result<()> {
+    match Timestamp::from_second((moment / 1_000) as i64) {
+        Ok(time) => writeln!(errors, "noderedis: {time} {notice}")?,
+        Err(_) => writeln!(errors, "noderedis: {notice}")?,
+    }
+    errors.flush()
+}
+
+impl<'a, R, M: Moments, O, E: Write> Reception<'a, R, M, O, E> {
+    /// Nothing was told yet.
+    pub(crate) fn new(
+        listener: Listener<'a, R>,
+        clock: M,
+        out: O,
+        errors: E,
+        begins: Begins,
+    ) -> Self {
+        Reception {
+            listener,
+            is_mute: false,
+            clock,
+            out,
+            errors,
+            begins,
+            moment: 0,
+            turned_away: Repeated::new(),
+            short: Repeated::new(),
+            ends: Ends::Not,
+        }
+    }
+
+    // Tells this, where it can be told.
+    fn tell(&mut self, notice: Notice) {
+        self.moment = self.clock.now().unwrap_or(self.moment);
+        let _ = tell(&mut self.errors, self.moment, notice);
+    }
+
+    // Tells of connections that were turned away, where it is time to.
+    fn tell_of_turned_away(&mut self) {
+        if let Some(count) = self
+            .turned_away
+            .take(self.listener.turned_away, self.moment)
+        {
+            self.tell(Notice::TurnedAway(count));
+        }
+    }
+
+    // Tells that the system was short of something, where it is time to.
+    fn tell_of_shortage(&mut self) {
+        if let Some(count) = self.short.take(self.listener.short, self.moment) {
+            self.tell(Notice::Short(count));
+        }
+    }
+
+    // Tells what came often, where something did that wasn't told.
+    fn tell_what_came(&mut self) {
+        if self.listener.turned_away == 0 && self.listener.short == 0 {
+            return;
+        }
+        self.moment = self.clock.now().unwrap_or(self.moment);
+        self.tell_of_turned_away();
+        self.tell_of_shortage();
+    }
+
+    /// Tells how it ended, where it was told to end: in order, or because the time for that was over.
+    pub(crate) fn tell_end(&mut self) {
+        match self.ends {
+            Ends::Not => {}
+            Ends::InOrder => self.tell(Notice::Ended),
+            Ends::AtOnce => self.tell(Notice::BrokenOff),
+        }
+    }
+}
+
+impl<R: Clock + Wait, M: Moments, O: Write, E: Write> Accepts for Reception<'_, R, M, O, E> {
+    fn begin(&mut self) -> bool {
+        self.is_mute = tell_addresses(&mut self.out, &self.listener.listening.named).is_err();
+        let _ = tell_beginning(&mut self.errors, self.begins);
+        !self.is_mute
+    }
+
+    fn accept(&mut self) -> bool {
+        self.listener.accept()
+    }
+
+    fn deal(&mut self, lane: usize) {
+        self.listener.deal(lane);
+    }
+
+    fn turn_away(&mut self) {
+        self.listener.turn_away();
+    }
+
+    fn wait(&mut self) -> bool {
+        let goes_on = self.listener.wait();
+        self.tell_what_came();
+        goes_on
+    }
+
+    fn ending(&mut self) -> Ends {
+        self.ends = self.listener.ending();
+        self.ends
+    }
+
+    fn hear_of_fall(&mut self, node: usize, connections: usize) {
+        self.tell(Notice::Down { node, connections });
+    }
+}
