@@ -16,6 +16,7 @@ mod fault;
 mod joined;
 mod line;
 mod notice;
+mod parting;
 mod reception;
 mod refusal;
 mod run;

@@ -128,6 +128,11 @@ impl<'a, R, M: Moments, O, E: Write> Reception<'a, R, M, O, E> {
         self.tell_of_shortage();
     }
 
+    /// Whether it was told to end, and did so in time.
+    pub(crate) fn has_ended_in_order(&self) -> bool {
+        self.ends == Ends::InOrder
+    }
+
     /// Tells how it ended, where it was told to end: in order, or because the time for that was over.
     pub(crate) fn tell_end(&mut self) {
         match self.ends {

@@ -8,6 +8,7 @@ ghost use Rattle.nr_server.specs.Serving.{ended_by, told_of};
 ghost use Rattle.nr_sockets.specs.Addresses.{AreSaid};
 
 use crate::fault::Fault;
+use crate::parting::part_from_all;
 use crate::reception::{Begins, Reception};
 use crate::refusal::Refusal;
 use nr_blob::Memory;
@@ -241,7 +242,8 @@ fn ended_by(ended: Result<(), ServeError>, is_mute: bool) -> Result<(), Fault>
 }
 
 /// Serves the connections that come where this listens, by the settings, until the gate stops all workers, or, where it lasts until its input ends, that has ended:
-/// then nothing more is taken or read, and it ends once all that was read is executed and all that was answered is written, or `shutdown_seconds` are over. On `out`
+/// then nothing more is taken or read, and it ends once all that was read is executed and all that was answered is written, or `shutdown_seconds` are over. Clients that are left then are let go of as ones that have
+/// finished, and for a second what they still send is read and dropped, so that nothing that was written is taken back. On `out`
 /// stands where it listens, a line for each address, once all workers serve; on `errors` by how many threads, and then a line for each node that falls, for
 /// connections that are turned away or find no descriptor, at most one a minute each, and for the end of the input.
 ///
@@ -280,7 +282,7 @@ where
     let clock = MachineClock { runtime: rt };
     let begins = begins_of(rt, settings);
     let reception = Reception::new(listener, clock, out, errors, begins);
-    let (served, mut reception) = serve_on::<
+    let (mut served, mut reception) = serve_on::<
         R,
         Socket,
         Door<'_, R>,
@@ -290,6 +292,9 @@ where
         Reception<'_, R, MachineClock<'_, R>, O, E>,
     >(rt, alloc, keys, settings, places, bells, reception, gate)?;
     reception.listener.listening.leave(rt);
+    if reception.has_ended_in_order() {
+        part_from_all(alloc, &mut served.lefts, &mut MachineClock { runtime: rt });
+    }
     reception.tell_end();
     ended_by(served.ended, reception.is_mute)
 }
