@@ -14,6 +14,4 @@ mod places;
 #[cfg(test)]
 mod streams;
 #[cfg(test)]
-mod tcp;
-#[cfg(test)]
 mod watch;
