@@ -2,6 +2,7 @@
 //! why it failed.
 #![tactic(auto)]
 
+use nr_blob::Memory;
 use nr_config::{Given, Lasts, Settings, Task, WordsError, words};
 use nr_server::{
     Fault, Refusal, listen_on, play_on, run_on, serve_by_tcp, settings_on, with_words,
@@ -10,13 +11,12 @@ use nr_service::{MachineClock, Open};
 use std::alloc::Global;
 use std::fs::Files;
 use std::hash::RandomState;
-use std::io::{self, ErrorKind};
 use std::net::Net;
 use std::process::ExitCode;
 use std::rt::Clock;
 use std::sync::Wait;
 use std::thread::Threads;
-use std::{env, fs};
+use std::{env, fs, io};
 
 fn serve_input(rt: &HostRuntime) -> io::Result<Result<(), Fault>> {
     let alloc = rt.alloc();
@@ -24,7 +24,7 @@ fn serve_input(rt: &HostRuntime) -> io::Result<Result<(), Fault>> {
     let clock = MachineClock { runtime: rt };
     match run_on(alloc, keys, rt.stdin(), rt.stdout(), clock) {
         Ok(ran) => Ok(ran.done),
-        Err(memory) => Ok(Err(Fault::from(memory))),
+        Err(fault) => Ok(Err(fault)),
     }
 }
 
@@ -32,7 +32,7 @@ fn serve_input(rt: &HostRuntime) -> io::Result<Result<(), Fault>> {
 fn read_file(rt: &HostRuntime, file: &str) -> io::Result<Result<Vec<u8>, Refusal>> {
     match fs::read(rt, file) {
         Ok(text) => Ok(Ok(text)),
-        Err(error) if error.kind() == ErrorKind::OutOfMemory => Err(error),
+        Err(error) if Memory::of(&error).is_some() => Err(error),
         Err(error) => Ok(Err(Refusal::of(&error))),
     }
 }
@@ -137,7 +137,7 @@ fn perform<R: Serving>(rt: &HostRuntime, serving: &R) -> io::Result<ExitCode> {
 
 fn main(rt: HostRuntime) -> io::Result<ExitCode> {
     match perform(&rt, &rt) {
-        Err(error) if error.kind() == ErrorKind::OutOfMemory => fail(&rt, &Fault::Memory),
+        Err(error) if Memory::of(&error).is_some() => fail(&rt, &Fault::Memory),
         done => done,
     }
 }

@@ -1,5 +1,5 @@
 // The server of several nodes with the bytes that it handed out and that weren't written yet.
-ghost use Rattle.std.specs.Prelude.{◌≡◌, false, None, IfOk, IfSome, IfNone};
+ghost use Rattle.std.specs.Prelude.{◌≡◌, false, Some, None, IfOk, IfSome, IfNone};
 ghost use Rattle.std.specs.Option.{option_map};
 ghost use Rattle.nr_model.specs.Items.{Connection};
 ghost use Rattle.nr_entry.specs.Jobs.{connection_of};
@@ -25,20 +25,21 @@ use std::marker::Model;
 pub struct Answering {
     world: World,
     taps: Taps,
-    has_failed: bool,
+    // Why it failed, once it has.
+    failed: Option<Memory>,
 }
 
 impl Model for Answering {
-    ghost use Rattle.std.specs.Prelude.{◌≡◌, false};
+    ghost use Rattle.std.specs.Prelude.{◌≡◌, false, is_some};
     ghost use Rattle.nr_answering.specs.State.{AnsweringState, coded_answering, IsSound};
 
     ghost Value = { AnsweringState };
 
     ghost coded = { coded_answering };
 
-    ghost view = { λ a. record { world = a.world; taps = a.taps.by_conn.entries; failed = a.has_failed } };
+    ghost view = { λ a. record { world = a.world; taps = a.taps.by_conn.entries; failed = is_some a.failed } };
 
-    ghost invariant = { λ a. a.has_failed ≡ false → IsSound a.world a.taps.by_conn.entries };
+    ghost invariant = { λ a. is_some a.failed ≡ false → IsSound a.world a.taps.by_conn.entries };
 }
 
 impl Answering {
@@ -53,7 +54,7 @@ impl Answering {
         Ok(Answering {
             world,
             taps: Taps::new(alloc),
-            has_failed: false,
+            failed: None,
         })
     }
 
@@ -63,6 +64,15 @@ impl Answering {
     {
         self.world.setup()
     }
+}
+
+// It fails for want of memory: it keeps the cause, and hands it back.
+fn fail(failed: &mut Option<Memory>, memory: Memory) -> Memory
+    ensures kept { failed.new ≡ Some memory }
+    ensures cause { result ≡ memory }
+{
+    *failed = Some(memory);
+    memory
 }
 
 // Opens a connection, and an empty tap for it.
@@ -82,7 +92,7 @@ fn open_tapped(world: &mut World, taps: &mut Taps, number: u64) -> Result<Option
 }
 
 impl Answers for Answering {
-    ghost use Rattle.std.specs.Prelude.{false};
+    ghost use Rattle.std.specs.Prelude.{◌≡◌, false};
     ghost use Rattle.nr_answering.specs.Kept.{kept_at};
     ghost use Rattle.nr_answering.specs.Led.{HasLedTo, HasOnceLed, IsAtRest};
     ghost use Rattle.nr_answering.specs.Stands.{Stands, AreDown, IsFull, IsGone};
@@ -109,52 +119,57 @@ impl Answers for Answering {
 
     ghost is_gone = { λ a. IsGone a.world };
 
+    // Silence is none of its matters.
+    ghost listens = { λ _ _ is_listening. is_listening ≡ false };
+
     /// A connection goes to the node and the worker of its number, in turn, or to the next node that takes it.
     fn open(&mut self, number: u64) -> Result<Option<ConnId>, Memory> {
-        if self.has_failed {
-            return Err(Memory);
+        if let Some(memory) = self.failed {
+            return Err(memory);
         }
-        self.has_failed = true;
-        let opened = open_tapped(&mut self.world, &mut self.taps, number)?;
-        self.has_failed = false;
-        Ok(opened)
+        match open_tapped(&mut self.world, &mut self.taps, number) {
+            Ok(opened) => Ok(opened),
+            Err(memory) => Err(fail(&mut self.failed, memory)),
+        }
     }
 
     /// A server that runs on one thread ends where there is no memory.
-    fn turn_away(&mut self) -> Result<(), Memory> {
-        Err(Memory)
+    fn turn_away(&mut self, memory: Memory) -> Result<(), Memory> {
+        Err(memory)
     }
 
     fn standing(&self, conn: ConnId) -> Standing {
-        if self.has_failed {
+        if self.failed.is_some() {
             return Standing::Down;
         }
         moving::standing(&self.world, conn)
     }
 
     fn is_down(&self) -> bool {
-        self.has_failed || moving::is_down(&self.world)
+        self.failed.is_some() || moving::is_down(&self.world)
     }
 
     fn feed(&mut self, conn: ConnId, moment: u64, bytes: &[u8]) -> Result<(), Memory> {
-        if self.has_failed {
-            return Err(Memory);
+        if let Some(memory) = self.failed {
+            return Err(memory);
         }
-        self.has_failed = true;
-        moving::feed(&mut self.world, conn, moment, bytes)?;
-        self.has_failed = false;
-        Ok(())
+        match moving::feed(&mut self.world, conn, moment, bytes) {
+            Ok(()) => Ok(()),
+            Err(memory) => Err(fail(&mut self.failed, memory)),
+        }
     }
 
     fn work(&mut self) -> Result<(), Memory> {
-        if self.has_failed {
-            return Err(Memory);
+        if let Some(memory) = self.failed {
+            return Err(memory);
         }
-        self.has_failed = true;
-        let handed = moving::settle(&mut self.world)?;
-        self.taps.put_each(handed)?;
-        self.has_failed = false;
-        Ok(())
+        match moving::settle(&mut self.world) {
+            Ok(handed) => match self.taps.put_each(handed) {
+                Ok(()) => Ok(()),
+                Err(memory) => Err(fail(&mut self.failed, memory)),
+            },
+            Err(memory) => Err(fail(&mut self.failed, memory)),
+        }
     }
 
     fn is_busy(&self) -> bool {
@@ -164,6 +179,10 @@ impl Answers for Answering {
     fn leaves(&self) {}
 
     fn pass_on(&self) {}
+
+    fn is_listening(&self, _: ConnId) -> bool {
+        false
+    }
 
     fn told(&self, place: usize) -> Option<ConnId> {
         self.taps.told(place)
@@ -178,13 +197,15 @@ impl Answers for Answering {
     }
 
     fn close(&mut self, conn: ConnId, moment: u64) -> Result<(), Memory> {
-        if self.has_failed {
-            return Err(Memory);
+        if let Some(memory) = self.failed {
+            return Err(memory);
         }
-        self.has_failed = true;
-        moving::close(&mut self.world, conn, moment)?;
-        self.taps.close(conn);
-        self.has_failed = false;
-        Ok(())
+        match moving::close(&mut self.world, conn, moment) {
+            Ok(()) => {
+                self.taps.close(conn);
+                Ok(())
+            }
+            Err(memory) => Err(fail(&mut self.failed, memory)),
+        }
     }
 }

@@ -3,11 +3,10 @@ ghost use Rattle.std.specs.Prelude.{◌≡◌, length};
 ghost use Rattle.nr_oplog.specs.Opening.{name_of, nodes_of, places_of};
 ghost use Rattle.nr_combiner.specs.Opened.{AreNamed, AreOfWorkers};
 
-use crate::no_memory;
 use crate::nodes::serve_batch;
-use nr_blob::Memory;
+use crate::{as_io, no_memory};
 use nr_combiner::{Lifts, OpenedSlots, Plan, ServerName, open_slots};
-use nr_held::{Station, stations};
+use nr_held::{HeldError, Station, stations};
 use nr_oplog::Opened;
 use std::alloc::Global;
 use std::hash::RandomState;
@@ -23,10 +22,11 @@ const PLACES: usize = 64;
 const LIMIT: usize = 1 << 20;
 
 // A connection comes, asks once, says that it ends, and goes. How many bytes it got.
-fn come_and_go<B: ServerName, R: Wait>(rt: &R, station: &mut Station<B>) -> Result<usize, Memory> {
-    let Ok(mut client) = station.open(rt) else {
-        return Err(Memory);
-    };
+fn come_and_go<B: ServerName, R: Wait>(
+    rt: &R,
+    station: &mut Station<B>,
+) -> Result<usize, HeldError> {
+    let mut client = station.open(rt)?;
     let got = serve_batch(rt, station, Lifts::All, &mut client, b"PING\r\nQUIT\r\n")?;
     station.close(rt, client.conn());
     Ok(got)
@@ -37,7 +37,7 @@ fn come_and_go_all<B: ServerName, R: Wait>(
     rt: &R,
     station: &mut Station<B>,
     count: u32,
-) -> Result<usize, Memory> {
+) -> Result<usize, HeldError> {
     let mut got = 0usize;
     for _ in 0..count {
         got = got.saturating_add(come_and_go(rt, station)?);
@@ -65,13 +65,11 @@ fn hold_named<B: ServerName, R: Runtime + Wait>(
         connections: 1,
         limit: LIMIT,
     };
-    let Ok(mut all) = stations::<B>(alloc, keys, opened, slots, plan) else {
-        return Err(no_memory(Memory));
-    };
+    let mut all = stations::<B>(alloc, keys, opened, slots, plan).map_err(no_memory)?;
     let Some(station) = all.get_mut(0) else {
-        return Err(no_memory(Memory));
+        return Err(as_io(HeldError::Invalid));
     };
-    let got = come_and_go_all(rt, station, count).map_err(no_memory)?;
+    let got = come_and_go_all(rt, station, count).map_err(as_io)?;
     println!(rt; "connections: {count}, bytes of replies: {got}")?;
     let mut line = String::new(alloc);
     host.stdin().read_line(&mut line)?;
@@ -86,11 +84,7 @@ pub(crate) fn hold<R: Runtime + Wait>(
     count: u32,
 ) -> io::Result<()> {
     let alloc = host.alloc();
-    let Ok(opened) = Opened::open(alloc, 1, PLACES) else {
-        return Err(no_memory(Memory));
-    };
-    let Ok(slots) = open_slots(alloc, 1, 1) else {
-        return Err(no_memory(Memory));
-    };
+    let opened = Opened::open(alloc, 1, PLACES).map_err(|error| as_io(error.into()))?;
+    let slots = open_slots(alloc, 1, 1).map_err(|error| as_io(error.into()))?;
     hold_named::<Brand, R>(host, rt, keys, opened, slots, count)
 }

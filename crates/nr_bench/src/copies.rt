@@ -1,7 +1,8 @@
 // A node that falls and comes back with a copy of the other's server: how long the copy takes, and what is held meanwhile.
-use crate::no_memory;
+use crate::{as_io, no_memory};
 use nr_blob::{Memory, int_text};
 use nr_entry::ConnId;
+use nr_held::HeldError;
 use nr_nodes::{Outcome, Setup, World};
 use std::alloc::Global;
 use std::hash::RandomState;
@@ -44,10 +45,10 @@ fn ask(world: &mut World, conn: ConnId, requests: &[u8]) -> Result<usize, Memory
     )
 }
 
-fn open(world: &mut World, node: usize) -> Result<ConnId, Memory> {
+fn open(world: &mut World, node: usize) -> Result<ConnId, HeldError> {
     match world.open(node, 0)? {
         Outcome::Opened(conn) => Ok(conn),
-        _ => Err(Memory),
+        _ => Err(HeldError::Invalid),
     }
 }
 
@@ -60,10 +61,8 @@ fn push_set(number: u32, requests: &mut Vec<u8>) -> Result<(), Memory> {
 }
 
 // Two nodes that hold so many keys of 16 bytes, with values of 3.
-fn filled(alloc: Global, hasher: RandomState, keys: u32) -> Result<Pair, Memory> {
-    let Some(setup) = Setup::new(2, PLACES, 1, CONNECTIONS, LIMIT) else {
-        return Err(Memory);
-    };
+fn filled(alloc: Global, hasher: RandomState, keys: u32) -> Result<Pair, HeldError> {
+    let setup = Setup::new(2, PLACES, 1, CONNECTIONS, LIMIT).unwrap();
     let mut world = World::new(alloc, hasher, setup)?;
     let conn = open(&mut world, 0)?;
     let mut requests = Vec::new(alloc);
@@ -86,17 +85,18 @@ fn fall(pair: &mut Pair) -> Result<(), Memory> {
 }
 
 // A node comes back with a few keys. How many bytes a connection of it gets for the last of them.
-fn asked_behind(alloc: Global, hasher: RandomState) -> Result<usize, Memory> {
+fn asked_behind(alloc: Global, hasher: RandomState) -> Result<usize, HeldError> {
     let mut pair = filled(alloc, hasher, FEW_KEYS)?;
     fall(&mut pair)?;
     pair.world.revive(1, 0)?;
     let conn = open(&mut pair.world, 1)?;
-    ask(&mut pair.world, conn, b"GET 1000000000000999\r\n")
+    let got = ask(&mut pair.world, conn, b"GET 1000000000000999\r\n")?;
+    Ok(got)
 }
 
 /// Says how many bytes the reply has to a GET at a node that came back.
 pub(crate) fn say_count(rt: &impl Runtime, alloc: Global, hasher: RandomState) -> io::Result<()> {
-    let got = asked_behind(alloc, hasher).map_err(no_memory)?;
+    let got = asked_behind(alloc, hasher).map_err(as_io)?;
     println!(rt; "a node that came back, bytes of a reply: {got}")
 }
 
@@ -109,7 +109,7 @@ fn wait(rt: &HostRuntime) -> io::Result<()> {
 
 /// Two nodes hold so many keys; one of them falls; it comes back, and says how long that took. Behind each it waits for a line.
 pub(crate) fn hold(rt: &HostRuntime, hasher: RandomState, keys: u32) -> io::Result<()> {
-    let mut pair = filled(rt.alloc(), hasher, keys).map_err(no_memory)?;
+    let mut pair = filled(rt.alloc(), hasher, keys).map_err(as_io)?;
     println!(rt; "two nodes, keys: {keys}")?;
     wait(rt)?;
     fall(&mut pair).map_err(no_memory)?;

@@ -17,6 +17,7 @@ mod nodes;
 mod queue;
 
 use nr_blob::Memory;
+use nr_held::HeldError;
 use std::env;
 use std::hash::RandomState;
 use std::io::{self, ErrorKind};
@@ -37,7 +38,14 @@ pub(crate) const DEADLINE: u64 = 1000;
 pub(crate) const TEXT_BYTES: usize = 3;
 
 pub(crate) fn no_memory(_memory: Memory) -> io::Error {
-    io::Error::from(ErrorKind::OutOfMemory)
+    io::Error::other("out of memory")
+}
+
+pub(crate) fn as_io(error: HeldError) -> io::Error {
+    match error {
+        HeldError::Memory(memory) => no_memory(memory),
+        HeldError::Invalid => io::Error::from(ErrorKind::Other),
+    }
 }
 
 // Each thing once.
@@ -83,10 +91,5 @@ fn perform(rt: &HostRuntime, threads: &(impl Runtime + Threads + Wait + Sync)) -
 }
 
 fn main(rt: HostRuntime) -> io::Result<()> {
-    match perform(&rt, &rt) {
-        Err(error) if error.kind() == ErrorKind::OutOfMemory => {
-            rt.eprintln("nr_bench: out of memory")
-        }
-        done => done,
-    }
+    perform(&rt, &rt)
 }

@@ -4,10 +4,10 @@ ghost use Rattle.std.specs.Prelude.{◌≡◌, ◌≤◌, length};
 ghost use Rattle.nr_oplog.specs.Opening.{name_of, nodes_of, places_of};
 ghost use Rattle.nr_combiner.specs.Opened.{AreNamed, AreOfWorkers};
 
-use crate::no_memory;
+use crate::{as_io, no_memory};
 use nr_blob::Memory;
 use nr_combiner::{Lifts, OpenedSlots, Plan, ServerName, open_slots};
-use nr_held::{Client, Single, Station, stations};
+use nr_held::{Client, HeldError, Single, Station, stations};
 use nr_oplog::Opened;
 use std::alloc::Global;
 use std::hash::RandomState;
@@ -64,7 +64,7 @@ fn wait_for_answer<B: ServerName, R: Wait>(
     station: &mut Station<B>,
     lifts: Lifts,
     client: &mut Client<B>,
-) -> Result<usize, Memory> {
+) -> Result<usize, HeldError> {
     let mut got = 0usize;
     for _ in 0..u64::MAX {
         let turn = station.turn(rt, lifts, LIMIT)?;
@@ -84,7 +84,7 @@ pub(crate) fn serve_batch<B: ServerName, R: Wait>(
     lifts: Lifts,
     client: &mut Client<B>,
     sent: &[u8],
-) -> Result<usize, Memory> {
+) -> Result<usize, HeldError> {
     client.send(station, sent)?;
     station.post()?;
     wait_for_answer(rt, station, lifts, client)
@@ -97,10 +97,8 @@ fn serve<B: ServerName, R: Wait>(
     lifts: Lifts,
     sent: &[u8],
     batches: usize,
-) -> Result<usize, Memory> {
-    let Ok(mut client) = station.open(rt) else {
-        return Err(Memory);
-    };
+) -> Result<usize, HeldError> {
+    let mut client = station.open(rt)?;
     let mut got = 0usize;
     for _ in 0..batches {
         got = got.saturating_add(serve_batch(rt, station, lifts, &mut client, sent)?);
@@ -117,7 +115,7 @@ fn serve_among<B: ServerName, R: Wait>(
     batches: usize,
     ended: &AtomicUsize,
     workers: usize,
-) -> Result<usize, Memory> {
+) -> Result<usize, HeldError> {
     let got = serve(rt, &mut station, lifts, sent, batches);
     ended.fetch_add(1, Ordering::SeqCst);
     for _ in 0..u64::MAX {
@@ -131,12 +129,30 @@ fn serve_among<B: ServerName, R: Wait>(
 }
 
 // How many bytes the connections of all workers got.
-fn sum_of(parts: Vec<Result<usize, Memory>>) -> Result<usize, Memory> {
+fn sum_of(parts: Vec<Result<usize, HeldError>>) -> Result<usize, HeldError> {
     let mut sum = 0usize;
     for part in parts {
         sum = sum.saturating_add(part?);
     }
     Ok(sum)
+}
+
+// Each of these workers, on a thread of its own, gives so many batches. How many bytes each got.
+fn serve_all<B: ServerName + Send + Sync, R: Threads + Wait + Sync>(
+    rt: &R,
+    all: Vec<Station<B>>,
+    lifts: Lifts,
+    sent: &[u8],
+    batches: usize,
+) -> Result<Vec<Result<usize, HeldError>>, Memory> {
+    let many = all.len();
+    let ended = AtomicUsize::new(0);
+    let got = thread::map_vec(
+        rt,
+        all,
+        &|station| serve_among(rt, station, lifts, sent, batches, &ended, many),
+    )?;
+    Ok(got)
 }
 
 // Each worker of each node, on a thread of its own, gives so many batches. How many bytes they got.
@@ -150,7 +166,7 @@ fn run_named<B: ServerName + Send + Sync, R: Threads + Wait + Sync>(
     lifts: Lifts,
     sent: &[u8],
     batches: usize,
-) -> Result<usize, Memory>
+) -> Result<usize, HeldError>
     requires name { name_of opened ≡ B.log }
     requires shape { (nodes_of opened ≡ B.nodes) × (places_of opened ≡ B.places) }
     requires slots { (length slots.items ≡ B.nodes) × AreNamed B.slots slots.items }
@@ -161,16 +177,8 @@ fn run_named<B: ServerName + Send + Sync, R: Threads + Wait + Sync>(
         connections: workers,
         limit: LIMIT,
     };
-    let Ok(all) = stations::<B>(alloc, keys, opened, slots, plan) else {
-        return Err(Memory);
-    };
-    let many = all.len();
-    let ended = AtomicUsize::new(0);
-    let got = thread::map_vec(
-        rt,
-        all,
-        &|station| serve_among(rt, station, lifts, sent, batches, &ended, many),
-    )?;
+    let all = stations::<B>(alloc, keys, opened, slots, plan)?;
+    let got = serve_all(rt, all, lifts, sent, batches)?;
     sum_of(got)
 }
 
@@ -183,13 +191,9 @@ fn run<R: Threads + Wait + Sync>(
     lifts: Lifts,
     sent: &[u8],
     batches: usize,
-) -> Result<usize, Memory> {
-    let Ok(opened) = Opened::open(alloc, layout.nodes, PLACES) else {
-        return Err(Memory);
-    };
-    let Ok(slots) = open_slots(alloc, layout.nodes, layout.workers) else {
-        return Err(Memory);
-    };
+) -> Result<usize, HeldError> {
+    let opened = Opened::open(alloc, layout.nodes, PLACES)?;
+    let slots = open_slots(alloc, layout.nodes, layout.workers)?;
     run_named::<Brand, R>(
         rt,
         alloc,
@@ -210,12 +214,12 @@ fn time_turn<B: ServerName, R: Runtime + Wait>(
     client: &mut Client<B>,
     sent: &[u8],
 ) -> io::Result<u128> {
-    client.send(station, sent).map_err(no_memory)?;
-    station.post().map_err(no_memory)?;
+    client.send(station, sent).map_err(as_io)?;
+    station.post().map_err(as_io)?;
     let start = Instant::now(rt)?;
-    let turn = station.turn(rt, Lifts::All, LIMIT).map_err(no_memory)?;
+    let turn = station.turn(rt, Lifts::All, LIMIT).map_err(as_io)?;
     let nanos = start.elapsed(rt)?.as_nanos();
-    client.take_in(station, turn).map_err(no_memory)?;
+    client.take_in(station, turn).map_err(as_io)?;
     station.collect();
     Ok(nanos)
 }
@@ -227,9 +231,7 @@ fn time_turns<B: ServerName, R: Runtime + Wait>(
     sent: &[u8],
     batches: usize,
 ) -> io::Result<u128> {
-    let Ok(mut client) = station.open(rt) else {
-        return Err(no_memory(Memory));
-    };
+    let mut client = station.open(rt).map_err(|error| as_io(error.into()))?;
     let mut nanos = 0u128;
     for _ in 0..batches {
         nanos = nanos.saturating_add(time_turn(rt, station, &mut client, sent)?);
@@ -257,12 +259,10 @@ fn time_named<B: ServerName, R: Runtime + Wait>(
         connections: 1,
         limit: LIMIT,
     };
-    let Ok(mut all) = stations::<B>(alloc, keys, opened, slots, plan) else {
-        return Err(no_memory(Memory));
-    };
+    let mut all = stations::<B>(alloc, keys, opened, slots, plan).map_err(no_memory)?;
     match all.get_mut(0) {
         Some(station) => time_turns(rt, station, sent, batches),
-        None => Err(no_memory(Memory)),
+        None => Err(as_io(HeldError::Invalid)),
     }
 }
 
@@ -274,12 +274,8 @@ fn time_lock<R: Runtime + Wait>(
     sent: &[u8],
     batches: usize,
 ) -> io::Result<u128> {
-    let Ok(opened) = Opened::open(alloc, 1, PLACES) else {
-        return Err(no_memory(Memory));
-    };
-    let Ok(slots) = open_slots(alloc, 1, 1) else {
-        return Err(no_memory(Memory));
-    };
+    let opened = Opened::open(alloc, 1, PLACES).map_err(|error| as_io(error.into()))?;
+    let slots = open_slots(alloc, 1, 1).map_err(|error| as_io(error.into()))?;
     let nanos = time_named::<Brand, R>(rt, alloc, keys, opened, slots, sent, batches)?;
     Ok(nanos / batches.max(1) as u128)
 }
@@ -290,7 +286,7 @@ fn run_single(
     keys: RandomState,
     sent: &[u8],
     batches: usize,
-) -> Result<usize, Memory> {
+) -> Result<usize, HeldError> {
     let mut single = Single::new(alloc, keys, PLACES, LIMIT)?;
     let mut got = 0usize;
     for _ in 0..batches {
@@ -347,7 +343,7 @@ pub(crate) fn say_counts<R: Runtime + Threads + Wait + Sync>(
     let sent = requests(alloc, Asked::Set, 16).map_err(no_memory)?;
     for layout in LAYOUTS {
         for lifts in [Lifts::All, Lifts::Own] {
-            let got = run(rt, alloc, keys, layout, lifts, &sent, 100).map_err(no_memory)?;
+            let got = run(rt, alloc, keys, layout, lifts, &sent, 100).map_err(as_io)?;
             let Layout { nodes, workers } = layout;
             let slots = name_of(lifts);
             println!(rt;
@@ -355,7 +351,7 @@ pub(crate) fn say_counts<R: Runtime + Threads + Wait + Sync>(
             )?;
         }
     }
-    let got = run_single(alloc, keys, &sent, 100).map_err(no_memory)?;
+    let got = run_single(alloc, keys, &sent, 100).map_err(as_io)?;
     println!(rt; "in one value: bytes of replies: {got}")
 }
 
@@ -390,7 +386,7 @@ fn say_time<R: Runtime + Threads + Wait + Sync>(
     let batches = COMMANDS / batch.max(1);
     let name = asked.name();
     let start = Instant::now(rt)?;
-    run_single(alloc, keys, &sent, batches).map_err(no_memory)?;
+    run_single(alloc, keys, &sent, batches).map_err(as_io)?;
     let micros = start.elapsed(rt)?.as_micros().max(1);
     let a_second = COMMANDS as u128 * 1_000_000 / micros;
     println!(rt; "{name}, batches of {batch}, in one value: {a_second} a second")?;
@@ -426,7 +422,7 @@ fn say_layout<R: Runtime + Threads + Wait + Sync>(
             sent,
             COMMANDS / batch.max(1),
         )
-        .map_err(no_memory)?;
+        .map_err(as_io)?;
         let micros = start.elapsed(rt)?.as_micros().max(1);
         let a_second = all as u128 * 1_000_000 / micros;
         let slots = name_of(lifts);

@@ -1,3 +1,4 @@
 pub mod Integers
 pub mod Compared
 pub mod Stored
+pub mod Refusals

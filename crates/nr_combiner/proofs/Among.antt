@@ -23,7 +23,7 @@ use Rattle.nr_node.specs.Level.{NodeState, unpassed, jobs_reserved, all_jobs}
 use Rattle.nr_node.specs.Owing.{unexecuted}
 use Rattle.nr_node.specs.Advanced.{jobs_of_own}
 use Rattle.nr_node.specs.Reserved.{due_jobs, left_jobs, LeavesWaiting}
-use Rattle.nr_node.specs.Steps.{taken_node, HasReserved, HasNoneDue, GoesOnWaiting, HasFallen, HasRead}
+use Rattle.nr_node.specs.Steps.{taken_node, HasReserved, HasNoneDue, GoesOnWaiting, HasRead}
 use Rattle.nr_node.specs.declared.answers.Round.{Round}
 use Rattle.nr_node.specs.declared.answers.Round.TheVariants as rounds
 use Rattle.nr_node.proofs.Lists.{record-append}
@@ -217,9 +217,6 @@ none_keeps n m h up = (
       ])),
 )
 
-fallen_keeps : (n m : NodeState) → HasFallen n m → Keeps n m
-fallen_keeps n m h up = absurd (cc (up, ap (λ (r : ReplicaState). r.down) h.replica))
-
 still_keeps : (n m : NodeState) → m ≡ n → Keeps n m
 still_keeps n m same up = (sym (ap (λ (x : NodeState). x.replica.down) same) ∙ up, λ job a. subst (λ (x : NodeState). IsAmong job (jobs_of x)) (sym same) a)
 
@@ -229,8 +226,7 @@ tried_keeps places (Ok rounds.Done) n m (inr h) = none_keeps n m h
 tried_keeps places (Ok rounds.Full) n m h = waiting_keeps n m h.0
 tried_keeps places (Ok rounds.Again) n m h = waiting_keeps n m h.0
 tried_keeps places (Ok rounds.NotYet) n m h = absurd h
-tried_keeps places (Ok rounds.Down) n m (inl h) = still_keeps n m h.1
-tried_keeps places (Ok rounds.Down) n m (inr (up, h)) = fallen_keeps n m h
+tried_keeps places (Ok rounds.Down) n m h = still_keeps n m h
 tried_keeps places (Err memory) n m (inl same) = still_keeps n m same
 tried_keeps places (Err memory) n m (inr h) = waiting_keeps n m h
 

@@ -1,6 +1,6 @@
 -- Which of some connections are cut.
 use Rattle.std.proofs.Common.{◌≡◌, ℕ, suc, ◌+◌, ◌<◌, Bool, cond, inl, inr, List, [], ◌∷◌, ◌++◌, length, drop, get_or, drop-cons, add-one, refl, ap, sym, ◌∙◌, append_assoc, append-nil}
-use Rattle.std.specs.Prelude.{filter, Result, Ok, Err, OnOk, OnErr}
+use Rattle.std.specs.Prelude.{filter, Result, Ok, Err, OnErr}
 use Rattle.std.proofs.lemmas.Bool.{cases_Bool}
 use Rattle.nr_blob.specs.declared.memory.Memory.{Memory}
 use Rattle.nr_entry.specs.declared.conn.ConnId.{ConnId}
@@ -42,12 +42,11 @@ one_added p conns old mid new i conn within is pushed a =
     ]
 
 -- a node told them behind its lock
-pub cuts_behind : (r : Result (Unit {0}) Memory) (node : ℕ) (n : NodeState) (conns old new : List ConnId) → n.book.node ≡ node
-    → OnOk r (new ≡ old ++ filter (is_cut_at n) conns) → OnOk r (CutsBehind node conns old new)
-cuts_behind (Ok done) node n conns old new is all = record { at = n; node_is = is; added = all }
-cuts_behind (Err memory) node n conns old new is all = tt
+pub cuts_behind : (node : ℕ) (n : NodeState) (conns old new : List ConnId) → n.book.node ≡ node → new ≡ old ++ filter (is_cut_at n) conns
+    → CutsBehind node conns old new
+cuts_behind node n conns old new is all = record { at = n; node_is = is; added = all }
 
-pub cuts_front : (r : Result (Unit {0}) Memory) (n : NodeState) (conns old new : List ConnId)
-    → OnErr r ((left : List ConnId) × AddsFront (filter (is_cut_at n) conns) old new left) → OnErr r (CutsFrontBehind conns old new)
+pub cuts_front : {T E : Type 0} (r : Result T E) (n : NodeState) (conns old new : List ConnId)
+    → (left : List ConnId) × AddsFront (filter (is_cut_at n) conns) old new left → OnErr r (CutsFrontBehind conns old new)
 cuts_front (Ok done) n conns old new front = tt
-cuts_front (Err memory) n conns old new (left, front) = record { at = n; left = left; added = front }
+cuts_front (Err why) n conns old new (left, front) = record { at = n; left = left; added = front }

@@ -29,7 +29,7 @@ use Rattle.nr_slots.specs.Seats.{CombinerView, desk_of, with_lifted, with_answer
 use Rattle.nr_node.specs.Level.{NodeState, unpassed, jobs_reserved}
 use Rattle.nr_node.specs.Advanced.{jobs_of_own}
 use Rattle.nr_node.specs.Reserved.{due_jobs, left_jobs}
-use Rattle.nr_node.specs.Steps.{taken_node, HasReserved, HasNoneDue, GoesOnWaiting, HasFallen, GoesOnBy}
+use Rattle.nr_node.specs.Steps.{taken_node, HasReserved, HasNoneDue, GoesOnWaiting, GoesOnBy}
 use Rattle.nr_node.specs.declared.answers.Round.{Round}
 use Rattle.nr_node.specs.declared.answers.Round.TheVariants as rounds
 use Rattle.nr_node.proofs.Lists.{record-append}
@@ -144,14 +144,6 @@ module _ (Q : Item → Type 0) where
     waits = subst (AllByRecursion Q) (sym h.left.waiting) (left_all n.next n.replica.waiting a.waits);
   }
 
-  fallen_all : (n m : NodeState) → HasFallen n m → AllJobs Q n → AllJobs Q m
-  fallen_all n m h a = record {
-    done = subst (λ x. AllByRecursion Q (record_of x.standing.history)) (sym h.seat) a.done;
-    reserved = subst (λ x. AllByRecursion Q (jobs_reserved (unpassed x.standing))) (sym h.seat) a.reserved;
-    due = subst (λ (js : List Job). AllByRecursion Q (items_of js)) (sym h.next) tt;
-    waits = subst (λ (r : ReplicaState). AllByRecursion Q (items_of r.waiting)) (sym h.replica) tt;
-  }
-
   still_all : (n m : NodeState) → m ≡ n → AllJobs Q n → AllJobs Q m
   still_all n m same a = subst (AllJobs Q) (sym same) a
 
@@ -161,8 +153,7 @@ module _ (Q : Item → Type 0) where
   tried_all places (Ok rounds.Full) n m h a = waiting_all n m h.0 a
   tried_all places (Ok rounds.Again) n m h a = waiting_all n m h.0 a
   tried_all places (Ok rounds.NotYet) n m h a = absurd h
-  tried_all places (Ok rounds.Down) n m (inl h) a = still_all n m h.1 a
-  tried_all places (Ok rounds.Down) n m (inr (up, h)) a = fallen_all n m h a
+  tried_all places (Ok rounds.Down) n m h a = still_all n m h a
   tried_all places (Err memory) n m (inl same) a = still_all n m same a
   tried_all places (Err memory) n m (inr h) a = waiting_all n m h a
 

@@ -18,7 +18,7 @@ use Rattle.nr_slots.specs.Seats.{CombinerView}
 use Rattle.nr_node.specs.Advanced.{HaveGot}
 use Rattle.nr_node.specs.Level.{NodeState}
 use Rattle.nr_node.specs.Owing.{awaited}
-use Rattle.nr_node.specs.Steps.{GoesOnWaiting, HasFallen, GoesOnBy, HasRead}
+use Rattle.nr_node.specs.Steps.{GoesOnWaiting, GoesOnBy, HasRead}
 use Rattle.nr_node.specs.declared.answers.Round.{Round}
 use Rattle.nr_node.specs.declared.answers.Round.TheVariants as rounds
 use Rattle.nr_node.proofs.Lists.{record-append}
@@ -80,10 +80,7 @@ tried_by_cases places (Ok rounds.Done) n m seat numbers (inr h) keeps jobs s =
 tried_by_cases places (Ok rounds.Full) n m seat numbers h keeps jobs s = waiting_served n m seat numbers h.0 keeps jobs s
 tried_by_cases places (Ok rounds.Again) n m seat numbers h keeps jobs s = waiting_served n m seat numbers h.0 keeps jobs s
 tried_by_cases places (Ok rounds.NotYet) n m seat numbers h keeps jobs s = absurd h
-tried_by_cases places (Ok rounds.Down) n m seat numbers (inl h) keeps jobs s = still_served n m seat numbers h.1 s
-tried_by_cases places (Ok rounds.Down) n m seat numbers (inr (up, h)) keeps jobs s =
-    served_same n m seat numbers (ap (λ (b : Book). b.node) h.book) (ap (λ (r : ReplicaState). r.owed) h.replica)
-    (served_as n.replica.members m.replica.members (ap (λ (r : ReplicaState). r.members) h.replica)) (ap (λ x. x.standing.history) h.seat) keeps jobs s
+tried_by_cases places (Ok rounds.Down) n m seat numbers same keeps jobs s = still_served n m seat numbers same s
 tried_by_cases places (Err memory) n m seat numbers (inl same) keeps jobs s = still_served n m seat numbers same s
 tried_by_cases places (Err memory) n m seat numbers (inr h) keeps jobs s = waiting_served n m seat numbers h keeps jobs s
 
@@ -98,8 +95,7 @@ tried_book places (Ok rounds.Done) n m (inr h) = ap (λ (x : NodeState). x.book)
 tried_book places (Ok rounds.Full) n m h = h.0.book
 tried_book places (Ok rounds.Again) n m h = h.0.book
 tried_book places (Ok rounds.NotYet) n m h = absurd h
-tried_book places (Ok rounds.Down) n m (inl h) = ap (λ (x : NodeState). x.book) h.1
-tried_book places (Ok rounds.Down) n m (inr (up, h)) = h.book
+tried_book places (Ok rounds.Down) n m same = ap (λ (x : NodeState). x.book) same
 tried_book places (Err memory) n m (inl same) = ap (λ (x : NodeState). x.book) same
 tried_book places (Err memory) n m (inr h) = h.book
 
@@ -159,7 +155,7 @@ pub tried_by : (places : ℕ) (r : Result Round Memory) (n m : NodeState) → (r
     → (r ≡ Ok rounds.Full → GoesOnWaiting n m) → (r ≡ Ok rounds.Again → GoesOnWaiting n m)
     → (r ≡ Ok rounds.Full → IsFull n.seat.standing n.seat.looks places m.seat.standing m.seat.looks)
     → (r ≡ Ok rounds.Again → IsLost n.seat.standing n.seat.looks m.seat.standing m.seat.looks) → (r ≡ Ok rounds.NotYet → ⊥)
-    → (r ≡ Ok rounds.Down → ((n.replica.down ≡ true) × (m ≡ n)) ⊎ ((n.replica.down ≡ false) × HasFallen n m))
+    → (r ≡ Ok rounds.Down → m ≡ n)
     → OnErr r ((m ≡ n) ⊎ GoesOnWaiting n m) → ComesTo places r n m
 tried_by places (Ok rounds.Done) n m done full again met_full met_lost never down failed = done refl
 tried_by places (Ok rounds.Full) n m done full again met_full met_lost never down failed = (full refl, met_full refl)

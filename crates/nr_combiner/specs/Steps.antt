@@ -15,7 +15,7 @@ use Rattle.nr_slots.specs.Seats.{FoundNone, desk_of, with_lifted, with_answered}
 use Rattle.nr_node.specs.Level.{NodeState, is_closed_at}
 use Rattle.nr_node.specs.Owing.{answer_of, answered_node}
 use Rattle.nr_node.specs.Batches.{refusal, take_error}
-use Rattle.nr_node.specs.Steps.{closed_node, taken_node, HasOpened, HasReserved, HasNoneDue, GoesOnWaiting, HasFallen, GoesOnBy, HasRead}
+use Rattle.nr_node.specs.Steps.{closed_node, taken_node, HasOpened, HasReserved, HasNoneDue, GoesOnWaiting, GoesOnBy, HasRead}
 use Rattle.nr_node.specs.declared.answers.Round.{Round}
 use Rattle.nr_node.specs.declared.answers.Round.TheVariants as rounds
 use Rattle.nr_node.specs.declared.answers.TakeError.{TakeError}
@@ -46,7 +46,7 @@ closed_combiner serial c =
 -- why no connection was opened, where there is room
 abbrev pub open_error : node_errors.OpenError → OpenError
 open_error node_error.Down = open_errors.Down
-open_error node_error.Memory = open_errors.Memory
+open_error (node_error.Memory memory) = open_errors.Memory memory
 
 -- what a batch in a worker's slot is refused for, where there is memory
 abbrev pub refusal_at : ℕ → NodeState → Batch → Option TakeError
@@ -55,7 +55,7 @@ refusal_at worker n batch =
 
 -- so it is refused, or for want of memory
 abbrev pub IsRefusedFor : ℕ → NodeState → Batch → TakeError → Type 0
-IsRefusedFor worker n batch why = (refusal_at worker n batch ≡ Some why) ⊎ ((refusal_at worker n batch ≡ None) × (why ≡ errors.Memory))
+IsRefusedFor worker n batch why = (refusal_at worker n batch ≡ Some why) ⊎ ((refusal_at worker n batch ≡ None) × ((memory : Memory) × (why ≡ errors.Memory memory)))
 
 -- a batch that was refused is answered with its jobs, or that the replica is down
 abbrev pub IsOutcomeOf : TakeError → List Job → Outcome → Type 0
@@ -117,19 +117,19 @@ abbrev pub HasPut : NodeState → NodeState → Type 0
 HasPut n m = ((at : ℕ) × (entry : Entry) × HasReserved at entry n m) ⊎ HasNoneDue n m
 
 -- What a try to reserve comes to: the updates that were due stand in the log, or there were none; or they go on waiting, since the log was full as the try met
--- it, or another node's entry was there first; or the replica is down, or falls, and what waited is lost. An error for want of memory loses no job.
+-- it, or another node's entry was there first; or the replica is down, and nothing changed. An error for want of memory loses no job.
 abbrev pub ComesTo : ℕ → Result Round Memory → NodeState → NodeState → Type 0
 ComesTo places (Ok rounds.Done) n m = HasPut n m
 ComesTo places (Ok rounds.Full) n m = GoesOnWaiting n m × IsFull n.seat.standing n.seat.looks places m.seat.standing m.seat.looks
 ComesTo places (Ok rounds.Again) n m = GoesOnWaiting n m × IsLost n.seat.standing n.seat.looks m.seat.standing m.seat.looks
 ComesTo places (Ok rounds.NotYet) n m = ⊥
-ComesTo places (Ok rounds.Down) n m = ((n.replica.down ≡ true) × (m ≡ n)) ⊎ ((n.replica.down ≡ false) × HasFallen n m)
+ComesTo places (Ok rounds.Down) n m = m ≡ n
 ComesTo places (Err memory) n m = (m ≡ n) ⊎ GoesOnWaiting n m
 
 -- so it came out, and the loads that the node's end had made before stay in front of those that it made
 pub record HasTried (places : ℕ) (r : Result Round Memory) (n m : NodeState) : Type 0 where
   pub comes : ComesTo places r n m
-  pub down : (r ≡ Ok rounds.Down) ↔ (m.replica.down ≡ true)
+  pub down : (r ≡ Ok rounds.Down) ↔ (n.replica.down ≡ true)
   pub looks : (more : List Look) × (m.seat.looks ≡ n.seat.looks ++ more)
 
 -- What a look comes to: entries were passed up to the tail that it loaded, or, where one of them isn't filled yet, up to there, which it tells, also where the replica

@@ -18,7 +18,27 @@ pub enum OpenError {
     /// The replica is down.
     Down,
     /// There was no memory.
-    Memory,
+    Memory(Memory),
+}
+
+/// Why it wasn't asked which connections are cut.
+#[derive(Clone, Copy, Debug, PartialEq, Eq)]
+pub enum AskError {
+    /// Another node stands behind the lock, which there never is.
+    Elsewhere,
+    /// There was no memory for one more.
+    Memory(Memory),
+}
+
+impl From<Memory> for AskError {
+    ghost use Rattle.std.specs.Prelude.{◌≡◌};
+    ghost use Rattle.nr_combiner.specs.declared.answering.AskError.TheVariants as errors;
+
+    ghost from_gives = { λ memory error. error ≡ errors.Memory memory };
+
+    fn from(memory: Memory) -> AskError {
+        AskError::Memory(memory)
+    }
 }
 
 /// The slots from which a turn lifts batches.
@@ -68,7 +88,7 @@ pub(crate) fn open_error(why: NodeError) -> OpenError
 {
     match why {
         NodeError::Down => OpenError::Down,
-        NodeError::Memory => OpenError::Memory,
+        NodeError::Memory(memory) => OpenError::Memory(memory),
     }
 }
 
@@ -107,7 +127,7 @@ fn refused(why: TakeError, jobs: Vec<Job>) -> Outcome
     match why {
         TakeError::Stranger => Outcome::Refused(Refusal::Stranger, jobs),
         TakeError::WrongNumber => Outcome::Refused(Refusal::WrongNumber, jobs),
-        TakeError::Memory => Outcome::Refused(Refusal::Memory, jobs),
+        TakeError::Memory(memory) => Outcome::Refused(Refusal::Memory(memory), jobs),
         TakeError::Down => Outcome::Down,
     }
 }

@@ -48,9 +48,7 @@ pub fn build<B: ServerName>(
 {
     let (log, seats) = opened.named::<B>(alloc)?;
     let nodes = log.nodes();
-    let Ok(log) = Arc::new(alloc, log) else {
-        return Err(Memory);
-    };
+    let log = Arc::new(alloc, log)?;
     let mut slots = slots.into_iter();
     let mut built = Vec::with_capacity(alloc, nodes)?;
     for seat in seats {
@@ -107,24 +105,18 @@ fn seat_node<B: ServerName>(
     ensures { IfOk result (λ workers. IsNode shape.workers plan.connections plan.limit shape.node workers.items) }
 {
     let OpenedSlots { slots, seats, desk } = opened;
-    let Ok(slots) = Arc::new(alloc, slots) else {
-        return Err(Memory);
-    };
+    let slots = Arc::new(alloc, slots)?;
     let own = Arc::try_clone(&slots)?;
     let combiner = Combiner::new(alloc, shape, core, desk, own)?;
-    let Ok(shared) = Arc::new(
-        alloc,
-        Node::new(
-            shape.node,
-            combiner,
-            log,
-            slots,
-            plan.connections,
-            plan.limit,
-        ),
-    ) else {
-        return Err(Memory);
-    };
+    let node = Node::new(
+        shape.node,
+        combiner,
+        log,
+        slots,
+        plan.connections,
+        plan.limit,
+    );
+    let shared = Arc::new(alloc, node)?;
     workers_of(alloc, &shared, seats)
 }
 

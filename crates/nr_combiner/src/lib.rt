@@ -1,7 +1,7 @@
 //! A node with its combiner behind a lock, as its workers share it.
 #![tactic(auto)]
 
-pub use answering::{Collected, Lifts, OpenError, Turned};
+pub use answering::{AskError, Collected, Lifts, OpenError, Turned};
 pub use building::{Plan, build};
 pub use combiner::Combiner;
 pub use name::ServerName;

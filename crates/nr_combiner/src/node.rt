@@ -9,7 +9,7 @@ ghost use Rattle.nr_combiner.specs.Pieces.{AreHandedIn, HasAdded, HasExecuted, H
 ghost use Rattle.nr_combiner.specs.Behind.{CollectsBehind, CutsBehind, CutsFrontBehind, OpensBehind, TurnsBehind};
 ghost use Rattle.nr_combiner.specs.Turned.{tells_down};
 
-use crate::answering::{Lifts, OpenError};
+use crate::answering::{AskError, Lifts, OpenError};
 use crate::combiner::Combiner;
 use crate::name::ServerName;
 use crate::told::{Told, ToldOpened, ToldPieces};
@@ -309,22 +309,26 @@ impl<B: ServerName> Node<B> {
         Some(combiner.collect_pieces(worker, most, spares, taken))
     }
 
-    /// [`Combiner::cut_among`] behind the lock, which it takes once for all of these connections. Where another node stands behind it, which there never is, none is
-    /// added.
+    /// [`Combiner::cut_among`] behind the lock, which it takes once for all of these connections.
+    ///
+    /// # Errors
+    ///
+    /// `Elsewhere` where another node stands behind the lock: none is added. `Memory` where there is none for one more: the first are added.
     pub fn cut_among<R: Wait>(
         &self,
         rt: &R,
         conns: &[ConnId],
         cut: &mut Vec<ConnId>,
-    ) -> Result<(), Memory>
+    ) -> Result<(), AskError>
         ensures all { OnOk result (CutsBehind self.now.node conns.now cut.old.items cut.new.items) }
         ensures front { OnErr result (CutsFrontBehind conns.now cut.old.items cut.new.items) }
     {
         let combiner = self.hold(rt);
         if self.node() != combiner.node() {
-            return Err(Memory);
+            return Err(AskError::Elsewhere);
         }
-        combiner.cut_among(conns, cut)
+        combiner.cut_among(conns, cut)?;
+        Ok(())
     }
 
     /// [`Combiner::refuse`] behind the lock. It is for tests.

@@ -3,7 +3,7 @@ ghost use Rattle.std.specs.Prelude.{◌≡◌, ◌≤◌, ◌↔◌, length, IfO
 ghost use Rattle.nr_combiner.specs.Opened.{AreOfWorkers};
 
 use nr_blob::Memory;
-use nr_slots::{CombinerSeat, Slots, WorkerSeat};
+use nr_slots::{CombinerSeat, OpenError, Slots, WorkerSeat};
 use std::alloc::Global;
 use std::marker::Model;
 
@@ -13,7 +13,7 @@ pub enum BuildError {
     /// The workers aren't 1 to 16.
     BadShape,
     /// There was no memory.
-    Memory,
+    Memory(Memory),
 }
 
 /// The slots of a node, with the seats of its workers and of its combiner, which have done nothing yet. Contracts see which slots these are, and of how many
@@ -55,11 +55,12 @@ pub fn open_slots(
     }
     match open_all(alloc, nodes, workers) {
         Ok(all) => Ok(all),
-        Err(Memory) => Err(BuildError::Memory),
+        Err(memory) => Err(BuildError::Memory(memory)),
     }
 }
 
 fn open_all(alloc: Global, nodes: usize, workers: usize) -> Result<Vec<OpenedSlots>, Memory>
+    requires { (1 ≤ workers) × (workers ≤ 16) }
     ensures nodes { IfOk result (λ all. length all.items ≡ nodes) }
     ensures workers { IfOk result (λ all. AreOfWorkers workers all.items) }
 {
@@ -71,10 +72,12 @@ fn open_all(alloc: Global, nodes: usize, workers: usize) -> Result<Vec<OpenedSlo
 }
 
 fn open_one(alloc: Global, workers: usize) -> Result<OpenedSlots, Memory>
+    requires { (1 ≤ workers) × (workers ≤ 16) }
     ensures { IfOk result (λ slots. slots.workers ≡ workers) }
 {
     match Slots::open(alloc, workers) {
         Ok((slots, seats, desk)) => Ok(OpenedSlots { slots, seats, desk }),
-        Err(_) => Err(Memory),
+        Err(OpenError::Memory(memory)) => Err(memory),
+        Err(OpenError::BadShape) => unreachable!(),
     }
 }

@@ -24,7 +24,8 @@ pub is_left : {S D M : Type 0} (was_received was_sent : S → Option Bytes) (cou
     → RanOut was_received was_sent gives HasLedTo parted first setup service
 is_left was_received was_sent course gives keeps parted first setup service endings.Stopped s =
     ran_out_still was_received was_sent course gives HasLedTo HasLedTo keeps parted service first setup (λ story led. led) s
-is_left was_received was_sent course gives keeps parted first setup service endings.Memory r = r
+is_left was_received was_sent course gives keeps parted first setup service (endings.Memory memory) r = r
+is_left was_received was_sent course gives keeps parted first setup service endings.Down r = r
 is_left was_received was_sent course gives keeps parted first setup service endings.Device s =
     ran_out_still was_received was_sent course gives HasLedTo HasLedTo keeps parted service first setup (λ story led. led) s
 

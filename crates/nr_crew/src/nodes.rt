@@ -11,10 +11,11 @@ ghost use Rattle.nr_crew.specs.Together.{AreServedTogether};
 use crate::dealing::Shape;
 use crate::lane::{Lane, Left};
 use crate::running::{ServeError, run_workers};
+use crate::serving::ClientLimits;
 use nr_blob::Memory;
-use nr_combiner::{OpenedSlots, Plan, ServerName, Worker, build, open_slots};
+use nr_combiner::{BuildError, OpenedSlots, Plan, ServerName, Worker, build, open_slots};
 use nr_lane::Crew;
-use nr_oplog::{Opened, Oplog};
+use nr_oplog::{OpenError, Opened, Oplog};
 use nr_service::{Accepts, Device, Gate, Moments, Rings, Stream};
 use std::alloc::Global;
 use std::hash::RandomState;
@@ -22,15 +23,14 @@ use std::marker::Brand;
 use std::sync::{Arc, Wait};
 use std::thread::Threads;
 
-/// How large a server is: its nodes and their workers, how many places its log has, 2 to 65,536, how many connections of a node are open at most, and how many bytes
-/// wait for one at most; and after how many milliseconds without a byte one is closed that is subscribed to nothing, 0 for never.
+/// How large a server is: its nodes and their workers, how many places its log has, 2 to 65,536, and how many connections of a node are open at most; and within which limits
+/// each of them is served.
 #[derive(Clone, Copy, Debug)]
 pub struct Size {
     pub shape: Shape,
     pub places: usize,
     pub connections: usize,
-    pub limit: usize,
-    pub timeout: u64,
+    pub limits: ClientLimits,
 }
 
 /// Where the connections of one worker come from, and its clock.
@@ -47,24 +47,58 @@ pub struct Served<S, D, M> {
     pub ended: Result<(), ServeError>,
 }
 
-// The lanes of a node's workers, in order, with the next places. Memory runs out also where there are fewer places.
+/// Why a server didn't start.
+#[derive(Clone, Copy, Debug, PartialEq, Eq)]
+pub enum StartError {
+    /// Its nodes aren't 1 to 8, its workers 1 to 16, or its places 2 to 65,536.
+    BadShape,
+    /// There are fewer places for workers than workers.
+    FewPlaces,
+    /// There was no memory.
+    Memory(Memory),
+}
+
+impl From<Memory> for StartError {
+    ghost use Rattle.std.specs.Prelude.{◌≡◌};
+    ghost use Rattle.nr_crew.specs.declared.nodes.StartError.TheVariants as errors;
+
+    ghost from_gives = { λ memory error. error ≡ errors.Memory memory };
+
+    fn from(memory: Memory) -> StartError {
+        StartError::Memory(memory)
+    }
+}
+
+// The lanes of a node's workers, in order, with the next places.
 fn add_lanes<B: ServerName, D: Drop, M: Drop>(
     alloc: Global,
     workers: Vec<Worker<B>>,
     places: &mut Vec<Place<D, M>>,
     lanes: &mut Vec<Lane<B, D, M>>,
-) -> Result<(), Memory>
+) -> Result<(), StartError>
     requires { AllByRecursion IsFresh workers.items }
     ensures { OnOk result (vec_len lanes.new ≡ vec_len lanes.old + vec_len workers) }
 {
     let mut number = 0usize;
     for worker in workers {
         let Some(Place { device, clock }) = places.pop() else {
-            return Err(Memory);
+            return Err(StartError::FewPlaces);
         };
-        lanes.push(Lane::new(alloc, worker, number, device, clock)?)?;
+        let lane = Lane::new(alloc, worker, number, device, clock)?;
+        keep_lane(lane, lanes)?;
         number = number.saturating_add(1);
     }
+    Ok(())
+}
+
+// Keeps one more lane.
+fn keep_lane<B: ServerName, D: Drop, M: Drop>(
+    lane: Lane<B, D, M>,
+    lanes: &mut Vec<Lane<B, D, M>>,
+) -> Result<(), Memory>
+    ensures { OnOk result (vec_len lanes.new ≡ vec_len lanes.old + 1) }
+{
+    lanes.push(lane)?;
     Ok(())
 }
 
@@ -72,22 +106,32 @@ fn add_lanes<B: ServerName, D: Drop, M: Drop>(
 ///
 /// # Errors
 ///
-/// `Memory` where memory runs out, or there are fewer places than workers.
+/// `FewPlaces` where there are fewer places than workers, and `Memory` where memory runs out.
 pub fn lanes_of<B: ServerName, D: Drop, M: Drop>(
     alloc: Global,
     built: Vec<Vec<Worker<B>>>,
     count: usize,
     mut places: Vec<Place<D, M>>,
-) -> Result<Vec<Lane<B, D, M>>, Memory>
+) -> Result<Vec<Lane<B, D, M>>, StartError>
     requires { AllByRecursion (λ workers. AreFresh count workers.items) built.items }
     ensures { IfOk result (λ lanes. vec_len lanes ≡ vec_len built * count) }
 {
     places.reverse();
-    let mut lanes = Vec::with_capacity(alloc, built.len().saturating_mul(count))?;
+    let mut lanes = room_for_lanes(alloc, built.len().saturating_mul(count))?;
     for workers in built {
         add_lanes(alloc, workers, &mut places, &mut lanes)?;
     }
     Ok(lanes)
+}
+
+// Room for so many lanes.
+fn room_for_lanes<B: ServerName, D: Drop, M: Drop>(
+    alloc: Global,
+    count: usize,
+) -> Result<Vec<Lane<B, D, M>>, Memory>
+    ensures { IfOk result (λ lanes. vec_len lanes ≡ 0) }
+{
+    Ok(Vec::with_capacity(alloc, count)?)
 }
 
 // Serves by the nodes of a log that was opened.
@@ -102,7 +146,7 @@ fn serve_named<B, R, S, D, M, K, G, L>(
     bells: K,
     main: L,
     gate: &G,
-) -> Result<(Served<S, D, M>, L), Memory>
+) -> Result<(Served<S, D, M>, L), StartError>
 where
     B: ServerName + Send + Sync,
     R: Threads + Wait + Sync,
@@ -126,7 +170,7 @@ where
     let plan = Plan {
         workers: shape.workers,
         connections: size.connections,
-        limit: size.limit,
+        limit: size.limits.limit,
     };
     let built = build::<B>(alloc, keys, opened, slots, plan)?;
     let log = share_log(&built)?;
@@ -140,8 +184,7 @@ where
         main,
         gate,
         shape,
-        size.limit,
-        size.timeout,
+        size.limits,
     )?;
     Ok((
         Served {
@@ -152,14 +195,14 @@ where
     ))
 }
 
-// The log that all of these share.
-fn share_log<B: ServerName>(built: &[Vec<Worker<B>>]) -> Result<Arc<Oplog<B>, Global>, Memory> {
+// The log that all of these share, of which there is one.
+fn share_log<B: ServerName>(built: &[Vec<Worker<B>>]) -> Result<Arc<Oplog<B>, Global>, StartError> {
     let Some(workers) = built.first() else {
-        return Err(Memory);
+        return Err(StartError::BadShape);
     };
     match workers.first() {
-        Some(worker) => worker.shared().share_log(),
-        None => Err(Memory),
+        Some(worker) => Ok(worker.shared().share_log()?),
+        None => Err(StartError::BadShape),
     }
 }
 
@@ -169,7 +212,7 @@ fn share_log<B: ServerName>(built: &[Vec<Worker<B>>]) -> Result<Arc<Oplog<B>, Gl
 ///
 /// # Errors
 ///
-/// `Memory` where memory runs out before any worker starts, or there are fewer places than workers.
+/// [`StartError`]'s, before any worker starts.
 pub fn serve_nodes<R, S, D, M, K, G, L>(
     rt: &R,
     alloc: Global,
@@ -179,7 +222,7 @@ pub fn serve_nodes<R, S, D, M, K, G, L>(
     bells: K,
     main: L,
     gate: &G,
-) -> Result<(Served<S, D, M>, L), Memory>
+) -> Result<(Served<S, D, M>, L), StartError>
 where
     R: Threads + Wait + Sync,
     S: Stream + Drop + Send,
@@ -192,11 +235,15 @@ where
     ensures dealt { IfOk result (λ served. HasDealt size.shape.nodes size.shape.workers (L.dealt main) (L.dealt served.1)) }
     ensures all { IfOk result (λ served. IfOk served.0.ended (λ _. vec_len served.0.lefts ≡ size.shape.nodes * size.shape.workers)) }
 {
-    let Ok(opened) = Opened::open(alloc, size.shape.nodes, size.places) else {
-        return Err(Memory);
+    let opened = match Opened::open(alloc, size.shape.nodes, size.places) {
+        Ok(opened) => opened,
+        Err(OpenError::BadShape) => return Err(StartError::BadShape),
+        Err(OpenError::Memory(memory)) => return Err(StartError::Memory(memory)),
     };
-    let Ok(slots) = open_slots(alloc, size.shape.nodes, size.shape.workers) else {
-        return Err(Memory);
+    let slots = match open_slots(alloc, size.shape.nodes, size.shape.workers) {
+        Ok(slots) => slots,
+        Err(BuildError::BadShape) => return Err(StartError::BadShape),
+        Err(BuildError::Memory(memory)) => return Err(StartError::Memory(memory)),
     };
     serve_named::<Brand, R, S, D, M, K, G, L>(
         rt, alloc, keys, opened, slots, size, places, bells, main, gate,

@@ -7,7 +7,7 @@ ghost use Rattle.nr_crew.specs.Together.{AreAnsweredTogether, AreLeft};
 
 use crate::dealing::{Shape, deal_out};
 use crate::lane::{Answered, Lane, Leaving, Left};
-use crate::serving::serve_lane;
+use crate::serving::{ClientLimits, serve_lane};
 use nr_blob::Memory;
 use nr_combiner::ServerName;
 use nr_lane::Crew;
@@ -22,8 +22,10 @@ use std::thread::{self, PromisedHandle, Scope, Threads};
 /// Why a server's workers ended before they were to.
 #[derive(Clone, Copy, Debug, PartialEq, Eq)]
 pub enum ServeError {
-    /// Every node is down, or memory ran out for a worker.
-    Memory,
+    /// Every node is down.
+    Down,
+    /// Memory ran out for a worker.
+    Memory(Memory),
     /// No connection can come any more, or a worker can't wait for those that it has.
     Device,
     /// The system gave no thread: those that had started ended.
@@ -122,10 +124,23 @@ fn ended_by<S, D, M>(
     if !comes_more || lefts.iter().any(|left| left.ended == Ended::Device) {
         return Err(ServeError::Device);
     }
-    if lefts.iter().any(|left| left.ended == Ended::Memory) {
-        return Err(ServeError::Memory);
+    if lefts.iter().any(|left| left.ended == Ended::Down) {
+        return Err(ServeError::Down);
     }
-    Ok(())
+    match wanted_by(lefts) {
+        Some(memory) => Err(ServeError::Memory(memory)),
+        None => Ok(()),
+    }
+}
+
+// The want of memory for which the first of those ended that did for that.
+fn wanted_by<S, D, M>(lefts: &[Left<S, D, M>]) -> Option<Memory> {
+    for left in lefts {
+        if let Ended::Memory(memory) = left.ended {
+            return Some(memory);
+        }
+    }
+    None
 }
 
 // Keeps the thread that was started. Whether it was: else all that did are told to stop.
@@ -159,8 +174,7 @@ struct Shared<'e, R, K, G> {
     alloc: Global,
     crew: &'e Crew<K>,
     gate: &'e G,
-    limit: usize,
-    timeout: u64,
+    limits: ClientLimits,
 }
 
 impl<'e, R, K, G> Shared<'e, R, K, G> {
@@ -171,8 +185,7 @@ impl<'e, R, K, G> Shared<'e, R, K, G> {
             alloc: self.alloc,
             crew: self.crew,
             gate: self.gate,
-            limit: self.limit,
-            timeout: self.timeout,
+            limits: self.limits,
         }
     }
 }
@@ -197,10 +210,9 @@ where
         alloc,
         crew,
         gate,
-        limit,
-        timeout,
+        limits,
     } = shared;
-    serve_lane(rt, alloc, lane, crew, gate, limit, timeout)
+    serve_lane(rt, alloc, lane, crew, gate, limits)
 }
 
 // Starts the thread of a lane, and keeps it. Whether it was started: else all that were are told to stop.
@@ -264,8 +276,7 @@ fn run_all<B, R, S, D, M, K, G, L>(
     main: L,
     gate: &G,
     shape: Shape,
-    limit: usize,
-    timeout: u64,
+    limits: ClientLimits,
 ) -> Result<(Ran<B, S, D, M>, L), Memory>
 where
     B: ServerName + Send + Sync,
@@ -280,6 +291,7 @@ where
     ensures dealt { IfOk result (λ r. HasDealt shape.nodes shape.workers (L.dealt main) (L.dealt r.1)) }
     ensures all { IfOk result (λ r. IfOk r.0.ended (λ _. vec_len r.0.lefts ≡ vec_len lanes)) }
 {
+    let ClientLimits { limit, timeout } = limits;
     thread::scope(
         thread::scope_env(),
         rt,
@@ -300,8 +312,7 @@ where
                 alloc,
                 crew,
                 gate,
-                limit,
-                timeout,
+                limits: ClientLimits { limit, timeout },
             };
             let has_all_threads = start_all(scope, &shared, lanes, &mut handles);
             let comes_more = deal_out(&mut main, crew, shape);
@@ -321,12 +332,11 @@ where
     )
 }
 
-/// Serves by these lanes, each on a thread of its own, and deals the connections out to them that come from `main`: connection number x, from 0 on, goes to node
-/// x mod nodes, worker (x / nodes) mod workers, or to that worker of the next node that takes it. The lanes stand in the order of their nodes, and of the workers of
-/// each: worker w of node n is lane n * workers + w. At most `limit` bytes wait for a connection, and one that is subscribed to nothing is closed
-/// once no byte came or went for `timeout` milliseconds, where that isn't 0. It ends once the gate stopped all workers, every node is down, one of them can't wait any
-/// more, no connection can come any more, `main` told to end, and all rest where that is to be in order, or the crew is told to stop: then all end, and what they left
-/// is handed back with `main`.
+/// Serves by these lanes, each on a thread of its own, and deals the connections out to them that come from `main`: connection number x, from 0 on, goes to
+/// node x mod nodes, worker (x / nodes) mod workers, or to that worker of the next node that takes it. The lanes stand in the order of their nodes, and of the
+/// workers of each: worker w of node n is lane n * workers + w. Each connection is served within these limits. It ends once the gate stopped all workers, every node
+/// is down, one of them can't wait any more, no connection can come any more, `main` told to end, and all rest where that is to be in order, or the crew is
+/// told to stop: then all end, and what they left is handed back with `main`.
 ///
 /// # Errors
 ///
@@ -340,8 +350,7 @@ pub fn run_workers<B, R, S, D, M, K, G, L>(
     main: L,
     gate: &G,
     shape: Shape,
-    limit: usize,
-    timeout: u64,
+    limits: ClientLimits,
 ) -> Result<(Ran<B, S, D, M>, L), Memory>
 where
     B: ServerName + Send + Sync,
@@ -356,7 +365,7 @@ where
     ensures dealt { IfOk result (λ ran. HasDealt shape.nodes shape.workers (L.dealt main) (L.dealt ran.1)) }
     ensures all { IfOk result (λ ran. IfOk ran.0.ended (λ _. vec_len ran.0.lefts ≡ vec_len lanes)) }
 {
-    let ran_all = run_all(rt, alloc, lanes, crew, main, gate, shape, limit, timeout)?;
+    let ran_all = run_all(rt, alloc, lanes, crew, main, gate, shape, limits)?;
     let (mut ran, main) = ran_all;
     meet_marks(log, &mut ran.marks);
     desk_law();

@@ -6,20 +6,24 @@ use crate::gate::Stoppable;
 use crate::lane::{Lane, Leaving, Left};
 use nr_combiner::ServerName;
 use nr_lane::{Crew, ServingDesk};
+use nr_replica::share_of;
 use nr_service::{Answers, Client, Device, Ended, Gate, Moments, Rings, Service, Stream};
 use std::alloc::Global;
 use std::sync::Wait;
 
-/// What was handed out for a client is written before more is, once more than this part of the limit waits for it, or so many bytes where that is less.
-const WRITTEN_PART: usize = 16;
-
-const MOST_WAITING: usize = 1_048_576;
+/// Within which limits each connection is served: how many bytes wait for it at most; and after how many milliseconds without a byte it is closed where it is subscribed
+/// to nothing, 0 for never.
+#[derive(Clone, Copy, Debug)]
+pub struct ClientLimits {
+    pub limit: usize,
+    pub timeout: u64,
+}
 
 // A worker that ends before the others are to end stops them all: who was dealt to it would wait for ever, and so would the other nodes for its own. Where every node
 // is down each ends by itself, once its clients got what they still get.
 fn stop_behind<K: Rings>(ended: Ended, crew: &Crew<K>) {
     crew.end();
-    if ended == Ended::Device || (ended == Ended::Memory && !crew.are_down()) {
+    if matches!(ended, Ended::Device | Ended::Memory(_)) {
         crew.stop();
         crew.ring_all();
     }
@@ -38,15 +42,15 @@ where
     (device, clock, clients)
 }
 
-/// Serves by a lane until the gate or the crew stops it, every node is down, or its device can't wait any more: then all are stopped.
+/// Serves by a lane until the gate or the crew stops it, every node is down, or its device can't wait any more: then all are stopped. What was handed out for a client is
+/// written before more is, once more waits for it than its node stops for ([`share_of`]).
 pub(crate) fn serve_lane<'a, B, R, S, D, M, K, G>(
     rt: &'a R,
     alloc: Global,
     lane: Lane<B, D, M>,
     crew: &'a Crew<K>,
     gate: &G,
-    limit: usize,
-    timeout: u64,
+    limits: ClientLimits,
 ) -> Leaving<B, S, D, M>
 where
     B: ServerName,
@@ -66,10 +70,11 @@ where
         buffer,
         ..
     } = lane;
+    let ClientLimits { limit, timeout } = limits;
     let node = worker.shared().node();
     // More than the limit may wait there: the service lets go of a client for which it does.
     let most = limit.saturating_mul(2);
-    let enough = (limit / WRITTEN_PART).min(MOST_WAITING);
+    let enough = share_of(limit);
     let desk = ServingDesk::new(alloc, rt, worker, number, crew, most, enough);
     let mut service = Service::over(
         alloc, buffer, node, number, desk, device, clock, limit, timeout,

@@ -3,9 +3,8 @@ ghost use Rattle.std.specs.Prelude.{◌≡◌, length};
 ghost use Rattle.nr_oplog.specs.Opening.{name_of, nodes_of, places_of};
 ghost use Rattle.nr_combiner.specs.Opened.{AreNamed, AreOfWorkers};
 
-use nr_blob::Memory;
 use nr_combiner::{OpenedSlots, Plan, ServerName, Worker, build, open_slots};
-use nr_crew::{Place, Served, Size, lanes_of, run_workers};
+use nr_crew::{Place, Served, Size, StartError, lanes_of, run_workers};
 use nr_lane::Crew;
 use nr_oplog::{Opened, Oplog};
 use nr_service::{Accepts, Device, Gate, Moments, Silent, Stream};
@@ -19,15 +18,15 @@ use std::thread::Threads;
 fn refuse_first<B: ServerName, R: Wait>(
     rt: &R,
     built: &[Vec<Worker<B>>],
-) -> Result<Arc<Oplog<B>, Global>, Memory> {
+) -> Result<Arc<Oplog<B>, Global>, StartError> {
     let Some(workers) = built.first() else {
-        return Err(Memory);
+        return Err(StartError::BadShape);
     };
     let Some(worker) = workers.first() else {
-        return Err(Memory);
+        return Err(StartError::BadShape);
     };
     worker.refuse(rt);
-    worker.shared().share_log()
+    Ok(worker.shared().share_log()?)
 }
 
 fn serve_named<B, R, S, D, M, G, L>(
@@ -40,7 +39,7 @@ fn serve_named<B, R, S, D, M, G, L>(
     places: Vec<Place<D, M>>,
     main: L,
     gate: &G,
-) -> Result<(Served<S, D, M>, L), Memory>
+) -> Result<(Served<S, D, M>, L), StartError>
 where
     B: ServerName + Send + Sync,
     R: Threads + Wait + Sync,
@@ -59,7 +58,7 @@ where
     let plan = Plan {
         workers: shape.workers,
         connections: size.connections,
-        limit: size.limit,
+        limit: size.limits.limit,
     };
     let built = build::<B>(alloc, keys, opened, slots, plan)?;
     let log = refuse_first(rt, &built)?;
@@ -73,8 +72,7 @@ where
         main,
         gate,
         shape,
-        size.limit,
-        size.timeout,
+        size.limits,
     )?;
     Ok((
         Served {
@@ -94,7 +92,7 @@ pub(crate) fn serve_falling<R, S, D, M, G, L>(
     places: Vec<Place<D, M>>,
     main: L,
     gate: &G,
-) -> Result<(Served<S, D, M>, L), Memory>
+) -> Result<(Served<S, D, M>, L), StartError>
 where
     R: Threads + Wait + Sync,
     S: Stream + Drop + Send,
@@ -104,10 +102,10 @@ where
     L: Accepts + Drop,
 {
     let Ok(opened) = Opened::open(alloc, size.shape.nodes, size.places) else {
-        return Err(Memory);
+        return Err(StartError::BadShape);
     };
     let Ok(slots) = open_slots(alloc, size.shape.nodes, size.shape.workers) else {
-        return Err(Memory);
+        return Err(StartError::BadShape);
     };
     serve_named::<Brand, R, S, D, M, G, L>(rt, alloc, keys, opened, slots, size, places, main, gate)
 }

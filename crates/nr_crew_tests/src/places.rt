@@ -3,7 +3,7 @@ use crate::falling::serve_falling;
 use crate::line::{Given, Line};
 use crate::watch::{Held, Watch};
 use nr_blob::Memory;
-use nr_crew::{Place, ServeError, Served, Shape, Size, serve_nodes};
+use nr_crew::{ClientLimits, Place, ServeError, Served, Shape, Size, StartError, serve_nodes};
 use nr_service::{Accepts, Device, Ends, Moments, Silent};
 use std::alloc::Global;
 use std::collections::VecDeque;
@@ -38,10 +38,17 @@ pub(crate) enum Breaks {
     Wait,
 }
 
+/// Asks for a block that no system has, so that memory is refused.
+pub(crate) fn refuse_memory(alloc: Global) -> Result<(), Memory> {
+    let _block: Vec<u8> = Vec::with_capacity(alloc, 1 << 62)?;
+    Ok(())
+}
+
 // Where the connections of a lane come from, and go.
 #[derive(Drop)]
 struct Door<'a, R> {
     rt: &'a R,
+    alloc: Global,
     watch: &'a Watch,
     letters: &'a Letters,
     lane: usize,
@@ -64,7 +71,7 @@ impl<R: Abort> Door<'_, R> {
 impl<R: Wait + Abort> Device<Line> for Door<'_, R> {
     fn accept(&mut self) -> Result<Option<Line>, Memory> {
         if self.has_given && self.breaks == Breaks::Memory {
-            return Err(Memory);
+            refuse_memory(self.alloc)?;
         }
         let line = self.letters.lock(self.rt).pop_front();
         self.has_given |= line.is_some();
@@ -190,8 +197,10 @@ fn size_of<R: Abort>(rt: &R, trial: Trial) -> Size {
         },
         places: trial.places,
         connections: trial.connections,
-        limit: trial.limit,
-        timeout: 0,
+        limits: ClientLimits {
+            limit: trial.limit,
+            timeout: 0,
+        },
     }
 }
 
@@ -207,6 +216,7 @@ fn places_of<'a, R: Abort>(
     for (lane, letters) in letters.iter().enumerate() {
         let device = Door {
             rt,
+            alloc,
             watch,
             letters,
             lane,
@@ -233,7 +243,7 @@ fn serve_by<'a, R>(
     places: Vec<Place<Door<'a, R>, Still>>,
     arrivals: Arrivals<'a, R>,
     watch: &Watch,
-) -> Result<(Served<Line, Door<'a, R>, Still>, Arrivals<'a, R>), Memory>
+) -> Result<(Served<Line, Door<'a, R>, Still>, Arrivals<'a, R>), StartError>
 where
     R: Threads + Wait + Abort + Sync,
 {

@@ -1,7 +1,7 @@
 // Connections in memory, at two nodes.
 use crate::asserted::holds;
 use crate::line::Line;
-use crate::places::{Breaks, Came, Trial, serve};
+use crate::places::{Breaks, Came, Trial, refuse_memory, serve};
 use crate::watch::Held;
 use nr_crew::ServeError;
 use nr_lane::Crew;
@@ -358,7 +358,9 @@ where
 #[test]
 fn a_worker_that_ends_ends_all(rt: HostRuntime) {
     ends_all(&rt, rt.alloc(), Breaks::Wait, ServeError::Device);
-    ends_all(&rt, rt.alloc(), Breaks::Memory, ServeError::Memory);
+    let refused = refuse_memory(rt.alloc());
+    let memory = refused.err().expect(&rt, "a block of 2^62 bytes");
+    ends_all(&rt, rt.alloc(), Breaks::Memory, ServeError::Memory(memory));
 }
 
 /// One that says nothing is at each node, at that which falls and at the other; behind them one is answered at the first, and then a key is set at the other, which all

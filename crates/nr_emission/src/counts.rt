@@ -12,19 +12,20 @@ pub(crate) fn count_reply(count: usize) -> Result<Reply, Memory>
     ensures ok { IfOk result (λ reply. reply_of reply ≡ model.Int (pos count)) }
     ensures few { count < 2 ^ 63 → IsOk result }
 {
-    if count > i64::MAX as usize {
-        return Err(Memory);
+    match Memory::at_last((count as u64).saturating_mul(2)) {
+        Some(refused) => Err(refused),
+        None => Ok(Reply::Int(count as i64)),
     }
-    Ok(Reply::Int(count as i64))
 }
 
-/// Two counts together, or no memory where the sum is 2^64 or more, which is more than any count of what is stored.
+/// Two counts together, refused from 2^64 - 1 on alone, which is more than any count of what is stored.
 pub(crate) fn together(count: usize, more: usize) -> Result<usize, Memory>
     ensures ok { IfOk result (λ sum. sum ≡ count + more) }
-    ensures few { count + more < 2 ^ 64 → IsOk result }
+    ensures few { count + more + 1 < 2 ^ 64 → IsOk result }
 {
-    match count.checked_add(more) {
-        Some(sum) => Ok(sum),
-        None => Err(Memory),
+    let sum = count.saturating_add(more);
+    match Memory::at_last(sum as u64) {
+        Some(refused) => Err(refused),
+        None => Ok(sum),
     }
 }

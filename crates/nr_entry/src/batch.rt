@@ -1,5 +1,6 @@
 // What workers hand to a replica, and what they get back.
 use crate::job::Job;
+use nr_blob::Memory;
 
 /// Jobs that a worker hands to its node's replica.
 #[derive(Debug, Drop)]
@@ -19,7 +20,18 @@ pub enum Refusal {
     /// A job's number isn't its connection's next one, or the batch's isn't above that of the worker's last batch.
     WrongNumber,
     /// There was no memory to take the jobs in.
-    Memory,
+    Memory(Memory),
+}
+
+impl From<Memory> for Refusal {
+    ghost use Rattle.std.specs.Prelude.{◌≡◌};
+    ghost use Rattle.nr_entry.specs.declared.batch.Refusal.TheVariants as refusals;
+
+    ghost from_gives = { λ memory refusal. refusal ≡ refusals.Memory memory };
+
+    fn from(memory: Memory) -> Refusal {
+        Refusal::Memory(memory)
+    }
 }
 
 /// What became of a batch.

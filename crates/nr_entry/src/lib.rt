@@ -5,7 +5,7 @@ pub use batch::{Answer, Batch, Outcome, Refusal};
 pub use conn::ConnId;
 pub use entry::{Entry, MOST_JOBS};
 pub use job::{Job, JobKind, Queueable, Queued, Read, SessionUpdate, Transaction, Update};
-pub use shares::Shares;
+pub use shares::{Shares, Unshared};
 pub use waiting::Waiting;
 
 mod batch;

@@ -10,21 +10,25 @@ use std::alloc::Global;
 use std::collections::VecDeque;
 
 /// Puts these behind the others. Where memory runs out nothing changes, and all come back.
-pub(crate) fn add_all(alloc: Global, runs: &mut Vec<Run>, jobs: Vec<Job>) -> Result<(), Vec<Job>>
+pub(crate) fn add_all(
+    alloc: Global,
+    runs: &mut Vec<Run>,
+    jobs: Vec<Job>,
+) -> Result<(), (Vec<Job>, Memory)>
     requires { lent_in runs.old.items ≡ 0 }
     ensures ok { OnOk result (jobs_in runs.new.items ≡ jobs_in runs.old.items ++ jobs.items) }
     ensures lent { lent_in runs.new.items ≡ 0 }
-    ensures back { IfErr result (λ back. back.items ≡ jobs.items) }
+    ensures back { IfErr result (λ back. back.0.items ≡ jobs.items) }
     ensures err { OnErr result (runs.new.items ≡ runs.old.items) }
 {
     let mut left = VecDeque::from_vec(jobs);
     let mut added = Vec::new(alloc);
-    if let Err(Memory) = split(alloc, &mut left, &mut added) {
-        return Err(restored(added, left));
+    if let Err(refused) = split(alloc, &mut left, &mut added) {
+        return Err((restored(added, left), refused));
     }
     match runs.append(&mut added) {
         Ok(()) => Ok(()),
-        Err(_) => Err(restored(added, left)),
+        Err(failed) => Err((restored(added, left), failed.into())),
     }
 }
 
@@ -37,38 +41,38 @@ fn split(alloc: Global, left: &mut VecDeque<Job>, added: &mut Vec<Run>) -> Resul
     ensures room { deque_capacity left.new ≡ deque_capacity left.old }
 {
     while let Some(job) = left.pop_front() {
-        if let Err(job) = add(alloc, added, job) {
+        if let Err((job, refused)) = add(alloc, added, job) {
             left.push_front_reserved(job);
-            return Err(Memory);
+            return Err(refused);
         }
     }
     Ok(())
 }
 
 // One job more behind the others, which comes back where there is no memory.
-fn add(alloc: Global, runs: &mut Vec<Run>, job: Job) -> Result<(), Job>
+fn add(alloc: Global, runs: &mut Vec<Run>, job: Job) -> Result<(), (Job, Memory)>
     requires { lent_in runs.old.items ≡ 0 }
     ensures ok { OnOk result (jobs_in runs.new.items ≡ jobs_in runs.old.items ++ job ∷ []) }
-    ensures back { IfErr result (λ back. back ≡ job) }
+    ensures back { IfErr result (λ back. back.0 ≡ job) }
     ensures err { OnErr result (jobs_in runs.new.items ≡ jobs_in runs.old.items) }
     ensures lent { lent_in runs.new.items ≡ 0 }
 {
     let count = runs.len();
     if count > 0 && runs[count - 1].conn == job.conn {
-        if let Err(job) = runs[count - 1].push(job) {
-            return Err(job);
+        if let Err(back) = runs[count - 1].push(job) {
+            return Err(back);
         }
         return Ok(());
     }
-    if runs.reserve(1).is_err() {
-        return Err(job);
+    if let Err(failed) = runs.reserve(1) {
+        return Err((job, failed.into()));
     }
     match Run::new(alloc, job) {
         Ok(run) => {
             runs.push_reserved(run);
             Ok(())
         }
-        Err(job) => Err(job),
+        Err(back) => Err(back),
     }
 }
 

@@ -6,6 +6,7 @@ ghost use Rattle.nr_entry.specs.Waiting.{are_from};
 
 use crate::conn::ConnId;
 use crate::job::Job;
+use nr_blob::Memory;
 use std::alloc::Global;
 use std::collections::VecDeque;
 
@@ -23,14 +24,14 @@ impl Run {
     ghost use Rattle.nr_entry.specs.Runs.{front, is_kind_at, has_other};
 
     /// A run of one job, which comes back where there is no memory.
-    pub(crate) fn new(alloc: Global, job: Job) -> Result<Run, Job>
+    pub(crate) fn new(alloc: Global, job: Job) -> Result<Run, (Job, Memory)>
         ensures run { IfOk result (λ run. (run.jobs.items ≡ job ∷ []) × (run.lent ≡ 0)) }
-        ensures back { IfErr result (λ back. back ≡ job) }
+        ensures back { IfErr result (λ back. back.0 ≡ job) }
     {
         let conn = job.conn;
         let mut jobs = VecDeque::new(alloc);
-        if let Err(refused) = jobs.push_back(job) {
-            return Err(refused.value);
+        if let Err(failed) = jobs.push_back(job) {
+            return Err(Memory::giving_back(failed));
         }
         Ok(Run {
             conn,
@@ -40,16 +41,16 @@ impl Run {
     }
 
     /// One job more of the same connection, which comes back where there is no memory.
-    pub(crate) fn push(&mut self, job: Job) -> Result<(), Job>
+    pub(crate) fn push(&mut self, job: Job) -> Result<(), (Job, Memory)>
         requires conn { job.conn ≡ self.old.conn }
         requires lent { self.old.lent ≡ 0 }
         ensures ok { IfOk result (λ _. self.new.jobs.items ≡ self.old.jobs.items ++ job ∷ []) }
-        ensures back { IfErr result (λ back. (back ≡ job) × (self.new.jobs.items ≡ self.old.jobs.items)) }
+        ensures back { IfErr result (λ back. (back.0 ≡ job) × (self.new.jobs.items ≡ self.old.jobs.items)) }
         ensures lent { self.new.lent ≡ 0 }
     {
         match self.jobs.push_back(job) {
             Ok(()) => Ok(()),
-            Err(refused) => Err(refused.value),
+            Err(failed) => Err(Memory::giving_back(failed)),
         }
     }
 

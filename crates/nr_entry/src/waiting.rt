@@ -59,22 +59,22 @@ impl Waiting {
     }
 
     /// Puts all of these behind the others. Where memory runs out nothing changes, and all come back in order. Linear in these.
-    pub fn extend(&mut self, jobs: Vec<Job>) -> Result<(), Vec<Job>>
+    pub fn extend(&mut self, jobs: Vec<Job>) -> Result<(), (Vec<Job>, Memory)>
         requires { self.old.gaps ≡ [] }
         ensures ok { OnOk result (self.new ≡ record { jobs = self.old.jobs ++ jobs.items; gaps = []; lent = [] }) }
-        ensures back { IfErr result (λ back. back.items ≡ jobs.items) }
+        ensures back { IfErr result (λ back. back.0.items ≡ jobs.items) }
         ensures err { OnErr result (self.new ≡ self.old) }
     {
         let added = jobs.len();
-        if added > usize::MAX - self.count {
-            return Err(jobs);
+        if let Some(refused) = Memory::at_last(self.count.saturating_add(added) as u64) {
+            return Err((jobs, refused));
         }
         match add_all(self.alloc, &mut self.runs, jobs) {
             Ok(()) => {
                 self.count += added;
                 Ok(())
             }
-            Err(jobs) => Err(jobs),
+            Err(back) => Err(back),
         }
     }
 

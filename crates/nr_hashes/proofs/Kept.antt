@@ -1,5 +1,5 @@
 -- Pairs in a block before and after a change.
-use Rattle.std.proofs.Common.{◌≡◌, ◌+◌, ◌-◌, ◌≤◌, ℕ, Bool, true, false, cond, not, Option, Some, None, is_some, is_none, [], ◌∷◌, ◌++◌, length, take, drop, refl, ap, sym, ◌∙◌, subst, append_assoc, arith, length-append}
+use Rattle.std.proofs.Common.{◌≡◌, ◌+◌, ◌-◌, ◌≤◌, ◌<◌, ℕ, Bool, true, false, cond, not, Option, Some, None, is_some, is_none, [], ◌∷◌, ◌++◌, length, take, drop, refl, ap, sym, ◌∙◌, subst, append_assoc, arith, length-append}
 use Rattle.std.specs.Prelude.{◌&&◌, nat_le}
 use Rattle.std.specs.Option.{option_map}
 use Rattle.std.specs.Map.{lookup, remove_entry}
@@ -12,13 +12,13 @@ use Rattle.nr_hashes.specs.Packed.{Entries, word, packed, entries_in, AreShort, 
 use Rattle.nr_hashes.specs.Placed.{below, from, past, value_first}
 use Rattle.nr_hashes.specs.Orders.{AreInOrder}
 use Rattle.nr_hashes.proofs.Reading.{entries_packed}
-use Rattle.nr_hashes.proofs.Placed.{packed-append, below_from, inserted, removed, found, length_insert, length_remove, short_insert, short_remove}
+use Rattle.nr_hashes.proofs.Placed.{packed-append, below_from, stands, stands_between, inserted, removed, found, length_insert, length_remove, short_insert, short_remove}
 
 -- what was packed is what is read
 pub read_back : (bytes : Bytes) (es : Entries) → bytes ≡ packed es → entries_in bytes ≡ es
 read_back bytes es is = ap entries_in is ∙ entries_packed es
 
-made : (pairs : ℕ) (bytes : Bytes) (es : Entries) → bytes ≡ packed es → pairs ≡ length es → pairs ≤ 128 → AreShort es → IsPacked pairs bytes
+made : (pairs : ℕ) (bytes : Bytes) (es : Entries) → bytes ≡ packed es → pairs ≡ length es → pairs ≤ 512 → AreShort es → IsPacked pairs bytes
 made pairs bytes es is counted few short = record {
   stored = ap packed (read_back bytes es is) ∙ sym is;
   counted = counted ∙ ap length (sym (read_back bytes es is));
@@ -54,6 +54,38 @@ pub put_in : (bytes new before after k v : Bytes) → new ≡ before ++ (word k 
     → after ≡ packed (past k (from k (entries_in bytes))) → new ≡ packed (insert_entry byte_cmp (entries_in bytes) k v)
 put_in bytes new before after k v is front back = is ∙ (λ i. front i ++ (word k ++ (word v ++ back i))) ∙ inserted k v (entries_in bytes)
 
+-- a value that stands there, and one written over it with as many bytes
+module _ (bytes before after k old v : Bytes) (stored : packed (entries_in bytes) ≡ bytes) (front : before ≡ packed (below k (entries_in bytes)))
+    (back : after ≡ packed (past k (from k (entries_in bytes)))) (there : value_first k (from k (entries_in bytes)) ≡ Some old) (long : length old ≡ length v) where
+  abbrev head : Bytes
+  head = before ++ (word k ++ length old ∷ [])
+
+  apart_at : (x : Bytes) → before ++ (word k ++ (length old ∷ x)) ≡ head ++ x
+  apart_at x = ap (λ ys. before ++ ys) (sym (append_assoc (word k) (length old ∷ []) x)) ∙ sym (append_assoc before (word k ++ length old ∷ []) x)
+
+  all_is : bytes ≡ head ++ (old ++ after)
+  all_is = sym stored ∙ stands k old (entries_in bytes) there ∙ (λ i. sym front i ++ (word k ++ (word old ++ sym back i))) ∙ apart_at (old ++ after)
+
+  head_long : length head ≡ length before + length k + 2
+  head_long = omega (arith, length-append before (word k ++ length old ∷ []), length-append (word k) (length old ∷ []))
+
+  pub fits_over : length before + length k + 2 + length v ≤ length bytes
+  fits_over = omega (arith, head_long, long, ap length all_is, length-append head (old ++ after), length-append old after)
+
+  pub written_over : (start : ℕ) (new : Bytes) → start ≡ length before + length k + 2 → new ≡ take start bytes ++ (v ++ drop (start + length v) bytes)
+      → new ≡ before ++ (word k ++ (word v ++ after))
+  written_over start new at is =
+      let here : start ≡ length head = omega (arith, at, head_long) in
+      let behind : start + length v ≡ length (head ++ old) = omega (arith, here, long, length-append head old) in
+      let left : bytes ≡ (head ++ old) ++ after = all_is ∙ sym (append_assoc head old after) in
+      is ∙ (λ i. take (here i) (all_is i) ++ (v ++ drop (behind i) (left i)))
+      ∙ (λ i. take-append_seam head (old ++ after) i ++ (v ++ drop-append_seam (head ++ old) after i))
+      ∙ sym (apart_at (v ++ after)) ∙ ap (λ (n : ℕ). before ++ (word k ++ (n ∷ (v ++ after)))) long
+
+-- where a value stands there are pairs
+pub some_stand : (k v : Bytes) (es : Entries) → value_first k (from k es) ≡ Some v → 0 < length es
+some_stand k v es there = omega (arith, ap length (stands_between k v es there), length-append (below k es) ((k, v) ∷ past k (from k es)))
+
 none_of : {A B : Type 0} (f : A → B) (o : Option A) → is_none (option_map f o) ≡ is_none o
 none_of f None = refl
 none_of f (Some x) = refl
@@ -86,11 +118,11 @@ second_true false b is = cc
 pub put_kept : (pairs more : ℕ) (bytes new k v : Bytes) → IsPacked pairs bytes → new ≡ packed (insert_entry byte_cmp (entries_in bytes) k v)
     → more ≡ length (insert_entry byte_cmp (entries_in bytes) k v) → fits more k v ≡ true → IsPacked more new
 put_kept pairs more bytes new k v kept is counted fit =
-    let others = second_true (nat_le (length k) 64) (nat_le (length v) 64 && nat_le more 128) fit in
+    let others = second_true (nat_le (length k) 64) (nat_le (length v) 64 && nat_le more 512) fit in
     made more new (insert_entry byte_cmp (entries_in bytes) k v) is counted
-    (leb-true more 128 (second_true (nat_le (length v) 64) (nat_le more 128) others))
-    (short_insert k v (entries_in bytes) (leb-true (length k) 64 (first_true (nat_le (length k) 64) (nat_le (length v) 64 && nat_le more 128) fit))
-    (leb-true (length v) 64 (first_true (nat_le (length v) 64) (nat_le more 128) others)) kept.short)
+    (leb-true more 512 (second_true (nat_le (length v) 64) (nat_le more 512) others))
+    (short_insert k v (entries_in bytes) (leb-true (length k) 64 (first_true (nat_le (length k) 64) (nat_le (length v) 64 && nat_le more 512) fit))
+    (leb-true (length v) 64 (first_true (nat_le (length v) 64) (nat_le more 512) others)) kept.short)
 
 nothing : {A : Type 0} (o : Option A) → is_none o ≡ true → o ≡ None
 nothing None is = refl

@@ -1,5 +1,5 @@
 -- Pairs around a field: those in front of it, and those behind it.
-use Rattle.std.proofs.Common.{◌≡◌, ◌+◌, ◌-◌, ◌≤◌, Bool, true, false, cond, Some, None, is_none, List, [], ◌∷◌, ◌++◌, length, take, refl, ap, sym, ◌∙◌, append_assoc, arith, length-append}
+use Rattle.std.proofs.Common.{◌≡◌, ◌+◌, ◌-◌, ◌≤◌, Bool, true, false, cond, Option, Some, None, is_none, List, [], ◌∷◌, ◌++◌, length, take, refl, ap, sym, ◌∙◌, append_assoc, arith, length-append}
 use Rattle.std.specs.declared.cmp.Ordering.TheVariants.{Less, Equal, Greater}
 use Rattle.std.specs.Ordering.{is_gt, is_eq, match_ordering, ordering_reverse}
 use Rattle.std.specs.Cmp.Lexicographic.{nat_list_cmp_total}
@@ -50,6 +50,24 @@ put_between k v (e ∷ es) =
 
 pub inserted : (k v : Bytes) (es : Entries) → packed (below k es) ++ (word k ++ (word v ++ packed (past k (from k es)))) ≡ packed (insert_entry byte_cmp es k v)
 inserted k v es = sym (packed-append (below k es) ((k, v) ∷ past k (from k es))) ∙ ap packed (sym (put_between k v es))
+
+-- a pair that stands there
+pub stands_between : (k v : Bytes) (es : Entries) → value_first k (from k es) ≡ Some v → es ≡ below k es ++ (k, v) ∷ past k (from k es)
+stands_between k v [] there = cc
+stands_between k v (e ∷ es) there =
+    elim (byte_cmp k e.0) as (λ r. byte_cmp k e.0 ≡ r → value_first k (cond (is_gt r) (from k es) (e ∷ es)) ≡ Some v
+    → e ∷ es ≡ cond (is_gt r) (e ∷ below k es) [] ++ (k, v) ∷ past k (cond (is_gt r) (from k es) (e ∷ es))) [
+      | Less ↦ λ is there. let none : None ≡ Some v = ap (λ r. cond (is_eq r) (Some e.1) None) (sym is) ∙ there in cc
+      | Equal ↦ λ is there.
+          let it : Some e.1 ≡ Some v = ap (λ r. cond (is_eq r) (Some e.1) None) (sym is) ∙ there in
+          let value : e.1 ≡ v = ap (λ (o : Option Bytes). elim o [ None ↦ e.1 | Some x ↦ x ]) it in
+          (λ i. (sym (exact_bytes k e.0 is) i, value i) ∷ es) ∙ ap (λ r. (k, v) ∷ cond (is_eq r) es (e ∷ es)) (sym is)
+      | Greater ↦ λ is there. ap (λ es. e ∷ es) (stands_between k v es there)
+    ] refl there
+
+pub stands : (k v : Bytes) (es : Entries) → value_first k (from k es) ≡ Some v
+    → packed es ≡ packed (below k es) ++ (word k ++ (word v ++ packed (past k (from k es))))
+stands k v es there = ap packed (stands_between k v es there) ∙ packed-append (below k es) ((k, v) ∷ past k (from k es))
 
 -- a pair taken out
 taken_between : (k v : Bytes) (es : Entries) → value_first k (from k es) ≡ Some v → remove_entry (is_at (byte_cmp k)) es ≡ below k es ++ past k (from k es)

@@ -1,5 +1,5 @@
 -- Pairs in packed bytes: each field, then its value, each with its length in the byte in front of it.
-use Rattle.std.specs.Prelude.{◌≡◌, ◌≤◌, ◌&&◌, Bool, nat_le, ℕ, zero, suc, List, [], ◌∷◌, ◌++◌, length, take, drop, cond, leb, Option, Some, None}
+use Rattle.std.specs.Prelude.{◌≡◌, ◌≤◌, ◌&&◌, ◌+◌, ◌*◌, slice_index, Bool, nat_le, ℕ, zero, suc, List, [], ◌∷◌, ◌++◌, length, take, drop, cond, leb, Option, Some, None}
 use Rattle.nr_model.specs.Bytes.{Bytes}
 
 -- fields, each with its value
@@ -32,6 +32,10 @@ pair_from (Some found) = with_value found.0 (first_word found.1)
 abbrev pub first_pair : Bytes → Option (Bytes × Bytes × Bytes)
 first_pair bytes = pair_from (first_word bytes)
 
+-- the count that stands in front of pairs, in two bytes, the lower one first
+abbrev pub count_in : Bytes → ℕ
+count_in bytes = slice_index bytes 0 + 256 * slice_index bytes 1
+
 -- at most so many pairs
 unfoldable pub most_entries : ℕ → Bytes → Entries
 most_entries zero bytes = []
@@ -50,9 +54,9 @@ AreShort (e ∷ es) = (length e.0 ≤ 64) × (length e.1 ≤ 64) × AreShort es
 pub record IsPacked (pairs : ℕ) (bytes : Bytes) : Type 0 where
   pub stored : packed (entries_in bytes) ≡ bytes
   pub counted : pairs ≡ length (entries_in bytes)
-  pub few : pairs ≤ 128
+  pub few : pairs ≤ 512
   pub short : AreShort (entries_in bytes)
 
 -- whether so many pairs are few, and a field and a value short
 abbrev pub fits : ℕ → Bytes → Bytes → Bool
-fits pairs field value = nat_le (length field) 64 && (nat_le (length value) 64 && nat_le pairs 128)
+fits pairs field value = nat_le (length field) 64 && (nat_le (length value) 64 && nat_le pairs 512)

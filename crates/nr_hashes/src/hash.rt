@@ -9,7 +9,7 @@ use nr_blob::{Blob, Memory};
 use std::alloc::Global;
 use std::marker::Model;
 
-/// A hash, as a key holds it. It is seen as a finite map from fields to values. At most 128 fields, none of them nor their values longer than
+/// A hash, as a key holds it. It is seen as a finite map from fields to values. At most 512 fields, none of them nor their values longer than
 /// 64 bytes, stand in one block; more or longer ones make a tree, and a tree stays one. To drop it is linear in its fields.
 #[derive(Debug, Drop)]
 pub struct Hash {

@@ -1,8 +1,9 @@
 // A few short pairs in one block: each field, then its value, each with its length in the byte in front of it, by the fields' byte order.
-ghost use Rattle.std.specs.Prelude.{◌≡◌, ◌≤◌, ◌<◌, ◌+◌, ◌^◌, ◌++◌, [], length, take, drop, IfOk, OnOk, IfSome, OnSome, IfNone, OnErr, is_some, is_none, if◌then◌else◌, IsTrue};
+ghost use Rattle.std.specs.Prelude.{◌≡◌, ◌≤◌, ◌<◌, ◌+◌, ◌^◌, ◌++◌, [], true, Some, length, take, drop, IfOk, OnOk, IfSome, OnSome, IfNone, OnErr, is_some, is_none, if◌then◌else◌, IsTrue};
 ghost use Rattle.std.specs.Option.{option_map};
 ghost use Rattle.std.specs.Map.{lookup, remove_entry};
 ghost use Rattle.std.specs.BTreeMap.{insert_entry, is_at};
+ghost use Rattle.nr_model.specs.Bytes.{Bytes};
 ghost use Rattle.nr_model.specs.Keyspace.{byte_cmp};
 ghost use Rattle.nr_hashes.specs.Packed as packed;
 ghost use Rattle.nr_hashes.specs.Packed.{packed, word, entries_in};
@@ -18,7 +19,7 @@ use std::marker::Model;
 const MOST_LEN: usize = 64;
 
 /// The most pairs in a block: what a call costs is bounded by it.
-const MOST_PAIRS: usize = 128;
+const MOST_PAIRS: usize = 512;
 
 /// A few short pairs. They are seen as a list of fields with their values.
 #[derive(Debug, Drop)]
@@ -51,7 +52,7 @@ impl Packed {
     /// How many pairs. Constant.
     pub(crate) fn len(&self) -> usize
         ensures len { result ≡ length self.now }
-        ensures few { result ≤ 128 }
+        ensures few { result ≤ 512 }
     {
         self.block.count()
     }
@@ -72,7 +73,8 @@ impl Packed {
     }
 
     /// Puts a value at a field, in the place of the one that was there, and says whether the field is new; `None` where the pairs would be
-    /// too many, or the field or the value is too long. Where memory runs out nothing is changed.
+    /// too many, or the field or the value is too long. A value with as many bytes is written where the one before stands, and takes no memory. Where memory runs
+    /// out nothing is changed.
     pub(crate) fn insert(
         &mut self,
         alloc: Global,
@@ -91,6 +93,11 @@ impl Packed {
         let count = count_with(self.block.count(), is_new);
         if !fits(count, field, value) {
             return Ok(None);
+        }
+        if has_length(place.value, value.len()) {
+            let start = place.before.len() + field.len() + 2;
+            self.block.write(start, value);
+            return Ok(Some(false));
         }
         let block = Block::joined(alloc, count, place.before, field, value, place.after)?;
         self.block = block;
@@ -198,10 +205,20 @@ fn place_of<'a>(bytes: &'a [u8], field: &[u8]) -> Place<'a>
 
 // So many pairs, and one more where its field is new.
 fn count_with(pairs: usize, is_new: bool) -> usize
-    requires { pairs ≤ 128 }
+    requires { pairs ≤ 512 }
     ensures { result ≡ pairs + (if is_new then 1 else 0) }
 {
     if is_new { pairs + 1 } else { pairs }
+}
+
+// Whether there is a value of so many bytes.
+fn has_length(held: Option<&[u8]>, len: usize) -> bool
+    ensures { result ≡ true → (text : Bytes) × (option_map (λ value. value.now) held.entry ≡ Some text) × (length text ≡ len) }
+{
+    match held {
+        Some(value) => value.len() == len,
+        None => false,
+    }
 }
 
 // Whether so many pairs are few, and a field and a value short.

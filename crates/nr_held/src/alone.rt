@@ -3,7 +3,7 @@ ghost use Rattle.std.specs.Prelude.{◌≡◌, [], length, IfOk};
 ghost use Rattle.nr_oplog.specs.Opening.{name_of, nodes_of, places_of};
 ghost use Rattle.nr_combiner.specs.Opened.{AreNamed, AreOfWorkers};
 
-use nr_blob::Memory;
+use crate::error::HeldError;
 use nr_combiner::{OpenedSlots, Plan, ServerName, Worker, build};
 use nr_oplog::Opened;
 use std::alloc::Global;
@@ -28,7 +28,7 @@ impl<B: ServerName> Alone<B> {
         opened: Opened,
         slots: Vec<OpenedSlots>,
         limit: usize,
-    ) -> Result<Alone<B>, Memory>
+    ) -> Result<Alone<B>, HeldError>
         requires name { name_of opened ≡ B.log }
         requires shape { (nodes_of opened ≡ B.nodes) × (places_of opened ≡ B.places) }
         requires slots { (length slots.items ≡ B.nodes) × AreNamed B.slots slots.items }
@@ -40,14 +40,12 @@ impl<B: ServerName> Alone<B> {
             connections: 1,
             limit,
         };
-        let Ok(nodes) = build::<B>(alloc, keys, opened, slots, plan) else {
-            return Err(Memory);
-        };
+        let nodes = build::<B>(alloc, keys, opened, slots, plan)?;
         let Some(workers) = nodes.into_iter().next() else {
-            return Err(Memory);
+            return Err(HeldError::Invalid);
         };
         let Some(worker) = workers.into_iter().next() else {
-            return Err(Memory);
+            return Err(HeldError::Invalid);
         };
         Ok(Alone { worker })
     }

@@ -7,11 +7,12 @@ ghost use Rattle.nr_taps.specs.Taps.{fresh_tap, order_of, with_written};
 ghost use Rattle.nr_held.specs.Clients.{HasOffered, fresh_session};
 ghost use Rattle.nr_held.specs.Pieces.{AreHandedOut};
 
+use crate::error::HeldError;
 use crate::station::{Station, Turn};
 use nr_blob::Memory;
 use nr_combiner::ServerName;
 use nr_entry::ConnId;
-use nr_session::Session;
+use nr_session::{Session, SessionError};
 use nr_taps::{Refused, Tap, meet};
 use std::alloc::Global;
 use std::cmp::Ordering;
@@ -63,19 +64,21 @@ impl<B: ServerName> Client<B> {
     }
 
     /// Sends these bytes: their jobs are added to the next batch of its worker.
-    pub fn send(&mut self, station: &mut Station<B>, sent: &[u8]) -> Result<(), Memory>
+    pub fn send(&mut self, station: &mut Station<B>, sent: &[u8]) -> Result<(), HeldError>
         ensures jobs { OnOk result (items_of station.new.jobs.items ≡ items_of station.old.jobs.items
             ++ jobs_from self.old.session.connection self.old.session.next 0 (asked self.old.session.mode self.old.session.rest sent.now).deeds) }
         ensures fed { OnOk result (self.new.session.fed ≡ self.old.session.fed + length sent.now) }
         ensures tap { self.new.tap ≡ self.old.tap }
         ensures worker { station.new.worker ≡ station.old.worker }
     {
-        if !self.session.fits(sent.len())
-            || self.session.feed(sent, 0, &mut station.jobs).is_err()
-        {
-            return Err(Memory);
+        if !self.session.fits(sent.len()) {
+            return Err(HeldError::Invalid);
         }
-        Ok(())
+        match self.session.feed(sent, 0, &mut station.jobs) {
+            Ok(()) => Ok(()),
+            Err(SessionError::Ended) => Err(HeldError::Invalid),
+            Err(SessionError::Memory(memory)) => Err(HeldError::Memory(memory)),
+        }
     }
 
     /// Has its tap take in a piece of a connection of this worker's node, its own or another: at most so many of the bytes that wait.
@@ -92,10 +95,7 @@ impl<B: ServerName> Client<B> {
         ensures session { self.new.session ≡ self.old.session }
     {
         let node = station.worker().shared();
-        let Ok(taken) = node.take_piece(rt, conn, most) else {
-            return Err(Memory);
-        };
-        let Some((piece, token)) = taken else {
+        let Some((piece, token)) = node.take_piece(rt, conn, most)? else {
             return Ok(Offered::Nothing);
         };
         match self.tap.accept(node.log(), piece, token) {
@@ -106,7 +106,7 @@ impl<B: ServerName> Client<B> {
 
     /// Has its tap take in the last piece that a turn of its worker handed out, as if it were written at once. How many bytes there were. A turn that failed is
     /// an error.
-    pub fn take_in(&mut self, station: &Station<B>, mut turn: Turn<B>) -> Result<usize, Memory>
+    pub fn take_in(&mut self, station: &Station<B>, mut turn: Turn<B>) -> Result<usize, HeldError>
         requires { AreHandedOut turn.pieces.items turn.token }
         ensures written { IfOk result (λ count. self.new.tap.written ≡ self.old.tap.written + count) }
         ensures err { OnErr result (self.new.tap ≡ self.old.tap) }
@@ -122,7 +122,7 @@ impl<B: ServerName> Client<B> {
         };
         let log = station.worker().shared().log();
         if self.tap.accept(log, handed.piece, token).is_err() {
-            return Err(Memory);
+            return Err(HeldError::Invalid);
         }
         Ok(self.write())
     }

@@ -4,6 +4,7 @@
 
 pub use alone::Alone;
 pub use client::{Client, Offered};
+pub use error::HeldError;
 pub use letting_go::let_go;
 pub use single::Single;
 pub use station::{Station, Turn, stations};
@@ -11,6 +12,7 @@ pub use subscribed::Subscribed;
 
 mod alone;
 mod client;
+mod error;
 mod jobs;
 mod letting_go;
 mod single;

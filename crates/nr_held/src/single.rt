@@ -1,6 +1,7 @@
 // A server in one value, with one connection.
 ghost use Rattle.std.specs.Prelude.{◌≡◌, true, IfOk, OnErr};
 
+use crate::error::HeldError;
 use nr_blob::Memory;
 use nr_entry::ConnId;
 use nr_nodes::{Outcome, Setup, World};
@@ -29,16 +30,16 @@ impl Single {
         keys: RandomState,
         places: usize,
         limit: usize,
-    ) -> Result<Single, Memory>
+    ) -> Result<Single, HeldError>
         ensures setup { IfOk result (λ single. single.world.setup ≡ record { nodes = 1; places = places; workers = 1; connections = 1; queue_limit = limit }) }
     {
         let Some(setup) = Setup::new(1, places, 1, 1, limit) else {
-            return Err(Memory);
+            return Err(HeldError::Invalid);
         };
         let mut world = World::new(alloc, keys, setup)?;
         match world.open(0, 0)? {
             Outcome::Opened(conn) => Ok(Single { world, conn }),
-            _ => Err(Memory),
+            _ => Err(HeldError::Invalid),
         }
     }
 

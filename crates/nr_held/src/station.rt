@@ -9,6 +9,7 @@ ghost use Rattle.nr_held.specs.Pieces.{AreHandedOut};
 ghost use Rattle.nr_held.specs.Stations.{AreOfNodes, HasTurnedAt};
 
 use crate::client::Client;
+use crate::error::HeldError;
 use nr_blob::Memory;
 use nr_combiner::{
     Lifts, MOST_JOBS, OpenError, OpenedSlots, Plan, ServerName, Turned, Worker, build,
@@ -123,7 +124,7 @@ impl<B: ServerName> Station<B> {
 
     /// Hands in what was gathered as the worker's next batch. While the last one wasn't collected, or where these are more jobs than a batch has, that is an error,
     /// and they are lost.
-    pub fn post(&mut self) -> Result<(), Memory>
+    pub fn post(&mut self) -> Result<(), HeldError>
         ensures posted { OnOk result (HasPosted self.old.jobs.items self.old.worker self.new.worker) }
         ensures few { OnOk result (length self.old.jobs.items ≤ MOST_JOBS) }
         ensures err { OnErr result (self.new.worker ≡ self.old.worker) }
@@ -131,11 +132,11 @@ impl<B: ServerName> Station<B> {
     {
         let jobs = mem::replace(&mut self.jobs, Vec::new(self.alloc));
         if jobs.len() > MOST_JOBS {
-            return Err(Memory);
+            return Err(HeldError::Invalid);
         }
         match self.worker.post(jobs) {
             Ok(()) => Ok(()),
-            Err(_) => Err(Memory),
+            Err(_) => Err(HeldError::Invalid),
         }
     }
 
@@ -161,7 +162,7 @@ impl<B: ServerName> Station<B> {
 
     /// A turn of the worker, which takes the node's lock once, and lifts from the slots of all workers or from its own: at most so many bytes of each of its
     /// connections are handed out.
-    pub fn turn<R: Wait>(&mut self, rt: &R, lifts: Lifts, most: usize) -> Result<Turn<B>, Memory>
+    pub fn turn<R: Wait>(&mut self, rt: &R, lifts: Lifts, most: usize) -> Result<Turn<B>, HeldError>
         requires { 0 < most }
         ensures turned { IfOk result (λ turn. HasTurnedAt B.places self.old.worker lifts most turn.pieces.items turn.turned turn.token) }
         ensures handed { IfOk result (λ turn. AreHandedOut turn.pieces.items turn.token) }
@@ -172,7 +173,7 @@ impl<B: ServerName> Station<B> {
         let mut spares = Spares::new(self.alloc);
         let Some((turned, token)) = self.worker.turn(rt, lifts, most, &mut spares, &mut pieces)
         else {
-            return Err(Memory);
+            return Err(HeldError::Invalid);
         };
         Ok(Turn {
             turned,

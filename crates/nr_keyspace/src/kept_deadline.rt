@@ -32,8 +32,11 @@ impl KeptDeadline {
     {
         match deadline {
             None => Ok(KeptDeadline { moment: i64::MIN }),
-            Some(i64::MIN) => Err(Memory),
-            Some(moment) => Ok(KeptDeadline { moment }),
+            // The distance is 2^64 - 1 at the least number alone.
+            Some(moment) => match Memory::at_last(moment.abs_diff(i64::MAX)) {
+                Some(refused) => Err(refused),
+                None => Ok(KeptDeadline { moment }),
+            },
         }
     }
 

@@ -1,7 +1,6 @@
 -- What each call of a desk says in the words of what answers a service.
 use Rattle.std.proofs.Common.{◌≡◌, ℕ, inl, inr, Bool, true, false, cond, [], ◌∷◌, drop, Option, Some, None, refl, ap, sym, ◌∙◌, subst, eq-eqb, true≢false}
-use Rattle.std.specs.Prelude.{◌==◌, ◌&&◌, ◌≢◌, is_some}
-use Rattle.std.specs.Bool.{OnTrue, OnFalse}
+use Rattle.std.specs.Prelude.{◌==◌, ◌&&◌, ◌≢◌, is_some, Result, Ok, Err, OnOk, OnErr}
 use Rattle.std.specs.Option.{option_map}
 use Rattle.std.proofs.lemmas.Bool.{eqb-true, ne_eqb}
 use Rattle.nr_model.specs.Bytes.{Bytes}
@@ -96,8 +95,8 @@ open_takes v c is = elim v.down as (λ b. standings.Open ≡ cond b standings.Do
   ] e
 ] is
 
-pub is_fed : (is_whole : Bool) (v w : ServingState) (c : Connection) (time capped : ℕ) (bytes : Bytes) → standings.Open ≡ standing_of v c → capped ≡ moment time
-    → OnTrue is_whole (Feeds c.serial capped bytes v.desk w.desk) → OnFalse is_whole (Stops c.serial capped bytes v.desk w.desk)
+pub is_fed : {E : Type 0} (is_whole : Result (Unit {0}) E) (v w : ServingState) (c : Connection) (time capped : ℕ) (bytes : Bytes) → standings.Open ≡ standing_of v c → capped ≡ moment time
+    → OnOk is_whole (Feeds c.serial capped bytes v.desk w.desk) → OnErr is_whole (Stops c.serial capped bytes v.desk w.desk)
     → Goes (all_fed (record { connection = c; moment = capped; bytes = bytes })) v.desk w.desk
     → IsFed c time bytes (HasLedTo v) (HasLedTo w) (kept_at v) (kept_at w)
 is_fed is_whole v w c time capped bytes takes_it is feeds stops g =
@@ -110,11 +109,11 @@ is_fed is_whole v w c time capped bytes takes_it is feeds stops g =
           subst (λ (m : ℕ). HasLedTo w (going_on story (Fed (record { connection = c; moment = m; bytes = bytes }) ∷ []))) is
           (led_fed v w feeding there.0 story g (own_seat v.desk.worker.node v.desk.seats c here ∙ there.1) h);
       kept = elim is_whole as
-          (λ b. OnTrue b (Feeds c.serial capped bytes v.desk w.desk) → OnFalse b (Stops c.serial capped bytes v.desk w.desk)
+          (λ r. OnOk r (Feeds c.serial capped bytes v.desk w.desk) → OnErr r (Stops c.serial capped bytes v.desk w.desk)
           → (other : Connection) → kept_at w other ≡ kept_at v other) [
-            | true ↦ λ f s.
+            | Ok done ↦ λ f s.
                 same_kept v.desk w.desk c f.fed.was f.fed.is here (ap (λ (x : WorkState). x.worker.node) f.changed) f.fed.there f.fed.fed.pending f.fed.put
-            | false ↦ λ f s.
+            | Err error ↦ λ f s.
                 same_kept v.desk w.desk c s.stopped.was s.stopped.is here (ap (λ (x : WorkState). x.worker.node) s.changed) s.stopped.there
                 s.stopped.stopped.pending s.stopped.put
           ] feeds stops;

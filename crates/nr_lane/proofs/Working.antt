@@ -1,6 +1,6 @@
 -- What is done one behind the other is a work of the desk.
 use Rattle.std.proofs.Common.{◌≡◌, ℕ, Bool, true, false, cond, List, [], ◌∷◌, ◌++◌, Option, Some, None, refl, ap, sym, ◌∙◌, subst, append-nil, append_assoc}
-use Rattle.std.specs.Prelude.{IfSome, IfNone}
+use Rattle.std.specs.Prelude.{IfSome, IfNone, Result, Ok, Err, IfOk, OnErr}
 use Rattle.std.specs.Bool.{OnTrue, OnFalse}
 use Rattle.std.specs.Option.{option_map}
 use Rattle.nr_model.specs.Bytes.{Bytes}
@@ -103,11 +103,13 @@ works_none v w g seats node = record {
 pub works_still : (v w : WorkState) → Goes unchanged v w → w ≡ v → Works v w
 works_still v w g same = works_none v w g (ap (λ (x : WorkState). x.seats) same) (ap (λ (x : WorkState). x.worker.node) same)
 
-pub works_posted : (is_posted : Bool) (v w : WorkState) → OnTrue is_posted (HandsIn MOST_JOBS v w) → OnFalse is_posted (w ≡ v) → Goes unchanged v w → Works v w
-works_posted true v w posted same g =
+pub works_posted : {E : Type 0} (posted : Result Bool E) (v w : WorkState) → IfOk posted (λ is_posted. OnTrue is_posted (HandsIn MOST_JOBS v w))
+    → IfOk posted (λ is_posted. OnFalse is_posted (w ≡ v)) → OnErr posted (w ≡ v) → Goes unchanged v w → Works v w
+works_posted (Ok true) v w posted none same g =
     works_none v w g (ap (λ (x : WorkState). x.seats) posted.changed)
     (ap (λ (x : WorkState). x.worker.node) posted.changed ∙ ap (λ (x : WorkerState). x.node) posted.posted.posted)
-works_posted false v w posted same g = works_still v w g same
+works_posted (Ok false) v w posted none same g = works_still v w g none
+works_posted (Err error) v w posted none same g = works_still v w g same
 
 pub works_turned : {A : Type 0} (turned : Option A) (v w : WorkState) → IfSome turned (λ _. HandsOn v w) → IfNone turned (w ≡ v) → Works v w
 works_turned (Some turned) v w on same = record { handed = on.handed; goes = on.goes; waiting = on.waiting; node = ap (λ (x : WorkState). x.worker.node) on.changed }

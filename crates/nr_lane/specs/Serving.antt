@@ -1,10 +1,11 @@
 -- What contracts see of a worker's desk as what answers its service.
-use Rattle.std.specs.Prelude.{Bool, cond, refl}
+use Rattle.std.specs.Prelude.{Bool, not, ◌&&◌, ◌||◌, ◌==◌, cond, length, refl}
 use Rattle.std.specs.Coded.{Coded, code_by, coded×, coded_bool}
 use Rattle.nr_model.specs.Items.{Connection}
 use Rattle.nr_service.specs.Stories.{Kept}
 use Rattle.nr_service.specs.declared.answers.Standing.{Standing}
 use Rattle.nr_service.specs.declared.answers.Standing.TheVariants as standings
+use Rattle.nr_seats.specs.Placed.{are_written}
 use Rattle.nr_seats.specs.Portions.{waiting_of}
 use Rattle.nr_worker.specs.Working.{WorkState, coded_work, takes_from}
 
@@ -22,6 +23,10 @@ coded_serving =
 -- the bytes that wait for a connection that is open here
 abbrev pub kept_at : ServingState → Kept
 kept_at d c = waiting_of d.desk.worker.node d.desk.seats c
+
+-- nothing was left to be done when it worked last, no job waits and no answer does, and nothing waits to be written
+abbrev pub has_nothing_to_do : ServingState → Bool
+has_nothing_to_do d = not d.busy && not (d.desk.waiting || not (length d.desk.jobs == 0)) && are_written d.desk.seats
 
 -- how a connection stands
 abbrev pub standing_of : ServingState → Connection → Standing

@@ -18,14 +18,14 @@ pub struct Crew<K> {
     bells: K,
     nodes: usize,
     workers: usize,
-    connections: usize,
+    connections: u64,
     // Of each node, how many of its connections are open, or on their way to it.
-    taken: Vec<AtomicUsize>,
+    taken: Vec<AtomicU64>,
     // A bit for each node that is down, node 0's the lowest, and for each of them of which nobody heard yet.
     downs: AtomicU64,
     unheard: AtomicU64,
     // Of each node, how many of its connections were open as it fell.
-    fallen: Vec<AtomicUsize>,
+    fallen: Vec<AtomicU64>,
     serving: AtomicUsize,
     stops: AtomicBool,
     // All shall end in order, and how often something was passed on since.
@@ -36,15 +36,7 @@ pub struct Crew<K> {
 }
 
 // So many numbers that threads share, each 0.
-fn counts(alloc: Global, count: usize) -> Result<Vec<AtomicUsize>, Memory> {
-    let mut made = Vec::with_capacity(alloc, count)?;
-    for _ in 0..count {
-        made.push(AtomicUsize::new(0))?;
-    }
-    Ok(made)
-}
-
-fn long_counts(alloc: Global, count: usize) -> Result<Vec<AtomicU64>, Memory> {
+fn counts(alloc: Global, count: usize) -> Result<Vec<AtomicU64>, Memory> {
     let mut made = Vec::with_capacity(alloc, count)?;
     for _ in 0..count {
         made.push(AtomicU64::new(0))?;
@@ -66,12 +58,12 @@ impl<K: Rings> Crew<K> {
     {
         let taken = counts(alloc, nodes)?;
         let fallen = counts(alloc, nodes)?;
-        let rests = long_counts(alloc, nodes.saturating_mul(workers))?;
+        let rests = counts(alloc, nodes.saturating_mul(workers))?;
         Ok(Crew {
             bells,
             nodes,
             workers,
-            connections,
+            connections: connections as u64,
             taken,
             downs: AtomicU64::new(0),
             unheard: AtomicU64::new(0),
@@ -147,7 +139,7 @@ impl<K: Rings> Crew<K> {
         }
         self.unheard.fetch_and(!(1 << node), Ordering::SeqCst);
         let fallen = self.fallen.get(node)?;
-        Some(fallen.load(Ordering::SeqCst))
+        Some(fallen.load(Ordering::SeqCst) as usize)
     }
 
     /// Whether a node is known to be down.

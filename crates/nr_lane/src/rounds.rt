@@ -94,7 +94,7 @@ fn collect<R: Wait, B: ServerName>(desk: &mut Desk<'_, R, B>) -> Option<Settled>
 fn came_back(settled: Option<Settled>) -> bool {
     matches!(
         settled,
-        Some(Settled::HandedBack(Refusal::Memory | Refusal::Stranger | Refusal::WrongNumber))
+        Some(Settled::HandedBack(Refusal::Memory(_) | Refusal::Stranger | Refusal::WrongNumber))
     )
 }
 

@@ -6,6 +6,7 @@ ghost use Rattle.nr_combiner.specs.Workers.{fresh_worker, shared_of};
 ghost use Rattle.nr_service.specs.Stories.{beginning};
 ghost use Rattle.nr_worker.specs.Working.{without_mark};
 ghost use Rattle.nr_lane.specs.Led.{HasLedTo};
+ghost use Rattle.nr_lane.specs.Serving.{has_nothing_to_do};
 
 use crate::crew::Crew;
 use crate::news::News;
@@ -97,7 +98,9 @@ impl<'a, R: Wait, B: ServerName, K: Rings> ServingDesk<'a, R, B, K> {
     }
 
     // Whether nothing is left to be done, and nothing to be written. Linear in its connections, and asked only where all shall end in order.
-    fn has_nothing_to_do(&self) -> bool {
+    fn has_nothing_to_do(&self) -> bool
+        ensures { result ≡ has_nothing_to_do self.now }
+    {
         !self.is_busy && !self.desk.is_at_work() && self.desk.are_written()
     }
 
@@ -115,6 +118,7 @@ impl<'a, R: Wait, B: ServerName, K: Rings> Answers for ServingDesk<'a, R, B, K> 
     ghost use Rattle.nr_seats.specs.Portions.{seat_of};
     ghost use Rattle.nr_lane.specs.Led.{HasLedTo, IsAtRest};
     ghost use Rattle.nr_lane.specs.Serving.{kept_at, standing_of};
+    ghost use Rattle.nr_worker.specs.Working.{listens_to};
 
     ghost is_past = { HasLedTo };
 
@@ -139,6 +143,8 @@ impl<'a, R: Wait, B: ServerName, K: Rings> Answers for ServingDesk<'a, R, B, K> 
 
     ghost is_gone = { λ d c. seat_of d.desk.worker.node d.desk.seats c ≡ None };
 
+    ghost listens = { λ d c is_listening. is_listening ≡ listens_to c d.desk };
+
     /// A connection of its node. `None` where the node is down, has no room, or memory runs out. Where the number came from says nothing here.
     fn open(&mut self, _: u64) -> Result<Option<ConnId>, Memory> {
         if let Ok(conn) = self.desk.open() {
@@ -149,7 +155,7 @@ impl<'a, R: Wait, B: ServerName, K: Rings> Answers for ServingDesk<'a, R, B, K> 
     }
 
     /// The room that was taken for it as it was dealt out comes back.
-    fn turn_away(&mut self) -> Result<(), Memory> {
+    fn turn_away(&mut self, _: Memory) -> Result<(), Memory> {
         self.crew.leave(self.desk.node());
         Ok(())
     }

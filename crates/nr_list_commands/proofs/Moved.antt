@@ -65,7 +65,7 @@ module _ (old after_pop : Keyspace) (database : ℕ) (request : MoveRequest) (it
 
 nothing_refused : (failure : Failure) (P : Reply → Type 0) → IfRefused failure (λ _. ⊥) → IfRefused failure P
 nothing_refused (failures.Refused why) P never = absurd never
-nothing_refused failures.Memory P never = tt
+nothing_refused (failures.Memory _) P never = tt
 
 ended_by_memory : {T : Type 0} (after : T → Key → T) (r : Result code.Reply Failure) (new : Keyspace) (database : ℕ) (told : T) (done : Done)
     → IsErr r → IfErr r (λ failure. IfRefused failure (λ _. ⊥)) → Performs after r new database told told done

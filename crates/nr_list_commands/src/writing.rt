@@ -77,7 +77,7 @@ pub fn set<T: Touched>(
     let Some(list) = items_at(keyspace, now, database, name)? else {
         return Err(Failure::Refused(Refused::NoSuchKey));
     };
-    if list.get(index).is_none() {
+    if !list.has(index) {
         return Err(Failure::Refused(Refused::IndexOutOfRange));
     }
     let item = item.copy()?;

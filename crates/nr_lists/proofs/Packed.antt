@@ -1,7 +1,7 @@
 -- What bytes are read as once items are put in and taken out.
 use Rattle.std.proofs.Common.{◌≡◌, ℕ, ◌+◌, ◌<◌, ◌≤◌, subst, zero, suc, ◌-◌, Some, None, List, [], ◌∷◌, ◌++◌, length, take, drop, get_or, set, map, refl, ap, sym, ◌∙◌, arith, append-nil, append_assoc, length-append, zero-add, add_assoc}
 use Rattle.std.specs.List.{insert, slice_get}
-use Rattle.std.proofs.lemmas.List.{map-append, set_split, take_all, drop-take, drop-drop, take-take, take-append-drop, take-map, drop-map, take_at, drop_at, length-map, length-take, length-drop, drop_more, take_more, get_or_default, get_or-map}
+use Rattle.std.proofs.lemmas.List.{map-append, set_split, take_all, drop-take, drop-drop, take-take, take-append-drop, take-map, drop-map, take_at, drop_at, length-map, length-take, length-drop, drop_more, take_more, get_or_default, get_or-map, length-set}
 use Rattle.nr_model.specs.Bytes.{Bytes}
 use Rattle.nr_lists.specs.Packed.{joined, total, cut, lens_of, items_in, IsWhole}
 
@@ -95,6 +95,22 @@ module _ (lens : List ℕ) (bytes : Bytes) (xs : List Bytes) (holds : Holds lens
         ∙ sym (map-append length (take i xs) (x ∷ drop i xs));
     stored = (λ j. before_is i j ++ (x ++ behind_is i j)) ∙ sym (joined-append (take i xs) (x ∷ drop i xs));
   }
+
+  -- an item in the place of another
+  pub put_over : (i : ℕ) (x : Bytes) → i < length xs
+      → Holds (set lens i (length x)) (take (total (take i lens)) bytes ++ (x ++ drop (total (take (i + 1) lens)) bytes)) (set xs i x)
+  put_over i x within =
+      let next : suc i ≡ i + 1 = omega arith in
+      let parts : set xs i x ≡ take i xs ++ x ∷ drop (i + 1) xs = set_split xs i x within ∙ ap (λ n. take i xs ++ x ∷ drop n xs) next in
+      let many : length lens ≡ length xs = ap length holds.lengths ∙ length-map xs length in
+      let lens_parts : set lens i (length x) ≡ take i lens ++ length x ∷ drop (i + 1) lens =
+      set_split lens i (length x) (omega (arith, within, many)) ∙ ap (λ n. take i lens ++ length x ∷ drop n lens) next in
+      record {
+        lengths = lens_parts ∙ ap (λ ls. take i ls ++ length x ∷ drop (i + 1) ls) holds.lengths
+            ∙ (λ j. take-map length i xs j ++ length x ∷ drop-map length (i + 1) xs j)
+            ∙ sym (map-append length (take i xs) (x ∷ drop (i + 1) xs)) ∙ ap (map length) (sym parts);
+        stored = (λ j. before_is i j ++ (x ++ behind_is (i + 1) j)) ∙ sym (joined-append (take i xs) (x ∷ drop (i + 1) xs)) ∙ ap joined (sym parts);
+      }
 
   -- items taken out
   pub taken_out : (i j : ℕ) → Holds (take i lens ++ drop j lens) (take (total (take i lens)) bytes ++ drop (total (take j lens)) bytes) (take i xs ++ drop j xs)
@@ -257,8 +273,25 @@ put_into lens stand more bytes all item place start whole within are at lens_are
     let some : 0 < length ys = omega (arith, length-append (take place xs) (item ∷ drop place xs)) in
     (whole_items more all ys some holds, read_items more all ys some holds)
 
+-- an item in the place of another
+pub put_over_at : (lens stand more : List ℕ) (bytes whole_bytes item : Bytes) (place start end : ℕ) → IsWhole lens bytes → place < length (items_in lens bytes)
+    → stand ≡ lens_of lens (length bytes) → start ≡ total (take place stand) → end ≡ total (take (place + 1) stand) → more ≡ set stand place (length item)
+    → whole_bytes ≡ take start bytes ++ (item ++ drop end bytes)
+    → IsWhole more whole_bytes × (items_in more whole_bytes ≡ set (items_in lens bytes) place item)
+put_over_at lens stand more bytes all item place start end whole within are at till lens_are bytes_are =
+    let xs = items_in lens bytes in
+    let held = put_over stand bytes xs (subst (λ (ls : List ℕ). Holds ls bytes xs) (sym are) (holds_items lens bytes whole)) place item within in
+    let ys = set xs place item in
+    let holds : Holds more all ys = subst (λ (pair : List ℕ × Bytes). Holds pair.0 pair.1 ys)
+    (λ i. (sym lens_are i, sym (bytes_are ∙ (λ j. take (at j) bytes ++ (item ++ drop (till j) bytes))) i)) held in
+    let some : 0 < length ys = omega (arith, within, length-set xs place item) in
+    (whole_items more all ys some holds, read_items more all ys some holds)
+
 pub stand_within : (lens stand : List ℕ) (bytes : Bytes) (place : ℕ) → place ≤ length (items_in lens bytes) → stand ≡ lens_of lens (length bytes) → place ≤ length stand
 stand_within lens stand bytes place within are = omega (arith, within, many_items lens bytes, ap length are)
+
+pub stand_below : (lens stand : List ℕ) (bytes : Bytes) (place : ℕ) → place < length (items_in lens bytes) → stand ≡ lens_of lens (length bytes) → place < length stand
+stand_below lens stand bytes place within are = omega (arith, within, many_items lens bytes, ap length are)
 
 pub total_grows : (lens : List ℕ) (i j from to : ℕ) → i ≤ j → from ≡ total (take i lens) → to ≡ total (take j lens) → from ≤ to
 total_grows lens i j from to order at till = omega (arith, at, till, total_split i (take j lens), ap total (take-take i j lens order))
@@ -304,19 +337,6 @@ last_of_all first last block rest left blocks others none are is =
     ap (λ ys. first ++ (joined blocks ++ ys)) none ∙ ap (λ ys. first ++ ys) (append-nil (joined blocks) ∙ ap joined are ∙ joined-append others (block ∷ [])
     ∙ ap (λ ys. joined others ++ ys) (append-nil block ∙ is) ∙ sym (append_assoc (joined others) rest left))
     ∙ sym (append_assoc first (joined others ++ rest) left)
-
--- an item in the place of another
-pub replaced : {A : Type 0} (xs : List A) (i : ℕ) (x : A) → i < length xs → take (i + 1) (insert xs i x) ++ drop (i + 2) (insert xs i x) ≡ set xs i x
-replaced xs i x within =
-    let front : length (take i xs) ≡ i = omega (arith, within, length-take i xs) in
-    let first : length (take i xs ++ x ∷ []) ≡ i + 1 = omega (arith, front, length-append (take i xs) (x ∷ [])) in
-    let apart : insert xs i x ≡ (take i xs ++ x ∷ []) ++ drop i xs = sym (append_assoc (take i xs) (x ∷ []) (drop i xs)) in
-    let less : drop (i + 2) (insert xs i x) ≡ drop (suc i) xs =
-    let sum : i + 2 ≡ (i + 1) + 1 = omega arith in let next : i + 1 ≡ suc i = omega arith in
-    ap (λ n. drop n (insert xs i x)) sum ∙ sym (drop-drop 1 (i + 1) (insert xs i x)) ∙ ap (drop 1) (ap (drop (i + 1)) apart ∙ drop_at (take i xs ++ x ∷ []) (drop i xs) (i + 1) first)
-    ∙ drop-drop 1 i xs ∙ ap (λ n. drop n xs) next in
-    (λ j. (ap (take (i + 1)) apart ∙ take_at (take i xs ++ x ∷ []) (drop i xs) (i + 1) first) j ++ less j)
-    ∙ append_assoc (take i xs) (x ∷ []) (drop (suc i) xs) ∙ sym (set_split xs i x within)
 
 -- how many bytes items have
 pub bytes_are : (lens : List ℕ) (bytes : Bytes) (items : List Bytes) → IsWhole lens bytes → items_in lens bytes ≡ items → length bytes ≡ length (joined items)

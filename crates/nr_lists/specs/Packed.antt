@@ -33,4 +33,4 @@ pub record IsWhole (lens : List ℕ) (bytes : Bytes) : Type 0 where
 -- whether an item is short enough, and the items of a block few and short enough, for it to be put in with them
 abbrev pub has_room : ℕ → ℕ → ℕ → Bool
 has_room items bytes item =
-    nat_le item 1024 && (nat_lt items 64 && nat_le bytes (if nat_le items 1 then 1024 else 3072))
+    nat_le item 1024 && (nat_lt items 256 && nat_le bytes (if nat_le items 1 then 1024 else 4096))

@@ -1,5 +1,5 @@
 // A block of a list: a few short items in one piece of bytes, or one item of any length.
-ghost use Rattle.std.specs.Prelude.{◌≡◌, ℕ, ◌≤◌, ◌<◌, ◌+◌, ◌-◌, ◌^◌, ◌++◌, [], ◌∷◌, length, take, drop, slice_get, slice_set, slice_index_or, Some, IfOk, OnOk, OnErr, IsTrue, if◌then◌else◌};
+ghost use Rattle.std.specs.Prelude.{◌≡◌, ℕ, ◌≤◌, ◌<◌, ◌+◌, ◌-◌, ◌^◌, ◌++◌, [], ◌∷◌, length, take, drop, slice_get, slice_set, slice_index_or, Some, IfOk, OnOk, OnErr, IsTrue, if◌then◌else◌, IsSome};
 ghost use Rattle.std.specs.List.{insert};
 ghost use Rattle.std.specs.Option.{option_map};
 ghost use Rattle.nr_model.specs.Bytes.{Bytes};
@@ -16,10 +16,10 @@ use std::marker::Model;
 pub(crate) const MOST_LEN: usize = 1024;
 
 /// The most bytes of a block that one more item is put in with.
-const MOST_BYTES: usize = 3072;
+const MOST_BYTES: usize = 4096;
 
 /// The most items in a block: what a call costs is bounded by these three.
-const MOST_ITEMS: usize = 64;
+const MOST_ITEMS: usize = 256;
 
 /// One item or more. They are seen as a list of byte lists.
 #[derive(Debug, Drop)]
@@ -91,8 +91,8 @@ impl Block {
         Ok(true)
     }
 
-    /// Puts an item in the place of another, and says whether it was done: a block with no room for it stays as it is. Linear in the items and
-    /// the bytes of the block. Where memory runs out nothing is changed.
+    /// Puts an item in the place of another, and says whether it was done: a block with no room for it stays as it is. Linear in the items, and
+    /// in the item where the other has as many bytes, else in the bytes of the block. Where memory runs out nothing is changed.
     pub(crate) fn replace(&mut self, place: usize, item: &[u8]) -> Result<bool, Memory>
         requires { place < length self.old }
         ensures ok { IfOk result (λ done. self.new ≡ (if done then slice_set self.old place item.now else self.old)) }
@@ -102,8 +102,7 @@ impl Block {
         if !has_room(self.len() - 1, self.bytes.len(), item.len()) {
             return Ok(false);
         }
-        put_in(&mut self.lens, &mut self.bytes, place, item)?;
-        take_out(&mut self.lens, &mut self.bytes, place + 1, place + 2);
+        put_over(&mut self.lens, &mut self.bytes, place, item)?;
         Ok(true)
     }
 
@@ -204,11 +203,10 @@ impl Block {
 
 // The bytes of an item once more, which is there.
 fn copy_of(alloc: Global, item: Option<&[u8]>) -> Result<Blob, Memory>
+    requires { IsSome item }
     ensures { IfOk result (λ copied. option_map (λ item. item.now) item.entry ≡ Some copied) }
 {
-    let Some(item) = item else {
-        return Err(Memory);
-    };
+    let Some(item) = item else { unreachable!() };
     Ok(Blob::from_slice(alloc, item)?)
 }
 
@@ -310,6 +308,30 @@ fn put_in(lens: &mut Vec<u16>, bytes: &mut Buffer, place: usize, item: &[u8]) ->
     let start = offset(lens, bytes.len(), place);
     bytes.insert(start, item)?;
     lens.insert(place, item.len() as u16)?;
+    Ok(())
+}
+
+// Puts an item in the place of another.
+fn put_over(
+    lens: &mut Vec<u16>,
+    bytes: &mut Buffer,
+    place: usize,
+    item: &[u8],
+) -> Result<(), Memory>
+    requires whole { IsWhole lens.old.items bytes.old }
+    requires place { place < length (items_in lens.old.items bytes.old) }
+    requires counted { place + 1 < 2 ^ 64 }
+    requires short { length item.now < 2 ^ 16 }
+    requires few { length bytes.old < 2 ^ 16 }
+    ensures whole { IsWhole lens.new.items bytes.new }
+    ensures ok { OnOk result (items_in lens.new.items bytes.new ≡ slice_set (items_in lens.old.items bytes.old) place item.now) }
+    ensures err { OnErr result (items_in lens.new.items bytes.new ≡ items_in lens.old.items bytes.old) }
+{
+    write_out(lens, bytes.len())?;
+    let start = offset(lens, bytes.len(), place);
+    let end = offset(lens, bytes.len(), place + 1);
+    bytes.replace(start, end, item)?;
+    lens[place] = item.len() as u16;
     Ok(())
 }
 

@@ -69,6 +69,25 @@ impl Buffer {
         Ok(())
     }
 
+    /// Puts bytes in the place of those of a range. Linear in them where these are as many, else in all bytes. Where memory runs out nothing is
+    /// changed.
+    pub(crate) fn replace(&mut self, start: usize, end: usize, item: &[u8]) -> Result<(), Memory>
+        requires range { start ≤ end }
+        requires within { end ≤ length self.old }
+        ensures ok { OnOk result (self.new ≡ take start self.old ++ (item.now ++ drop end self.old)) }
+        ensures err { OnErr result (self.new ≡ self.old) }
+    {
+        if item.len() == end - start {
+            write(&mut self.bytes, self.start + start, item);
+            return Ok(());
+        }
+        let held = self.bytes();
+        let bytes = joined(*self.bytes.allocator(), &held[..start], item, &held[end..])?;
+        self.bytes = bytes;
+        self.start = 0;
+        Ok(())
+    }
+
     /// Takes the bytes of a range out. Constant at an end, and linear in the bytes behind them elsewhere.
     pub(crate) fn remove(&mut self, start: usize, end: usize)
         requires range { start ≤ end }

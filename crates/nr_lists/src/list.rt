@@ -14,9 +14,6 @@ use std::alloc::Global;
 use std::collections::VecDeque;
 use std::marker::Model;
 
-/// The least number of items that a list can't have.
-const PAST_LEN: usize = 1 << 63;
-
 /// A list, as a key holds it, in blocks of a few items each. It is seen as a list of byte lists. To drop it is linear in its blocks.
 #[derive(Debug, Drop)]
 pub struct List {
@@ -68,11 +65,9 @@ impl List {
         ensures ok { OnOk result (self.new ≡ pushed end item self.old) }
         ensures err { OnErr result (self.new ≡ self.old) }
     {
-        if self.len + 1 >= PAST_LEN {
-            return Err(Memory);
-        }
+        let len = one_more(self.len)?;
         blocks::push(&mut self.blocks, end, item)?;
-        self.len += 1;
+        self.len = len;
         Ok(())
     }
 
@@ -98,6 +93,13 @@ impl List {
         let place = place(self.len, index)?;
         let (block, place) = blocks::find(&self.blocks, self.len, place);
         self.blocks[block].get(place)
+    }
+
+    /// Whether there is an item at an index; an index below 0 counts from the end. Constant.
+    pub fn has(&self, index: i64) -> bool
+        ensures { result ≡ is_some (item_at index self.now) }
+    {
+        place(self.len, index).is_some()
     }
 
     /// Puts an item in the place of the one at an index, and says whether there is one; an index below 0 counts from the end. Linear in the
@@ -157,12 +159,10 @@ impl List {
         let Some(place) = matches::pivot(&self.blocks, self.len, pivot) else {
             return Ok(false);
         };
-        if self.len + 1 >= PAST_LEN {
-            return Err(Memory);
-        }
+        let len = one_more(self.len)?;
         let (block, place) = blocks::find(&self.blocks, self.len, place);
         blocks::insert(&mut self.blocks, block, beside(side, place), item)?;
-        self.len += 1;
+        self.len = len;
         Ok(true)
     }
 
@@ -215,5 +215,17 @@ fn beside(side: Side, place: usize) -> usize
     match side {
         Side::Before => place,
         Side::After => place + 1,
+    }
+}
+
+// How many items there are with one more, refused from 2^63 on.
+fn one_more(len: usize) -> Result<usize, Memory>
+    requires { len < 2 ^ 63 }
+    ensures { IfOk result (λ more. (more ≡ len + 1) × (more < 2 ^ 63)) }
+{
+    let more = len + 1;
+    match Memory::at_last((more as u64).saturating_mul(2)) {
+        Some(refused) => Err(refused),
+        None => Ok(more),
     }
 }

@@ -1,7 +1,7 @@
 // One node's end of the log.
 ghost use Rattle.std.specs.Prelude.{◌≡◌, ◌≤◌, ◌∷◌, ◌++◌, [], IfSome, IfNone, IsSome, None, slice_index_or};
 ghost use Rattle.std.specs.Arc.{arc_value};
-ghost use Rattle.nr_log_end.specs.Standings.{LooksOn, IsSharesFor, IsAllFilled, StandsInLog, filled_for, fetched_with, passed_on, noted_with, opened_with, AreNextReads};
+ghost use Rattle.nr_log_end.specs.Standings.{LooksOn, IsSharesFor, IsAllFilled, StandsInLog, filled_for, fetched_with, passed_of, passed_on, noted_with, opened_with, AreNextReads};
 ghost use Rattle.nr_log_end.specs.Reserves.{IfTaken, IfFull, IfLost};
 ghost use Rattle.nr_log_end.specs.Tries.{IsTaken, IsFull, IsLost};
 
@@ -25,7 +25,7 @@ pub trait LogEnd {
 
     ghost kept_by: { Self.Token → Standing };
 
-    /// The loads of the tail and of passed counts that an end has made, in order.
+    /// The loads that an end has made, in order: of the tail, of passed counts, and of its next cell where that wasn't filled.
     ghost looks: { Self → List Look };
 
     /// How many places the log has.
@@ -52,7 +52,8 @@ pub trait LogEnd {
         ensures some { IfSome result (λ entry. standing self.new ≡ fetched_with (arc_value entry) (standing self.old)) }
         ensures none { IfNone result (standing self.new ≡ standing self.old) }
         ensures in_log { StandsInLog (standing self.new) }
-        ensures looks { looks self.new ≡ looks self.old };
+        ensures looks_some { IfSome result (λ _. looks self.new ≡ looks self.old) }
+        ensures looks_none { IfNone result (looks self.new ≡ looks self.old ++ Look.Unfilled (passed_of (standing self.old)) ∷ []) };
 
     /// Passes the entry that was fetched last. Its place may be reserved again once all nodes passed it.
     fn pass(&mut self)

@@ -18,6 +18,8 @@ pub enum Look {
     Tail(u64),
     /// The count of entries that a node has passed.
     Passed(u64, u64),
+    /// The cell of the entry of this number, the next one that the node has to pass, in which it found nothing.
+    Unfilled(u64),
 }
 
 /// How a node stands to the log: what its seat has met of it, and done. No value of it is made: contracts alone speak of it.

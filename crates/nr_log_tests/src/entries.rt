@@ -4,7 +4,7 @@ ghost use Rattle.nr_log_end.specs.Reserves.{IfTaken, IfFull, IfLost};
 ghost use Rattle.nr_log_tests.specs.Ready.{IsReady, IsFresh, IsOfNode};
 
 use nr_blob::Memory;
-use nr_entry::{ConnId, Entry, Job, JobKind, Shares, Update};
+use nr_entry::{ConnId, Entry, Job, JobKind, Shares, Unshared, Update};
 use nr_log_end::{LogEnd, Reserve};
 use nr_oplog::{End, LogName};
 use std::alloc::Global;
@@ -21,9 +21,9 @@ pub(crate) fn shares(
 {
     let mut jobs = Vec::with_capacity(alloc, 1)?;
     jobs.push(close(node, number))?;
-    match Shares::of(alloc, Entry::new(node, jobs), nodes) {
+    match Shares::of(alloc, Unshared::Whole(Entry::new(node, jobs)), nodes) {
         Ok(shares) => Ok(shares),
-        Err(_) => Err(Memory),
+        Err((_, refused)) => Err(refused),
     }
 }
 

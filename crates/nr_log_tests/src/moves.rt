@@ -51,10 +51,7 @@ pub(crate) fn play(
     ensures { IfOk result (λ outcomes. length outcomes.items ≡ length moves.now) }
 {
     let opened = Opened::open(alloc, nodes, places)?;
-    match play_named::<Brand>(alloc, opened, moves) {
-        Ok(outcomes) => Ok(outcomes),
-        Err(Memory) => Err(OpenError::Memory),
-    }
+    Ok(play_named::<Brand>(alloc, opened, moves)?)
 }
 
 fn play_named<B: LogName>(

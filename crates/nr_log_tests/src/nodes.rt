@@ -28,9 +28,7 @@ fn ends<B: LogName>(
     ensures { IfOk result (λ all. length all.items ≡ B.nodes) }
 {
     let nodes = log.nodes();
-    let Ok(log) = Arc::new(alloc, log) else {
-        return Err(Memory);
-    };
+    let log = Arc::new(alloc, log)?;
     let mut all = Vec::with_capacity(alloc, nodes)?;
     while let Some(seat) = seats.pop() {
         let node = seats.len();

@@ -20,21 +20,22 @@ use std::hash::RandomState;
 use std::marker::Model;
 
 /// One sequential Redis: its keys, and what it remembers of connections. Once memory ran out in an update it has failed, and refuses
-/// everything from then on.
+/// everything from then on, each time by that refusal.
 #[derive(Drop)]
 pub struct Machine {
     state: State,
-    has_failed: bool,
+    failed: Option<Memory>,
 }
 
 impl Model for Machine {
+    ghost use Rattle.std.specs.Prelude.{is_some};
     ghost use Rattle.nr_machine.specs.Machines.{MachineState, coded_machine};
 
     ghost Value = { MachineState };
 
     ghost coded = { coded_machine };
 
-    ghost view = { λ m. record { state = m.state; failed = m.has_failed } };
+    ghost view = { λ m. record { state = m.state; failed = is_some m.failed } };
 }
 
 impl Machine {
@@ -44,7 +45,7 @@ impl Machine {
     {
         Ok(Machine {
             state: State::new(alloc, keys)?,
-            has_failed: false,
+            failed: None,
         })
     }
 
@@ -54,7 +55,7 @@ impl Machine {
     {
         Ok(Machine {
             state: self.state.copy()?,
-            has_failed: self.has_failed,
+            failed: self.failed,
         })
     }
 
@@ -77,14 +78,29 @@ impl Machine {
         ensures failed { OnErr result (self.new.failed ≡ true) }
         ensures repeats { self.old.failed ≡ true → IsErr result }
     {
-        if self.has_failed {
-            return Err(Memory);
+        if let Some(refused) = self.failed {
+            return Err(refused);
         }
-        self.has_failed = true;
+        match self.apply_each(entry, node, out) {
+            Ok(()) => Ok(()),
+            Err(refused) => {
+                self.failed = Some(refused);
+                Err(refused)
+            }
+        }
+    }
+
+    // An entry's updates, one after the other.
+    fn apply_each<S: Sink>(&mut self, entry: &Entry, node: usize, out: &mut S) -> Result<(), Memory>
+        ensures applied { OnOk result (self.new ≡ record { state = after_all self.old.state (entry_items (items_of entry.now.jobs.items)); failed = self.old.failed }) }
+        ensures emitted { OnOk result (out.new
+            ≡ all_after S.after out.old (for_node node (emitted_all self.old.state (entry_items (items_of entry.now.jobs.items))))) }
+        ensures partly { OnErr result ((n : ℕ) × (out.new
+            ≡ all_after S.after out.old (take n (for_node node (emitted_all self.old.state (entry_items (items_of entry.now.jobs.items))))))) }
+    {
         for job in &entry.jobs {
             self.apply_job(job, entry.moment, node, out)?;
         }
-        self.has_failed = false;
         Ok(())
     }
 
@@ -128,8 +144,8 @@ impl Machine {
         ensures unchanged { OnErr result (out.new ≡ out.old) }
         ensures repeats { self.now.failed ≡ true → IsErr result }
     {
-        if self.has_failed {
-            return Err(Memory);
+        if let Some(refused) = self.failed {
+            return Err(refused);
         }
         let now = cmp::max(now, self.state.logged);
         self.state.read(now, conn, read, out)?;

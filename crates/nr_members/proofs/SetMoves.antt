@@ -92,7 +92,7 @@ not_refused : (failure : Failure) (old new : Keyspace) (effect : Effect) (n : �
     → IfRefused failure (λ error. (effect ≡ unchanged old error) × (new ≡ old)) → IfRefused failure Q
 not_refused (failures.Refused why) old new effect n Q reply refused =
     absurd (let never : Int n ≡ Error (refusal_text why) = sym reply ∙ ap (λ (e : Effect). e.reply) refused.0 in cc never)
-not_refused failures.Memory old new effect n Q reply refused = tt
+not_refused (failures.Memory _) old new effect n Q reply refused = tt
 
 module _ (old : Keyspace) (database : ℕ) (source member : Bytes) (held : model.Members) (at : members_at old database source ≡ Ok (Some held)) where
   is_taken : (words : List Bytes) → words ≡ member ∷ [] → sets.remove old database (source ∷ words) ≡ sets.changed old (key_of database source) (set.remove held member) (set.len held - set.len (set.remove held member))

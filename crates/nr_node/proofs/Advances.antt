@@ -1,6 +1,6 @@
 -- A node goes on by entries, one after the other.
 use Rattle.std.proofs.Common.{◌≡◌, ℕ, ◌<◌, ◌≤◌, ◌+◌, ◌-◌, inl, inr, Bool, true, false, List, [], ◌∷◌, ◌++◌, length, map, refl, ap, sym, ◌∙◌, subst, arith, append_assoc}
-use Rattle.std.specs.Prelude.{◌≢◌, ◌⊎◌, ◌==◌, cond, Option, None}
+use Rattle.std.specs.Prelude.{◌≢◌, ◌⊎◌, ◌==◌, cond, Option, Some, None}
 use Rattle.std.proofs.lemmas.Bool.{cases_Bool}
 use Rattle.std.proofs.lemmas.List.{append-nil, length-append, map-append}
 use Rattle.nr_model.specs.Bytes.{IsBeginningOf}
@@ -13,7 +13,7 @@ use Rattle.nr_entry.specs.declared.entry.Entry.{Entry}
 use Rattle.nr_entry.specs.declared.job.Job.{Job}
 use Rattle.nr_log_end.specs.declared.standing.Standing.{Standing}
 use Rattle.nr_log_end.specs.declared.standing.Look.{Look}
-use Rattle.nr_log_end.specs.declared.standing.Look.TheVariants.{Tail}
+use Rattle.nr_log_end.specs.declared.standing.Look.TheVariants.{Tail, Unfilled}
 use Rattle.nr_log_end.specs.declared.standing.Turn.{Turn}
 use Rattle.nr_log_end.specs.declared.standing.Turn.TheVariants.{Applied}
 use Rattle.nr_log_end.specs.Standings.{record_of, applied_of, passed_of, StandsInLog, LooksOn, fetched_with, passed_on}
@@ -21,12 +21,14 @@ use Rattle.nr_oplog.specs.declared.view.LogView.{LogView}
 use Rattle.nr_accounts.specs.Book.{Book, without_ended}
 use Rattle.nr_accounts.proofs.Steps.{closed-append}
 use Rattle.nr_replica.specs.Members.{worker_of}
+use Rattle.nr_replica.specs.declared.fall.Fall.{Fall}
+use Rattle.nr_replica.specs.declared.fall.Fall.TheVariants.{Refused}
 use Rattle.nr_replica.specs.Replicas.{ReplicaState, IsApplied, owed_from}
 use Rattle.nr_node.specs.declared.next.Next.{Next}
 use Rattle.nr_node.specs.Level.{unpassed, jobs_reserved, IsInOrder}
 use Rattle.nr_node.specs.Next.{jobs_next}
 use Rattle.nr_node.specs.Owing.{IsOwing, awaited, unexecuted}
-use Rattle.nr_node.specs.Advanced.{IsTakenIn, HasPassed, GoesOn, HasClosed, HaveGot, jobs_of_own, jobs_of_all}
+use Rattle.nr_node.specs.Advanced.{IsTakenIn, HasPassed, GoesOn, HasClosed, HaveGot, MeetsNoTail, HasStopped, jobs_of_own, jobs_of_all}
 use Rattle.nr_node.proofs.Lists.{record-append, applied-append, still_in_log, reserved_passed}
 use Rattle.nr_node.proofs.Queues.{delivered_length}
 use Rattle.nr_node.proofs.Levels.{passed_level, same_level}
@@ -85,6 +87,7 @@ goes_none s replica next book = record {
   refused = λ up. refl;
   up = λ up. (up, refl, refl);
   fell = λ up down. absurd (apart replica.down up down);
+  cause = λ up down. absurd (apart replica.down up down);
   still = λ _. (refl, refl);
   after_is = inr refl;
 }
@@ -147,6 +150,10 @@ goes_then es fs s t u a b c n m k x y z first last = record {
         )
     | inr on ↦ let by = last.fell on down in (some_last es fs by.0, by.1, by.2, by.3)
   ];
+  cause = λ up down is. elim (cases_Bool b.down) [
+    | inl gone ↦ first.cause up gone (sym (ap (λ (r : ReplicaState). r.fell) (last.still gone).0) ∙ is)
+    | inr on ↦ sym (first.refused on) ∙ last.cause on down is
+  ];
   still = λ down.
       let same = first.still down in
       let later = last.still (ap (λ (r : ReplicaState). r.down) same.0 ∙ down) in
@@ -156,6 +163,9 @@ goes_then es fs s t u a b c n m k x y z first last = record {
     | inr same ↦ elim first.after_is [ inl none ↦ inl (same ∙ none) | inr first_same ↦ inr (same ∙ first_same) ]
   ];
 }
+
+same_some : (fall other : Fall) → Some fall ≡ Some other → fall ≡ other
+same_some fall other is = ap (λ (o : Option Fall). elim o as (λ _. Fall) [ None ↦ fall | Some x ↦ x ]) is
 
 -- what an entry leaves
 record Leaves (old new : ReplicaState) : Type 0 where
@@ -167,6 +177,7 @@ record Leaves (old new : ReplicaState) : Type 0 where
   pub up : new.down ≡ false → (old.down ≡ false) × (new.waiting ≡ old.waiting)
   pub waits : (new.waiting ≡ []) ⊎ (new.waiting ≡ old.waiting)
   pub fell : old.down ≡ false → new.down ≡ true → (new.waiting ≡ []) × (new.server ≡ fresh)
+  pub cause : old.down ≡ false → new.down ≡ true → new.fell ≡ Some Refused → old.refused ≡ true
   pub still : old.down ≡ true → new ≡ old
 
 leaves : (e : Entry) (old new : ReplicaState) → IsTakenIn e old new → Leaves old new
@@ -180,6 +191,7 @@ leaves e old new taken = elim taken [
     up = λ up. absurd (cc (up, ap (λ (r : ReplicaState). r.down) down.1, down.0));
     waits = inr (ap (λ (r : ReplicaState). r.waiting) down.1);
     fell = λ up _. absurd (apart old.down up down.0);
+    cause = λ up _. absurd (apart old.down up down.0);
     still = λ _. down.1;
   }
   | inr up ↦ elim up.1 [
@@ -194,9 +206,10 @@ leaves e old new taken = elim taken [
           up = λ _. (up.0, waiting);
           waits = inr waiting;
           fell = λ _ gone. absurd (apart new.down (ap (λ (r : ReplicaState). r.down) applied.state ∙ up.0) gone);
+          cause = λ _ gone. absurd (apart new.down (ap (λ (r : ReplicaState). r.down) applied.state ∙ up.0) gone);
           still = λ gone. absurd (apart old.down up.0 gone);
         }
-    | inr fell ↦ record {
+    | inr falls ↦ let fell = falls.1 in record {
       members = ap (λ (r : ReplicaState). length r.members) fell;
       workers = λ c. ap (λ (r : ReplicaState). worker_of r.members c) fell;
       owed = ap (λ (r : ReplicaState). awaited r.owed) fell;
@@ -205,6 +218,7 @@ leaves e old new taken = elim taken [
       up = λ up. absurd (cc (up, ap (λ (r : ReplicaState). r.down) fell));
       waits = inl (ap (λ (r : ReplicaState). r.waiting) fell);
       fell = λ _ _. (ap (λ (r : ReplicaState). r.waiting) fell, ap (λ (r : ReplicaState). r.server) fell);
+      cause = λ _ _ is. falls.2 (same_some falls.0 Refused (sym (ap (λ (r : ReplicaState). r.fell) fell) ∙ is));
       still = λ gone. absurd (apart old.down up.0 gone);
     }
   ]
@@ -250,7 +264,7 @@ owing_taken s t e old new next after t_is stands node taken same is_up o = elim 
   | inl down ↦ absurd (cc (is_up, ap (λ (r : ReplicaState). r.down) down.1, down.0))
   | inr up ↦ elim up.1 [
     | inl applied ↦ owing_kept s t e old new next after t_is stands node applied same o
-    | inr fell ↦ absurd (cc (is_up, ap (λ (r : ReplicaState). r.down) fell))
+    | inr falls ↦ absurd (cc (is_up, ap (λ (r : ReplicaState). r.down) falls.1))
   ]
 ]
 
@@ -305,6 +319,7 @@ goes_by_entry s held t e old new next after book later idle fetched passed stand
       refused = l.refused;
       up = λ up. ((l.up up).0, same up, (l.up up).1);
       fell = λ up down. let by = l.fell up down in (λ none_is. absurd (cc none_is), by.0, none down, by.1);
+      cause = l.cause;
       still = λ down. let same_replica = l.still down in (same_replica, stays (ap (λ (r : ReplicaState). r.down) same_replica ∙ down));
       after_is = after_by new.down next after none same;
     }
@@ -336,6 +351,7 @@ goes_tail s t replica next book looks = record {
   refused = λ up. refl;
   up = λ up. (up, refl, refl);
   fell = λ up down. absurd (apart replica.down up down);
+  cause = λ up down. absurd (apart replica.down up down);
   still = λ _. (refl, refl);
   after_is = inr refl;
 }
@@ -350,11 +366,40 @@ pub log_further : (b : Bool) (s t : Standing) → (b ≡ true → StandsInLog t)
 log_further true s t more none stands = more refl
 log_further false s t more none stands = subst StandsInLog (sym (none refl)) stands
 
+-- looks behind looks
+pub more_looks : (a b c : List Look) → (more : List Look) × (b ≡ a ++ more) → (more : List Look) × (c ≡ b ++ more) → (more : List Look) × (c ≡ a ++ more)
+more_looks a b c first last =
+    (first.0 ++ last.0, last.1 ∙ ap (λ (ls : List Look). ls ++ last.0) first.1 ∙ append_assoc a first.0 last.0)
+
+-- it made no look, or one
+pub no_looks : (v w : LogView) → w.standing.seen ≡ v.standing.seen → w.looks ≡ v.looks → MeetsNoTail v w
+no_looks v w seen looks = (seen, ([], looks ∙ sym (append-nil v.looks)))
+
+pub one_look : (v w : LogView) (look : Look) → w.standing.seen ≡ v.standing.seen → w.looks ≡ v.looks ++ look ∷ [] → MeetsNoTail v w
+one_look v w look seen looks = (seen, (look ∷ [], looks))
+
+-- it found the next cell empty
+pub found_none : (v w : LogView) (replica : ReplicaState) → w.standing ≡ v.standing → w.looks ≡ v.looks ++ Unfilled (passed_of v.standing) ∷ []
+    → HasStopped v.looks w replica
+found_none v w replica same looks =
+    inr ([], looks ∙ ap (λ (s : Standing). v.looks ++ Unfilled (passed_of s) ∷ []) (sym same))
+
+-- what came before is no matter
+pub stopped_then : (a b : List Look) (w : LogView) (replica : ReplicaState) → (more : List Look) × (b ≡ a ++ more) → HasStopped b w replica → HasStopped a w replica
+stopped_then a b w replica more (inl held) = inl held
+stopped_then a b w replica more (inr found) =
+    let last = Unfilled (passed_of w.standing) ∷ [] in
+    inr (
+      more.0 ++ found.0,
+      found.1 ∙ ap (λ (ls : List Look). ls ++ (found.0 ++ last)) more.1 ∙ append_assoc a more.0 (found.0 ++ last)
+          ∙ ap (λ (ls : List Look). a ++ ls) (sym (append_assoc more.0 found.0 last)),
+    )
+
 -- a loop that took so many entries in
 pub record WentOn (x : ℕ) (first now : LogView) (old new : ReplicaState) (next after : Option Next) (book later : Book) : Type 0 where
   pub idle : now.standing.held ≡ None
   pub seen : now.standing.seen ≡ first.standing.seen
-  pub looks : now.looks ≡ first.looks
+  pub looks : (more : List Look) × (now.looks ≡ first.looks ++ more)
   pub entries : List Entry
   pub many : length entries ≡ x
   pub goes : GoesOn entries first.standing now.standing old new next after book later
@@ -364,19 +409,19 @@ pub went_none : (first : LogView) (replica : ReplicaState) (next : Option Next) 
 went_none first replica next book idle = record {
   idle = idle;
   seen = refl;
-  looks = refl;
+  looks = ([], sym (append-nil first.looks));
   entries = [];
   many = refl;
   goes = goes_none first.standing replica next book;
 }
 
 pub went_more : (x : ℕ) (first now new : LogView) (a b c : ReplicaState) (n m k : Option Next) (f g h : Book) → WentOn x first now a b n m f g
-    → new.standing.held ≡ None → (new.standing.seen ≡ now.standing.seen) × (new.looks ≡ now.looks)
+    → new.standing.held ≡ None → MeetsNoTail now new
     → ((entry : Entry) × GoesOn (entry ∷ []) now.standing new.standing b c m k g h) → WentOn (x + 1) first new a c n k f h
 went_more x first now new a b c n m k f g h w idle met one = record {
   idle = idle;
   seen = met.0 ∙ w.seen;
-  looks = met.1 ∙ w.looks;
+  looks = more_looks first.looks now.looks new.looks w.looks met.1;
   entries = w.entries ++ one.0 ∷ [];
   many = length-append w.entries (one.0 ∷ []) ∙ ap (λ (k : ℕ). k + 1) w.many;
   goes = goes_then w.entries (one.0 ∷ []) first.standing now.standing new.standing a b c n m k f g h w.goes one.1;
@@ -419,19 +464,24 @@ looked_on s m k looks same = subst (LooksOn s) (sym same) looks
 pub counted : (count tail applied : ℕ) (m k : Standing) → count ≡ tail - applied → tail ≡ m.seen → k ≡ m → count ≡ k.seen - applied
 counted count tail applied m k is at same = is ∙ ap (λ (n : ℕ). n - applied) (at ∙ ap (λ (x : Standing). x.seen) (sym same))
 
-pub met_on : (v w x : LogView) → (w.standing.seen ≡ v.standing.seen) × (w.looks ≡ v.looks) → (x.standing.seen ≡ w.standing.seen) × (x.looks ≡ w.looks)
-    → (x.standing.seen ≡ v.standing.seen) × (x.looks ≡ v.looks)
-met_on v w x first last = (last.0 ∙ first.0, last.1 ∙ first.1)
+pub met_on : (v w x : LogView) → MeetsNoTail v w → MeetsNoTail w x → MeetsNoTail v x
+met_on v w x first last = (last.0 ∙ first.0, more_looks v.looks w.looks x.looks first.1 last.1)
 
 pub looks_on : (u v w x : LogView) (tail : ℕ) → v.looks ≡ u.looks ++ Tail tail ∷ [] → tail ≡ v.standing.seen → w.standing ≡ v.standing
-    → (more : List Look) × (w.looks ≡ v.looks ++ more) → (x.standing.seen ≡ w.standing.seen) × (x.looks ≡ w.looks)
-    → (more : List Look) × (x.looks ≡ u.looks ++ (Tail x.standing.seen ∷ more))
-looks_on u v w x tail loaded at same more met =
-    let seen : tail ≡ x.standing.seen = at ∙ ap (λ (s : Standing). s.seen) (sym same) ∙ sym met.0 in (
+    → (more : List Look) × (w.looks ≡ v.looks ++ more) → MeetsNoTail w x → (more : List Look) × (x.looks ≡ u.looks ++ (Tail x.standing.seen ∷ more))
+looks_on u v w x tail loaded at same let_go met =
+    let seen : tail ≡ x.standing.seen = at ∙ ap (λ (s : Standing). s.seen) (sym same) ∙ sym met.0 in
+    let more = more_looks v.looks w.looks x.looks let_go met.1 in (
       more.0,
-      met.1 ∙ more.1 ∙ ap (λ (ls : List Look). ls ++ more.0) loaded ∙ append_assoc u.looks (Tail tail ∷ []) more.0
+      more.1 ∙ ap (λ (ls : List Look). ls ++ more.0) loaded ∙ append_assoc u.looks (Tail tail ∷ []) more.0
           ∙ ap (λ (n : ℕ). u.looks ++ (Tail n ∷ more.0)) seen,
     )
+
+-- what came between the begin of the call and a loop
+pub stopped_on : (u v w x : LogView) (tail : ℕ) (replica : ReplicaState) → v.looks ≡ u.looks ++ Tail tail ∷ [] → (more : List Look) × (w.looks ≡ v.looks ++ more)
+    → HasStopped w.looks x replica → HasStopped u.looks x replica
+stopped_on u v w x tail replica loaded let_go stopped =
+    stopped_then u.looks w.looks x replica (more_looks u.looks v.looks w.looks (Tail tail ∷ [], loaded) let_go) stopped
 
 pub same_passed : (s m : Standing) → LooksOn s m → passed_of m ≡ passed_of s
 same_passed s m looks = ap passed_of looks.1

@@ -7,6 +7,7 @@ use Rattle.nr_model.specs.Servers.{emitted_all}
 use Rattle.nr_model.specs.Nodes.Steps.{texts_for}
 use Rattle.nr_model.specs.Entries.{read_jobs, left_by_reads}
 use Rattle.nr_entry.specs.Jobs.{items_of}
+use Rattle.nr_entry.specs.Shares.{entry_of}
 use Rattle.nr_entry.specs.declared.entry.Entry.{Entry}
 use Rattle.nr_entry.specs.declared.job.Job.{Job}
 use Rattle.nr_log_end.specs.declared.standing.Standing.{Standing}
@@ -63,6 +64,7 @@ caught_by es end last old new book later next after n is g looks few order =
       up = λ up. (g.up up).0;
       few = few_entries es end.standing last.standing g.passed few;
       fell = λ up down. let by = g.fell up down in (by.0, by.1, ap jobs_next by.2, by.3);
+      cause = g.cause;
       still = g.still;
       dropped = λ _. next_after next after g.after_is;
     }
@@ -101,6 +103,7 @@ read_on n m t es ran looks more passed own same noted first last closed ended ow
   up = λ _. was;
   few = few_entries es n.seat.standing t passed few;
   fell = λ _ fell. absurd (cc (up, fell));
+  cause = λ _ fell. absurd (cc (up, fell));
   still = λ down. absurd (cc (was, down));
   dropped = λ down. absurd (cc (was, down));
 }
@@ -123,8 +126,8 @@ has_read n m t r ran noted read up passed ran_is waits none still =
 -- a node that has a next entry has jobs in it
 pub next_has : (next : Option Next) (node nodes : ℕ) → IsNextOf node nodes next → 0 < nodes → is_some next ≡ true → jobs_next next ≡ [] → ⊥
 next_has None node nodes q some is none = absurd (cc is)
-next_has (Some (forms.Whole e)) node nodes q some is none =
-    let long = e.some in
+next_has (Some (forms.Unshared left)) node nodes q some is none =
+    let long = (entry_of left).some in
     let short = ap length none in
     absurd (omega (arith, long, short))
 next_has (Some (forms.Shared shares)) node nodes q some is none =

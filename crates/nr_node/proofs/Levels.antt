@@ -124,8 +124,8 @@ passed_level s t e old new is taken l =
         | inl applied ↦ delivered_level s p old new items l up.0 refl (record_passed s e) (ap (λ (r : ReplicaState). r.node) applied.state)
             (ap (λ (r : ReplicaState). r.server) applied.state)
             (ap (λ (r : ReplicaState). r.applied) applied.state ∙ ap suc (l.applied up.0) ∙ sym (one_passed s e)) applied.delivered still
-        | inr fell ↦ down_level s p old new items l (ap (λ (r : ReplicaState). r.node) fell) (ap (λ (r : ReplicaState). r.members) fell)
-            (ap (λ (r : ReplicaState). r.down) fell) refl (record_passed s e) still
+        | inr falls ↦ down_level s p old new items l (ap (λ (r : ReplicaState). r.node) falls.1) (ap (λ (r : ReplicaState). r.members) falls.1)
+            (ap (λ (r : ReplicaState). r.down) falls.1) refl (record_passed s e) still
       ]
     ])
 

@@ -22,7 +22,7 @@ use Rattle.nr_accounts.specs.declared.account.Account.{Account}
 use Rattle.nr_accounts.specs.Held.{numbers_in, CountsTo}
 use Rattle.nr_accounts.specs.Book.{Book}
 use Rattle.nr_replica.specs.Members.{Member}
-use Rattle.nr_replica.specs.Replicas.{ReplicaState, fallen}
+use Rattle.nr_replica.specs.Replicas.{ReplicaState}
 use Rattle.nr_node.specs.Level.{IsCount, IsReadOf, connection_at, workers_of, unpassed, jobs_reserved, logged, all_jobs, IsInOrder}
 use Rattle.nr_node.specs.Sound.{IsSound}
 use Rattle.nr_node.specs.Reserved.{AreOfNode, due_jobs, left_jobs, LeavesWaiting, HasMet, IsReserved}
@@ -274,12 +274,6 @@ due_order s t old new book next after met due left o =
     (further s.seen t.seen s.reservations met.seen o.met))
     (subst (λ (h : List Turn). EachRises (applied_of h)) (sym (ap (λ (x : Standing). x.history) met.standing)) o.entries)
     o
-
--- the replica fell, and nothing happened at the log
-pub fallen_order : (s : Standing) (old new : ReplicaState) (book : Book) (next : List Job) → new ≡ fallen old → IsInOrder s old book next → IsInOrder s new book []
-fallen_order s old new book next is o =
-    dropped_order s s old new book next refl (ap (λ (x : ReplicaState). length x.members) is) (ap (λ (x : ReplicaState). x.down) is) (λ serial. refl)
-    (inl (ap (λ (x : ReplicaState). x.waiting) is)) o.reads o.passed o.met o.entries o
 
 -- nothing happened at the log but that a tail was met
 pub met_order : (s t : Standing) (old : ReplicaState) (book : Book) (next : List Job) → HasMet s t → IsInOrder s old book next → IsInOrder t old book next

@@ -1,11 +1,12 @@
 -- What a node's end keeps of its own entries.
-use Rattle.std.proofs.Common.{◌≡◌, ℕ, ◌<◌, ◌≤◌, inl, inr, drop, List, [], ◌∷◌, ◌++◌, length, Option, Some, None, refl, ap, sym, ◌∙◌, subst, arith, append_assoc}
+use Rattle.std.proofs.Common.{◌≡◌, ℕ, zero, suc, ◌<◌, ◌≤◌, inl, inr, drop, List, [], ◌∷◌, ◌++◌, length, Option, Some, None, refl, ap, sym, ◌∙◌, subst, arith, append_assoc}
 use Rattle.std.proofs.lemmas.List.{append-nil}
 use Rattle.std.specs.Prelude.{slice_index_or, option_to_list, map, IfSome}
 use Rattle.std.specs.List.{AllByRecursion, slice_get}
 use Rattle.nr_entry.specs.declared.entry.Entry.{Entry}
+use Rattle.nr_entry.specs.Shares.{shares_of}
 use Rattle.nr_log_end.specs.declared.standing.Standing.{Standing}
-use Rattle.nr_log_end.specs.Standings.{reservation}
+use Rattle.nr_log_end.specs.Standings.{reservation, IsSharesFor}
 use Rattle.nr_log_end.specs.declared.standing.Look.{Look}
 use Rattle.nr_log_end.specs.declared.standing.Look.TheVariants.{Tail}
 use Rattle.nr_oplog.specs.Calls.{LoadsCounts, IsLeastOf, loads_from}
@@ -13,7 +14,7 @@ use Rattle.nr_oplog.specs.declared.view.LogView.{LogView}
 use Rattle.nr_entry.specs.declared.job.Job.{Job}
 use Rattle.nr_node.specs.Advanced.{HasNoted, HasPassed}
 use Rattle.nr_node.specs.Reserved.{HasMet, IsReserved}
-use Rattle.nr_node.specs.Keeping.{AreLast, AreBelow, Frees, IsFromOn, IsSeenPassed, LetsGo}
+use Rattle.nr_node.specs.Keeping.{AreLast, AreBelow, Frees, IsFirst, IsFromOn, IsSeenPassed, LetsGo}
 
 -- what was seen is seen on
 seen_on : (nodes number : ℕ) (looks more after : List Look) → after ≡ looks ++ more → IsSeenPassed nodes looks number → IsSeenPassed nodes after number
@@ -131,14 +132,14 @@ reserved_nodes v w at shares r = ap (λ (s : Standing). s.nodes) r.standing
 
 -- a call that lets go, between a load of the tail and others
 pub lets_free : (old new : List (ℕ × Entry)) (u v w x : LogView) (tail : ℕ) → v.looks ≡ u.looks ++ Tail tail ∷ [] → v.standing.nodes ≡ u.standing.nodes
-    → LetsGo old new v w → x.looks ≡ w.looks → Frees old new u.standing.nodes u.looks x.looks
+    → LetsGo old new v w → (more : List Look) × (x.looks ≡ w.looks ++ more) → Frees old new u.standing.nodes u.looks x.looks
 lets_free old new u v w x tail loaded nodes (inl none) met = inl (none.0, none.1)
 lets_free old new u v w x tail loaded nodes (inr by) met = inr record {
   before = Tail tail ∷ [];
   counts = w.met;
-  behind = [];
-  loaded = met ∙ ap (λ (y : LogView). y.looks) by.loads.loads ∙ ap (λ (ls : List Look). ls ++ loads_from 0 w.met) loaded
-      ∙ append_assoc u.looks (Tail tail ∷ []) (loads_from 0 w.met) ∙ ap (λ (ls : List Look). u.looks ++ (Tail tail ∷ ls)) (sym (append-nil (loads_from 0 w.met)));
+  behind = met.0;
+  loaded = met.1 ∙ ap (λ (ls : List Look). ls ++ met.0) (ap (λ (y : LogView). y.looks) by.loads.loads ∙ ap (λ (ls : List Look). ls ++ loads_from 0 w.met) loaded)
+      ∙ append_assoc (u.looks ++ Tail tail ∷ []) (loads_from 0 w.met) met.0 ∙ append_assoc u.looks (Tail tail ∷ []) (loads_from 0 w.met ++ met.0);
   every = by.loads.counts ∙ nodes;
   least = by.least;
   is_least = by.is_least;
@@ -194,3 +195,11 @@ one_out least old now new so (one, is, near) = record {
   all = append_assoc so.gone (one ∷ []) new ∙ ap (λ (xs : List (ℕ × Entry)). so.gone ++ xs) is ∙ so.all;
   below = below_more least so.gone one so.below near;
 }
+
+-- there is a share of an entry for the first of its nodes
+one_of_all : (e : Entry) (nodes : ℕ) → 0 < nodes → IsFirst (shares_of e nodes)
+one_of_all e zero some = absurd (omega (arith, some))
+one_of_all e (suc nodes) some = (omega arith, (e, refl))
+
+pub first_there : (s : Standing) (shares : List (Option Entry)) → 0 < s.nodes → IsSharesFor s shares → IsFirst shares
+first_there s shares some are = subst IsFirst (sym are.1) (one_of_all are.0 s.nodes some)

@@ -1,6 +1,6 @@
 -- What is kept of a node: the next entry, and each step of it.
 use Rattle.std.proofs.Common.{◌≡◌, ℕ, zero, suc, ◌<◌, inl, inr, Bool, true, false, List, [], ◌∷◌, ◌++◌, length, refl, ap, sym, ◌∙◌, subst, arith, length-set, slice_set, take, drop, ◌+◌, ◌≤◌, append_assoc}
-use Rattle.std.specs.Prelude.{◌≢◌, slice_index_or, Option, Some, None, IfOk, IfSome, IfNone, OnOk, is_err, Result, Ok, Err}
+use Rattle.std.specs.Prelude.{◌≢◌, slice_index_or, Option, Some, None, IfOk, IfSome, IfNone, OnErr, Result, Ok, Err}
 use Rattle.std.specs.FinMap as finmap
 use Rattle.std.specs.List.{AllByRecursion, range_with_len}
 use Rattle.std.proofs.lemmas.List.{append-nil, length-map, map-append}
@@ -29,20 +29,20 @@ use Rattle.nr_accounts.specs.Book.{Book, HasTaken, refusal_of, with_batch}
 use Rattle.nr_accounts.proofs.Batches.{all_of_due}
 use Rattle.nr_replica.specs.Members.{Member, fresh_member, closed_member, handed_member, worker_of, jobs_of_worker}
 use Rattle.nr_replica.specs.declared.outbox.Piece.{Piece}
-use Rattle.nr_replica.specs.Replicas.{ReplicaState, HasRead, fallen, owed_from}
+use Rattle.nr_replica.specs.Replicas.{ReplicaState, HasRead, owed_from}
 use Rattle.nr_node.specs.declared.next.Next.{Next}
 use Rattle.nr_node.specs.declared.next.Next.TheVariants as forms
 use Rattle.nr_node.specs.Level.{NodeState, IsLevel, IsInOrder, connection_at, queue_at, emitted_to, unpassed, jobs_reserved, all_jobs}
 use Rattle.nr_node.specs.Batches.{IsOpened, IsPiece}
-use Rattle.nr_node.specs.Next.{jobs_shared, jobs_next, IsNextOf}
+use Rattle.nr_node.specs.Next.{jobs_shared, jobs_next, IsNextOf, HasLeft}
 use Rattle.nr_node.specs.Owing.{unexecuted, count_owed, awaited, answer_by, answered_node, IsOwing, IsServedBy, HasAccounts, HasAllExecuted}
 use Rattle.nr_node.specs.Kept.{IsKept}
 use Rattle.nr_node.specs.Advanced.{HasNoted, GoesOn}
 use Rattle.nr_node.specs.Reserved.{due_jobs, left_jobs, LeavesWaiting, AreTaken, AreNone, AreDue, HasMet, IsReserved}
 use Rattle.nr_node.specs.Steps.{nobody}
 use Rattle.nr_node.proofs.Lists.{unpassed_opened, numbers-append, no_numbers, none_unpassed, jobs_reserved_more}
-use Rattle.nr_node.proofs.Levels.{same_level, down_level, opened_level, closed_level, handed_level, noted_level}
-use Rattle.nr_node.proofs.Orders.{none_recorded, reserved_order, due_order, fallen_order, members_order, noted_opened_order, owed_order}
+use Rattle.nr_node.proofs.Levels.{same_level, opened_level, closed_level, handed_level, noted_level}
+use Rattle.nr_node.proofs.Orders.{none_recorded, reserved_order, due_order, members_order, noted_opened_order, owed_order}
 use Rattle.nr_node.proofs.Closing.{closed_accounts}
 use Rattle.nr_node.proofs.Queues.{piece_behind}
 use Rattle.nr_node.proofs.Served.{opened_order, batch_order, noted_order, forgotten, length_read, unpassed_noted}
@@ -93,30 +93,21 @@ pub none_led : (next after : Option Next) (old new : ReplicaState) → after ≡
     → new ≡ record old { waiting = new.waiting } → AreNone next old after new
 none_led next after old new gone is due left rest = (
   gone,
-  inl (
-    ap (λ (n : Option Next). due_jobs (jobs_next n) old.waiting) is ∙ due,
-    record { waiting = left ∙ sym (ap (λ (n : Option Next). left_jobs (jobs_next n) old.waiting) is); replica = rest },
-  ),
-)
-
-pub lost_with : (e : Entry) (next after last : Option Next) (old mid new : ReplicaState) → AreTaken e.jobs.items next old after mid → last ≡ after → new ≡ fallen mid
-    → AreNone next old last new
-lost_with e next after last old mid new taken same fell = (
-  same ∙ taken.none,
-  inr (
-    taken.some,
-    fell ∙ ap fallen taken.left.replica,
-  ),
+  ap (λ (n : Option Next). due_jobs (jobs_next n) old.waiting) is ∙ due,
+  record { waiting = left ∙ sym (ap (λ (n : Option Next). left_jobs (jobs_next n) old.waiting) is); replica = rest },
 )
 
 -- one of which there was no memory for shares goes on waiting
-pub whole_due : (e : Entry) (next emptied after : Option Next) (old mid new : ReplicaState) → AreTaken e.jobs.items next old emptied mid → after ≡ Some (forms.Whole e) → new ≡ mid
-    → AreDue next old after new
-whole_due e next emptied after old mid new taken is same = inr (
-  ap (λ (n : Option Next). items_of (jobs_next n)) is ∙ taken.due,
-  subst (LeavesWaiting (left_jobs (jobs_next next) old.waiting) old) (sym same) taken.left,
+pub left_due : (e : Entry) (next emptied after : Option Next) (old new : ReplicaState) → AreTaken e.jobs.items next old emptied new → HasLeft e after → AreDue next old after new
+left_due e next emptied after old new taken has = inr (
+  ap (λ (n : Option Next). items_of (jobs_next n)) has.1 ∙ ap (λ (x : Entry). items_of x.jobs.items) has.2 ∙ taken.due,
+  taken.left,
   taken.some,
 )
+
+-- it is an entry of the node
+pub left_next : (e : Entry) (after : Option Next) (node nodes : ℕ) → HasLeft e after → e.node ≡ node → IsNextOf node nodes after
+left_next e after node nodes has own = subst (IsNextOf node nodes) (sym has.1) (ap (λ (x : Entry). x.node) has.2 ∙ own)
 
 pub ok_none : {S E : Type 0} (P Q : Type 0) (r : Result (Option S) E) → IfOk r (λ o. IfNone o P) → (P → Q) → IfOk r (λ o. IfNone o Q)
 ok_none P Q (Ok (Some x)) h f = tt
@@ -134,11 +125,6 @@ waits_level s t old new jobs node history left l =
     let r = left.replica in
     same_level s t old new node history (ap (λ (x : ReplicaState). x.node) r) (ap (λ (x : ReplicaState). x.members) r) (ap (λ (x : ReplicaState). x.down) r)
     (ap (λ (x : ReplicaState). x.server) r) (ap (λ (x : ReplicaState). x.applied) r) l
-
-pub fell_level : (s : Standing) (old new : ReplicaState) → new ≡ fallen old → IsLevel s old → IsLevel s new
-fell_level s old new is l =
-    down_level s s old new [] l (ap (λ (x : ReplicaState). x.node) is) (ap (λ (x : ReplicaState). x.members) is) (ap (λ (x : ReplicaState). x.down) is) refl
-    (sym (append-nil (record_of s.history))) refl
 
 same_met : (s : Standing) → HasMet s s
 same_met s = record { seen = omega arith; standing = refl }
@@ -194,17 +180,7 @@ memory_kept s old new book next after nodes due is k = elim due [
 pub none_kept : (s : Standing) (old new : ReplicaState) (book : Book) (next after : Option Next) (nodes : ℕ) → AreNone next old after new
     → IsKept s old book next nodes → IsKept s new book after nodes
 none_kept s old new book next after nodes none k =
-    subst (λ (n : Option Next). IsKept s new book n nodes) (sym none.0) (elim none.1 [
-      | inl d ↦ due_kept s s old new book next None nodes (same_met s) (sym d.0) d.1 tt k
-      | inr (_, fell) ↦ record {
-        level = fell_level s old new fell k.level;
-        order = fallen_order s old new book (jobs_next next) fell k.order;
-        next_is = tt;
-        owed = k.owed ∙ sym (ap (λ (x : ReplicaState). length x.owed) fell);
-        owing = λ up. absurd (cc (up, ap (λ (x : ReplicaState). x.down) fell));
-        accounts = subst (λ (ms : List Member). HasAccounts book.node ms book.held) (sym (ap (λ (x : ReplicaState). x.members) fell)) k.accounts;
-      }
-    ])
+    subst (λ (n : Option Next). IsKept s new book n nodes) (sym none.0) (due_kept s s old new book next None nodes (same_met s) (sym none.1) none.2 tt k)
 
 pub reserved_kept : (s t : Standing) (at : ℕ) (e : Entry) (old new : ReplicaState) (book : Book) (next after : Option Next) (nodes : ℕ) → 0 < s.nodes
     → IsReserved at (shares_of e s.nodes) s t → AreTaken e.jobs.items next old after new → old.down ≡ false → IsKept s old book next nodes → IsKept t new book after nodes
@@ -539,9 +515,10 @@ some_is P o x is h = subst (λ (a : Option _). IfSome a P) is h
 pub none_is : {A : Type 0} (P : Type 0) (o : Option A) → o ≡ None → IfNone o P → P
 none_is P o is h = subst (λ (a : Option _). IfNone a P) is h
 
-pub on_ok : {T E : Type 0} (P : Type 0) (r : Result T E) → is_err r ≡ false → OnOk r P → P
-on_ok P (Ok x) e h = h
-on_ok P (Err x) e h = absurd (cc e)
+-- what holds anyhow holds where there is an error
+pub err_anyhow : {T E : Type 0} (P : Type 0) (r : Result T E) → P → OnErr r P
+err_anyhow P (Ok x) p = tt
+err_anyhow P (Err e) p = p
 
 pub whole_taken : (e : Entry) (next after : Option Next) (old new : ReplicaState) → after ≡ None → new ≡ old → jobs_next next ≡ e.jobs.items → AreTaken e.jobs.items next old after new
 whole_taken e next after old new gone same is = subst (AreTaken e.jobs.items next old after) (sym same) (kept_taken e next after old gone is)

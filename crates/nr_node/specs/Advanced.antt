@@ -1,5 +1,5 @@
 -- What an entry does to a replica, and how far a node has gone on.
-use Rattle.std.specs.Prelude.{◌≡◌, ◌≢◌, ◌⊎◌, ◌==◌, ◌≤◌, ℕ, true, false, cond, List, ◌++◌, map, flat_map, length, Option, None, IfSome, [], ◌∷◌}
+use Rattle.std.specs.Prelude.{◌≡◌, ◌≢◌, ◌⊎◌, ◌==◌, ◌≤◌, ℕ, true, false, cond, List, ◌++◌, map, flat_map, length, Option, Some, None, IfSome, [], ◌∷◌}
 use Rattle.std.specs.List.{range_with_len}
 use Rattle.std.specs.FinMap as finmap
 use Rattle.nr_model.specs.Bytes.{Bytes, IsBeginningOf}
@@ -11,22 +11,42 @@ use Rattle.nr_entry.specs.Jobs.{items_of}
 use Rattle.nr_entry.specs.declared.entry.Entry.{Entry}
 use Rattle.nr_entry.specs.declared.job.Job.{Job}
 use Rattle.nr_log_end.specs.declared.standing.Standing.{Standing}
+use Rattle.nr_log_end.specs.declared.standing.Look.{Look}
+use Rattle.nr_log_end.specs.declared.standing.Look.TheVariants.{Unfilled}
 use Rattle.nr_log_end.specs.declared.standing.Turn.TheVariants.{Applied, Ran}
-use Rattle.nr_log_end.specs.Standings.{record_of}
+use Rattle.nr_log_end.specs.Standings.{record_of, passed_of}
+use Rattle.nr_oplog.specs.declared.view.LogView.{LogView}
 use Rattle.nr_accounts.specs.declared.account.Account.{Account}
 use Rattle.nr_accounts.specs.Held.{numbers_in}
 use Rattle.nr_accounts.specs.Book.{Book, without_ended}
 use Rattle.nr_replica.specs.Members.{Member, worker_of}
+use Rattle.nr_replica.specs.Backlogs.{HasBacklog}
+use Rattle.nr_replica.specs.declared.fall.Fall.{Fall}
+use Rattle.nr_replica.specs.declared.fall.Fall.TheVariants.{Refused}
 use Rattle.nr_replica.specs.Replicas.{ReplicaState, IsApplied, fallen}
 use Rattle.nr_node.specs.declared.next.Next.{Next}
 use Rattle.nr_node.specs.Level.{IsLevel, IsInOrder, connection_at, unpassed, jobs_reserved}
 use Rattle.nr_node.specs.Next.{jobs_next}
 use Rattle.nr_node.specs.Owing.{IsOwing, awaited, unexecuted}
 
+-- the replica fell, for want of memory or since the next entry was to be refused
+abbrev pub Falls : ReplicaState → ReplicaState → Type 0
+Falls old new = (fall : Fall) × (new ≡ fallen fall old) × (fall ≡ Refused → old.refused ≡ true)
+
 -- it was applied, or the replica fell over it; one that is down leaves it
 abbrev pub IsTakenIn : Entry → ReplicaState → ReplicaState → Type 0
 IsTakenIn entry old new =
-    ((old.down ≡ true) × (new ≡ old)) ⊎ ((old.down ≡ false) × (IsApplied entry old new ⊎ (new ≡ fallen old)))
+    ((old.down ≡ true) × (new ≡ old)) ⊎ ((old.down ≡ false) × (IsApplied entry old new ⊎ Falls old new))
+
+-- whatever was loaded, the greatest tail that was met stays
+abbrev pub MeetsNoTail : LogView → LogView → Type 0
+MeetsNoTail v w = (w.standing.seen ≡ v.standing.seen) × ((more : List Look) × (w.looks ≡ v.looks ++ more))
+
+-- why a node stops before the tail: much waits for a connection of its replica, which isn't down, or it loaded the stamp of the next entry's cell last, which wasn't filled
+abbrev pub HasStopped : List Look → LogView → ReplicaState → Type 0
+HasStopped looks v replica =
+    ((replica.down ≡ false) × HasBacklog replica.members)
+    ⊎ ((more : List Look) × (v.looks ≡ looks ++ (more ++ Unfilled (passed_of v.standing) ∷ [])))
 
 -- these entries were passed, and a tail was met that is no less: nothing else changed at the end of the log
 pub record HasPassed (entries : List Entry) (s t : Standing) : Type 0 where
@@ -90,5 +110,6 @@ pub record GoesOn (entries : List Entry) (s t : Standing) (old new : ReplicaStat
   pub refused : new.down ≡ false → new.refused ≡ old.refused
   pub up : new.down ≡ false → (old.down ≡ false) × (after ≡ next) × (new.waiting ≡ old.waiting)
   pub fell : old.down ≡ false → new.down ≡ true → (entries ≢ []) × (new.waiting ≡ []) × (after ≡ None) × (new.server ≡ fresh)
+  pub cause : old.down ≡ false → new.down ≡ true → new.fell ≡ Some Refused → old.refused ≡ true
   pub still : old.down ≡ true → (new ≡ old) × (later ≡ book)
   pub after_is : (after ≡ None) ⊎ (after ≡ next)

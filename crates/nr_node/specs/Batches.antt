@@ -24,7 +24,7 @@ AreSame a b = (a.node ≡ b.node) × (a.worker ≡ b.worker) × (a.number ≡ b.
 abbrev pub take_error : Refusal → TakeError
 take_error refusals.Stranger = errors.Stranger
 take_error refusals.WrongNumber = errors.WrongNumber
-take_error refusals.Memory = errors.Memory
+take_error (refusals.Memory memory) = errors.Memory memory
 
 -- what a batch is refused for, where there is memory
 abbrev pub refused_by : Option Refusal → Option TakeError

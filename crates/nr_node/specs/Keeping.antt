@@ -1,5 +1,5 @@
 -- What came of a try to put an entry into the log, and the shares of its own entries that a node keeps.
-use Rattle.std.specs.Prelude.{◌≡◌, ◌⊎◌, ⊤, ℕ, ◌<◌, ◌≤◌, List, [], ◌++◌, length, slice_index, Option, IfSome}
+use Rattle.std.specs.Prelude.{◌≡◌, ◌⊎◌, ⊤, ℕ, ◌<◌, ◌≤◌, List, [], ◌++◌, length, slice_index, slice_index_or, Option, Some, None, IfSome}
 use Rattle.std.specs.List.{AllByRecursion, slice_get}
 use Rattle.nr_entry.specs.declared.entry.Entry.{Entry}
 use Rattle.nr_log_end.specs.declared.standing.Look.{Look}
@@ -13,35 +13,39 @@ abbrev pub IfTaken : Put → (ℕ → Type 0) → Type 0
 IfTaken (Taken at) P = P at
 IfTaken (Full back) P = ⊤
 IfTaken (Lost back) P = ⊤
-IfTaken (Refused back) P = ⊤
+IfTaken (Refused back memory) P = ⊤
 
 -- P holds of the shares that came back from a full log
 abbrev pub IfFull : Put → (List (Option Entry) → Type 0) → Type 0
 IfFull (Taken at) P = ⊤
 IfFull (Full back) P = P back
 IfFull (Lost back) P = ⊤
-IfFull (Refused back) P = ⊤
+IfFull (Refused back memory) P = ⊤
 
 -- P holds of the shares that came back since another node was first
 abbrev pub IfLost : Put → (List (Option Entry) → Type 0) → Type 0
 IfLost (Taken at) P = ⊤
 IfLost (Full back) P = ⊤
 IfLost (Lost back) P = P back
-IfLost (Refused back) P = ⊤
+IfLost (Refused back memory) P = ⊤
 
 -- P holds of the shares that came back for want of memory
 abbrev pub IfRefused : Put → (List (Option Entry) → Type 0) → Type 0
 IfRefused (Taken at) P = ⊤
 IfRefused (Full back) P = ⊤
 IfRefused (Lost back) P = ⊤
-IfRefused (Refused back) P = P back
+IfRefused (Refused back memory) P = P back
 
 -- P holds where the shares came back
 abbrev pub IfBack : Put → Type 0 → Type 0
 IfBack (Taken at) P = ⊤
 IfBack (Full back) P = P
 IfBack (Lost back) P = P
-IfBack (Refused back) P = P
+IfBack (Refused back memory) P = P
+
+-- there is a share for the first node
+abbrev pub IsFirst : List (Option Entry) → Type 0
+IsFirst shares = (0 < length shares) × ((entry : Entry) × (slice_index_or shares 0 None ≡ Some entry))
 
 -- the passed counts of all nodes, so many, were loaded one after the other, and each was above this number
 pub record IsSeenPassed (nodes : ℕ) (looks : List Look) (number : ℕ) : Type 0 where

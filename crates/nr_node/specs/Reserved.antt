@@ -10,7 +10,7 @@ use Rattle.nr_entry.specs.declared.job.Job.{Job}
 use Rattle.nr_log_end.specs.declared.standing.Standing.{Standing}
 use Rattle.nr_log_end.specs.Standings.{IsAllFilled, reserved_as}
 use Rattle.nr_accounts.specs.Held.{numbers_in}
-use Rattle.nr_replica.specs.Replicas.{ReplicaState, fallen}
+use Rattle.nr_replica.specs.Replicas.{ReplicaState}
 use Rattle.nr_node.specs.declared.next.Next.{Next}
 use Rattle.nr_node.specs.Next.{jobs_next}
 
@@ -43,10 +43,9 @@ pub record AreTaken (jobs : List Job) (next : Option Next) (old : ReplicaState) 
   pub none : after ≡ None
   pub left : LeavesWaiting (left_jobs (jobs_next next) old.waiting) old new
 
--- nothing leads; or there was an entry, which was lost, and the replica fell
+-- nothing leads
 abbrev pub AreNone : Option Next → ReplicaState → Option Next → ReplicaState → Type 0
-AreNone next old after new = (after ≡ None) × (((due_jobs (jobs_next next) old.waiting ≡ []) × LeavesWaiting (left_jobs (jobs_next next) old.waiting) old new)
-    ⊎ ((due_jobs (jobs_next next) old.waiting ≢ []) × (new ≡ fallen old)))
+AreNone next old after new = (after ≡ None) × (due_jobs (jobs_next next) old.waiting ≡ []) × LeavesWaiting (left_jobs (jobs_next next) old.waiting) old new
 
 -- nothing changed, or there is a next entry, and it is due
 abbrev pub AreDue : Option Next → ReplicaState → Option Next → ReplicaState → Type 0

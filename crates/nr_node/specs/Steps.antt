@@ -17,7 +17,7 @@ use Rattle.nr_oplog.specs.declared.view.LogView.{LogView}
 use Rattle.nr_accounts.specs.Account.{fresh_account}
 use Rattle.nr_accounts.specs.Book.{with_batch, without_ended}
 use Rattle.nr_replica.specs.Members.{Member, fresh_member, closed_member, handed_member}
-use Rattle.nr_replica.specs.Replicas.{fallen}
+use Rattle.nr_replica.specs.declared.fall.Fall.TheVariants.{Refused}
 use Rattle.nr_node.specs.Level.{NodeState, connection_at, unpassed, jobs_reserved}
 use Rattle.nr_node.specs.Owing.{awaited}
 use Rattle.nr_node.specs.Advanced.{HaveGot, HasClosed, jobs_of_own, jobs_of_all}
@@ -31,7 +31,7 @@ abbrev pub fresh_node : LogView → ℕ → ℕ → NodeState
 fresh_node seat node workers =
     record {
       seat = seat;
-      replica = record { node = node; members = []; owed = replicate workers None; waiting = []; applied = 0; server = fresh; down = false; refused = false };
+      replica = record { node = node; members = []; owed = replicate workers None; waiting = []; applied = 0; server = fresh; down = false; refused = false; fell = None };
       book = record { node = node; held = finmap.empty; last = replicate workers None };
       next = [];
     }
@@ -97,21 +97,14 @@ pub record HasNoneDue (n m : NodeState) : Type 0 where
   pub left : LeavesWaiting (left_jobs n.next n.replica.waiting) n.replica m.replica
   pub same : m ≡ record n { replica = m.replica }
 
--- the replica fell, since memory ran out while updates were due, which are lost; the accounts stay
-pub record HasFallen (n m : NodeState) : Type 0 where
-  pub due : due_jobs n.next n.replica.waiting ≢ []
-  pub replica : m.replica ≡ fallen n.replica
-  pub next : m.next ≡ []
-  pub book : m.book ≡ n.book
-  pub seat : m.seat ≡ n.seat
-
 -- the tail was loaded in the call, and was so
 abbrev pub HasLoaded : ℕ → List Look → List Look → Type 0
 HasLoaded tail looks after = (more : List Look) × (after ≡ looks ++ (Tail tail ∷ more))
 
 -- Entries were passed, and then reads were run, behind all that was in the record. The entries of the node's own among them are the first that it had reserved and
 -- hadn't passed. The same workers wait for an answer. One entry at most is passed behind the tail that the call loaded. Where the node is up, the account of each of its
--- connections whose end is among them goes. Its replica goes down only where an entry was passed: then what waited is dropped, and all keys. One that is down stays as it was.
+-- connections whose end is among them goes. Its replica goes down only where an entry was passed, for want of memory or since the entry was to be refused: then what waited is
+-- dropped, and all keys. One that is down stays as it was.
 pub record GoesOnBy (entries : List Entry) (ran : List Job) (tail : ℕ) (n m : NodeState) : Type 0 where
   pub standing : m.seat.standing ≡ record n.seat.standing { history = n.seat.standing.history ++ (map Applied entries ++ map Ran ran); seen = m.seat.standing.seen }
   pub own : jobs_reserved (unpassed n.seat.standing) ≡ jobs_of_own n.book.node entries ++ jobs_reserved (unpassed m.seat.standing)
@@ -125,6 +118,7 @@ pub record GoesOnBy (entries : List Entry) (ran : List Job) (tail : ℕ) (n m : 
   pub up : m.replica.down ≡ false → n.replica.down ≡ false
   pub few : length entries ≤ (tail - passed_of n.seat.standing) + 1
   pub fell : n.replica.down ≡ false → m.replica.down ≡ true → (entries ≢ []) × (m.replica.waiting ≡ []) × (m.next ≡ []) × (m.replica.server ≡ fresh)
+  pub cause : n.replica.down ≡ false → m.replica.down ≡ true → m.replica.fell ≡ Some Refused → n.replica.refused ≡ true
   pub still : n.replica.down ≡ true → (m.replica ≡ n.replica) × (m.book ≡ n.book)
   pub dropped : n.replica.down ≡ true → (m.next ≡ []) ⊎ (m.next ≡ n.next)
 

@@ -7,7 +7,7 @@ ghost use Rattle.nr_accounts.specs.Book.{without_ended};
 ghost use Rattle.nr_replica.specs.Backlogs.{HasBacklog};
 ghost use Rattle.nr_node.specs.Keeping.{Frees};
 ghost use Rattle.nr_node.specs.Level.{IsLevel};
-ghost use Rattle.nr_node.specs.Advanced.{IsTakenIn, GoesOn};
+ghost use Rattle.nr_node.specs.Advanced.{IsTakenIn, GoesOn, MeetsNoTail, HasStopped};
 
 use crate::keeping::OwnEntries;
 use crate::next::Next;
@@ -36,6 +36,7 @@ pub(crate) fn catch_up<B: LogName>(
     ensures freed { Frees kept.old kept.new end.old.standing.nodes end.old.looks end.new.looks }
     ensures reached { result ≡ true → (end.new.standing.seen ≤ passed_of end.new.standing) × StandsInLog end.new.standing }
     ensures behind { result ≡ false → passed_of end.new.standing < end.new.standing.seen }
+    ensures stopped { result ≡ false → HasStopped end.old.looks end.new replica.new }
     ensures few { passed_of end.new.standing ≤ (passed_of end.old.standing + (end.new.standing.seen - passed_of end.old.standing)) + 1 }
 {
     let tail = end.tail();
@@ -58,7 +59,8 @@ fn advance_by<B: LogName>(
 ) -> bool
     requires idle { end.old.standing.held ≡ None }
     ensures idle { end.new.standing.held ≡ None }
-    ensures met { (end.new.standing.seen ≡ end.old.standing.seen) × (end.new.looks ≡ end.old.looks) }
+    ensures met { MeetsNoTail end.old end.new }
+    ensures stopped { result ≡ false → HasStopped end.old.looks end.new replica.new }
     ensures log { result ≡ true → 0 < count → StandsInLog end.new.standing }
     ensures all { result ≡ true → (entries : List Entry) × (length entries ≡ count) × GoesOn entries end.old.standing end.new.standing replica.old replica.new next.old next.new accounts.old accounts.new }
     ensures fewer { result ≡ false → (entries : List Entry) × (length entries < count) × GoesOn entries end.old.standing end.new.standing replica.old replica.new next.old next.new accounts.old accounts.new }
@@ -82,7 +84,8 @@ fn advance_further<B: LogName>(
     requires idle { end.old.standing.held ≡ None }
     requires log { 0 < count → StandsInLog end.old.standing }
     ensures idle { end.new.standing.held ≡ None }
-    ensures met { (end.new.standing.seen ≡ end.old.standing.seen) × (end.new.looks ≡ end.old.looks) }
+    ensures met { MeetsNoTail end.old end.new }
+    ensures stopped { result ≡ false → HasStopped end.old.looks end.new replica.new }
     ensures log { StandsInLog end.new.standing }
     ensures some { result ≡ true → (entry : Entry) × GoesOn (entry ∷ []) end.old.standing end.new.standing replica.old replica.new next.old next.new accounts.old accounts.new }
     ensures none { result ≡ false → (end.new.standing ≡ end.old.standing) × (replica.new ≡ replica.old) × (next.new ≡ next.old) × (accounts.new ≡ accounts.old) }
@@ -102,7 +105,8 @@ fn advance_unless_held<B: LogName>(
 ) -> bool
     requires idle { end.old.standing.held ≡ None }
     ensures idle { end.new.standing.held ≡ None }
-    ensures met { (end.new.standing.seen ≡ end.old.standing.seen) × (end.new.looks ≡ end.old.looks) }
+    ensures met { MeetsNoTail end.old end.new }
+    ensures stopped { result ≡ false → HasStopped end.old.looks end.new replica.new }
     ensures log { result ≡ true → StandsInLog end.new.standing }
     ensures some { result ≡ true → (entry : Entry) × GoesOn (entry ∷ []) end.old.standing end.new.standing replica.old replica.new next.old next.new accounts.old accounts.new }
     ensures none { result ≡ false → (end.new.standing ≡ end.old.standing) × (replica.new ≡ replica.old) × (next.new ≡ next.old) × (accounts.new ≡ accounts.old) }
@@ -131,7 +135,8 @@ fn advance<B: LogName>(
 ) -> bool
     requires idle { end.old.standing.held ≡ None }
     ensures idle { end.new.standing.held ≡ None }
-    ensures met { (end.new.standing.seen ≡ end.old.standing.seen) × (end.new.looks ≡ end.old.looks) }
+    ensures met { MeetsNoTail end.old end.new }
+    ensures stopped { result ≡ false → HasStopped end.old.looks end.new replica.new }
     ensures log { StandsInLog end.new.standing }
     ensures some { result ≡ true → (entry : Entry) × GoesOn (entry ∷ []) end.old.standing end.new.standing replica.old replica.new next.old next.new accounts.old accounts.new }
     ensures none { result ≡ false → (end.new.standing ≡ end.old.standing) × (replica.new ≡ replica.old) × (next.new ≡ next.old) × (accounts.new ≡ accounts.old) }
@@ -153,7 +158,7 @@ fn take_in(replica: &mut Replica, entry: &Entry)
     if replica.is_down() {
         return;
     }
-    replica.apply(entry);
+    let _applied = replica.apply(entry);
 }
 
 // The account of each connection whose end is in an entry goes, unless the replica is down.

@@ -35,7 +35,7 @@ pub enum OpenError {
     /// The replica is down.
     Down,
     /// There was no memory.
-    Memory,
+    Memory(Memory),
 }
 
 /// Why a batch wasn't taken.
@@ -46,7 +46,7 @@ pub enum TakeError {
     /// A job's number isn't its connection's next one, or its own isn't above that of the worker's last batch.
     WrongNumber,
     /// There was no memory to take the jobs in.
-    Memory,
+    Memory(Memory),
     /// The replica is down.
     Down,
 }
@@ -58,6 +58,6 @@ pub(crate) fn take_error(why: Refusal) -> TakeError
     match why {
         Refusal::Stranger => TakeError::Stranger,
         Refusal::WrongNumber => TakeError::WrongNumber,
-        Refusal::Memory => TakeError::Memory,
+        Refusal::Memory(memory) => TakeError::Memory(memory),
     }
 }

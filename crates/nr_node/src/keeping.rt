@@ -1,13 +1,14 @@
 // Shares of a node's own entries that some node may have to pass yet.
-ghost use Rattle.std.specs.Prelude.{◌≡◌, ◌<◌, ◌≤◌, ◌++◌, ◌∷◌, [], ℕ, List, length, slice_index_or, true, false, Some, None, IfSome};
+ghost use Rattle.std.specs.Prelude.{◌≡◌, ◌<◌, ◌≤◌, ◌++◌, ◌∷◌, [], ℕ, List, length, slice_index_or, true, false, Some, None, IfSome, IfOk, OnOk};
 ghost use Rattle.std.specs.Arc.{arc_value};
 ghost use Rattle.std.specs.List.{slice_get};
 ghost use Rattle.std.specs.VecDeque.{deque_len, deque_capacity};
 ghost use Rattle.nr_entry.specs.declared.entry.Entry.{Entry};
 ghost use Rattle.nr_log_end.specs.Standings.{IsSharesFor, IsAllFilled, reservation};
 ghost use Rattle.nr_log_end.specs.Tries.{IsTaken, IsFull, IsLost};
-ghost use Rattle.nr_node.specs.Keeping.{IfBack, IfTaken, IfFull, IfLost, IfRefused, AreBelow, IsFromOn, LetsGo};
+ghost use Rattle.nr_node.specs.Keeping.{IfBack, IfTaken, IfFull, IfLost, IfRefused, IsFirst, AreBelow, IsFromOn, LetsGo};
 
+use nr_blob::Memory;
 use nr_entry::{Entry, Shares};
 use nr_log_end::{LogEnd, Reserve};
 use nr_oplog::{End, LogName};
@@ -26,7 +27,7 @@ pub(crate) enum Put {
     /// Another node reserved in between. The shares come back.
     Lost(Shares),
     /// There was no memory to keep a share. The shares come back.
-    Refused(Shares),
+    Refused(Shares, Memory),
 }
 
 // A share of an entry, with the entry's number.
@@ -92,11 +93,9 @@ impl OwnEntries {
         ensures kept { IfTaken result (λ at. self.new ≡ self.old ++ reservation at shares) }
         ensures others { IfBack result (self.new ≡ self.old) }
     {
-        let Ok(()) = self.kept.reserve(1) else {
-            return Put::Refused(shares);
-        };
-        let Some(share) = first_share(&shares) else {
-            return Put::Refused(shares);
+        let share = match prepare(&mut self.kept, &shares) {
+            Ok(share) => share,
+            Err(memory) => return Put::Refused(shares, memory),
         };
         match end.reserve(shares) {
             Reserve::Taken(number) => {
@@ -116,14 +115,25 @@ impl OwnEntries {
     }
 }
 
-// A further share of an entry.
-fn first_share(shares: &Shares) -> Option<Arc<Entry, Global>>
-    requires { 0 < length shares.now }
-    ensures { IfSome result (λ share. slice_index_or shares.now 0 None ≡ Some (arc_value share)) }
+// Makes room to keep one more, and a share of the entry for it.
+fn prepare(kept: &mut VecDeque<Kept>, shares: &Shares) -> Result<Arc<Entry, Global>, Memory>
+    requires { IsFirst shares.now }
+    ensures share { IfOk result (λ share. slice_index_or shares.now 0 None ≡ Some (arc_value share)) }
+    ensures room { OnOk result (deque_len kept.new < deque_capacity kept.new) }
+    ensures same { kept.new.items ≡ kept.old.items }
+{
+    kept.reserve(1)?;
+    first_share(shares)
+}
+
+// A further share of an entry, of which there is one for the first node.
+fn first_share(shares: &Shares) -> Result<Arc<Entry, Global>, Memory>
+    requires { IsFirst shares.now }
+    ensures { IfOk result (λ share. slice_index_or shares.now 0 None ≡ Some (arc_value share)) }
 {
     match shares.get(0) {
-        Some(share) => Arc::try_clone(share).ok(),
-        None => None,
+        Some(share) => Ok(Arc::try_clone(share)?),
+        None => unreachable!(),
     }
 }
 

@@ -1,26 +1,24 @@
 // The updates that lead go into the log, in one entry.
 ghost use Rattle.std.specs.Prelude.{◌≡◌, ◌<◌, ◌≤◌, [], ◌++◌, true, false, None, Some, IfOk, OnErr, IfSome, IfNone, MatchOption, List};
 ghost use Rattle.nr_entry.specs.declared.entry.Entry.{Entry};
-ghost use Rattle.nr_entry.specs.Shares.{shares_of};
+ghost use Rattle.nr_entry.specs.Shares.{shares_of, entry_of};
 ghost use Rattle.nr_log_end.specs.Standings.{IsSharesFor, IsAllFilled, reservation};
 ghost use Rattle.nr_log_end.specs.Tries.{IsFull, IsLost};
 ghost use Rattle.nr_node.specs.Keeping.{IfBack, IfTaken, IfFull, IfLost, IfRefused};
-ghost use Rattle.nr_node.specs.Next.{IsNextOf};
-ghost use Rattle.nr_node.specs.declared.next.Next.TheVariants as forms;
-ghost use Rattle.nr_replica.specs.Replicas.{fallen};
+ghost use Rattle.nr_node.specs.Next.{IsNextOf, HasLeft};
 ghost use Rattle.nr_node.specs.Reserved.{AreTaken, AreNone, AreDue, IsReserved, HasMet, IsFresh, IsFilled};
 
 use crate::keeping::{OwnEntries, Put};
 use crate::next::Next;
 use nr_blob::Memory;
-use nr_entry::{Entry, Shares};
+use nr_entry::{Shares, Unshared};
 use nr_log_end::{LogEnd, Look};
 use nr_oplog::{End, LogName};
 use nr_replica::Replica;
 use std::alloc::Global;
 
-/// The shares of the next entry: of the one that found no place before, else of one of the updates that lead. `None` where there is none, or where the
-/// entry was lost, since memory ran out while its shares were made: then the replica falls. Where memory runs out else no job is lost.
+/// The shares of the next entry: of the one that found no place before, else of one of the updates that lead. `None` where there is none. Where memory runs out
+/// no job is lost.
 pub(crate) fn take_shares(
     alloc: Global,
     nodes: usize,
@@ -28,7 +26,6 @@ pub(crate) fn take_shares(
     next: &mut Option<Next>,
 ) -> Result<Option<Shares>, Memory>
     requires nodes { 0 < nodes }
-    requires up { replica.old.down ≡ false }
     requires next { IsNextOf replica.old.node nodes next.old }
     ensures some { IfOk result (λ shares. IfSome shares (λ shares. (entry : Entry) × (shares ≡ shares_of entry nodes) × (entry.node ≡ replica.old.node)
         × AreTaken entry.jobs.items next.old replica.old next.new replica.new)) }
@@ -38,36 +35,30 @@ pub(crate) fn take_shares(
 {
     match next.take() {
         Some(Next::Shared(shares)) => Ok(Some(shares)),
-        Some(Next::Whole(entry)) => share(alloc, nodes, entry, replica, next),
+        Some(Next::Unshared(entry)) => Ok(Some(share(alloc, nodes, entry, next)?)),
         None => match replica.take_entry()? {
-            Some(entry) => share(alloc, nodes, entry, replica, next),
+            Some(entry) => Ok(Some(share(alloc, nodes, Unshared::Whole(entry), next)?)),
             None => Ok(None),
         },
     }
 }
 
-// The shares of an entry. Where there is no memory it goes on waiting, or the replica falls where it is lost.
+// The shares of an entry. Where there is no memory it goes on waiting.
 fn share(
     alloc: Global,
     nodes: usize,
-    entry: Entry,
-    replica: &mut Replica,
+    entry: Unshared,
     next: &mut Option<Next>,
-) -> Result<Option<Shares>, Memory>
+) -> Result<Shares, Memory>
     requires { 0 < nodes }
-    ensures some { IfOk result (λ shares. IfSome shares (λ shares. (shares ≡ shares_of entry nodes) × (next.new ≡ next.old) × (replica.new ≡ replica.old))) }
-    ensures none { IfOk result (λ shares. IfNone shares ((next.new ≡ next.old) × (replica.new ≡ fallen replica.old))) }
-    ensures err { OnErr result ((next.new ≡ Some (forms.Whole entry)) × (replica.new ≡ replica.old)) }
+    ensures ok { IfOk result (λ shares. (shares ≡ shares_of (entry_of entry) nodes) × (next.new ≡ next.old)) }
+    ensures err { OnErr result (HasLeft (entry_of entry) next.new) }
 {
     match Shares::of(alloc, entry, nodes) {
-        Ok(shares) => Ok(Some(shares)),
-        Err(Some(entry)) => {
-            *next = Some(Next::Whole(entry));
-            Err(Memory)
-        }
-        Err(None) => {
-            replica.fall();
-            Ok(None)
+        Ok(shares) => Ok(shares),
+        Err((entry, memory)) => {
+            *next = Some(Next::Unshared(entry));
+            Err(memory)
         }
     }
 }
@@ -100,7 +91,7 @@ pub(crate) fn put_in<B: LogName>(
         }
         Put::Full(back) => Put::Full(back),
         Put::Lost(back) => Put::Lost(back),
-        Put::Refused(back) => Put::Refused(back),
+        Put::Refused(back, memory) => Put::Refused(back, memory),
     }
 }
 

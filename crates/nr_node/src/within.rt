@@ -5,16 +5,18 @@ ghost use Rattle.std.specs.List.{AllByRecursion};
 ghost use Rattle.nr_entry.specs.Jobs.{connection_of, items_of};
 ghost use Rattle.nr_entry.specs.declared.entry.Entry.{Entry};
 ghost use Rattle.nr_entry.specs.declared.job.Job.{Job};
+ghost use Rattle.nr_blob.specs.declared.memory.Memory.{Memory};
 ghost use Rattle.nr_log_end.specs.Standings.{opened_of, passed_of};
 ghost use Rattle.nr_log_end.specs.Tries.{IsFull, IsLost};
 ghost use Rattle.nr_oplog.specs.Rule.{opening_view};
 ghost use Rattle.nr_replica.specs.Members.{next_ready};
 ghost use Rattle.nr_node.specs.Level.{connection_at, queue_at, is_closed_at, workers_of};
+ghost use Rattle.nr_node.specs.Advanced.{HasStopped};
 ghost use Rattle.nr_node.specs.Batches.{AreSame, refusal, is_cut_at, IsOpened, IsPiece};
 ghost use Rattle.nr_node.specs.Collected.{IsHanded};
 ghost use Rattle.nr_node.specs.Owing.{answer_of, answered_node, IsServedBy, HasAllExecuted};
 ghost use Rattle.nr_node.specs.Sound.{IsSound};
-ghost use Rattle.nr_node.specs.Steps.{fresh_node, closed_node, taken_node, refusing_node, is_due, HasOpened, HasReserved, GoesOnWaiting, HasNoneDue, HasFallen, GoesOnBy, HasRead, IsStill, HasHandedOut};
+ghost use Rattle.nr_node.specs.Steps.{fresh_node, closed_node, taken_node, refusing_node, is_due, HasOpened, HasReserved, GoesOnWaiting, HasNoneDue, GoesOnBy, HasRead, IsStill, HasHandedOut};
 
 use crate::advancing::catch_up;
 use crate::answers::{Looked, OpenError, Round, TakeError, take_error};
@@ -118,17 +120,17 @@ impl<B: LogName> Core<B> {
             return Err(OpenError::Down);
         }
         let serial = self.replica.connections() as u64;
-        if self.accounts.open(serial, worker).is_err() {
-            return Err(OpenError::Memory);
+        if let Err(memory) = self.accounts.open(serial, worker) {
+            return Err(OpenError::Memory(memory));
         }
         match self.replica.open(worker as usize, limit) {
             Ok(conn) => {
                 self.end.note_opened(worker);
                 Ok(conn)
             }
-            Err(Memory) => {
+            Err(memory) => {
                 self.accounts.forget(serial);
-                Err(OpenError::Memory)
+                Err(OpenError::Memory(memory))
             }
         }
     }
@@ -159,7 +161,7 @@ impl<B: LogName> Core<B> {
         ensures taken { OnOk result (self.new ≡ taken_node batch self.old) }
         ensures due { OnOk result (refusal self.old batch ≡ None) }
         ensures served { OnOk result (AllByRecursion (IsServedBy batch.worker self.old.replica.members) (items_of batch.jobs.items)) }
-        ensures refused { IfErr result (λ r. (refusal self.old batch ≡ Some r.1) ⊎ ((refusal self.old batch ≡ None) × (r.1 ≡ TakeError.Memory))) }
+        ensures refused { IfErr result (λ r. (refusal self.old batch ≡ Some r.1) ⊎ ((refusal self.old batch ≡ None) × ((memory : Memory) × (r.1 ≡ TakeError.Memory memory)))) }
         ensures back { IfErr result (λ r. AreSame r.0 batch) }
         ensures unchanged { OnErr result (self.new ≡ self.old) }
     {
@@ -178,7 +180,7 @@ impl<B: LogName> Core<B> {
         } = batch;
         match self.replica.lift(worker, jobs) {
             Ok(()) => Ok(()),
-            Err(jobs) => {
+            Err((jobs, memory)) => {
                 let batch = Batch {
                     node,
                     worker,
@@ -186,7 +188,7 @@ impl<B: LogName> Core<B> {
                     jobs,
                 };
                 self.accounts.give_back(&batch, before);
-                Err((batch, TakeError::Memory))
+                Err((batch, TakeError::Memory(memory)))
             }
         }
     }
@@ -208,7 +210,7 @@ impl<B: LogName> Core<B> {
 
     /// Puts the updates that lead into the log, at most 1,024 of them in one entry: first those of an entry that found no place before. Its cost is that of
     /// [`Waiting::lend_updates`](nr_entry::Waiting::lend_updates), and some loads and stores for each node. An error for want
-    /// of memory loses no job; but where an entry was shared out and can't be had back the replica falls, which is [`Round::Down`], and all that waited is lost.
+    /// of memory loses no job.
     pub fn reserve(&mut self) -> Result<Round, Memory>
         ensures done { result ≡ Ok Round.Done → ((at : ℕ) × (entry : Entry) × HasReserved at entry self.old self.new) ⊎ HasNoneDue self.old self.new }
         ensures full { result ≡ Ok Round.Full → GoesOnWaiting self.old self.new }
@@ -216,8 +218,8 @@ impl<B: LogName> Core<B> {
         ensures met_full { result ≡ Ok Round.Full → IsFull self.old.seat.standing self.old.seat.looks B.places self.new.seat.standing self.new.seat.looks }
         ensures met_lost { result ≡ Ok Round.Again → IsLost self.old.seat.standing self.old.seat.looks self.new.seat.standing self.new.seat.looks }
         ensures not_yet { result ≢ Ok Round.NotYet }
-        ensures is_down { (result ≡ Ok Round.Down) ↔ (self.new.replica.down ≡ true) }
-        ensures down { result ≡ Ok Round.Down → ((self.old.replica.down ≡ true) × (self.new ≡ self.old)) ⊎ ((self.old.replica.down ≡ false) × HasFallen self.old self.new) }
+        ensures is_down { (result ≡ Ok Round.Down) ↔ (self.old.replica.down ≡ true) }
+        ensures down { result ≡ Ok Round.Down → self.new ≡ self.old }
         ensures memory { OnErr result ((self.new ≡ self.old) ⊎ GoesOnWaiting self.old self.new) }
         ensures looks { (more : List Look) × (self.new.seat.looks ≡ self.old.seat.looks ++ more) }
     {
@@ -226,7 +228,7 @@ impl<B: LogName> Core<B> {
         }
         let shares = take_shares(self.alloc, self.nodes, &mut self.replica, &mut self.next)?;
         let Some(shares) = shares else {
-            return Ok(self.up_or_down());
+            return Ok(Round::Done);
         };
         match put_in(&mut self.end, &mut self.kept, self.nodes, shares) {
             Put::Taken(_) => Ok(Round::Done),
@@ -238,9 +240,9 @@ impl<B: LogName> Core<B> {
                 self.next = Some(Next::Shared(shares));
                 Ok(Round::Again)
             }
-            Put::Refused(shares) => {
+            Put::Refused(shares, memory) => {
                 self.next = Some(Next::Shared(shares));
-                Err(Memory)
+                Err(memory)
             }
         }
     }
@@ -253,6 +255,7 @@ impl<B: LogName> Core<B> {
         ensures done { (result.round ≡ Ok Round.Done) ↔ ((result.is_behind ≡ false) × (self.new.replica.down ≡ false)) }
         ensures not_yet { (result.round ≡ Ok Round.NotYet) ↔ ((result.is_behind ≡ true) × (self.new.replica.down ≡ false)) }
         ensures down { (result.round ≡ Ok Round.Down) ↔ (self.new.replica.down ≡ true) }
+        ensures stopped { result.is_behind ≡ true → HasStopped self.old.seat.looks self.new.seat self.new.replica }
         ensures waiting { self.new.replica.down ≡ false → (self.old.replica.down ≡ false) × (self.new.replica.waiting ≡ self.old.replica.waiting) × (self.new.next ≡ self.old.next) }
     {
         let reached = catch_up(
@@ -276,6 +279,7 @@ impl<B: LogName> Core<B> {
         ensures goes { (entries : List Entry) × ((ran : List Job) × ((tail : ℕ) × GoesOnBy entries ran tail self.old self.new × (result.round ≡ Ok Round.Done → HasRead ran tail self.old self.new) × (result.round ≢ Ok Round.Done → ran ≡ []) × (result.is_behind ≡ false → tail ≤ passed_of self.new.seat.standing) × (result.is_behind ≡ true → passed_of self.new.seat.standing < tail))) }
         ensures not_yet { (result.round ≡ Ok Round.NotYet) ↔ ((result.is_behind ≡ true) × (self.new.replica.down ≡ false)) }
         ensures down { (result.round ≡ Ok Round.Down) ↔ (self.new.replica.down ≡ true) }
+        ensures stopped { result.is_behind ≡ true → HasStopped self.old.seat.looks self.new.seat self.new.replica }
         ensures waiting { result.round ≢ Ok Round.Done → self.new.replica.down ≡ false → (self.new.replica.waiting ≡ self.old.replica.waiting) × (self.new.next ≡ self.old.next) }
         ensures again { result.round ≡ Ok Round.Again → self.old.next ≢ [] }
         ensures never_full { result.round ≢ Ok Round.Full }
@@ -305,11 +309,14 @@ impl<B: LogName> Core<B> {
                 is_behind: false,
             };
         }
-        let Ok(_ran) = read(&mut self.end, &mut self.replica) else {
-            return Looked {
-                round: Err(Memory),
-                is_behind: false,
-            };
+        let _ran = match read(&mut self.end, &mut self.replica) {
+            Ok(ran) => ran,
+            Err(memory) => {
+                return Looked {
+                    round: Err(memory),
+                    is_behind: false,
+                };
+            }
         };
         Looked {
             round: Ok(Round::Done),
@@ -460,18 +467,6 @@ impl<B: LogName> Core<B> {
             return None;
         }
         Some(Outcome::Executed)
-    }
-
-    // What came of a step in which nothing was reserved.
-    fn up_or_down(&self) -> Round
-        ensures down { self.now.replica.down ≡ true → result ≡ Round.Down }
-        ensures up { self.now.replica.down ≡ false → result ≡ Round.Done }
-    {
-        if self.replica.is_down() {
-            Round::Down
-        } else {
-            Round::Done
-        }
     }
 }
 

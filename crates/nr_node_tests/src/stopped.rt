@@ -9,7 +9,7 @@ use crate::asserted::{holds, same};
 use crate::desk::MANY;
 use nr_blob::{Blob, Memory};
 use nr_combiner::{Combiner, ServerName};
-use nr_entry::{Batch, ConnId, Entry, Job, JobKind, Outcome, Shares, Update};
+use nr_entry::{Batch, ConnId, Entry, Job, JobKind, Outcome, Shares, Unshared, Update};
 use nr_held::let_go;
 use nr_log_end::{LogEnd, Reserve};
 use nr_model::command::{Change, StringsChange};
@@ -50,7 +50,7 @@ fn reserves<B: ServerName>(rt: &impl Abort, alloc: Global, end: &mut End<B>) -> 
     ensures share { IsSome (slice_index_or end.new.standing.unfilled 1 None) }
 {
     let entry = setting(alloc).expect(rt, "memory");
-    let Ok(shares) = Shares::of(alloc, entry, 2) else {
+    let Ok(shares) = Shares::of(alloc, Unshared::Whole(entry), 2) else {
         panic!(rt; "memory");
     };
     match end.reserve(shares) {

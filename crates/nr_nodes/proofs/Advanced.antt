@@ -7,6 +7,7 @@ use Rattle.nr_model.specs.Nodes as nodes
 use Rattle.nr_model.specs.Nodes.Steps as steps
 use Rattle.nr_entry.specs.Jobs.{items_of}
 use Rattle.nr_entry.specs.declared.entry.Entry.{Entry}
+use Rattle.nr_replica.specs.declared.fall.Fall.{Fall}
 use Rattle.nr_replica.specs.Members.{AreNumbered}
 use Rattle.nr_replica.specs.Replicas as replicas
 use Rattle.nr_replica.specs.Replicas.{ReplicaState}
@@ -70,20 +71,20 @@ advanced_is node counted entry replica h numbered still counts applied =
     }
 
 -- a node that stopped has the same connections
-pub stopped_numbered : (n : ℕ) (old new : ReplicaState) → new ≡ replicas.stopped old → AreNumbered n 0 old.members → AreNumbered n 0 new.members
-stopped_numbered n old new e k = subst (λ (r : ReplicaState). AreNumbered n 0 r.members) (sym e) k
+pub stopped_numbered : (n : ℕ) (fall : Fall) (old new : ReplicaState) → new ≡ replicas.stopped fall old → AreNumbered n 0 old.members → AreNumbered n 0 new.members
+stopped_numbered n fall old new e k = subst (λ (r : ReplicaState). AreNumbered n 0 r.members) (sym e) k
 
-pub stopped_whole : (n : ℕ) (old new : Node) → new.replica ≡ replicas.stopped old.replica → new.sessions ≡ old.sessions
+pub stopped_whole : (n : ℕ) (fall : Fall) (old new : Node) → new.replica ≡ replicas.stopped fall old.replica → new.sessions ≡ old.sessions
     → length new.workers.items ≡ length old.workers.items → new.in_use ≡ old.in_use → IsWhole n old → IsWhole n new
-stopped_whole n old new e sessions workers used w =
+stopped_whole n fall old new e sessions workers used w =
     whole_kept n old new (ap (λ (r : ReplicaState). r.node) e) sessions (ap (λ (r : ReplicaState). r.members) e)
     (ap (λ (r : ReplicaState). length r.owed) e) workers used w
 
 -- and what it has to do is dropped: it fell
-pub fallen_is : (node : Node) (entry : Entry) (replica : ReplicaState) (new : nodes.Node) → replica ≡ replicas.stopped node.replica
+pub fallen_is : (node : Node) (fall : Fall) (entry : Entry) (replica : ReplicaState) (new : nodes.Node) → replica ≡ replicas.stopped fall node.replica
     → new ≡ dropped_node (seen_by node replica node.workers.items)
     → IsAdvanced node.replica.node (entry_seen entry) (node_seen node) new
-fallen_is node entry replica new e dropped =
+fallen_is node fall entry replica new e dropped =
     record {
       refused = record { falls = Some node.passed; cuts = []; copy = false };
       of_entry = record { falls = inr refl; cuts = tt };

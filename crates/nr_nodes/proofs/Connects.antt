@@ -326,7 +326,7 @@ by_done P (Idle reason) setup world step e p = absurd (cc e)
 
 -- with another node in a place
 abbrev pub changed : WorldState → ℕ → Node → WorldState
-changed v n x = record { setup = v.setup; nodes = set v.nodes n x; log = v.log; failed = false }
+changed v n x = record v { nodes = set v.nodes n x }
 
 -- a step that changed one node
 pub changes : (v : WorldState) (step : steps.Step) (o : steps.Outcome) (n : ℕ) (old x : Node) (change : nodes.Node → nodes.Node) → IsBlind step → is_done o
@@ -357,8 +357,7 @@ changes v step o n old x change blind done free same none h at e seen passed nod
           refused_in = λ _. refl;
         };
         shows = subst (λ (p : steps.Outcome). Shows (changed v n x) (steps.effect_by p v.setup world step steps.nothing_refused)) (sym out)
-            (by_done (λ (w : nodes.World). Shows (changed v n x) w) o v.setup world step done
-            (record { still = refl; nodes = shown.nodes; log = shown.log; base = shown.base; passed = shown.passed }));
+            (by_done (λ (w : nodes.World). Shows (changed v n x) w) o v.setup world step done shown);
       };
 }
 

@@ -359,19 +359,17 @@ fetched_steps w v n old new e there is at seen =
     → Steps u (record w { nodes = set w.nodes n new }) (steps.Fetch n) steps.Done) e
     (λ there is. fetched_takes w n old new there is (seen ∙ ap (λ (y : Node). fetched_node (node_seen y)) at)) there is
 
-pub reserved_steps : (w v : WorldState) (n tail : ℕ) (old new : Node) (log : Log) (entry : nodes.Logged) → w ≡ v → w.failed ≡ false → IsHeld w
+pub reserved_steps : (w v : WorldState) (n tail : ℕ) (old new : Node) (log : Log) (entry : nodes.Logged) → w ≡ v → IsHeld w
     → n < length v.nodes
     → ((world : nodes.World) → Shows v world → steps.outcome v.setup world (steps.Reserve n) ≡ steps.Done)
     → old ≡ get_or w.nodes n old → tail ≡ w.log.base + length (log_seen w.log)
     → node_seen new ≡ reserved_node (length old.unfilled.items) tail (node_seen old)
     → entry ≡ record { node = old.replica.node; jobs = entry_jobs (node_seen old).waiting }
     → log_seen log ≡ log_seen w.log ++ entry ∷ [] → log.base ≡ w.log.base
-    → Steps v (record w { nodes = set w.nodes n new; log = log; failed = false }) (steps.Reserve n) steps.Done
-reserved_steps w v n tail old new log entry e still h there is at end seen entry_is more base =
-    let Done : WorldState → Bool → Type 0 = λ u b. Steps u (record w { nodes = set w.nodes n new; log = log; failed = b }) (steps.Reserve n) steps.Done in
-    subst (Done v) still
-    (subst (λ (u : WorldState). n < length u.nodes → ((world : nodes.World) → Shows u world → steps.outcome u.setup world (steps.Reserve n) ≡ steps.Done)
-    → Done u w.failed) e
+    → Steps v (record w { nodes = set w.nodes n new; log = log }) (steps.Reserve n) steps.Done
+reserved_steps w v n tail old new log entry e h there is at end seen entry_is more base =
+    subst (λ (u : WorldState). n < length u.nodes → ((world : nodes.World) → Shows u world → steps.outcome u.setup world (steps.Reserve n) ≡ steps.Done)
+    → Steps u (record w { nodes = set w.nodes n new; log = log }) (steps.Reserve n) steps.Done) e
     (λ there is.
     let number : (get_or w.nodes n old).replica.node ≡ n = (whole_at w.nodes 0 n old there h.whole).number ∙ (let same : 0 + n ≡ n = omega arith in same) in
     let cells : length old.unfilled.items ≡ w.setup.nodes = ap (λ (y : Node). length y.unfilled.items) at ∙ cells_all w n old h there in
@@ -379,19 +377,17 @@ reserved_steps w v n tail old new log entry e still h there is at end seen entry
     entry_is ∙ ap (λ (y : Node). record { node = y.replica.node; jobs = entry_jobs (node_seen y).waiting }) at
     ∙ ap (λ (k : ℕ). record { node = k; jobs = entry_jobs (node_seen (get_or w.nodes n old)).waiting }) number in
     reserved_takes w n (length old.unfilled.items) tail old new log entry there is cells end
-    (seen ∙ ap (λ (y : Node). reserved_node (length old.unfilled.items) tail (node_seen y)) at) entry_at more base) there is)
+    (seen ∙ ap (λ (y : Node). reserved_node (length old.unfilled.items) tail (node_seen y)) at) entry_at more base) there is
 
 -- it is held behind the step
-pub held_steps : (w v : WorldState) (n : ℕ) (old new : Node) (log : Log) (step : steps.Step) → w ≡ v → w.failed ≡ false → IsHeld w → n < length v.nodes
+pub held_steps : (w v : WorldState) (n : ℕ) (old new : Node) (log : Log) (step : steps.Step) → w ≡ v → IsHeld w → n < length v.nodes
     → old ≡ get_or w.nodes n old → ((m : ℕ) → IsWhole m old → IsWhole m new) → log.base + length (log_seen log) < 2 ^ 64
-    → Steps v (record w { nodes = set w.nodes n new; log = log; failed = false }) step steps.Done
-    → IsHeld (record w { nodes = set w.nodes n new; log = log; failed = false })
-held_steps w v n old new log step e still h there at whole fits takes =
-    let next : Bool → WorldState = λ b. record w { nodes = set w.nodes n new; log = log; failed = b } in
-    subst (λ (b : Bool). IsHeld (next b)) still
-    (held_changed w n old new log step h (subst (λ (u : WorldState). n < length u.nodes) (sym e) there)
+    → Steps v (record w { nodes = set w.nodes n new; log = log }) step steps.Done
+    → IsHeld (record w { nodes = set w.nodes n new; log = log })
+held_steps w v n old new log step e h there at whole fits takes =
+    held_changed w n old new log step h (subst (λ (u : WorldState). n < length u.nodes) (sym e) there)
     (λ m is. whole m (subst (λ (y : Node). IsWhole m y) (sym at) is)) fits
-    (subst (λ (b : Bool). Steps w (next b) step steps.Done) (sym still) (subst (λ (u : WorldState). Steps u (next false) step steps.Done) (sym e) takes)))
+    (subst (λ (u : WorldState). Steps u (record w { nodes = set w.nodes n new; log = log }) step steps.Done) (sym e) takes)
 
 pub held_same : (w v : WorldState) (n : ℕ) (old new : Node) (step : steps.Step) → w ≡ v → IsHeld w → n < length v.nodes
     → old ≡ get_or w.nodes n old → ((m : ℕ) → IsWhole m old → IsWhole m new)

@@ -528,14 +528,15 @@ applied_all a v n d x nodes log is up o at nexts within number all base entries 
       held_on_let_go a new n d x (steps.Apply n) steps.Done o.held there takes g (subst (λ (k : ℕ). IsWhole k x) named within.whole) within.base,
     )
 
-pub looked_all : (a v : WorldState) (n : ℕ) (d x : Node) (nodes : List Node) (log : Log) → a ≡ v → Opens a (steps.Look n) → d ≡ get_or a.nodes n d
+pub looked_all : (a v : WorldState) (n : ℕ) (d x : Node) (nodes : List Node) (log : Log) → a ≡ v → a.failed ≡ false → Opens a (steps.Look n)
+    → d ≡ get_or a.nodes n d
     → Looks a.log d x → IsWhole d.replica.node x → a.log.base ≤ x.passed → nodes ≡ set a.nodes n x
     → log.base ≡ least_of (a.log.base + length (log_seen a.log)) nodes → log_seen log ≡ drop (log.base - a.log.base) (log_seen a.log)
-    → (Steps v (with_log a (set a.nodes n x) log false) (steps.Look n) steps.Done) × IsHeld (with_log a (set a.nodes n x) log false)
-looked_all a v n d x nodes log is o at looks whole passed all base entries =
-    let new = with_log a (set a.nodes n x) log false in
+    → (Steps v (with_log a (set a.nodes n x) log a.failed) (steps.Look n) steps.Done) × IsHeld (with_log a (set a.nodes n x) log a.failed)
+looked_all a v n d x nodes log is up o at looks whole passed all base entries =
+    let new = with_log a (set a.nodes n x) log a.failed in
     let there = look_there a n o.held o.comes in
-    let g = let_go_is a n x nodes log false refl all base entries in
+    let g = let_go_is a n x nodes log a.failed up all base entries in
     let takes = takes_look a new n d x o.held o.comes (subst (λ (y : Node). Looks a.log y x) at looks) g in (
       subst (λ (b : WorldState). Steps b new (steps.Look n) steps.Done) is takes,
       held_on_let_go a new n d x (steps.Look n) steps.Done o.held there takes g (subst (λ (y : Node). IsWhole y.replica.node x) at whole) passed,

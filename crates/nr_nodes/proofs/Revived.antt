@@ -60,7 +60,7 @@ open_cut (s ∷ sessions) (m ∷ members) =
     (filter (λ (client : nodes.Client). not client.closed) (clients_seen sessions members)) (open_cut sessions members)
 
 abbrev pub revived_replica : ℕ → Server → ReplicaState → ReplicaState
-revived_replica applied server replica = record replica { members = map cut_member replica.members; applied = applied; server = server; down = false }
+revived_replica applied server replica = record replica { members = map cut_member replica.members; applied = applied; server = server; down = false; fell = None }
 
 pub revived_is : (node : Node) (replica : ReplicaState) (server : Server) (count tail : ℕ) → length node.sessions ≡ length node.replica.members
     → replica ≡ revived_replica node.passed server node.replica → count ≡ length node.sessions

@@ -11,7 +11,7 @@ ghost use Rattle.nr_nodes.specs.Whole.{IsWhole};
 
 use crate::node::Node;
 use crate::step::{Answered, Handed, Happened, Outcome};
-use crate::world::World;
+use crate::world::{World, fail};
 use nr_blob::Memory;
 use nr_model::reason::Reason;
 
@@ -32,16 +32,16 @@ impl World {
         ensures setup { self.new.setup ≡ self.old.setup }
         ensures repeats { self.old.failed ≡ true → IsErr result }
     {
-        if self.has_failed {
-            return Err(Memory);
+        if let Some(memory) = self.failed {
+            return Err(memory);
         }
         if let Some(reason) = self.why_not_post(node, worker) {
             return Ok(Outcome::Idle(reason));
         }
-        self.has_failed = true;
-        self.nodes[node].post(self.alloc, worker)?;
-        self.has_failed = false;
-        Ok(Outcome::Done)
+        match self.nodes[node].post(self.alloc, worker) {
+            Ok(()) => Ok(Outcome::Done),
+            Err(memory) => Err(fail(&mut self.failed, memory)),
+        }
     }
 
     fn why_not_post(&self, node: usize, worker: usize) -> Option<Reason>
@@ -62,16 +62,16 @@ impl World {
         ensures setup { self.new.setup ≡ self.old.setup }
         ensures repeats { self.old.failed ≡ true → IsErr result }
     {
-        if self.has_failed {
-            return Err(Memory);
+        if let Some(memory) = self.failed {
+            return Err(memory);
         }
         if let Some(reason) = self.why_not_lift(node, worker) {
             return Ok(Outcome::Idle(reason));
         }
-        self.has_failed = true;
-        self.nodes[node].lift(self.alloc, worker)?;
-        self.has_failed = false;
-        Ok(Outcome::Done)
+        match self.nodes[node].lift(self.alloc, worker) {
+            Ok(()) => Ok(Outcome::Done),
+            Err(memory) => Err(fail(&mut self.failed, memory)),
+        }
     }
 
     fn why_not_lift(&self, node: usize, worker: usize) -> Option<Reason>
@@ -93,8 +93,8 @@ impl World {
         ensures setup { self.new.setup ≡ self.old.setup }
         ensures repeats { self.old.failed ≡ true → IsErr result }
     {
-        if self.has_failed {
-            return Err(Memory);
+        if let Some(memory) = self.failed {
+            return Err(memory);
         }
         if let Some(reason) = self.why_not_answer(node, worker) {
             return Ok(Outcome::Idle(reason));
@@ -145,16 +145,16 @@ impl World {
         ensures setup { self.new.setup ≡ self.old.setup }
         ensures repeats { self.old.failed ≡ true → IsErr result }
     {
-        if self.has_failed {
-            return Err(Memory);
+        if let Some(memory) = self.failed {
+            return Err(memory);
         }
         if !self.is_worker(node, worker) {
             return Ok((Outcome::Idle(Reason::NoSuch), None));
         }
-        self.has_failed = true;
-        let came = collect_at(&mut self.nodes[node], node, worker, handed)?;
-        self.has_failed = false;
-        Ok(came)
+        match collect_at(&mut self.nodes[node], node, worker, handed) {
+            Ok(came) => Ok(came),
+            Err(memory) => Err(fail(&mut self.failed, memory)),
+        }
     }
 }
 

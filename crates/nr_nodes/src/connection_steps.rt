@@ -14,7 +14,7 @@ ghost use Rattle.nr_nodes.specs.Whole.{AreWhole};
 use crate::node::Node;
 use crate::setup::Setup;
 use crate::step::Outcome;
-use crate::world::World;
+use crate::world::{World, fail};
 use nr_blob::Memory;
 use nr_entry::ConnId;
 use nr_model::reason::Reason;
@@ -28,16 +28,16 @@ impl World {
         ensures setup { self.new.setup ≡ self.old.setup }
         ensures repeats { self.old.failed ≡ true → IsErr result }
     {
-        if self.has_failed {
-            return Err(Memory);
+        if let Some(memory) = self.failed {
+            return Err(memory);
         }
         if let Some(reason) = why_not_open(self.setup, &self.nodes, node, worker) {
             return Ok(Outcome::Idle(reason));
         }
-        self.has_failed = true;
-        let conn = self.nodes[node].open(self.alloc, worker, self.setup.queue_limit())?;
-        self.has_failed = false;
-        Ok(Outcome::Opened(conn))
+        match self.nodes[node].open(self.alloc, worker, self.setup.queue_limit()) {
+            Ok(conn) => Ok(Outcome::Opened(conn)),
+            Err(memory) => Err(fail(&mut self.failed, memory)),
+        }
     }
 
     /// Feeds bytes to a connection, at a moment in milliseconds. Linear in the bytes and the jobs that they ask for, logarithmic in the node's open
@@ -48,16 +48,16 @@ impl World {
         ensures setup { self.new.setup ≡ self.old.setup }
         ensures repeats { self.old.failed ≡ true → IsErr result }
     {
-        if self.has_failed {
-            return Err(Memory);
+        if let Some(memory) = self.failed {
+            return Err(memory);
         }
         if let Some(reason) = why_not_feed(&self.nodes, conn) {
             return Ok(Outcome::Idle(reason));
         }
-        self.has_failed = true;
-        self.nodes[conn.node].feed(conn, moment, bytes)?;
-        self.has_failed = false;
-        Ok(Outcome::Done)
+        match self.nodes[conn.node].feed(conn, moment, bytes) {
+            Ok(()) => Ok(Outcome::Done),
+            Err(memory) => Err(fail(&mut self.failed, memory)),
+        }
     }
 
     /// Closes a connection, at a moment in milliseconds. Linear in the jobs that its worker hasn't posted, and in the worker's connections
@@ -68,16 +68,16 @@ impl World {
         ensures setup { self.new.setup ≡ self.old.setup }
         ensures repeats { self.old.failed ≡ true → IsErr result }
     {
-        if self.has_failed {
-            return Err(Memory);
+        if let Some(memory) = self.failed {
+            return Err(memory);
         }
         if let Some(reason) = why_not_close(&self.nodes, conn) {
             return Ok(Outcome::Idle(reason));
         }
-        self.has_failed = true;
-        self.nodes[conn.node].close(conn, moment)?;
-        self.has_failed = false;
-        Ok(Outcome::Done)
+        match self.nodes[conn.node].close(conn, moment) {
+            Ok(()) => Ok(Outcome::Done),
+            Err(memory) => Err(fail(&mut self.failed, memory)),
+        }
     }
 }
 

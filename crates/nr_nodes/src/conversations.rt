@@ -14,7 +14,7 @@ ghost use Rattle.nr_nodes.specs.Served.{client_seen};
 use crate::dropped_jobs::drop_own;
 use nr_blob::Memory;
 use nr_entry::{ConnId, Job};
-use nr_session::Session;
+use nr_session::{Session, SessionError};
 
 /// The last moment that is delivered apart, 2^53 milliseconds.
 const LAST_MOMENT: u64 = 9_007_199_254_740_992;
@@ -40,12 +40,14 @@ pub(crate) fn feed_session(
     ensures connection { session.new.connection ≡ session.old.connection }
     ensures ended { OnOk result (session.new.ended ≡ session.new.gave_end) }
 {
-    if !session.fits(bytes.len()) {
-        return Err(Memory);
+    if let Some(memory) = session.last_count(bytes.len()) {
+        return Err(memory);
     }
     match session.feed(bytes, capped(milliseconds), pending) {
         Ok(()) => Ok(()),
-        Err(_) => Err(Memory),
+        Err(SessionError::Memory(memory)) => Err(memory),
+        // It takes bytes.
+        Err(SessionError::Ended) => unreachable!(),
     }
 }
 

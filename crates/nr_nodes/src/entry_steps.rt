@@ -1,5 +1,5 @@
 // Entries of the log: a node reserves one and fills its cells, and each node fetches them in turn.
-ghost use Rattle.std.specs.Prelude.{◌≡◌, ◌<◌, ◌≤◌, ◌+◌, ◌&&◌, ◌==◌, true, false, not, nat_lt, length, slice_index_or, IfOk, IfNone, OnErr, IsErr, List};
+ghost use Rattle.std.specs.Prelude.{◌≡◌, ◌<◌, ◌≤◌, ◌+◌, ◌^◌, ◌++◌, ◌∷◌, [], ◌&&◌, ◌==◌, ℕ, true, false, not, nat_lt, length, slice_index_or, IfOk, IfNone, OnOk, OnErr, IsErr, List};
 ghost use Rattle.std.specs.List.{list_all};
 ghost use Rattle.nr_model.specs.Entries.{entry_jobs};
 ghost use Rattle.nr_model.specs.Nodes as nodes;
@@ -7,16 +7,19 @@ ghost use Rattle.nr_model.specs.Nodes.Steps as steps;
 ghost use Rattle.nr_model.specs.Nodes.Pasts.{Event, IsPast};
 ghost use Rattle.nr_entry.specs.Waiting.{has_some};
 ghost use Rattle.nr_nodes.specs.Seen.{outcome_seen};
-ghost use Rattle.nr_nodes.specs.Served.{node_seen};
+ghost use Rattle.nr_nodes.specs.Served.{node_seen, reserved_node};
 ghost use Rattle.nr_nodes.specs.Logs.{log_seen};
 ghost use Rattle.nr_nodes.specs.Taken.{Steps, idle_or};
+ghost use Rattle.nr_nodes.specs.Whole.{IsWhole};
 ghost use Rattle.nr_nodes.specs.WorldState.{Shows};
 
+use crate::log::Log;
 use crate::node::Node;
 use crate::step::Outcome;
-use crate::world::World;
+use crate::world::{World, fail};
 use nr_blob::Memory;
 use nr_model::reason::Reason;
+use std::alloc::Global;
 
 impl World {
     /// A node reserves an entry of the log for the updates that lead, at most 1,024 of them.
@@ -26,20 +29,16 @@ impl World {
         ensures setup { self.new.setup ≡ self.old.setup }
         ensures repeats { self.old.failed ≡ true → IsErr result }
     {
-        if self.has_failed {
-            return Err(Memory);
+        if let Some(memory) = self.failed {
+            return Err(memory);
         }
         if let Some(reason) = self.why_not_reserve(node) {
             return Ok(Outcome::Idle(reason));
         }
-        self.has_failed = true;
-        if !self.log.has_number() {
-            return Err(Memory);
+        match reserve_next(self.alloc, &mut self.nodes[node], &mut self.log) {
+            Ok(()) => Ok(Outcome::Done),
+            Err(memory) => Err(fail(&mut self.failed, memory)),
         }
-        let entry = self.nodes[node].reserve(self.log.tail())?;
-        self.log.push(self.alloc, entry)?;
-        self.has_failed = false;
-        Ok(Outcome::Done)
     }
 
     fn why_not_reserve(&self, number: usize) -> Option<Reason>
@@ -82,8 +81,8 @@ impl World {
         ensures setup { self.new.setup ≡ self.old.setup }
         ensures repeats { self.old.failed ≡ true → IsErr result }
     {
-        if self.has_failed {
-            return Err(Memory);
+        if let Some(memory) = self.failed {
+            return Err(memory);
         }
         if let Some(reason) = self.why_not_fill(node, other) {
             return Ok(Outcome::Idle(reason));
@@ -114,8 +113,8 @@ impl World {
         ensures setup { self.new.setup ≡ self.old.setup }
         ensures repeats { self.old.failed ≡ true → IsErr result }
     {
-        if self.has_failed {
-            return Err(Memory);
+        if let Some(memory) = self.failed {
+            return Err(memory);
         }
         if let Some(reason) = self.why_not_fetch(node) {
             return Ok(Outcome::Idle(reason));
@@ -156,6 +155,27 @@ impl World {
         let owner = self.log.entry(number).node;
         is_filled_by(&self.nodes[owner], node, number)
     }
+}
+
+// A node reserves the next entry, for the updates that lead. Entries have 2^64 - 1 numbers: behind the last of them memory has run out.
+fn reserve_next(alloc: Global, node: &mut Node, log: &mut Log) -> Result<(), Memory>
+    requires fits { log.old.base + length (log_seen log.old) < 2 ^ 64 }
+    requires leads { has_some (entry_jobs (node_seen node.old).waiting) ≡ true }
+    ensures reserved { OnOk result (node_seen node.new
+        ≡ reserved_node (length node.old.unfilled.items) (log.old.base + length (log_seen log.old)) (node_seen node.old)) }
+    ensures entry { OnOk result (log_seen log.new
+        ≡ log_seen log.old ++ record { node = node.old.replica.node; jobs = entry_jobs (node_seen node.old).waiting } ∷ []) }
+    ensures base { log.new.base ≡ log.old.base }
+    ensures fits { OnOk result (log.new.base + length (log_seen log.new) < 2 ^ 64) }
+    ensures whole { (n : ℕ) → IsWhole n node.old → OnOk result (IsWhole n node.new) }
+{
+    let tail = log.tail();
+    if let Some(memory) = Memory::at_last(tail) {
+        return Err(memory);
+    }
+    let entry = node.reserve(tail)?;
+    log.push(alloc, entry)?;
+    Ok(())
 }
 
 // Whether a node's cell of an entry that this one reserved is filled.

@@ -1,5 +1,5 @@
 // The circle of the operation log: the entries that some node has still to pass.
-ghost use Rattle.std.specs.Prelude.{◌≡◌, ◌↔◌, ◌<◌, ◌≤◌, ◌+◌, ◌-◌, ◌^◌, ◌++◌, ◌∷◌, [], OnOk, OnErr, IsTrue, length, drop, slice_index_or};
+ghost use Rattle.std.specs.Prelude.{◌≡◌, ◌<◌, ◌≤◌, ◌+◌, ◌-◌, ◌^◌, ◌++◌, ◌∷◌, [], OnOk, OnErr, length, drop, slice_index_or};
 ghost use Rattle.nr_model.specs.Nodes as nodes;
 ghost use Rattle.nr_nodes.specs.Served.{entry_seen};
 ghost use Rattle.nr_nodes.specs.Logs.{log_seen};
@@ -44,14 +44,6 @@ impl Log {
         ensures { (d : nodes.Logged) → entry_seen result.now ≡ slice_index_or (log_seen self.now) (number - self.now.base) d }
     {
         &self.entries[(number - self.base) as usize]
-    }
-
-    /// Whether there is a number for one entry more: there are 2^64 - 1 of them.
-    pub(crate) fn has_number(&self) -> bool
-        requires { self.now.base + length (log_seen self.now) < 2 ^ 64 }
-        ensures { IsTrue result ↔ (self.now.base + length (log_seen self.now) + 1 < 2 ^ 64) }
-    {
-        self.tail() < u64::MAX
     }
 
     /// One entry more. Where memory runs out nothing changes.

@@ -159,9 +159,9 @@ impl Node {
         ensures whole { (n : ℕ) → IsWhole n self.old → OnOk result (IsWhole n self.new) }
     {
         let jobs = self.workers[worker].lift(alloc);
-        let Ok(()) = self.replica.lift(worker, jobs) else {
-            return Err(Memory);
-        };
+        if let Err((_, memory)) = self.replica.lift(worker, jobs) {
+            return Err(memory);
+        }
         Ok(())
     }
 
@@ -218,8 +218,9 @@ impl Node {
         ensures reserved { OnOk result (node_seen self.new ≡ reserved_node (length self.old.unfilled.items) tail (node_seen self.old)) }
         ensures whole { (n : ℕ) → IsWhole n self.old → OnOk result (IsWhole n self.new) }
     {
+        // An update leads.
         let Some(entry) = self.replica.take_entry()? else {
-            return Err(Memory);
+            unreachable!()
         };
         self.at = tail;
         self.unfilled.fill(true);
@@ -344,10 +345,10 @@ impl Node {
         ensures passed { self.new.passed ≡ self.old.passed }
     {
         let counted = self.resumed <= self.replica.applied();
-        if self.replica.apply_or_stop(entry, counted) {
-            return;
+        match self.replica.apply_or_stop(entry, counted) {
+            Ok(()) => {}
+            Err(_fall) => self.drop_jobs(),
         }
-        self.drop_jobs();
     }
 
     // Drops its jobs, those that it has lifted and those at its workers. Each connection that isn't closed notes the first of its own.

@@ -15,7 +15,7 @@ ghost use Rattle.nr_nodes.specs.Taken.{Steps, idle_or};
 use crate::log::Log;
 use crate::node::Node;
 use crate::step::Outcome;
-use crate::world::World;
+use crate::world::{World, fail};
 use nr_blob::Memory;
 use nr_model::reason::Reason;
 
@@ -89,8 +89,8 @@ impl World {
         ensures setup { self.new.setup ≡ self.old.setup }
         ensures repeats { self.old.failed ≡ true → IsErr result }
     {
-        if self.has_failed {
-            return Err(Memory);
+        if let Some(memory) = self.failed {
+            return Err(memory);
         }
         if let Some(reason) = self.why_not_apply(node) {
             return Ok(Outcome::Idle(reason));
@@ -121,17 +121,19 @@ impl World {
         ensures setup { self.new.setup ≡ self.old.setup }
         ensures repeats { self.old.failed ≡ true → IsErr result }
     {
-        if self.has_failed {
-            return Err(Memory);
+        if let Some(memory) = self.failed {
+            return Err(memory);
         }
         if let Some(reason) = self.why_not_look(node) {
             return Ok(Outcome::Idle(reason));
         }
-        self.has_failed = true;
-        read_at_tail(&mut self.nodes[node], &self.log)?;
-        let_go(&self.nodes, &mut self.log);
-        self.has_failed = false;
-        Ok(Outcome::Done)
+        match read_at_tail(&mut self.nodes[node], &self.log) {
+            Ok(()) => {
+                let_go(&self.nodes, &mut self.log);
+                Ok(Outcome::Done)
+            }
+            Err(memory) => Err(fail(&mut self.failed, memory)),
+        }
     }
 
     fn why_not_look(&self, number: usize) -> Option<Reason>
@@ -177,8 +179,8 @@ impl World {
         ensures setup { self.new.setup ≡ self.old.setup }
         ensures repeats { self.old.failed ≡ true → IsErr result }
     {
-        if self.has_failed {
-            return Err(Memory);
+        if let Some(memory) = self.failed {
+            return Err(memory);
         }
         if let Some(reason) = self.why_not_refuse(node) {
             return Ok(Outcome::Idle(reason));
@@ -210,8 +212,8 @@ impl World {
         ensures setup { self.new.setup ≡ self.old.setup }
         ensures repeats { self.old.failed ≡ true → IsErr result }
     {
-        if self.has_failed {
-            return Err(Memory);
+        if let Some(memory) = self.failed {
+            return Err(memory);
         }
         if let Some(reason) = self.why_not_revive(node, donor) {
             return Ok(Outcome::Idle(reason));

@@ -61,12 +61,12 @@ impl Sessions {
         requires next { conn.serial ≡ length self.old }
         ensures { OnOk result (self.new ≡ self.old ++ fresh_session (connection_of conn) ∷ []) }
     {
-        let Some(count) = self.count.checked_add(1) else {
-            return Err(Memory);
-        };
+        if let Some(memory) = Memory::at_last(self.count as u64) {
+            return Err(memory);
+        }
         self.by_serial
             .insert(conn.serial, Session::new(alloc, conn))?;
-        self.count = count;
+        self.count += 1;
         Ok(())
     }
 
@@ -123,7 +123,7 @@ impl Sessions {
     {
         // One that takes bytes isn't closed.
         let Some(session) = self.by_serial.get_mut(&(serial as u64)) else {
-            return Err(Memory);
+            unreachable!()
         };
         feed_session(session, milliseconds, bytes, pending)?;
         Ok(())
@@ -148,7 +148,7 @@ impl Sessions {
     {
         // One that isn't closed has its session.
         let Some(mut session) = self.by_serial.remove(&conn.serial) else {
-            return Err(Memory);
+            unreachable!()
         };
         close_session(&mut session, conn, milliseconds, pending)?;
         Ok(())

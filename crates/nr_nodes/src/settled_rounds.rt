@@ -1,7 +1,7 @@
 // Rounds of steps, until nothing is left to do.
 ghost use Rattle.std.specs.Prelude.{◌≡◌, ◌<◌, ◌-◌, ◌^◌, [], ◌∷◌, true, IfOk, OnOk, OnErr, IsErr, flat_map, map};
 ghost use Rattle.std.specs.List.{range_with_len};
-ghost use Rattle.std.specs.Bool.{OnTrue, OnFalse};
+ghost use Rattle.std.specs.Bool.{OnTrue};
 ghost use Rattle.nr_model.specs.Nodes.Steps as steps;
 ghost use Rattle.nr_model.specs.Nodes.Settling.{lifting, reserving, answering};
 ghost use Rattle.nr_nodes.specs.Setups.{IsAllowed};
@@ -11,7 +11,7 @@ ghost use Rattle.nr_nodes.specs.Rounds.{Runs, RunsBy, turns_left, TakesTurns, Re
 
 use crate::setup::Setup;
 use crate::step::Handed;
-use crate::world::World;
+use crate::world::{World, fail};
 use nr_blob::Memory;
 
 impl World {
@@ -24,39 +24,31 @@ impl World {
         ensures setup { self.new.setup ≡ self.old.setup }
         ensures repeats { self.old.failed ≡ true → IsErr result }
     {
-        if self.has_failed {
-            return Err(Memory);
+        if let Some(memory) = self.failed {
+            return Err(memory);
         }
         let mut handed = Vec::new(self.alloc);
-        if self.take_rounds(&mut handed)? {
-            return Ok(handed);
+        let rounds = self.take_rounds(&mut handed)?;
+        if let Some(memory) = Memory::at_last(rounds) {
+            return Err(fail(&mut self.failed, memory));
         }
-        Err(self.fail())
+        Ok(handed)
     }
 
-    // Rounds up to one in which nothing was done, or so many as can be counted, and whether there was such a one.
-    fn take_rounds(&mut self, handed: &mut Vec<Handed>) -> Result<bool, Memory>
+    // Rounds up to one in which nothing was done, and how many there were before it: at most 2^64 - 1, and where it is so many there was no such one.
+    fn take_rounds(&mut self, handed: &mut Vec<Handed>) -> Result<u64, Memory>
         requires none { handed.old.items ≡ [] }
-        ensures settles { IfOk result (λ ends. OnTrue ends (Settles self.old self.new (map handed_seen handed.new.items))) }
-        ensures most { IfOk result (λ ends. OnFalse ends (TakesRounds (2 ^ 64 - 1) self.old self.new (map handed_seen handed.new.items))) }
+        ensures settles { IfOk result (λ rounds. rounds < 2 ^ 64 - 1 → Settles self.old self.new (map handed_seen handed.new.items)) }
+        ensures most { IfOk result (λ rounds. rounds ≡ 2 ^ 64 - 1 → TakesRounds (2 ^ 64 - 1) self.old self.new (map handed_seen handed.new.items)) }
         ensures failed { OnErr result (self.new.failed ≡ true) }
         ensures setup { self.new.setup ≡ self.old.setup }
     {
-        for _ in 0..u64::MAX {
+        for rounds in 0..u64::MAX {
             if !self.take_round(handed)? {
-                return Ok(true);
+                return Ok(rounds);
             }
         }
-        Ok(false)
-    }
-
-    // The world has failed.
-    fn fail(&mut self) -> Memory
-        ensures failed { self.new.failed ≡ true }
-        ensures setup { self.new.setup ≡ self.old.setup }
-    {
-        self.has_failed = true;
-        Memory
+        Ok(u64::MAX)
     }
 
     // A round, and whether a step of it was done.
@@ -189,8 +181,8 @@ impl World {
         ensures failed { OnErr result (self.new.failed ≡ true) }
         ensures setup { self.new.setup ≡ self.old.setup }
     {
-        if self.has_failed {
-            return Err(Memory);
+        if let Some(memory) = self.failed {
+            return Err(memory);
         }
         let applied = self.apply(node)?;
         let fetched = self.fetch(node)?;

@@ -14,7 +14,7 @@ impl World {
     pub fn has_ended(&self, conn: ConnId) -> bool
         ensures { (world : nodes.World) → Shows self.now world → result ≡ has_ended world (connection_of conn) }
     {
-        self.has_failed || has_ended_in(&self.nodes, conn)
+        self.failed.is_some() || has_ended_in(&self.nodes, conn)
     }
 
     /// Whether a node is down.

@@ -128,8 +128,8 @@ impl Worker {
     pub(crate) fn post(&mut self, alloc: Global) -> Result<(), Memory>
         ensures { (owed : Option ℕ) → OnOk result (worker_seen self.new owed ≡ posted_worker (worker_seen self.old owed)) }
     {
-        if self.batches == u64::MAX {
-            return Err(Memory);
+        if let Some(memory) = Memory::at_last(self.batches) {
+            return Err(memory);
         }
         let batch = take_front(alloc, &mut self.pending, MOST_JOBS)?;
         self.batches += 1;

@@ -1,5 +1,5 @@
 // A server of several nodes in one value: the nodes, and the log between them.
-ghost use Rattle.std.specs.Prelude.{◌≡◌, IfOk, map, replicate};
+ghost use Rattle.std.specs.Prelude.{◌≡◌, Some, IfOk, map, replicate};
 ghost use Rattle.nr_model.specs.Nodes as nodes;
 ghost use Rattle.nr_nodes.specs.Served.{node_seen};
 ghost use Rattle.nr_nodes.specs.Whole.{AreWhole};
@@ -20,11 +20,12 @@ pub struct World {
     pub(crate) setup: Setup,
     pub(crate) nodes: Vec<Node>,
     pub(crate) log: Log,
-    pub(crate) has_failed: bool,
+    // Why it failed, once it has.
+    pub(crate) failed: Option<Memory>,
 }
 
 impl Model for World {
-    ghost use Rattle.std.specs.Prelude.{◌≡◌, false};
+    ghost use Rattle.std.specs.Prelude.{◌≡◌, false, is_some};
     ghost use Rattle.nr_nodes.specs.WorldState.{WorldState, coded_world};
     ghost use Rattle.nr_nodes.specs.Whole.{IsHeld};
 
@@ -32,9 +33,9 @@ impl Model for World {
 
     ghost coded = { coded_world };
 
-    ghost view = { λ w. record { setup = w.setup; nodes = w.nodes.items; log = w.log; failed = w.has_failed } };
+    ghost view = { λ w. record { setup = w.setup; nodes = w.nodes.items; log = w.log; failed = is_some w.failed } };
 
-    ghost invariant = { λ w. w.has_failed ≡ false → IsHeld (record { setup = w.setup; nodes = w.nodes.items; log = w.log; failed = w.has_failed }) };
+    ghost invariant = { λ w. is_some w.failed ≡ false → IsHeld (record { setup = w.setup; nodes = w.nodes.items; log = w.log; failed = is_some w.failed }) };
 }
 
 // So many nodes with nothing to do.
@@ -47,6 +48,15 @@ fn fresh_nodes(alloc: Global, keys: RandomState, setup: Setup) -> Result<Vec<Nod
         nodes.push(Node::new(alloc, keys, node, setup)?)?;
     }
     Ok(nodes)
+}
+
+/// A world fails for want of memory: it keeps the cause, and hands it back.
+pub(crate) fn fail(failed: &mut Option<Memory>, memory: Memory) -> Memory
+    ensures kept { failed.new ≡ Some memory }
+    ensures cause { result ≡ memory }
+{
+    *failed = Some(memory);
+    memory
 }
 
 impl World {
@@ -62,7 +72,7 @@ impl World {
             setup,
             nodes,
             log: Log::new(alloc),
-            has_failed: false,
+            failed: None,
         })
     }
 

@@ -1,5 +1,5 @@
 -- The steps of a call, put together, over plain variables.
-use Rattle.std.proofs.Common.{◌≡◌, ℕ, suc, ◌+◌, ◌^◌, ◌<◌, List, [], ◌∷◌, get_or, Option, Some, None, option_map, unwrap_or, MatchOption, is_some, true, refl, sym, ap, ◌∙◌, subst}
+use Rattle.std.proofs.Common.{◌≡◌, ℕ, suc, ◌+◌, ◌^◌, ◌<◌, List, ◌∷◌, get_or, Option, Some, None, option_map, unwrap_or, is_some, true, refl, sym, ap, ◌∙◌, subst}
 use mathlib.Core.Option.{none}
 use Rattle.std.specs.Arc.{arc_value}
 use Rattle.atomic_table.specs.Table.{Me, step, rest, Allows}
@@ -16,10 +16,6 @@ use Rattle.nr_oplog.proofs.Passes.{passes_next}
 
 abbrev Sat : Type 0
 Sat = Me (Option Share) LogView
-
-abbrev slot_value : List (ℕ × Option Share) → Option Share
-slot_value [] = None
-slot_value (x ∷ xs) = x.1
 
 module _ (nodes places : ℕ) where
   pub put_loads : (slots id : ℕ) (m : Sat) (node at word : ℕ) (entry : Entry) → IsOfNode m.0 nodes places → m.0.filling ≡ 0 → node < nodes → get_or m.0.standing.unfilled node None ≡ Some entry
@@ -62,25 +58,16 @@ module _ (nodes places : ℕ) where
       λ i. ((d.1 node refl ∙ (λ j. record v { standing = filled_for node v.standing; filling = sym quiet j })) i, d.0 i)
 
   pub lift_loads : (slots id : ℕ) (m : Sat) (node passed word : ℕ) → IsOfNode m.0 nodes places → node ≡ m.0.standing.node → passed ≡ passed_of m.0.standing → m.0.standing.held ≡ None
-      → word ≡ stamp_word nodes places node passed → Allows (LogRule nodes places) slots id m word (λ z. z) (looked_for_next m)
+      → word ≡ stamp_word nodes places node passed → Allows (LogRule nodes places) slots id m word (λ z. z) (looked_for_next (step slots word 0 0 none) m)
   lift_loads slots id m node passed word own is count idle here =
-      subst (λ (i : ℕ). Allows (LogRule nodes places) slots id m i (λ z. z) (looked_for_next m)) (sym (here ∙ (λ i. stamp_word nodes places (is i) (count i)))) (looks_for_next nodes places slots id m own idle)
+      subst (λ (i : ℕ). Allows (LogRule nodes places) slots id m i (λ z. z) (looked_for_next (step slots i 0 0 none) m)) (sym (here ∙ (λ i. stamp_word nodes places (is i) (count i)))) (looks_for_next nodes places slots id m own idle)
 
   -- what was lifted
-  pub lift_took : (m m' : Sat) (node passed n : ℕ) → IsOfNode m.0 nodes places → node ≡ m.0.standing.node → passed ≡ passed_of m.0.standing → n ≡ passed + 1 → looked_for_next m n m'
+  pub lift_took : (slots word : ℕ) (m m' : Sat) (node passed n : ℕ) → IsOfNode m.0 nodes places → node ≡ m.0.standing.node → passed ≡ passed_of m.0.standing → n ≡ passed + 1 → looked_for_next (step slots word 0 0 none) m n m'
       → (passed < 2 ^ 63) × ((share : Share) × (m' ≡ (record m.0 { standing = fetched_with (arc_value share) m.0.standing }, (slot_of places node passed, Some share) ∷ m.1)))
-  lift_took m m' node passed n own is count hit did =
+  lift_took slots word m m' node passed n own is count hit did =
       let d = did.1 (hit ∙ native.Mathlib.Numerals.add-one passed ∙ ap suc count) in
       (subst (λ z. z < 2 ^ 63) (sym count) d.0, (d.1.0, λ i. (d.1.1 i, (d.1.2 ∙ (λ j. (slot_of (own.1 j) (sym is j) (sym count j), Some d.1.0) ∷ m.1)) i)))
-
-  pub lift_done : (m l m' : Sat) (node passed n slot : ℕ) (result : Option Share) → IsOfNode m.0 nodes places → node ≡ m.0.standing.node → passed ≡ passed_of m.0.standing → n ≡ passed + 1 → slot ≡ slot_of places node passed
-      → looked_for_next m n l → l.1 ≡ (slot, result) ∷ rest l.1 → m' ≡ (l.0, (slot, None) ∷ rest l.1)
-      → MatchOption result (m' ≡ m) (λ share. (passed < 2 ^ 63) × (m' ≡ (record m.0 { standing = fetched_with (arc_value share) m.0.standing }, (slot_of places node passed, None) ∷ m.1)))
-  lift_done m l m' node passed n slot result own is count hit there did had now =
-      let t = lift_took m l node passed n own is count hit did in
-      let what : Some t.1.0 ≡ result = ap (λ (q : Sat). slot_value q.1) (sym t.1.1) ∙ ap slot_value had in
-      subst (λ (o : Option Share). MatchOption o (m' ≡ m) (λ share. (passed < 2 ^ 63) × (m' ≡ (record m.0 { standing = fetched_with (arc_value share) m.0.standing }, (slot_of places node passed, None) ∷ m.1)))) what
-      (t.0, now ∙ (λ i. ((t.1.1 i).0, (there i, None) ∷ rest (t.1.1 i).1)))
 
   pub pass_stores : (slots id : ℕ) (m : Sat) (node passed : ℕ) → IsOfNode m.0 nodes places → node ≡ m.0.standing.node → passed ≡ passed_of m.0.standing → is_some m.0.standing.held ≡ true
       → m.1 ≡ (slot_of places node passed, None) ∷ rest m.1 → Allows (LogRule nodes places) slots id m (passed_word node) (λ _. passed + 1) (λ _. passed_next m)

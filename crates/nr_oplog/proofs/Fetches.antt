@@ -6,7 +6,7 @@ use native.Mathlib.Decide.{ℕ_discrete}
 use lib.ListN.{get_elem?}
 use lib.Seq.{set-get_or}
 use Rattle.std.specs.Arc.{arc_value}
-use Rattle.atomic_table.specs.Table.{State, Me, Act, Valid, takes, keeps, stepped, carried_after, Allows}
+use Rattle.atomic_table.specs.Table.{State, Me, Act, Step, Valid, takes, keeps, step, stepped, carried_after, Allows}
 use Rattle.atomic_table.proofs.Lists.{set_else}
 use Rattle.nr_model.specs.Bytes.{IsBeginningOf}
 use Rattle.nr_entry.specs.declared.entry.Entry.{Entry}
@@ -14,7 +14,7 @@ use Rattle.nr_log_end.specs.Standings.{applied_of, passed_of, StandsInLog, fetch
 use Rattle.nr_oplog.specs.declared.view.LogView.{LogView}
 use Rattle.nr_oplog.specs.Layout.{stamp_word, slot_of}
 use Rattle.nr_oplog.specs.Rule.{Share, full, lifted, Owns, OwnerOk, CellOk, SeatOk, LogRule}
-use Rattle.nr_oplog.specs.Plays.{looked_for_next}
+use Rattle.nr_oplog.specs.Plays.{with_unfilled, looked_for_next}
 use Rattle.nr_oplog.specs.Seats.{IsOfNode}
 use Rattle.nr_oplog.proofs.Fronts.{begins_snoc}
 use Rattle.nr_oplog.proofs.Changes.{change₂, change₂_here, change₂_else}
@@ -116,21 +116,27 @@ module _ (nodes places : ℕ) where
           (let l : length (r.applied node) ≡ count = counted in let p : 0 < places = r.some_place in omega arith) refl refl (λ _ _. refl) (λ _ _ _. refl)
           (length-set s.homes (slot_of places node count) none) (λ i other. set_else s.homes (slot_of places node count) i none other) (c.0, c.1, sym counted) lifting_ok others_lift (λ _ o. o)
 
+    -- a look at the cell changes nothing that the rule speaks of
+    unfilled_ok : SeatOk nodes places r.log r.past r.applied r.phase (with_unfilled m.0)
+    unfilled_ok = record { part = k.part; told = k.told; seen = k.seen; met = k.met; owns = k.owns; fills = k.fills }
+
     in_log : StandsInLog m.0.standing
     in_log = (r.log, k.part.0, k.seen, mine.own, each_rises r.log r.past r.rising)
 
-  abbrev Goes : ℕ → Sat → St → Type 0
-  Goes id m s = let i : ℕ = stamp_word nodes places m.0.standing.node (passed_of m.0.standing) in (w : LogView) × (a : Act (Option Share)) × Valid s.homes m.1 a
-      × LogRule nodes places (stepped s i (get_or s.words i 0) id m.1 w a) × looked_for_next m (get_or s.words i 0) (w, carried_after m.1 a)
+  -- the load of the next cell's stamp
+  abbrev look : ℕ → Sat → Step (Option Share)
+  look slots m = step slots (stamp_word nodes places m.0.standing.node (passed_of m.0.standing)) 0 0 none
+
+  abbrev Goes : ℕ → ℕ → Sat → St → Type 0
+  Goes slots id m s = let i : ℕ = stamp_word nodes places m.0.standing.node (passed_of m.0.standing) in (w : LogView) × (a : Act (Option Share)) × Valid s.homes m.1 a
+      × LogRule nodes places (stepped s i (get_or s.words i 0) id m.1 w a) × looked_for_next (look slots m) m (get_or s.words i 0) (w, carried_after m.1 a)
 
   pub looks_for_next : (slots id : ℕ) (m : Sat) → IsOfNode m.0 nodes places → m.0.standing.held ≡ None
-      → Allows (LogRule nodes places) slots id m (stamp_word nodes places m.0.standing.node (passed_of m.0.standing)) (λ z. z) (looked_for_next m)
-  looks_for_next slots id m own idle s r wide at small = dite (ℕ_discrete (get_or s.words i 0) (suc (count id m own s r at))) found missed
+      → Allows (LogRule nodes places) slots id m (stamp_word nodes places m.0.standing.node (passed_of m.0.standing)) (λ z. z) (looked_for_next (look slots m) m)
+  looks_for_next slots id m own idle s r wide at small =
+      dite (ℕ_discrete (get_or s.words (stamp_word nodes places m.0.standing.node (passed_of m.0.standing)) 0) (suc (count id m own s r at))) found missed
     where
-      i : ℕ
-      i = stamp_word nodes places m.0.standing.node (passed_of m.0.standing)
-
-      found : get_or s.words (stamp_word nodes places m.0.standing.node (passed_of m.0.standing)) 0 ≡ suc (passed_of m.0.standing) → Goes id m s
+      found : get_or s.words (stamp_word nodes places m.0.standing.node (passed_of m.0.standing)) 0 ≡ suc (passed_of m.0.standing) → Goes slots id m s
       found stamped =
           let f = cell_full id m own s r at stamped idle in let c = f.1 in let share : Share = c.2.0 in let w : LogView = lifting id m own s r at share in
           let slot : ℕ = slot_of places m.0.standing.node (passed_of m.0.standing) in let small' : passed_of m.0.standing < length r.log = c.1 in let few : length r.log ≤ 2 ^ 63 = r.bounded in
@@ -143,15 +149,15 @@ module _ (nodes places : ℕ) where
             (
               (r.log, ok.part.0, (r.each_seat id m.0 at).seen, (mine id m own s r at).own, each_rises r.log r.past r.rising),
               (λ _. (omega arith, (share, refl, (λ j. (slot_of (sym own.1 j) m.0.standing.node (passed_of m.0.standing), Some share) ∷ m.1)))),
-              (λ other. absurd (other stamped)),
+              (λ other _. absurd (other stamped)),
             ),
           )
 
-      missed : get_or s.words (stamp_word nodes places m.0.standing.node (passed_of m.0.standing)) 0 ≢ suc (passed_of m.0.standing) → Goes id m s
-      missed other = let k' = r.each_seat id m.0 at in (
-        m.0,
+      missed : get_or s.words (stamp_word nodes places m.0.standing.node (passed_of m.0.standing)) 0 ≢ suc (passed_of m.0.standing) → Goes slots id m s
+      missed other = let w : LogView = with_unfilled m.0 in (
+        w,
         keeps,
         tt,
-        unmoved nodes places s r (stamp_word nodes places m.0.standing.node (passed_of m.0.standing)) id m.1 m.0 m.0 at k' (λ _ o. o),
-        (in_log id m own s r at, (λ stamped. absurd (other stamped)), (λ _. refl)),
+        unmoved nodes places s r (stamp_word nodes places m.0.standing.node (passed_of m.0.standing)) id m.1 m.0 w at (unfilled_ok id m own s r at) (λ _ o. o),
+        (in_log id m own s r at, (λ stamped. absurd (other stamped)), (λ _ _. refl)),
       )

@@ -11,7 +11,7 @@ use Rattle.nr_log_end.specs.declared.standing.Standing.{Standing}
 use Rattle.nr_log_end.specs.declared.standing.Turn.{Turn}
 use Rattle.nr_log_end.specs.Standings.{done_with, record_of, known_of, passed_of, logged, StandsInLog, RisesBefore, reserved_as, filled_for, fetched_with, passed_on}
 use Rattle.nr_oplog.specs.declared.view.LogView.{LogView}
-use Rattle.nr_log_end.specs.declared.standing.Look.TheVariants.{Tail, Passed}
+use Rattle.nr_log_end.specs.declared.standing.Look.TheVariants.{Tail, Passed, Unfilled}
 use Rattle.nr_oplog.specs.Layout.{passed_word, stamp_word, slot_of}
 use Rattle.nr_oplog.specs.Rule.{Share, opening_view}
 
@@ -65,14 +65,18 @@ took_to_fill st m n m' =
 abbrev pub filled : Sat → Sat → Type 0
 filled m m' = (m'.1 ≡ rest m.1) × ((node : ℕ) → m.0.filling ≡ suc node → m'.0 ≡ record m.0 { standing = filled_for node m.0.standing; filling = 0 })
 
+-- the cell of the next entry was looked at, and is not full
+abbrev pub with_unfilled : LogView → LogView
+with_unfilled v = record v { looks = v.looks ++ Unfilled (passed_of v.standing) ∷ [] }
+
 -- the next cell is full, and taken; or it is not
-abbrev pub looked_for_next : Sat → ℕ → Sat → Type 0
-looked_for_next m n m' =
+abbrev pub looked_for_next : At → Sat → ℕ → Sat → Type 0
+looked_for_next st m n m' =
     StandsInLog m'.0.standing
     × (n ≡ suc (passed_of m.0.standing)
     → (passed_of m.0.standing < 2 ^ 63)
     × ((share : Share) × (m'.0 ≡ record m.0 { standing = fetched_with (arc_value share) m.0.standing }) × (m'.1 ≡ (slot_of m.0.places m.0.standing.node (passed_of m.0.standing), Some share) ∷ m.1)))
-    × (n ≢ suc (passed_of m.0.standing) → m' ≡ m)
+    × (n ≢ suc (passed_of m.0.standing) → st.word ≡ stamp_word m.0.standing.nodes m.0.places m.0.standing.node (passed_of m.0.standing) → m' ≡ (with_unfilled m.0, m.1))
 
 -- the entry that was held is passed, and its cell is given back, empty
 abbrev pub passed_next : Sat → Sat → Type 0

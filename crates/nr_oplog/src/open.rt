@@ -4,6 +4,7 @@ ghost use Rattle.nr_oplog.specs.Layout.{words_of, slots_of};
 ghost use Rattle.nr_oplog.specs.Rule.{first_view};
 
 use crate::view::{LogSlotSeat, LogTable};
+use nr_blob::Memory;
 
 /// Why a log isn't opened.
 #[derive(Clone, Copy, Debug, PartialEq, Eq)]
@@ -11,7 +12,18 @@ pub enum OpenError {
     /// The nodes aren't 1 to 8, or the places aren't 2 to 65,536.
     BadShape,
     /// There is no memory for it.
-    Memory,
+    Memory(Memory),
+}
+
+impl From<Memory> for OpenError {
+    ghost use Rattle.std.specs.Prelude.{◌≡◌};
+    ghost use Rattle.nr_oplog.specs.declared.open.OpenError.TheVariants as errors;
+
+    ghost from_gives = { λ memory e. e ≡ errors.Memory memory };
+
+    fn from(memory: Memory) -> OpenError {
+        OpenError::Memory(memory)
+    }
 }
 
 /// A log that was opened, and has no name yet.

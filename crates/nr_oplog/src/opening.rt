@@ -23,23 +23,27 @@ impl Opened {
         if nodes < 1 || nodes > 8 || places < 2 || places > 65536 {
             return Err(OpenError::BadShape);
         }
+        Ok(Opened::laid(alloc, nodes, places)?)
+    }
+
+    // The words and slots of a log of this shape.
+    fn laid(alloc: Global, nodes: usize, places: usize) -> Result<Opened, Memory>
+        requires { IsShape nodes places }
+        ensures { IfOk result (λ opened. (nodes_of opened ≡ nodes) × (places_of opened ≡ places)) }
+    {
         let row = places + 16;
-        let Ok(words) = Vec::from_elem(alloc, 0u64, 16 * nodes + 16 + nodes * row) else {
-            return Err(OpenError::Memory);
-        };
+        let words = Vec::from_elem(alloc, 0u64, 16 * nodes + 16 + nodes * row)?;
         let shape = Shape {
             nodes: nodes as u64,
             places: places as u64,
         };
-        match Table::vacant(alloc, words.as_slice(), nodes * places, &shape) {
-            Ok((table, seat)) => Ok(Opened {
-                table,
-                seat,
-                nodes,
-                places,
-            }),
-            Err(_) => Err(OpenError::Memory),
-        }
+        let (table, seat) = Table::vacant(alloc, words.as_slice(), nodes * places, &shape)?;
+        Ok(Opened {
+            table,
+            seat,
+            nodes,
+            places,
+        })
     }
 
     /// Gives the log its name, and each node its seat, the first one node 0. It takes memory for the list of seats alone.

@@ -63,7 +63,7 @@ impl Play<Option<Arc<Entry, Global>>, LogView> for Fill {
 pub(crate) struct LookForNext;
 
 impl Play<Option<Arc<Entry, Global>>, LogView> for LookForNext {
-    ghost then = { λ _. looked_for_next };
+    ghost then = { looked_for_next };
 }
 
 pub(crate) struct PassNext;

@@ -145,7 +145,7 @@ impl<B: LogName> LogSeat<B> {
     pub fn fetch(&mut self, log: &Oplog<B>) -> Option<Arc<Entry, Global>>
         requires { self.old.standing.held ≡ None }
         ensures some { IfSome result (λ entry. self.new ≡ record self.old { standing = fetched_with (arc_value entry) self.old.standing }) }
-        ensures none { IfNone result (self.new ≡ self.old) }
+        ensures none { IfNone result (self.new ≡ record self.old { looks = self.old.looks ++ Look.Unfilled (passed_of self.old.standing) ∷ [] }) }
         ensures in_log { StandsInLog self.new.standing }
     {
         let share = log.lift(&mut self.seat, self.node, self.passed)?;

@@ -6,7 +6,7 @@ ghost use Rattle.nr_entry.specs.Shares.{shares_of};
 ghost use Rattle.nr_log_end.specs.Standings.{applied_of, passed_of, IsAllFilled, StandsInLog, reserved_as, filled_for, fetched_with, passed_on};
 ghost use Rattle.nr_log_end.specs.declared.standing.Look.{Look};
 ghost use Rattle.nr_oplog.specs.Layout.{passed_word, stamp_word, slot_of, words_of, slots_of};
-ghost use Rattle.nr_oplog.specs.Plays.{with_tail, with_done, with_passed, token_view, with_told, with_look, with_later, AreOfOneLog, MayFollow};
+ghost use Rattle.nr_oplog.specs.Plays.{with_tail, with_done, with_passed, with_unfilled, token_view, with_told, with_look, with_later, AreOfOneLog, MayFollow};
 ghost use Rattle.nr_oplog.specs.Calls.{LoadsCounts, IsLeastOf};
 ghost use Rattle.nr_oplog.specs.Rule.{opening_view};
 ghost use Rattle.nr_oplog.specs.Seats.{IsSameSeat, IsOfNode, HasShareFor, CountsOf, IsBehind};
@@ -153,7 +153,7 @@ impl<B: LogName> Oplog<B> {
         requires seat { (seat.old.table_id ≡ B.log) × IsOfNode seat.old.me.0 self.now.table.shared.key.nodes self.now.table.shared.key.places × (node ≡ seat.old.me.0.standing.node) }
         requires next { (passed ≡ passed_of seat.old.me.0.standing) × (passed ≤ 2 ^ 63) × (seat.old.me.0.standing.held ≡ None) }
         ensures seat { IsSameSeat seat.old seat.new }
-        ensures view { MatchOption result (seat.new.me ≡ seat.old.me) (λ share. (passed < 2 ^ 63) × (seat.new.me ≡ (record seat.old.me.0 { standing = fetched_with (arc_value share) seat.old.me.0.standing }, (slot_of self.now.table.shared.key.places node passed, None) ∷ seat.old.me.1))) }
+        ensures view { MatchOption result (seat.new.me ≡ (with_unfilled seat.old.me.0, seat.old.me.1)) (λ share. (passed < 2 ^ 63) × (seat.new.me ≡ (record seat.old.me.0 { standing = fetched_with (arc_value share) seat.old.me.0.standing }, (slot_of self.now.table.shared.key.places node passed, None) ∷ seat.old.me.1))) }
         ensures in_log { StandsInLog seat.new.me.0.standing }
     {
         let words = &self.table.shared;

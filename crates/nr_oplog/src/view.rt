@@ -22,7 +22,7 @@ pub struct LogView {
     pub upto: u64,
     /// For each node a count of entries that it has passed, as last met.
     pub met: LinkedList<u64>,
-    /// The loads of the tail and of passed counts, in order.
+    /// The loads of the tail, of passed counts, and of the next cell where that wasn't filled, in order.
     pub looks: LinkedList<Look>,
     /// 0, or 1 more than the node whose cell is being filled.
     pub filling: u64,

@@ -11,6 +11,7 @@ use Rattle.nr_entry.proofs.Crossing.{waiting_sent}
 use Rattle.nr_emission.proofs.staging.Staging.TheSendSync as staging
 use Rattle.nr_machine.proofs.Crossing.{machine_send}
 use Rattle.nr_machine.specs.contracts.machine.Machine as Machine
+use Rattle.nr_replica.proofs.fall.Fall.TheSendSync as falls
 use Rattle.nr_replica.proofs.members.Members.TheSendSync as members
 use Rattle.nr_replica.specs.contracts.offer.Offer as Offer
 use Rattle.nr_replica.specs.contracts.replica.Replica as Replica
@@ -26,4 +27,4 @@ offer_send = view_send Offer.TheInside.the_row _ _ _ _ (declared_send Offer.TheI
 
 pub replica_send : IsSend Replica.the_row
 replica_send = view_send Replica.TheInside.the_row _ _ _ _ (declared_send Replica.TheInside.the_type
-    (send, (search sendable, (held_send, (members.the_send, (owed_send, (waiting_sent, (staging.the_send, (search sendable, (search sendable, tt))))))))))
+    (send, (search sendable, (held_send, (members.the_send, (owed_send, (waiting_sent, (staging.the_send, (search sendable, (search sendable, (search (sendable, falls.the_send) depth 40, tt)))))))))))

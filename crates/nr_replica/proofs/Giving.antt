@@ -5,6 +5,7 @@ use Rattle.std.proofs.lemmas.Bool.{cases_Bool}
 use Rattle.std.proofs.lemmas.Bool.Decides.{nat_tests}
 use Rattle.std.proofs.lemmas.List.{append-nil}
 use Rattle.std.proofs.Math.Seq.{take-suc}
+use Rattle.nr_blob.specs.declared.memory.Memory.{Memory}
 use Rattle.nr_model.specs.Bytes.{Bytes}
 use Rattle.nr_model.specs.Items.{Connection, same_connection}
 use Rattle.nr_model.specs.Queues.{Queue, takes, with_bytes, cut_off, received}
@@ -24,14 +25,14 @@ use Rattle.nr_replica.proofs.Received.{both_received, same_received, alike, one_
 abbrev pub WasPut : Put → Queue → Bytes → Queue → Type 0
 WasPut result old text new =
     (result ≡ outcomes.In → (takes old text ≡ true) × (new ≡ with_bytes old text)) × (result ≡ outcomes.Full → (takes old text ≡ false) × (new ≡ cut_off old))
-    × (result ≡ outcomes.Memory → (takes old text ≡ true) × (new ≡ cut_off old))
+    × ((memory : Memory) → result ≡ outcomes.Memory memory → (takes old text ≡ true) × (new ≡ cut_off old))
 
 pub put_received : (result : Put) (old new : Queue) (text : Bytes) → WasPut result old text new → (n : Option ℕ) × (new ≡ received n old (text ∷ []))
 put_received outcomes.In old new text was =
     let taken = was.0 refl in (None, taken.1 ∙ sym (ap (λ b. cond b (with_bytes old text) (cut_off old)) taken.0))
 put_received outcomes.Full old new text was =
     let full = was.1 refl in (None, full.1 ∙ sym (ap (λ b. cond b (with_bytes old text) (cut_off old)) full.0))
-put_received outcomes.Memory old new text was = let memory = was.2 refl in (Some 0, memory.1)
+put_received (outcomes.Memory memory) old new text was = (Some 0, (was.2 memory refl).1)
 
 -- a reply or a message to one of them that is open
 pub given_open : (node : ℕ) (to : Connection) (text : Bytes) (workers : List ℕ) (old new : Queues) (at queue : Queue) → AreNumbered node 0 (members_of node workers old)

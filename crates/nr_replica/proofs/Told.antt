@@ -11,6 +11,7 @@ use Rattle.nr_entry.specs.declared.entry.Entry.{Entry}
 use Rattle.nr_entry.specs.declared.job.Job.{Job}
 use Rattle.nr_entry.specs.Jobs.{connection_of, items_of}
 use Rattle.nr_machine.specs.Machines.{MachineState}
+use Rattle.nr_replica.specs.declared.fall.Fall.{Fall}
 use Rattle.nr_replica.specs.declared.outbox.Piece.{Piece}
 use Rattle.nr_replica.specs.Members.{Member, AreNumbered, AreGiven}
 use Rattle.nr_replica.specs.Replicas.{ReplicaState, IsApplied, IsAppliedAs, owed_from, server_in}
@@ -18,15 +19,15 @@ use Rattle.nr_replica.proofs.Giving.{given_delivered}
 use Rattle.nr_replica.proofs.Kept.{numbered_at, get_or_same}
 
 -- an entry was applied
-pub applied_is : (counted : Bool) (node applied : ℕ) (members given : List Member) (owed left : List (Option ℕ)) (waiting : List Job) (was now : Option MachineState) (refused : Bool) (entry : Entry) (staging : List Written)
+pub applied_is : (counted : Bool) (node applied : ℕ) (members given : List Member) (owed left : List (Option ℕ)) (waiting : List Job) (was now : Option MachineState) (refused : Bool) (fell : Option Fall) (entry : Entry) (staging : List Written)
     → is_none was ≡ false → AreNumbered node 0 members
     → staging ≡ all_after written_after [] (for_node node (emitted_all (server_in was) (entry_items (items_of entry.jobs.items)))) → AreGiven staging members given
     → left ≡ cond counted (cond (entry.node == node) (owed_from 0 members (items_of entry.jobs.items) owed) owed) owed
     → now ≡ Some (record { state = after_all (server_in was) (entry_items (items_of entry.jobs.items)); failed = false })
     → IsAppliedAs counted entry
-    (record { node = node; members = members; owed = owed; waiting = waiting; applied = applied; server = server_in was; down = is_none was; refused = refused })
-    (record { node = node; members = given; owed = left; waiting = waiting; applied = applied + 1; server = server_in now; down = is_none now; refused = refused })
-applied_is counted node applied members given owed left waiting was now refused entry staging up numbered staged handed less moved =
+    (record { node = node; members = members; owed = owed; waiting = waiting; applied = applied; server = server_in was; down = is_none was; refused = refused; fell = fell })
+    (record { node = node; members = given; owed = left; waiting = waiting; applied = applied + 1; server = server_in now; down = is_none now; refused = refused; fell = fell })
+applied_is counted node applied members given owed left waiting was now refused fell entry staging up numbered staged handed less moved =
     let items = entry_items (items_of entry.jobs.items) in
     let server : server_in now ≡ after_all (server_in was) items = ap server_in moved in
     let stays : is_none now ≡ is_none was = ap is_none moved ∙ sym up in
@@ -42,6 +43,7 @@ applied_is counted node applied members given owed left waiting was now refused 
             server = server i;
             down = stays i;
             refused = refused;
+            fell = fell;
           };
     }
 

@@ -7,13 +7,15 @@ use Rattle.nr_entry.specs.declared.entry.Entry.{Entry}
 use Rattle.nr_entry.specs.declared.job.Job.{Job}
 use Rattle.nr_entry.specs.contracts.job.Job as of_job
 use Rattle.nr_entry.specs.Jobs.{items_of}
+use Rattle.nr_replica.specs.declared.fall.Fall.{Fall}
+use Rattle.nr_replica.specs.contracts.fall.Fall as of_fall
 use Rattle.nr_machine.specs.Codes.{coded_server}
 use Rattle.nr_machine.specs.Machines.{MachineState}
 use Rattle.nr_replica.specs.Members.{Member, coded_member, AreDelivered, jobs_of_worker}
 
 -- The node; its connections by serial; for each worker, where a batch of it was lifted, how many of its jobs are neither applied nor run; the jobs that were
--- lifted and neither taken for an entry nor run; how many entries were applied; the server, which is given up when the node falls; whether it is down, and whether the
--- next entry is refused
+-- lifted and neither taken for an entry nor run; how many entries were applied; the server, which is given up when the node falls; whether it is down, whether the
+-- next entry is refused, and why it is down, where it is
 pub record ReplicaState : Type 0 where
   pub node : ℕ
   pub members : List Member
@@ -23,13 +25,14 @@ pub record ReplicaState : Type 0 where
   pub server : Server
   pub down : Bool
   pub refused : Bool
+  pub fell : Option Fall
 
 abbrev pub coded_replica : Coded ReplicaState
 coded_replica =
-    code_by (ℕ × (List Member × (List (Option ℕ) × (List Job × (ℕ × (Server × (Bool × Bool)))))))
-    (coded× coded_ℕ (coded× (coded_list coded_member) (coded× (coded_list (coded_option coded_ℕ)) (coded× (coded_list of_job.the_row.coded) (coded× coded_ℕ (coded× coded_server (coded× coded_bool coded_bool)))))))
-    (λ r. (r.node, (r.members, (r.owed, (r.waiting, (r.applied, (r.server, (r.down, r.refused))))))))
-    (λ p. record { node = p.0; members = p.1.0; owed = p.1.1.0; waiting = p.1.1.1.0; applied = p.1.1.1.1.0; server = p.1.1.1.1.1.0; down = p.1.1.1.1.1.1.0; refused = p.1.1.1.1.1.1.1 }) (λ _. refl)
+    code_by (ℕ × (List Member × (List (Option ℕ) × (List Job × (ℕ × (Server × (Bool × (Bool × Option Fall))))))))
+    (coded× coded_ℕ (coded× (coded_list coded_member) (coded× (coded_list (coded_option coded_ℕ)) (coded× (coded_list of_job.the_row.coded) (coded× coded_ℕ (coded× coded_server (coded× coded_bool (coded× coded_bool (coded_option of_fall.the_row.coded)))))))))
+    (λ r. (r.node, (r.members, (r.owed, (r.waiting, (r.applied, (r.server, (r.down, (r.refused, r.fell)))))))))
+    (λ p. record { node = p.0; members = p.1.0; owed = p.1.1.0; waiting = p.1.1.1.0; applied = p.1.1.1.1.0; server = p.1.1.1.1.1.0; down = p.1.1.1.1.1.1.0; refused = p.1.1.1.1.1.1.1.0; fell = p.1.1.1.1.1.1.1.1 }) (λ _. refl)
 
 -- jobs were executed: they are owed no more
 abbrev pub owing_less : ℕ → Option ℕ → Option ℕ
@@ -45,13 +48,13 @@ abbrev pub server_in : Option MachineState → Server
 server_in None = fresh
 server_in (Some machine) = machine.state
 
--- The node stops: its server is given up, and it is down.
-abbrev pub stopped : ReplicaState → ReplicaState
-stopped r = record r { server = fresh; down = true; refused = false }
+-- The node stops for this reason: its server is given up, and it is down.
+abbrev pub stopped : Fall → ReplicaState → ReplicaState
+stopped fall r = record r { server = fresh; down = true; refused = false; fell = Some fall }
 
 -- The node falls: it stops, and what it has lifted is dropped.
-abbrev pub fallen : ReplicaState → ReplicaState
-fallen r = record r { waiting = []; server = fresh; down = true; refused = false }
+abbrev pub fallen : Fall → ReplicaState → ReplicaState
+fallen fall r = record r { waiting = []; server = fresh; down = true; refused = false; fell = Some fall }
 
 -- an entry was applied: the server moved, the connections got what it emitted for them, and its own jobs are owed no more
 abbrev pub applied_with : List Member → Entry → ReplicaState → ReplicaState

@@ -8,7 +8,7 @@ ghost use Rattle.nr_replica.specs.Backlogs.{HasBacklog};
 ghost use Rattle.nr_replica.specs.Members.{Member, AreNumbered, fresh_member, closed_member, cut_member, handed_member, next_ready, queue_at, members_seen};
 ghost use Rattle.nr_replica.specs.Ready.{has_serial, IsMarked, AreReady};
 
-use crate::outbox::{Outbox, Piece};
+use crate::outbox::{Outbox, Piece, cut_all};
 use crate::ready::Ready;
 use crate::spares::Spares;
 use nr_blob::Memory;
@@ -150,10 +150,7 @@ impl Members {
         ensures cut { (node : ℕ) → members_seen node self.new ≡ map cut_member (members_seen node self.old) }
         ensures ready { (node : ℕ) → AreReady self.old.ready.sets.items (members_seen node self.old) → AreReady self.new.ready.sets.items (members_seen node self.new) }
     {
-        self.outboxes.retain(|_, outbox| {
-            outbox.cut();
-            true
-        });
+        cut_all(&mut self.outboxes);
     }
 
     /// Whether so much waits for one of them that the node is held up for its worker. Its cost is that of [`Backlogs::holds_back`](crate::backlog::Backlogs::holds_back).

@@ -1,4 +1,5 @@
 // A copy of a replica's server, with which another replica comes back.
+use nr_blob::Memory;
 use nr_machine::Machine;
 use std::marker::Model;
 
@@ -28,5 +29,5 @@ pub enum OfferError {
     /// The replica is down.
     Down,
     /// There was no memory left for the copy.
-    Memory,
+    Memory(Memory),
 }

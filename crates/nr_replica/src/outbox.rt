@@ -1,5 +1,5 @@
 // A connection's queue: replies and messages are written behind one another into one buffer, and handed out from its front.
-ghost use Rattle.std.specs.Prelude.{◌≡◌, ◌<◌, ◌≤◌, ◌+◌, true, false, not, [], take, drop, length, IfOk, OnErr, IfSome, IfNone, OnOk, IsErr, nat_le, ◌&&◌};
+ghost use Rattle.std.specs.Prelude.{◌≡◌, ◌<◌, ◌≤◌, ◌+◌, ℕ, true, false, not, [], map, take, drop, length, IfOk, OnErr, IfSome, IfNone, OnOk, Err, is_some, nat_le, ◌&&◌};
 ghost use Rattle.std.specs.Arc.{arc_value};
 ghost use Rattle.nr_model.specs.Connections.{is_some_bytes};
 ghost use Rattle.nr_model.specs.Replies.{reply_text};
@@ -9,12 +9,14 @@ ghost use Rattle.nr_replica.specs.Backlogs.{IsBacklog, share_of};
 ghost use Rattle.nr_replica.specs.declared.outbox.Put.TheVariants as outcomes;
 ghost use Rattle.nr_model.specs.Queues.{Queue, put, takes, with_bytes, cut_off, handing, most_bytes};
 
+use crate::cut::Cut;
 use crate::spares::{MOST_ROOM, Spares};
 use nr_blob::Memory;
 use nr_emission::Sink;
 use nr_entry::ConnId;
 use nr_resp::Shown;
 use std::alloc::Global;
+use std::collections::BTreeMap;
 use std::marker::Model;
 use std::sync::Arc;
 use std::{cmp, mem};
@@ -27,7 +29,7 @@ pub enum Put {
     /// It would have passed the limit, or the queue was cut before. The queue is cut, and none of it waits.
     Full,
     /// Memory was refused. The queue is cut, and none of it waits.
-    Memory,
+    Memory(Memory),
 }
 
 /// Bytes for a connection, and how many were handed out to it before them.
@@ -47,11 +49,12 @@ pub struct Outbox {
     start: usize,
     handed: u64,
     limit: usize,
-    is_cut: bool,
+    // Why it takes nothing more, where it doesn't.
+    cut: Option<Cut>,
 }
 
 impl Model for Outbox {
-    ghost use Rattle.std.specs.Prelude.{◌≤◌, ◌+◌, drop, length};
+    ghost use Rattle.std.specs.Prelude.{◌≤◌, ◌+◌, drop, length, is_some};
     ghost use Rattle.nr_entry.specs.Jobs.{connection_of};
     ghost use Rattle.nr_replica.specs.declared.outbox.Put.TheVariants as outcomes;
     ghost use Rattle.nr_model.specs.Queues.{Queue, coded_queue, most_bytes};
@@ -60,7 +63,7 @@ impl Model for Outbox {
 
     ghost coded = { coded_queue };
 
-    ghost view = { λ o. record { connection = connection_of o.conn; waiting = drop o.start o.buffer.items; handed = o.handed; limit = o.limit; cut = o.is_cut } };
+    ghost view = { λ o. record { connection = connection_of o.conn; waiting = drop o.start o.buffer.items; handed = o.handed; limit = o.limit; cut = is_some o.cut } };
 
     // At most half of the buffer was handed out, so it is never more than twice what waits.
     ghost invariant = { λ o. (o.start + o.start ≤ length o.buffer.items) × (o.handed + (length (drop o.start o.buffer.items)) ≤ most_bytes) };
@@ -88,7 +91,7 @@ impl Outbox {
             start: 0,
             handed: 0,
             limit,
-            is_cut: false,
+            cut: None,
         }
     }
 
@@ -98,14 +101,14 @@ impl Outbox {
         ensures refused { OnErr result (self.old.cut ≡ false) }
         ensures unchanged { OnErr result (self.new ≡ self.old) }
     {
-        if self.is_cut {
+        if self.is_cut() {
             return Ok(());
         }
         let end = self.buffer.len();
         shown.write(&mut self.buffer)?;
         if !fits(self.buffer.len() - self.start, self.limit, self.handed) {
             self.buffer.truncate(end);
-            self.cut();
+            self.end(Cut::Full);
         }
         Ok(())
     }
@@ -114,7 +117,7 @@ impl Outbox {
     pub fn put(&mut self, shown: &Shown<'_>) -> Put
         ensures taken { result ≡ outcomes.In → (takes self.old (reply_text (shown_reply shown.now)) ≡ true) × (self.new ≡ with_bytes self.old (reply_text (shown_reply shown.now))) }
         ensures full { result ≡ outcomes.Full → (takes self.old (reply_text (shown_reply shown.now)) ≡ false) × (self.new ≡ cut_off self.old) }
-        ensures memory { result ≡ outcomes.Memory → (self.old.cut ≡ false) × (self.new ≡ cut_off self.old) }
+        ensures memory { (memory : Memory) → result ≡ outcomes.Memory memory → (self.old.cut ≡ false) × (self.new ≡ cut_off self.old) }
     {
         let offered = self.offer(shown);
         self.outcome(offered)
@@ -124,7 +127,7 @@ impl Outbox {
     pub fn put_shared(&mut self, message: &Arc<Vec<u8>>) -> Put
         ensures taken { result ≡ outcomes.In → (takes self.old (arc_value message.now).items ≡ true) × (self.new ≡ with_bytes self.old (arc_value message.now).items) }
         ensures full { result ≡ outcomes.Full → (takes self.old (arc_value message.now).items ≡ false) × (self.new ≡ cut_off self.old) }
-        ensures memory { result ≡ outcomes.Memory → (takes self.old (arc_value message.now).items ≡ true) × (self.new ≡ cut_off self.old) }
+        ensures memory { (memory : Memory) → result ≡ outcomes.Memory memory → (takes self.old (arc_value message.now).items ≡ true) × (self.new ≡ cut_off self.old) }
     {
         self.put_bytes(message)
     }
@@ -133,7 +136,7 @@ impl Outbox {
     pub fn put_bytes(&mut self, bytes: &[u8]) -> Put
         ensures taken { result ≡ outcomes.In → (takes self.old bytes.now ≡ true) × (self.new ≡ with_bytes self.old bytes.now) }
         ensures full { result ≡ outcomes.Full → (takes self.old bytes.now ≡ false) × (self.new ≡ cut_off self.old) }
-        ensures memory { result ≡ outcomes.Memory → (takes self.old bytes.now ≡ true) × (self.new ≡ cut_off self.old) }
+        ensures memory { (memory : Memory) → result ≡ outcomes.Memory memory → (takes self.old bytes.now ≡ true) × (self.new ≡ cut_off self.old) }
     {
         let offered = self.offer_bytes(bytes);
         self.outcome(offered)
@@ -143,14 +146,14 @@ impl Outbox {
     fn outcome(&mut self, offered: Result<(), Memory>) -> Put
         ensures taken { result ≡ outcomes.In → (offered ≡ Ok tt) × (self.old.cut ≡ false) × (self.new ≡ self.old) }
         ensures full { result ≡ outcomes.Full → (offered ≡ Ok tt) × (self.old.cut ≡ true) × (self.new ≡ self.old) }
-        ensures memory { result ≡ outcomes.Memory → IsErr offered × (self.new ≡ cut_off self.old) }
+        ensures memory { (memory : Memory) → result ≡ outcomes.Memory memory → (offered ≡ Err memory) × (self.new ≡ cut_off self.old) }
     {
         match offered {
-            Ok(()) if self.is_cut => Put::Full,
+            Ok(()) if self.is_cut() => Put::Full,
             Ok(()) => Put::In,
-            Err(Memory) => {
-                self.cut();
-                Put::Memory
+            Err(memory) => {
+                self.refuse(memory);
+                Put::Memory(memory)
             }
         }
     }
@@ -162,19 +165,33 @@ impl Outbox {
         ensures unchanged { OnErr result (self.new ≡ self.old) }
     {
         let waiting = self.buffer.len() - self.start;
-        if self.is_cut || !has_room(waiting, bytes.len(), self.limit, self.handed) {
-            self.cut();
+        if self.is_cut() || !has_room(waiting, bytes.len(), self.limit, self.handed) {
+            self.end(Cut::Full);
             return Ok(());
         }
         self.buffer.extend_from_slice(bytes)?;
         Ok(())
     }
 
-    /// Takes no more from now on.
-    pub fn cut(&mut self)
+    /// Memory was refused for what came: it takes no more from now on.
+    pub fn refuse(&mut self, memory: Memory)
         ensures { self.new ≡ cut_off self.old }
     {
-        self.is_cut = true;
+        self.end(Cut::Refused(memory));
+    }
+
+    // Takes no more from now on, for this reason where there was none before.
+    fn end(&mut self, why: Cut)
+        ensures { self.new ≡ cut_off self.old }
+    {
+        self.cut = Some(self.cut.unwrap_or(why));
+    }
+
+    /// Why it takes no more, where it doesn't.
+    pub fn why_cut(&self) -> Option<Cut>
+        ensures { is_some result ≡ self.now.cut }
+    {
+        self.cut
     }
 
     /// Hands out at most so many of the first bytes that wait, and at least one, or `None` where nothing waits. Linear in them: they are
@@ -233,7 +250,7 @@ impl Outbox {
     pub fn is_cut(&self) -> bool
         ensures { result ≡ self.now.cut }
     {
-        self.is_cut
+        self.cut.is_some()
     }
 
     /// Whether it isn't cut, and more waits than the share of its limit for which a node goes on, and so many more of these.
@@ -242,8 +259,18 @@ impl Outbox {
     {
         let share = share_of(self.limit);
         let allowed = share.saturating_mul(extra).saturating_add(share);
-        !self.is_cut && self.len() > allowed
+        !self.is_cut() && self.len() > allowed
     }
+}
+
+/// Cuts them all: their node had fallen, and comes back. What waits for them can still be handed out. Linear in them.
+pub(crate) fn cut_all(outboxes: &mut BTreeMap<u64, Outbox>)
+    ensures { outboxes.new.entries ≡ map (λ (entry : ℕ × Queue). (entry.0, cut_off entry.1)) outboxes.old.entries }
+{
+    outboxes.retain(|_, outbox| {
+        outbox.end(Cut::Fallen);
+        true
+    });
 }
 
 /// How many bytes of so many that may wait for a connection do so before its node stops for it: a sixteenth, or 1,048,576 where that is less. A socket takes as many at

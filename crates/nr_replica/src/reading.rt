@@ -88,7 +88,7 @@ fn reply<'k>(machine: &'k Machine, job: &'k Job, outbox: &mut Outbox)
     match &job.kind {
         JobKind::Read(read) => match machine.look(job.moment, job.conn, read, outbox) {
             Ok(()) => {}
-            Err(Memory) => outbox.cut(),
+            Err(memory) => outbox.refuse(memory),
         },
         JobKind::Update(_) => {}
     }

@@ -64,8 +64,8 @@ impl Ready {
         }
         match self.insert(worker, serial) {
             Ok(()) => true,
-            Err(Memory) => {
-                outbox.cut();
+            Err(memory) => {
+                outbox.refuse(memory);
                 false
             }
         }

@@ -12,6 +12,7 @@ ghost use Rattle.nr_replica.specs.declared.offer.OfferError.TheVariants as Offer
 ghost use Rattle.nr_replica.specs.Replicas.{IsApplied, IsAppliedAs, HasRead, fallen, stopped};
 
 use crate::delivering::deliver;
+use crate::fall::Fall;
 use crate::members::Members;
 use crate::offer::{Offer, OfferError};
 use crate::outbox::Piece;
@@ -42,6 +43,8 @@ pub struct Replica {
     staging: Staging,
     applied: u64,
     is_refused: bool,
+    // Why it is down, where it is.
+    fell: Option<Fall>,
 }
 
 impl Model for Replica {
@@ -56,7 +59,7 @@ impl Model for Replica {
 
     ghost coded = { coded_replica };
 
-    ghost view = { λ r. record { node = r.node; members = members_seen r.node r.members; owed = r.owed.items; waiting = r.waiting.jobs; applied = r.applied; server = server_in r.machine; down = is_none r.machine; refused = r.is_refused } };
+    ghost view = { λ r. record { node = r.node; members = members_seen r.node r.members; owed = r.owed.items; waiting = r.waiting.jobs; applied = r.applied; server = server_in r.machine; down = is_none r.machine; refused = r.is_refused; fell = r.fell } };
 
     ghost invariant = { λ r. (r.staging ≡ []) × (r.waiting.gaps ≡ []) × AreNumbered r.node 0 (members_seen r.node r.members) × IfSome r.machine (λ machine. machine.failed ≡ false) × IsTrue (are_of r.node (items_of r.waiting.jobs)) × AreReady r.members.ready.sets.items (members_seen r.node r.members) };
 }
@@ -78,6 +81,7 @@ impl Replica {
           server = fresh;
           down = false;
           refused = false;
+          fell = None;
         }) }
     {
         let mut owed = Vec::with_capacity(alloc, workers)?;
@@ -92,6 +96,7 @@ impl Replica {
             staging: Staging::new(alloc),
             applied: 0,
             is_refused: false,
+            fell: None,
         })
     }
 
@@ -227,12 +232,12 @@ impl Replica {
     }
 
     /// Takes in the jobs of a worker's batch, behind those that wait. Linear in them. Where memory runs out nothing changes, and the jobs come back.
-    pub fn lift(&mut self, worker: usize, jobs: Vec<Job>) -> Result<(), Vec<Job>>
+    pub fn lift(&mut self, worker: usize, jobs: Vec<Job>) -> Result<(), (Vec<Job>, Memory)>
         requires up { self.old.down ≡ false }
         requires worker { worker < length self.old.owed }
         requires own { IsTrue (are_of self.old.node (items_of jobs.items)) }
         ensures lifted { OnOk result (self.new ≡ record self.old { waiting = self.old.waiting ++ jobs.items; owed = slice_set self.old.owed worker (Some (length jobs.items)) }) }
-        ensures back { IfErr result (λ back. back.items ≡ jobs.items) }
+        ensures back { IfErr result (λ back. back.0.items ≡ jobs.items) }
         ensures unchanged { OnErr result (self.new ≡ self.old) }
     {
         let count = jobs.len();
@@ -271,47 +276,48 @@ impl Replica {
         self.waiting.leads_read()
     }
 
-    /// Applies an entry. It falls, and answers false, where memory is refused on the way, or where 2^64 - 1 entries were applied: then nothing
+    /// Applies an entry. It falls where memory is refused on the way, where 2^64 - 1 entries were applied, and where the entry was to be refused: then nothing
     /// of what the entry emitted waits for any connection.
-    pub fn apply(&mut self, entry: &Entry) -> bool
+    pub fn apply(&mut self, entry: &Entry) -> Result<(), Fall>
         requires up { self.old.down ≡ false }
-        ensures applied { result ≡ true → IsApplied entry.now self.old self.new }
-        ensures fell { result ≡ false → self.new ≡ fallen self.old }
-        ensures refused { self.old.refused ≡ true → result ≡ false }
+        ensures applied { OnOk result (IsApplied entry.now self.old self.new) }
+        ensures fell { IfErr result (λ fall. self.new ≡ fallen fall self.old) }
+        ensures refused { (result ≡ Err Fall.Refused) ↔ (self.old.refused ≡ true) }
     {
-        if self.apply_or_stop(entry, true) {
-            return true;
+        let applied = self.apply_or_stop(entry, true);
+        if applied.is_err() {
+            self.drop_waiting();
         }
-        self.drop_waiting();
-        false
+        applied
     }
 
-    /// Applies an entry. Where it isn't `counted`, its jobs count for no batch. It stops, and answers false, where memory is refused on the way,
-    /// or where 2^64 - 1 entries were applied: then nothing of what the entry emitted waits for any connection, its server's memory is let go
+    /// Applies an entry. Where it isn't `counted`, its jobs count for no batch. It stops where memory is refused on the way, where 2^64 - 1 entries were
+    /// applied, and where the entry was to be refused: then nothing of what the entry emitted waits for any connection, its server's memory is let go
     /// of, and what was lifted still waits, until [`Replica::drop_waiting`].
-    pub fn apply_or_stop(&mut self, entry: &Entry, counted: bool) -> bool
+    pub fn apply_or_stop(&mut self, entry: &Entry, counted: bool) -> Result<(), Fall>
         requires up { self.old.down ≡ false }
-        ensures applied { result ≡ true → IsAppliedAs counted entry.now self.old self.new }
-        ensures stopped { result ≡ false → self.new ≡ stopped self.old }
-        ensures refused { self.old.refused ≡ true → result ≡ false }
+        ensures applied { OnOk result (IsAppliedAs counted entry.now self.old self.new) }
+        ensures stopped { IfErr result (λ fall. self.new ≡ stopped fall self.old) }
+        ensures refused { (result ≡ Err Fall.Refused) ↔ (self.old.refused ≡ true) }
     {
-        let is_refused = self.is_refused || self.applied == u64::MAX;
-        if !stage(
+        if let Err(fall) = stage(
             entry,
             self.node,
-            is_refused,
+            self.applied,
+            self.is_refused,
             &mut self.machine,
             &mut self.staging,
         ) {
             self.staging.clear();
             self.is_refused = false;
-            return false;
+            self.fell = Some(fall);
+            return Err(fall);
         }
         settle_counted(counted, entry, self.node, &self.members, &mut self.owed);
         deliver(&self.staging, self.node, &mut self.members);
         self.staging.clear();
         self.applied += 1;
-        true
+        Ok(())
     }
 
     /// The number of the first job of a connection that was lifted and waits, where one does. Linear in what waits.
@@ -328,15 +334,6 @@ impl Replica {
         self.waiting.clear();
     }
 
-    /// It falls: what waits is dropped, and its server's memory is let go of.
-    pub fn fall(&mut self)
-        ensures { self.new ≡ fallen self.old }
-    {
-        self.drop_waiting();
-        self.machine = None;
-        self.is_refused = false;
-    }
-
     /// A copy of its server, with which another replica comes back. Linear in what is stored and remembered.
     ///
     /// # Errors
@@ -351,7 +348,7 @@ impl Replica {
         };
         match machine.copy() {
             Ok(machine) => Ok(Offer { machine }),
-            Err(Memory) => Err(OfferError::Memory),
+            Err(memory) => Err(OfferError::Memory(memory)),
         }
     }
 
@@ -359,11 +356,12 @@ impl Replica {
     /// than what waits for it. Linear in those that aren't closed.
     pub fn revive(&mut self, offer: Offer, applied: u64)
         requires { self.old.down ≡ true }
-        ensures { self.new ≡ record self.old { members = map cut_member self.old.members; applied = applied; server = offer; down = false } }
+        ensures { self.new ≡ record self.old { members = map cut_member self.old.members; applied = applied; server = offer; down = false; fell = None } }
     {
         self.members.cut_all();
         self.machine = Some(offer.machine);
         self.applied = applied;
+        self.fell = None;
     }
 
     /// Runs the reads that lead, and hands them back. They change nothing but what waits for their connections, and one for which memory is

@@ -1,5 +1,5 @@
 // The steps of a replica's calls, each over its parts: the jobs of the next entry, and the application of one.
-ghost use Rattle.std.specs.Prelude.{◌≡◌, ◌≤◌, ℕ, true, false, Some, None, [], length, IfOk, OnOk, OnErr, IsTrue};
+ghost use Rattle.std.specs.Prelude.{◌≡◌, ◌↔◌, ◌<◌, ◌≤◌, ◌+◌, ◌^◌, ℕ, true, false, Some, None, Err, [], length, is_none, IfOk, OnOk, OnErr, IsTrue, IsSome};
 ghost use Rattle.nr_model.specs.Sequential.{for_node};
 ghost use Rattle.nr_model.specs.Servers.{after_all, emitted_all};
 ghost use Rattle.nr_model.specs.Entries.{most_entry_jobs, entry_items, entry_jobs, left_by_entry};
@@ -8,6 +8,7 @@ ghost use Rattle.nr_entry.specs.Entry.{are_of, are_updates};
 ghost use Rattle.nr_entry.specs.Jobs.{items_of};
 ghost use Rattle.nr_replica.specs.Replicas.{server_in};
 
+use crate::fall::Fall;
 use nr_blob::Memory;
 use nr_emission::Staging;
 use nr_entry::{Entry, Job, Waiting};
@@ -29,41 +30,78 @@ pub(crate) fn take_updates(waiting: &mut Waiting) -> Result<Vec<Job>, Memory>
     Ok(jobs)
 }
 
-/// Applies an entry, and holds back what it emits for the node. False where that is refused: then what is held back isn't to be sent, and the
+/// Applies an entry behind so many others, and holds back what it emits for the node. Where that is refused what is held back isn't to be sent, and the
 /// machine is let go of.
 pub(crate) fn stage(
     entry: &Entry,
     node: usize,
+    applied: u64,
     is_refused: bool,
     machine: &mut Option<Machine>,
     staging: &mut Staging,
-) -> bool
-    ensures up { result ≡ true → is_refused ≡ false }
-    ensures applied { result ≡ true → machine.new ≡ Some (record { state = after_all (server_in machine.old) (entry_items (items_of entry.now.jobs.items)); failed = false }) }
-    ensures emitted { result ≡ true → staging.new
-        ≡ all_after written_after staging.old (for_node node (emitted_all (server_in machine.old) (entry_items (items_of entry.now.jobs.items)))) }
-    ensures refused { result ≡ false → machine.new ≡ None }
+) -> Result<(), Fall>
+    requires up { is_none machine.old ≡ false }
+    ensures unrefused { OnOk result (is_refused ≡ false) }
+    ensures few { OnOk result (applied + 1 < 2 ^ 64) }
+    ensures applied { OnOk result (machine.new ≡ Some (record { state = after_all (server_in machine.old) (entry_items (items_of entry.now.jobs.items)); failed = false })) }
+    ensures emitted { OnOk result (staging.new
+        ≡ all_after written_after staging.old (for_node node (emitted_all (server_in machine.old) (entry_items (items_of entry.now.jobs.items))))) }
+    ensures dropped { OnErr result (machine.new ≡ None) }
+    ensures refused { (result ≡ Err Fall.Refused) ↔ (is_refused ≡ true) }
 {
-    if !is_refused && is_applied(entry, node, machine, staging) {
-        return true;
+    match try_entry(entry, node, applied, is_refused, machine, staging) {
+        Ok(()) => Ok(()),
+        Err(fall) => {
+            *machine = None;
+            Err(fall)
+        }
     }
-    *machine = None;
-    false
 }
 
-// Whether an entry was applied.
-fn is_applied(
+// Applies an entry behind so many others, unless it is to be refused.
+fn try_entry(
+    entry: &Entry,
+    node: usize,
+    applied: u64,
+    is_refused: bool,
+    machine: &mut Option<Machine>,
+    staging: &mut Staging,
+) -> Result<(), Fall>
+    requires up { is_none machine.old ≡ false }
+    ensures unrefused { OnOk result (is_refused ≡ false) }
+    ensures few { OnOk result (applied + 1 < 2 ^ 64) }
+    ensures applied { OnOk result (machine.new ≡ Some (record { state = after_all (server_in machine.old) (entry_items (items_of entry.now.jobs.items)); failed = false })) }
+    ensures emitted { OnOk result (staging.new
+        ≡ all_after written_after staging.old (for_node node (emitted_all (server_in machine.old) (entry_items (items_of entry.now.jobs.items))))) }
+    ensures refused { (result ≡ Err Fall.Refused) ↔ (is_refused ≡ true) }
+{
+    if is_refused {
+        return Err(Fall::Refused);
+    }
+    if let Some(memory) = Memory::at_last(applied) {
+        return Err(Fall::Memory(memory));
+    }
+    match apply_to(entry, node, machine, staging) {
+        Ok(()) => Ok(()),
+        Err(memory) => Err(Fall::Memory(memory)),
+    }
+}
+
+// Applies an entry by the machine that is there.
+fn apply_to(
     entry: &Entry,
     node: usize,
     machine: &mut Option<Machine>,
     staging: &mut Staging,
-) -> bool
-    ensures applied { result ≡ true → machine.new ≡ Some (record { state = after_all (server_in machine.old) (entry_items (items_of entry.now.jobs.items)); failed = false }) }
-    ensures emitted { result ≡ true → staging.new
-        ≡ all_after written_after staging.old (for_node node (emitted_all (server_in machine.old) (entry_items (items_of entry.now.jobs.items)))) }
+) -> Result<(), Memory>
+    requires { is_none machine.old ≡ false }
+    ensures applied { OnOk result (machine.new ≡ Some (record { state = after_all (server_in machine.old) (entry_items (items_of entry.now.jobs.items)); failed = false })) }
+    ensures emitted { OnOk result (staging.new
+        ≡ all_after written_after staging.old (for_node node (emitted_all (server_in machine.old) (entry_items (items_of entry.now.jobs.items))))) }
 {
     let Some(machine) = machine else {
-        return false;
+        unreachable!()
     };
-    machine.apply(entry, node, staging).is_ok()
+    machine.apply(entry, node, staging)?;
+    Ok(())
 }

@@ -90,12 +90,12 @@ inline_by_line line left e short =
 pub count_misses : (line : Bytes) (error : FeedError) → true ≡ begins 42 line → IsLineFront most_header_bytes line → Misses Count is_count line error → (left : Bytes) → Breaks (line ++ 10 ∷ left) error
 count_misses line (errors.Fault fault) e short misses left =
     framing_faulty (line ++ 10 ∷ left) fault (array_by_line line left e short ∙ ap (λ front. front_then front (λ count rest. bulks_at (how_many count) rest)) (misses left))
-count_misses line errors.Memory e short misses left = tt
+count_misses line (errors.Memory _) e short misses left = tt
 
 pub inline_misses : (line : Bytes) (error : FeedError) → false ≡ begins 42 line → IsLineFront most_inline_bytes line → HasQuotes line error → (left : Bytes) → Breaks (line ++ 10 ∷ left) error
 inline_misses line (errors.Fault fault) e short has left =
     framing_faulty (line ++ 10 ∷ left) Quotes (inline_by_line line left e short ∙ ap (λ b. cond b (Faulty Quotes) (Whole (words_of (without_cr line)) left)) has.0) ∙ ap broken (sym has.1)
-inline_misses line errors.Memory e short has left = tt
+inline_misses line (errors.Memory _) e short has left = tt
 
 pub inline_whole : (line left : Bytes) (words : List Bytes) → false ≡ begins 42 line → IsLineFront most_inline_bytes line → list_any is_quote line ≡ false → words ≡ words_of (without_cr line)
     → request_at (line ++ 10 ∷ left) ≡ Whole words left
@@ -205,7 +205,7 @@ header_split count end words part piece line lf is =
 
 pub header_misses : (stage : Stage) (count end room : ℕ) (words : List Bytes) (part piece line : Bytes) (error : FeedError) → stage ≡ Header count → Fits stage words part → true ≡ begins 36 (part ++ piece)
     → room ≡ most_header_bytes - length part → IsFirstLf end piece × (end ≤ room) → line ≡ part ++ take end piece → Misses Length is_length line error → Breaks (bytes_at stage words part ++ piece) error
-header_misses stage count end room words part piece line errors.Memory e fits mark is_room lf is misses = tt
+header_misses stage count end room words part piece line (errors.Memory _) e fits mark is_room lf is misses = tt
 header_misses stage count end room words part piece line (errors.Fault fault) e fits mark is_room lf is misses =
     subst (λ s. Fits s words part → framing_of (bytes_at s words part ++ piece) ≡ broken fault) (sym e)
     (λ h.

@@ -8,7 +8,7 @@ use Rattle.nr_resp.specs.declared.failure.Failure.TheVariants.{Refused, Memory}
 -- the error of a refusal, and nothing where memory ran out
 abbrev pub answer_to : Failure → Option Reply
 answer_to (Refused why) = Some (refusal why)
-answer_to Memory = None
+answer_to (Memory _) = None
 
 -- a refusal is answered so
 abbrev pub IfRefused : Failure → (Reply → Type 0) → Type 0

@@ -87,9 +87,9 @@ said fault fits line left = if ends_with_cr line then number_or fault fits (int_
 -- a whole header line is this fault
 abbrev pub Misses : Fault → (ℤ → Bool) → Bytes → FeedError → Type 0
 Misses fault fits line (errors.Fault found) = (left : Bytes) → said fault fits line left ≡ Faulty found
-Misses fault fits line errors.Memory = Unit {0}
+Misses fault fits line (errors.Memory _) = Unit {0}
 
 -- a whole inline line is this fault
 abbrev pub HasQuotes : Bytes → FeedError → Type 0
 HasQuotes line (errors.Fault found) = (list_any is_quote line ≡ true) × (found ≡ Quotes)
-HasQuotes line errors.Memory = Unit {0}
+HasQuotes line (errors.Memory _) = Unit {0}

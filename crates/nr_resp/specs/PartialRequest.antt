@@ -51,4 +51,4 @@ IsHeld request = Fits request.stage request.words.items request.part.items
 -- the bytes are no request, where memory is not what failed
 abbrev pub Breaks : Bytes → FeedError → Type 0
 Breaks bytes (errors.Fault fault) = framing_of bytes ≡ broken fault
-Breaks bytes errors.Memory = Unit {0}
+Breaks bytes (errors.Memory _) = Unit {0}

@@ -15,7 +15,7 @@ pub enum Failure {
     /// The command is refused, and changed nothing.
     Refused(Refused),
     /// There was no memory left.
-    Memory,
+    Memory(Memory),
 }
 
 impl From<Refused> for Failure {
@@ -33,10 +33,10 @@ impl From<Memory> for Failure {
     ghost use Rattle.std.specs.Prelude.{◌≡◌};
     ghost use Rattle.nr_resp.specs.declared.failure.Failure.TheVariants as failures;
 
-    ghost from_gives = { λ _ failure. failure ≡ failures.Memory };
+    ghost from_gives = { λ memory failure. failure ≡ failures.Memory memory };
 
-    fn from(_: Memory) -> Failure {
-        Failure::Memory
+    fn from(memory: Memory) -> Failure {
+        Failure::Memory(memory)
     }
 }
 
@@ -47,7 +47,7 @@ impl Failure {
     {
         match self {
             Failure::Refused(why) => Ok(Reply::FixedError(text(why))),
-            Failure::Memory => Err(Memory),
+            Failure::Memory(memory) => Err(memory),
         }
     }
 }

@@ -2,6 +2,7 @@
 ghost use Rattle.std.specs.Prelude.{◌≡◌, [], ◌++◌, None, Some, Err, OnOk, OnErr, IfErr};
 ghost use Rattle.nr_model.specs.Requests.{framing_of};
 ghost use Rattle.nr_model.specs.declared.fault.Fault.{Fault};
+ghost use Rattle.nr_blob.specs.declared.memory.Memory.{Memory};
 ghost use Rattle.nr_resp.specs.Frames.{frames_seen};
 
 use crate::frame::Frame;
@@ -20,17 +21,18 @@ pub enum FeedError {
     /// The bytes are no requests.
     Fault(Fault),
     /// There was no memory left.
-    Memory,
+    Memory(Memory),
 }
 
 impl From<AllocError> for FeedError {
     ghost use Rattle.std.specs.Prelude.{◌≡◌};
     ghost use Rattle.nr_resp.specs.declared.reader.FeedError.TheVariants as errors;
+    ghost use Rattle.nr_blob.specs.Refusals.{refusal};
 
-    ghost from_gives = { λ _ e. e ≡ errors.Memory };
+    ghost from_gives = { λ _ e. e ≡ errors.Memory refusal };
 
-    fn from(_: AllocError) -> FeedError {
-        FeedError::Memory
+    fn from(error: AllocError) -> FeedError {
+        FeedError::Memory(error.into())
     }
 }
 
@@ -38,21 +40,22 @@ impl From<Memory> for FeedError {
     ghost use Rattle.std.specs.Prelude.{◌≡◌};
     ghost use Rattle.nr_resp.specs.declared.reader.FeedError.TheVariants as errors;
 
-    ghost from_gives = { λ _ e. e ≡ errors.Memory };
+    ghost from_gives = { λ memory e. e ≡ errors.Memory memory };
 
-    fn from(_: Memory) -> FeedError {
-        FeedError::Memory
+    fn from(memory: Memory) -> FeedError {
+        FeedError::Memory(memory)
     }
 }
 
 impl<T: Drop> From<AllocFailed<T>> for FeedError {
     ghost use Rattle.std.specs.Prelude.{◌≡◌};
     ghost use Rattle.nr_resp.specs.declared.reader.FeedError.TheVariants as errors;
+    ghost use Rattle.nr_blob.specs.Refusals.{refusal};
 
-    ghost from_gives = { λ _ e. e ≡ errors.Memory };
+    ghost from_gives = { λ _ e. e ≡ errors.Memory refusal };
 
-    fn from(_: AllocFailed<T>) -> FeedError {
-        FeedError::Memory
+    fn from(failed: AllocFailed<T>) -> FeedError {
+        FeedError::Memory(failed.into())
     }
 }
 
@@ -106,7 +109,7 @@ impl Reader {
             ((framing_of (self.old.rest ++ piece.now)).fault ≡ Some fault)
             × (frames_seen frames.new.items ≡ frames_seen frames.old.items ++ (framing_of (self.old.rest ++ piece.now)).frames) }
         // The requests before the one that it failed in were added, and the rest is a front of that one.
-        ensures memory { self.old.closed ≡ None → result ≡ Err FeedError.Memory →
+        ensures memory { (memory : Memory) → self.old.closed ≡ None → result ≡ Err (FeedError.Memory memory) →
             RanOut (self.old.rest ++ piece.now) self.new.rest (frames_seen frames.old.items) (frames_seen frames.new.items) }
 
         ensures closes { IfErr result (λ error. self.new.closed ≡ Some error) }

@@ -1,8 +1,7 @@
 // Why rows are not played: a file or a line that cannot be read, or want of memory.
 use nr_blob::Memory;
 use std::alloc::{AllocError, AllocFailed};
-use std::fmt;
-use std::io::{self, ErrorKind};
+use std::{fmt, io};
 
 /// Why a line says nothing.
 #[derive(Clone, Copy)]
@@ -61,7 +60,7 @@ pub(crate) enum Failure {
 
 impl From<io::Error> for Failure {
     fn from(error: io::Error) -> Failure {
-        if error.kind() == ErrorKind::OutOfMemory {
+        if Memory::of(&error).is_some() {
             Failure::Memory
         } else {
             Failure::File(error)

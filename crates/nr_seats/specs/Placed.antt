@@ -1,11 +1,13 @@
 -- The seats of a worker's connections, by serial, and how each call changes them.
-use Rattle.std.specs.Prelude.{◌≡◌, ℕ, ◌==◌, Bool, false, cond, Option, None, Some, List, []}
+use Rattle.std.specs.Prelude.{◌≡◌, ℕ, ◌==◌, Bool, false, cond, Option, None, Some, List, [], map, filter, length}
+use Rattle.std.specs.List.{list_all}
 use Rattle.std.specs.Map.{lookup}
 use Rattle.std.specs.Ordering.{eq_by_cmp, nat_cmp}
 use Rattle.std.specs.Coded.{Coded, coded×, coded_ℕ, coded_list}
 use Rattle.nr_model.specs.Bytes.{Bytes}
 use Rattle.nr_model.specs.Items.{Item}
 use Rattle.nr_entry.specs.Jobs.{item_of}
+use Rattle.nr_entry.specs.declared.conn.ConnId.{ConnId}
 use Rattle.nr_seats.specs.Seated.{SeatState, coded_seat, listens, takes, HasFed, HasStopped}
 use Rattle.nr_seats.specs.declared.seats.Closed.{Closed}
 use Rattle.nr_seats.specs.declared.seats.Closed.TheVariants.{Absent, Ended, Last}
@@ -38,6 +40,14 @@ listens_here (Some s) = listens s
 abbrev pub pending_here : Option SeatState → Bytes
 pending_here None = []
 pending_here (Some s) = s.pending
+
+-- whether nothing waits to be written at any of them
+abbrev pub are_written : SeatsState → Bool
+are_written seats = list_all (λ (entry : ℕ × SeatState). length entry.1.pending == 0) seats
+
+-- the connections of a node whose seats take bytes, in the order of their serials
+abbrev pub open_ones : ℕ → SeatsState → List ConnId
+open_ones node seats = map (λ (entry : ℕ × SeatState). record { node = node; serial = entry.0 }) (filter (λ (entry : ℕ × SeatState). takes entry.1) seats)
 
 -- the seat at a serial was fed, and no other
 pub record FeedsSeat (serial moment : ℕ) (piece : Bytes) (old new : SeatsState) (before after : List Item) : Type 0 where

@@ -1,11 +1,13 @@
 -- What a worker keeps of its connections, and how each call changes it.
-use Rattle.std.specs.Prelude.{◌≡◌, ℕ, ◌+◌, ◌≤◌, Bool, true, false, not, ◌&&◌, cond, Option, None, Some, List, [], ◌++◌, drop, length, refl}
+use Rattle.std.specs.Prelude.{◌≡◌, ℕ, ◌+◌, ◌≤◌, ◌^◌, ◌==◌, nat_le, Bool, true, false, not, ◌&&◌, cond, Option, None, Some, List, [], ◌++◌, drop, length, refl}
 use Rattle.std.specs.Coded.{Coded, code_by, coded×, coded_ℕ, coded_bool}
 use Rattle.nr_model.specs.Bytes.{Bytes}
 use Rattle.nr_model.specs.Keyspace.{coded_bytes}
 use Rattle.nr_model.specs.Items.{Connection, Item, End}
 use Rattle.nr_model.specs.Modes.{is_subscribed, plain}
 use Rattle.nr_model.specs.Asked.{jobs_from}
+use Rattle.nr_replica.specs.declared.cut.Cut.{Cut}
+use Rattle.nr_replica.specs.declared.cut.Cut.TheVariants.{Full, Refused, Fallen, Closed}
 use Rattle.nr_session.specs.SessionState.{SessionState, coded_session, framed, asked, request_jobs, AddsFront, ends}
 
 -- of one connection: its session, the bytes that were handed out for it and aren't written yet, how many were handed out in all, and
@@ -44,6 +46,17 @@ cut_off s = record s { cut = true }
 -- bytes were handed out for it, behind those that wait
 abbrev pub with_bytes : Bytes → SeatState → SeatState
 with_bytes bytes s = record s { pending = s.pending ++ bytes; handed = s.handed + length bytes }
+
+-- whether so many bytes that begin behind so many are the next for it, at most so many wait behind them, and a u64 counts them
+abbrev pub has_room : ℕ → ℕ → ℕ → SeatState → Bool
+has_room from more limit s = from == s.handed && (nat_le (length s.pending + more) limit && nat_le (s.handed + more + 1) (2 ^ 64))
+
+-- it was cut since there was no room, or no memory
+abbrev pub IsFullOrRefused : Cut → Type 0
+IsFullOrRefused Full = Unit {0}
+IsFullOrRefused (Refused memory) = Unit {0}
+IsFullOrRefused Fallen = ⊥
+IsFullOrRefused Closed = ⊥
 
 -- so many of the bytes that wait were written
 abbrev pub with_written : ℕ → SeatState → SeatState

@@ -1,16 +1,16 @@
 // What a worker keeps of one connection.
-ghost use Rattle.std.specs.Prelude.{◌≡◌, ◌+◌, ◌<◌, ◌≤◌, ◌^◌, ◌&&◌, ◌==◌, ◌∷◌, [], true, length, nat_le};
-ghost use Rattle.std.specs.Bool.{OnTrue, OnFalse};
+ghost use Rattle.std.specs.Prelude.{◌≡◌, ◌+◌, ◌<◌, ◌≤◌, ◌^◌, ◌↔◌, ◌∷◌, [], true, false, Err, length, is_some, IfErr, IsOk, OnOk, OnErr};
 ghost use Rattle.std.specs.Option.{option_map};
 ghost use Rattle.nr_model.specs.Keyspace.{last_moment};
 ghost use Rattle.nr_entry.specs.Jobs.{connection_of, item_of, items_of};
 ghost use Rattle.nr_seats.specs.Portions.{portion_of, Grows};
-ghost use Rattle.nr_seats.specs.Seated.{fresh_seat, listens, takes, cut_off, with_bytes, with_written, HasFed, HasStopped, HasAccepted, last_job, closed_seat};
+ghost use Rattle.nr_seats.specs.Seated.{fresh_seat, listens, takes, cut_off, with_bytes, with_written, HasFed, HasStopped, HasAccepted, last_job, closed_seat, has_room, IsFullOrRefused};
 
+use nr_blob::Memory;
 use nr_entry::{ConnId, Job};
 use nr_node::Handed;
-use nr_replica::{Piece, Spares};
-use nr_session::Session;
+use nr_replica::{Cut, Piece, Spares};
+use nr_session::{Session, SessionError};
 use nr_taps::Buffer;
 use std::alloc::Global;
 use std::marker::Model;
@@ -23,17 +23,19 @@ pub struct Seat {
     bytes: Buffer,
     // How many bytes were handed out in all.
     handed: u64,
-    is_cut: bool,
+    // Why no more bytes are taken from it, where that is so.
+    cut: Option<Cut>,
 }
 
 impl Model for Seat {
+    ghost use Rattle.std.specs.Prelude.{is_some};
     ghost use Rattle.nr_seats.specs.Seated.{SeatState, coded_seat};
 
     ghost Value = { SeatState };
 
     ghost coded = { coded_seat };
 
-    ghost view = { λ s. record { session = s.session; pending = s.bytes; handed = s.handed; cut = s.is_cut } };
+    ghost view = { λ s. record { session = s.session; pending = s.bytes; handed = s.handed; cut = is_some s.cut } };
 }
 
 impl Seat {
@@ -45,7 +47,7 @@ impl Seat {
             session: Session::new(alloc, conn),
             bytes: Buffer::new(alloc),
             handed: 0,
-            is_cut: false,
+            cut: None,
         }
     }
 
@@ -53,7 +55,7 @@ impl Seat {
     pub fn takes(&self) -> bool
         ensures { result ≡ takes self.now }
     {
-        !self.session.has_ended() && !self.is_cut
+        !self.session.has_ended() && self.cut.is_none()
     }
 
     /// Whether messages may come for the connection, since it is subscribed to something.
@@ -64,42 +66,58 @@ impl Seat {
     }
 
     /// Feeds bytes that came from the connection, at a moment in milliseconds, at most 2^53. The jobs that they ask for stand behind those
-    /// before. False where memory runs out, or where more than 2^64 - 2 bytes were fed in all: then the connection is cut, and the first of
-    /// these jobs are there, none of them an end. Linear in the bytes.
-    pub fn feed(&mut self, moment: u64, bytes: &[u8], jobs: &mut Vec<Job>) -> bool
+    /// before. Linear in the bytes.
+    ///
+    /// # Errors
+    ///
+    /// `Memory` where memory runs out, or where more than 2^64 - 2 bytes were fed in all: then the connection is cut for that, and the first of these jobs are there,
+    /// none of them an end.
+    pub fn feed(&mut self, moment: u64, bytes: &[u8], jobs: &mut Vec<Job>) -> Result<(), Memory>
         requires taken { takes self.old ≡ true }
         requires in_time { moment ≤ last_moment }
-        ensures fed { OnTrue result (HasFed moment bytes.now self.old self.new (items_of jobs.old.items) (items_of jobs.new.items)) }
-        ensures stopped { OnFalse result (HasStopped moment bytes.now self.old self.new (items_of jobs.old.items) (items_of jobs.new.items)) }
+        ensures fed { OnOk result (HasFed moment bytes.now self.old self.new (items_of jobs.old.items) (items_of jobs.new.items)) }
+        ensures stopped { OnErr result (HasStopped moment bytes.now self.old self.new (items_of jobs.old.items) (items_of jobs.new.items)) }
     {
-        if !self.session.fits(bytes.len()) {
-            self.is_cut = true;
-            return false;
+        if let Some(memory) = self.session.last_count(bytes.len()) {
+            self.cut(Cut::Refused(memory));
+            return Err(memory);
         }
-        let fed = self.session.feed(bytes, moment, jobs).is_ok();
-        self.is_cut = !fed;
-        fed
+        match self.session.feed(bytes, moment, jobs) {
+            Ok(()) => Ok(()),
+            Err(SessionError::Memory(memory)) => {
+                self.cut(Cut::Refused(memory));
+                Err(memory)
+            }
+            // It takes bytes.
+            Err(SessionError::Ended) => unreachable!(),
+        }
     }
 
     /// Takes what was handed out for the connection behind the bytes that wait for it. Where none wait the piece's memory is taken over, else
-    /// its bytes are copied. False where it doesn't begin where the last one ended, where more than `limit` bytes would wait, where more than
-    /// 2^64 - 1 were handed out in all, or where memory runs out: then it is lost, and the connection is cut. A connection that is cut still
-    /// takes what was handed out for it.
-    pub fn accept(&mut self, piece: Piece, limit: usize) -> bool
-        ensures taken { OnTrue result (HasAccepted limit piece.from piece.bytes.items self.old self.new) }
-        ensures refused { OnFalse result (self.new ≡ cut_off self.old) }
-        ensures room { self.old.pending ≡ [] → piece.from ≡ self.old.handed → length piece.bytes.items ≤ limit
-            → self.old.handed + length piece.bytes.items < 2 ^ 64 → result ≡ true }
+    /// its bytes are copied. A connection that is cut still takes what was handed out for it.
+    ///
+    /// # Errors
+    ///
+    /// `Full` exactly where it doesn't begin where the last one ended, where more than `limit` bytes would wait, or where more than 2^64 - 1 were handed out in all;
+    /// `Refused` where memory runs out, which it doesn't where none waited. Then it is lost, and the connection is cut for that.
+    pub fn accept(&mut self, piece: Piece, limit: usize) -> Result<(), Cut>
+        ensures taken { OnOk result (HasAccepted limit piece.from piece.bytes.items self.old self.new) }
+        ensures refused { OnErr result (self.new ≡ cut_off self.old) }
+        ensures full { (result ≡ Err Cut.Full) ↔ (has_room piece.from (length piece.bytes.items) limit self.old ≡ false) }
+        ensures causes { IfErr result IsFullOrRefused }
+        ensures room { self.old.pending ≡ [] → has_room piece.from (length piece.bytes.items) limit self.old ≡ true → IsOk result }
     {
         if !self.has_room(&piece, limit) {
-            self.is_cut = true;
-            return false;
+            self.cut(Cut::Full);
+            return Err(Cut::Full);
         }
-        let is_put = self.put(piece);
-        if !is_put {
-            self.is_cut = true;
+        match self.put(piece) {
+            Ok(()) => Ok(()),
+            Err(memory) => {
+                self.cut(Cut::Refused(memory));
+                Err(Cut::Refused(memory))
+            }
         }
-        is_put
     }
 
     /// Takes what was handed out, as [`accept`](Seat::accept) does, and cuts the connection behind it where nothing more comes for it. Whether
@@ -108,32 +126,31 @@ impl Seat {
         ensures { Grows limit (record { portion = portion_of handed; kept = result } ∷ []) self.old self.new }
     {
         let is_last = handed.is_cut;
-        let is_kept = self.accept(handed.piece, limit);
+        let is_kept = self.accept(handed.piece, limit).is_ok();
         if is_last {
-            self.cut();
+            self.cut(Cut::Closed);
         }
         is_kept
     }
 
-    // Puts a piece behind the bytes that wait. False where memory runs out, and nothing changes.
-    fn put(&mut self, piece: Piece) -> bool
+    // Puts a piece behind the bytes that wait. Where memory runs out nothing changes.
+    fn put(&mut self, piece: Piece) -> Result<(), Memory>
         requires { self.old.handed + length piece.bytes.items < 2 ^ 64 }
-        ensures put { OnTrue result (self.new ≡ with_bytes piece.bytes.items self.old) }
-        ensures same { OnFalse result (self.new ≡ self.old) }
-        ensures some { self.old.pending ≡ [] → result ≡ true }
+        ensures put { OnOk result (self.new ≡ with_bytes piece.bytes.items self.old) }
+        ensures same { OnErr result (self.new ≡ self.old) }
+        ensures some { self.old.pending ≡ [] → IsOk result }
     {
         let count = piece.bytes.len() as u64;
-        if self.bytes.put(piece.bytes).is_err() {
-            return false;
+        if let Err((_, memory)) = self.bytes.put(piece.bytes) {
+            return Err(memory);
         }
         self.handed += count;
-        true
+        Ok(())
     }
 
     // Whether a piece begins where the last one ended, and can be counted, and at most so many bytes wait behind it.
     fn has_room(&self, piece: &Piece, limit: usize) -> bool
-        ensures { result ≡ (piece.now.from == self.now.handed && (nat_le (length self.now.pending + length piece.now.bytes.items) limit
-            && nat_le (self.now.handed + length piece.now.bytes.items + 1) (2 ^ 64))) }
+        ensures { result ≡ has_room piece.now.from (length piece.now.bytes.items) limit self.now }
     {
         let more = piece.bytes.len();
         piece.from == self.handed
@@ -142,11 +159,18 @@ impl Seat {
             && more as u64 <= u64::MAX - self.handed
     }
 
-    /// Takes no more bytes from the connection.
-    pub fn cut(&mut self)
+    /// Takes no more bytes from the connection, for this reason where there was none before.
+    pub fn cut(&mut self, why: Cut)
         ensures { self.new ≡ cut_off self.old }
     {
-        self.is_cut = true;
+        self.cut = Some(self.cut.unwrap_or(why));
+    }
+
+    /// Why no more bytes are taken from it, where that is so.
+    pub fn why_cut(&self) -> Option<Cut>
+        ensures { is_some result ≡ self.now.cut }
+    {
+        self.cut
     }
 
     /// The bytes that were handed out for the connection and aren't written yet.

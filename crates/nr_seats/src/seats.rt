@@ -1,18 +1,17 @@
 // What a worker keeps of its connections.
-ghost use Rattle.std.specs.Prelude.{◌≡◌, ◌≤◌, ◌+◌, ◌∷◌, [], true, None, Some, map, length, is_some, OnOk, OnErr};
-ghost use Rattle.std.specs.Bool.{OnTrue, OnFalse};
+ghost use Rattle.std.specs.Prelude.{◌≡◌, ◌≤◌, ◌+◌, ◌∷◌, [], true, None, Some, map, length, is_some, IfOk, OnOk, OnErr};
 ghost use Rattle.std.specs.Option.{option_map};
 ghost use Rattle.nr_model.specs.Keyspace.{last_moment};
 ghost use Rattle.nr_entry.specs.Jobs.{connection_of, item_of, items_of};
 ghost use Rattle.nr_seats.specs.Seated.{cut_off, fresh_seat, with_written, last_job};
-ghost use Rattle.nr_seats.specs.Placed.{seat_at, IsPut, listens_here, takes_here, pending_here, FeedsSeat, StopsSeat, closed_seen};
+ghost use Rattle.nr_seats.specs.Placed.{are_written, open_ones, seat_at, IsPut, listens_here, takes_here, pending_here, FeedsSeat, StopsSeat, closed_seen};
 ghost use Rattle.nr_seats.specs.Portions.{portion_of, Accepts};
 
 use crate::seat::Seat;
 use nr_blob::Memory;
 use nr_entry::{ConnId, Job};
 use nr_node::Handed;
-use nr_replica::Spares;
+use nr_replica::{Cut, Spares};
 use std::alloc::Global;
 use std::collections::BTreeMap;
 use std::marker::Model;
@@ -67,15 +66,18 @@ impl Seats {
         }
     }
 
-    /// A seat for a connection that was just opened, in the place of any other of its serial. False where memory runs out: then nothing
-    /// changes. Logarithmic.
-    pub fn open(&mut self, conn: ConnId) -> bool
-        ensures opened { OnTrue result (IsPut conn.serial (Some (fresh_seat (connection_of conn))) self.old self.new) }
-        ensures count { OnTrue result (length self.new ≤ length self.old + 1) }
-        ensures same { OnFalse result (self.new ≡ self.old) }
+    /// A seat for a connection that was just opened, in the place of any other of its serial. Logarithmic.
+    ///
+    /// # Errors
+    ///
+    /// `Memory` where memory runs out: then nothing changes.
+    pub fn open(&mut self, conn: ConnId) -> Result<(), Memory>
+        ensures opened { OnOk result (IsPut conn.serial (Some (fresh_seat (connection_of conn))) self.old self.new) }
+        ensures count { OnOk result (length self.new ≤ length self.old + 1) }
+        ensures same { OnErr result (self.new ≡ self.old) }
     {
         let seat = Seat::new(self.alloc, conn);
-        open_at(&mut self.by_serial, conn.serial, seat).is_ok()
+        open_at(&mut self.by_serial, conn.serial, seat)
     }
 
     /// Whether a connection is open here. Logarithmic.
@@ -105,19 +107,34 @@ impl Seats {
         }
     }
 
-    /// Whether nothing waits to be written for any connection that is open here. A hint. Linear in these.
-    pub fn are_written(&self) -> bool {
-        self.by_serial
-            .values()
-            .all(|seat| seat.pending().is_empty())
+    /// Whether nothing waits to be written for any connection that is open here. Linear in these.
+    pub fn are_written(&self) -> bool
+        ensures { result ≡ are_written self.now }
+    {
+        for (_, seat) in self.by_serial.iter() {
+            if !seat.pending().is_empty() {
+                return false;
+            }
+        }
+        true
     }
 
     /// Feeds bytes that came from a connection, as [`Seat::feed`] does. Logarithmic, and linear in the bytes.
-    pub fn feed(&mut self, serial: u64, moment: u64, bytes: &[u8], jobs: &mut Vec<Job>) -> bool
+    ///
+    /// # Errors
+    ///
+    /// Those of [`Seat::feed`].
+    pub fn feed(
+        &mut self,
+        serial: u64,
+        moment: u64,
+        bytes: &[u8],
+        jobs: &mut Vec<Job>,
+    ) -> Result<(), Memory>
         requires taken { takes_here (seat_at serial self.old) ≡ true }
         requires in_time { moment ≤ last_moment }
-        ensures fed { OnTrue result (FeedsSeat serial moment bytes.now self.old self.new (items_of jobs.old.items) (items_of jobs.new.items)) }
-        ensures stopped { OnFalse result (StopsSeat serial moment bytes.now self.old self.new (items_of jobs.old.items) (items_of jobs.new.items)) }
+        ensures fed { OnOk result (FeedsSeat serial moment bytes.now self.old self.new (items_of jobs.old.items) (items_of jobs.new.items)) }
+        ensures stopped { OnErr result (StopsSeat serial moment bytes.now self.old self.new (items_of jobs.old.items) (items_of jobs.new.items)) }
         ensures count { length self.new ≡ length self.old }
     {
         feed_at(&mut self.by_serial, serial, moment, bytes, jobs)
@@ -186,20 +203,23 @@ impl Seats {
     }
 
     /// Takes no more bytes from a connection, as [`Seat::cut`] does. It is told of too from now on. Logarithmic.
-    pub fn cut(&mut self, serial: u64)
+    pub fn cut(&mut self, serial: u64, why: Cut)
         ensures cut { IsPut serial (option_map cut_off (seat_at serial self.old)) self.old self.new }
         ensures count { length self.new ≡ length self.old }
     {
         tell(&mut self.told, serial);
-        cut_at(&mut self.by_serial, serial);
+        cut_at(&mut self.by_serial, serial, why);
     }
 
-    /// The connections of this node that are open, and from which bytes may be taken yet. Linear in those that are open.
+    /// The connections that are open here, and from which bytes may be taken yet, as connections of this node, in the order of their serials. Linear in those that are
+    /// open.
     ///
     /// # Errors
     ///
     /// `Memory` where there is no room for them.
-    pub fn open_ones(&self, alloc: Global, node: usize) -> Result<Vec<ConnId>, Memory> {
+    pub fn open_ones(&self, alloc: Global, node: usize) -> Result<Vec<ConnId>, Memory>
+        ensures { IfOk result (λ conns. conns.items ≡ open_ones node self.now) }
+    {
         let mut conns = Vec::new(alloc);
         for (serial, seat) in self.by_serial.iter() {
             if seat.takes() {
@@ -246,17 +266,18 @@ fn feed_at(
     moment: u64,
     bytes: &[u8],
     jobs: &mut Vec<Job>,
-) -> bool
+) -> Result<(), Memory>
     requires taken { takes_here (seat_at serial by_serial.old.entries) ≡ true }
     requires in_time { moment ≤ last_moment }
-    ensures fed { OnTrue result (FeedsSeat serial moment bytes.now by_serial.old.entries by_serial.new.entries (items_of jobs.old.items)
+    ensures fed { OnOk result (FeedsSeat serial moment bytes.now by_serial.old.entries by_serial.new.entries (items_of jobs.old.items)
         (items_of jobs.new.items)) }
-    ensures stopped { OnFalse result (StopsSeat serial moment bytes.now by_serial.old.entries by_serial.new.entries (items_of jobs.old.items)
+    ensures stopped { OnErr result (StopsSeat serial moment bytes.now by_serial.old.entries by_serial.new.entries (items_of jobs.old.items)
         (items_of jobs.new.items)) }
     ensures count { length by_serial.new.entries ≡ length by_serial.old.entries }
 {
     let Some(seat) = by_serial.get_mut(&serial) else {
-        return false;
+        // It takes bytes, so it is there.
+        unreachable!()
     };
     seat.feed(moment, bytes, jobs)
 }
@@ -287,14 +308,14 @@ fn let_go_at(by_serial: &mut BTreeMap<u64, Seat>, serial: u64, count: usize, spa
 }
 
 // The seat at a serial takes no more bytes.
-fn cut_at(by_serial: &mut BTreeMap<u64, Seat>, serial: u64)
+fn cut_at(by_serial: &mut BTreeMap<u64, Seat>, serial: u64, why: Cut)
     ensures cut { IsPut serial (option_map cut_off (seat_at serial by_serial.old.entries)) by_serial.old.entries by_serial.new.entries }
     ensures count { length by_serial.new.entries ≡ length by_serial.old.entries }
 {
     let Some(seat) = by_serial.get_mut(&serial) else {
         return;
     };
-    seat.cut();
+    seat.cut(why);
 }
 
 // A seat was closed, with this last job.

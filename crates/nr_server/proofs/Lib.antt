@@ -6,3 +6,4 @@ pub mod Ended
 pub mod Read
 pub mod Both
 mod Unheard
+mod Finished

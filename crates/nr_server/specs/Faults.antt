@@ -4,6 +4,8 @@ use Rattle.std.specs.Fmt.{decimal}
 use Rattle.nr_model.specs.Bytes.{Bytes}
 use Rattle.nr_config.specs.Keys.{kind_text}
 use Rattle.nr_config.specs.Places.{place_text}
+use Rattle.nr_crew.specs.declared.nodes.StartError.{StartError}
+use Rattle.nr_crew.specs.declared.nodes.StartError.TheVariants as starts
 use Rattle.nr_script.specs.declared.playing.ScriptError.{ScriptError}
 use Rattle.nr_script.specs.declared.playing.ScriptError.TheVariants as script
 use Rattle.nr_server.specs.Refusals.{refusal_text}
@@ -43,6 +45,12 @@ text_of fault = with_reason (line_of fault) (reason_of fault)
 
 abbrev pub status_of : Fault → ℕ
 status_of fault = 1
+
+-- the fault of the program that tells why a server didn't start
+abbrev pub IsOfStart : StartError → Fault → Type 0
+IsOfStart (starts.Memory memory) fault = fault ≡ Memory
+IsOfStart starts.BadShape fault = fault ≡ Listener
+IsOfStart starts.FewPlaces fault = fault ≡ Listener
 
 -- the fault of the program that tells why a script ended
 abbrev pub IsOfScript : ScriptError → Fault → Type 0

@@ -10,3 +10,4 @@ pub mod Plays
 pub mod Serving
 pub mod Listening
 pub mod Notices
+pub mod Parting

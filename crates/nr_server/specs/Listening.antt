@@ -1,7 +1,13 @@
 -- Why nobody listens where the settings say.
-use Rattle.std.specs.Prelude.{◌≡◌, ℕ, List, Some, slice_get, string_bytes}
+use Rattle.std.specs.Prelude.{◌≡◌, ◌≢◌, ◌⊎◌, ℕ, ℤ, List, Option, Some, slice_get, string_bytes}
+use Rattle.std.specs.IoError.{error_kind, raw_os_error}
+use Rattle.std.specs.declared.io.ErrorKind.{ErrorKind}
+use Rattle.std.specs.declared.io.ErrorKind.TheVariants.{OutOfMemory}
 use Rattle.std.specs.declared.string.String.{String}
 use Rattle.std.specs.declared.alloc.Global.{Global}
+use Rattle.nr_sockets.specs.declared.listening.ListenError.{ListenError}
+use Rattle.nr_sockets.specs.declared.listening.ListenError.TheVariants as errors
+use Rattle.nr_server.specs.Refusals.{refusal_of}
 use Rattle.nr_server.specs.declared.fault.Fault.{Fault}
 use Rattle.nr_server.specs.declared.fault.Fault.TheVariants as faults
 
@@ -12,25 +18,42 @@ pub record IsOneOf (texts : List (String Global)) (text : List ℕ) : Type 0 whe
   pub there : slice_get texts place ≡ Some one
   pub is : text ≡ string_bytes one
 
--- the system refuses this address, or memory ran out
-abbrev pub IsRefused : List ℕ → Fault → Type 0
-IsRefused text (faults.CannotListen address why) = string_bytes address ≡ text
-IsRefused text faults.Memory = Unit {0}
-IsRefused text faults.Read = ⊥
-IsRefused text faults.Write = ⊥
-IsRefused text (faults.BadStep line) = ⊥
-IsRefused text (faults.Script file why) = ⊥
-IsRefused text (faults.Settings file why) = ⊥
-IsRefused text (faults.NotToml place) = ⊥
-IsRefused text (faults.UnknownKey key) = ⊥
-IsRefused text (faults.BadValue key kind) = ⊥
-IsRefused text faults.Listener = ⊥
-IsRefused text faults.NoThread = ⊥
+-- By an error of this kind and this number nobody can listen at this address: memory was refused, or else the system refuses the address for that.
+abbrev pub IsRefused : List ℕ → ErrorKind → Option ℤ → Fault → Type 0
+IsRefused text kind number (faults.CannotListen address why) =
+    (kind ≢ OutOfMemory) × (string_bytes address ≡ text) × (why ≡ refusal_of kind number)
+IsRefused text kind number faults.Memory = kind ≡ OutOfMemory
+IsRefused text kind number faults.Read = ⊥
+IsRefused text kind number faults.Write = ⊥
+IsRefused text kind number (faults.BadStep line) = ⊥
+IsRefused text kind number (faults.Script file why) = ⊥
+IsRefused text kind number (faults.Settings file why) = ⊥
+IsRefused text kind number (faults.NotToml place) = ⊥
+IsRefused text kind number (faults.UnknownKey key) = ⊥
+IsRefused text kind number (faults.BadValue key of_kind) = ⊥
+IsRefused text kind number faults.Listener = ⊥
+IsRefused text kind number faults.NoThread = ⊥
 
--- the system refuses one of these addresses, or memory ran out
+-- so it is of the one of these addresses that stands at this place
+pub record IsRefusedAt (addresses : List (String Global)) (place : ℕ) (kind : ErrorKind) (number : Option ℤ) (fault : Fault) : Type 0 where
+  pub one : String Global
+  pub there : slice_get addresses place ≡ Some one
+  pub refused : IsRefused (string_bytes one) kind number fault
+
+-- By an error of this kind there is nothing by which the system tells of connections: memory was refused, or else it has no descriptors for that.
+abbrev pub IsUnopened : ErrorKind → Fault → Type 0
+IsUnopened kind fault = ((kind ≡ OutOfMemory) × (fault ≡ faults.Memory)) ⊎ ((kind ≢ OutOfMemory) × (fault ≡ faults.Listener))
+
+-- This fault tells why nobody listens at these addresses.
+abbrev pub TellsOf : List (String Global) → ListenError → Fault → Type 0
+TellsOf addresses (errors.Poll error) fault = IsUnopened (error_kind error) fault
+TellsOf addresses (errors.Address unheard) fault = IsRefusedAt addresses unheard.place (error_kind unheard.error) (raw_os_error unheard.error) fault
+
+-- the system refuses one of these addresses, it tells of no connections, or memory ran out
 abbrev pub IsUnheardOf : List (String Global) → Fault → Type 0
 IsUnheardOf addresses (faults.CannotListen address why) = IsOneOf addresses (string_bytes address)
 IsUnheardOf addresses faults.Memory = Unit {0}
+IsUnheardOf addresses faults.Listener = Unit {0}
 IsUnheardOf addresses faults.Read = ⊥
 IsUnheardOf addresses faults.Write = ⊥
 IsUnheardOf addresses (faults.BadStep line) = ⊥
@@ -39,5 +62,4 @@ IsUnheardOf addresses (faults.Settings file why) = ⊥
 IsUnheardOf addresses (faults.NotToml place) = ⊥
 IsUnheardOf addresses (faults.UnknownKey key) = ⊥
 IsUnheardOf addresses (faults.BadValue key kind) = ⊥
-IsUnheardOf addresses faults.Listener = ⊥
 IsUnheardOf addresses faults.NoThread = ⊥

@@ -1,13 +1,14 @@
 -- What is told of how the workers of a server ended.
 use Rattle.std.specs.Prelude.{Bool, cond, Result, Ok, Err}
 use Rattle.nr_crew.specs.declared.running.ServeError.{ServeError}
-use Rattle.nr_crew.specs.declared.running.ServeError.TheVariants.{Memory, Device, NoThread}
+use Rattle.nr_crew.specs.declared.running.ServeError.TheVariants.{Down, Memory, Device, NoThread}
 use Rattle.nr_server.specs.declared.fault.Fault.{Fault}
 use Rattle.nr_server.specs.declared.fault.Fault.TheVariants as faults
 
 abbrev pub told_of : Result (Unit {0}) ServeError → Result (Unit {0}) Fault
 told_of (Ok tt) = Ok tt
-told_of (Err Memory) = Err faults.Memory
+told_of (Err Down) = Err faults.Memory
+told_of (Err (Memory memory)) = Err faults.Memory
 told_of (Err Device) = Err faults.Listener
 told_of (Err NoThread) = Err faults.NoThread
 

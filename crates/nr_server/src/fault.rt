@@ -5,6 +5,7 @@ ghost use Rattle.nr_server.specs.Faults.{status_of};
 use crate::refusal::Refusal;
 use nr_blob::Memory;
 use nr_config::{Kind, Place};
+use nr_crew::StartError;
 use nr_script::ScriptError;
 use std::alloc::AllocError;
 use std::fmt;
@@ -99,6 +100,20 @@ impl From<AllocError> for Fault {
 
     fn from(_: AllocError) -> Fault {
         Fault::Memory
+    }
+}
+
+impl From<StartError> for Fault {
+    ghost use Rattle.nr_server.specs.Faults.{IsOfStart};
+
+    ghost from_gives = { IsOfStart };
+
+    fn from(error: StartError) -> Fault {
+        match error {
+            StartError::Memory(_) => Fault::Memory,
+            // (what settings come to has a place for each worker, and a size in its ranges)
+            StartError::BadShape | StartError::FewPlaces => Fault::Listener,
+        }
     }
 }
 

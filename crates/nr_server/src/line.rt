@@ -5,7 +5,6 @@ ghost use Rattle.nr_server.specs.Ran.{run_answer, HasRunOn};
 use crate::fault::Fault;
 use crate::joined::{Beginning, Line};
 use crate::run::{Done, Served, serve_stream};
-use nr_blob::Memory;
 use nr_service::Moments;
 use nr_transcript::Transcript;
 use std::alloc::Global;
@@ -45,7 +44,7 @@ fn run_named<R, W, B, M>(
     reader: R,
     writer: W,
     clock: M,
-) -> Result<Ran<R, W>, Memory>
+) -> Result<Ran<R, W>, Fault>
 where
     R: Read + Drop,
     W: Write + Drop,
@@ -80,14 +79,14 @@ where
 ///
 /// # Errors
 ///
-/// `Memory` where there is no room for the server: nothing was read or written.
+/// `Memory` where there is no memory for the server: nothing was read or written.
 pub fn run_on<R: Read + Drop, W: Write + Drop, M: Moments + Drop>(
     alloc: Global,
     keys: RandomState,
     reader: R,
     writer: W,
     clock: M,
-) -> Result<Ran<R, W>, Memory>
+) -> Result<Ran<R, W>, Fault>
     ensures { IfOk result (HasRunOn R.remaining W.contents M.gives clock reader writer) }
 {
     run_named::<R, W, Brand, M>(alloc, keys, reader, writer, clock)

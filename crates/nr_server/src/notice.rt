@@ -1,7 +1,10 @@
 // What an operator is told while the server serves, each in a line with its time.
 ghost use Rattle.std.specs.Prelude.{◌≡◌, ◌+◌, ◌<◌, ◌≤◌, Some, IfSome, IfNone};
 ghost use Rattle.std.specs.Bool.{OnTrue};
+ghost use Rattle.nr_server.specs.Notices.{notice_of_end};
 
+use crate::fault::Fault;
+use nr_service::Ends;
 use std::fmt;
 
 /// How many milliseconds lie at least between two lines of something that may come often.
@@ -41,6 +44,17 @@ impl fmt::Display for Notice {
             Notice::Ended => f.write_str("ended in order"),
             Notice::BrokenOff => f.write_str("ended before all was written"),
         }
+    }
+}
+
+/// What is told as a server ends, by how it was told to end, and what came of that. Nothing where it wasn't told to, or where it failed: that has a line of its own.
+pub(crate) fn notice_of_end(ends: Ends, ended: &Result<(), Fault>) -> Option<Notice>
+    ensures { result ≡ notice_of_end ends ended.now }
+{
+    match (ends, ended) {
+        (Ends::InOrder, Ok(())) => Some(Notice::Ended),
+        (Ends::AtOnce, Ok(())) => Some(Notice::BrokenOff),
+        _ => None,
     }
 }
 

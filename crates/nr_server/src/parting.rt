@@ -1,4 +1,7 @@
 // The last that clients get of a server that has ended in order: all that was sent for them, and then the end.
+ghost use Rattle.std.specs.Prelude.{◌≡◌, length};
+ghost use Rattle.nr_server.specs.Parting.{HasParted, HaveParted, PartWithNone, PartsFrom, PartsWithNone};
+
 use nr_crew::Left;
 use nr_service::{Client, Device, Moments, Stream};
 use std::alloc::Global;
@@ -11,7 +14,10 @@ const MOST_MILLISECONDS: u64 = 1_000;
 const MOST_WAITS: u32 = 100_000;
 
 // Lets go of the streams of the clients that a worker left, each as one of which all was sent. How many there were.
-fn finish_each<S: Stream + Drop, D: Device<S>>(device: &mut D, clients: Vec<Client<S>>) -> usize {
+fn finish_each<S: Stream + Drop, D: Device<S>>(device: &mut D, clients: Vec<Client<S>>) -> usize
+    ensures count { result ≡ length clients.items }
+    ensures parted { PartsFrom clients.items (D.parted device.old) (D.parted device.new) }
+{
     let count = clients.len();
     for client in clients {
         let Client { stream, .. } = client;
@@ -20,24 +26,47 @@ fn finish_each<S: Stream + Drop, D: Device<S>>(device: &mut D, clients: Vec<Clie
     count
 }
 
-// Looks once at what the peers of streams that were let go of still send: at the first device it waits for that, at most 10 milliseconds.
-fn look_once<S: Stream + Drop, D: Device<S> + Drop, M: Drop>(lefts: &mut [Left<S, D, M>]) {
+// Looks once at what the peers of streams that a worker let go of still send. Where it isn't busy it waits for that, at most 10 milliseconds.
+fn look_at<S: Stream + Drop, D: Device<S> + Drop, M: Drop>(left: &mut Left<S, D, M>, is_busy: bool)
+    ensures { PartsWithNone D.parted left.old left.new }
+{
+    let _goes_on = left.device.wait(is_busy);
+}
+
+// The same at all: it waits at the first device.
+fn look_once<S: Stream + Drop, D: Device<S> + Drop, M: Drop>(lefts: &mut [Left<S, D, M>])
+    ensures { PartWithNone D.parted lefts.old lefts.new }
+{
     let mut is_first = true;
     for left in lefts.iter_mut() {
-        let _goes_on = left.device.wait(!is_first);
+        look_at(left, !is_first);
         is_first = false;
     }
+}
+
+// Lets go of all clients of a worker so. How many there were.
+fn finish_left<S: Stream + Drop, D: Device<S> + Drop, M: Drop>(
+    alloc: Global,
+    left: &mut Left<S, D, M>,
+) -> usize
+    ensures count { result ≡ length left.old.clients.items }
+    ensures parted { HasParted D.parted left.old left.new }
+{
+    let clients = mem::replace(&mut left.clients, Vec::new(alloc));
+    finish_each(&mut left.device, clients)
 }
 
 // Lets go of all clients of all workers so. How many there were.
 fn finish_all<S: Stream + Drop, D: Device<S> + Drop, M: Drop>(
     alloc: Global,
     lefts: &mut [Left<S, D, M>],
-) -> usize {
+) -> usize
+    ensures { HaveParted D.parted lefts.old lefts.new }
+{
     let mut count = 0usize;
     for left in lefts.iter_mut() {
-        let clients = mem::replace(&mut left.clients, Vec::new(alloc));
-        count = count.saturating_add(finish_each(&mut left.device, clients));
+        let more = finish_left(alloc, left);
+        count = count.saturating_add(more);
     }
     count
 }
@@ -49,6 +78,7 @@ where
     D: Device<S> + Drop,
     M: Drop,
     C: Moments,
+    ensures { HaveParted D.parted lefts.old lefts.new }
 {
     if finish_all(alloc, lefts) == 0 {
         return;

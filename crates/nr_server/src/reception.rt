@@ -1,5 +1,8 @@
 // The thread that takes connections, as it tells an operator what there is to know.
-use crate::notice::{Notice, Repeated};
+ghost use Rattle.std.specs.Prelude.{◌≡◌};
+
+use crate::fault::Fault;
+use crate::notice::{Notice, Repeated, notice_of_end};
 use jiff::Timestamp;
 use nr_service::{Accepts, Ends, Moments};
 use nr_sockets::Listener;
@@ -17,11 +20,43 @@ pub(crate) struct Begins {
     pub(crate) wanted: u64,
 }
 
+/// What takes connections, and knows where it listens, and what an operator is to hear of.
+pub(crate) trait Receives: Accepts {
+    /// Where it listens, a text for each address.
+    fn named(&self) -> &[String];
+
+    /// How many connections were turned away.
+    fn turned_away(&self) -> u64;
+
+    /// How many times the system was short of descriptors or of memory for one.
+    fn short(&self) -> u64;
+}
+
+impl<R: Clock + Wait> Receives for Listener<'_, R> {
+    fn named(&self) -> &[String]
+        ensures { result.now ≡ self.now.listening.named.items }
+    {
+        &self.listening.named
+    }
+
+    fn turned_away(&self) -> u64
+        ensures { result ≡ self.now.turned_away }
+    {
+        self.turned_away
+    }
+
+    fn short(&self) -> u64
+        ensures { result ≡ self.now.short }
+    {
+        self.short
+    }
+}
+
 /// Takes connections, and tells an operator of what there is to know: on one writer where it listens, once that is so, and on another all else. Where that one takes
 /// nothing the server serves on.
 #[derive(Drop)]
-pub(crate) struct Reception<'a, R, M, O, E> {
-    pub(crate) listener: Listener<'a, R>,
+pub(crate) struct Reception<L, M, O, E> {
+    pub(crate) listener: L,
     /// It couldn't be told where it listens.
     pub(crate) is_mute: bool,
     clock: M,
@@ -72,15 +107,11 @@ fn tell<E: Write>(errors: &mut E, moment: u64, notice: Notice) -> io::Result<()>
     errors.flush()
 }
 
-impl<'a, R, M: Moments, O, E: Write> Reception<'a, R, M, O, E> {
+impl<L: Receives, M: Moments, O, E: Write> Reception<L, M, O, E> {
     /// Nothing was told yet.
-    pub(crate) fn new(
-        listener: Listener<'a, R>,
-        clock: M,
-        out: O,
-        errors: E,
-        begins: Begins,
-    ) -> Self {
+    pub(crate) fn new(listener: L, clock: M, out: O, errors: E, begins: Begins) -> Self
+        ensures { result.listener ≡ listener }
+    {
         Reception {
             listener,
             is_mute: false,
@@ -96,31 +127,38 @@ impl<'a, R, M: Moments, O, E: Write> Reception<'a, R, M, O, E> {
     }
 
     // Tells this, where it can be told.
-    fn tell(&mut self, notice: Notice) {
+    fn tell(&mut self, notice: Notice)
+        ensures { self.new.listener ≡ self.old.listener }
+    {
         self.moment = self.clock.now().unwrap_or(self.moment);
         let _ = tell(&mut self.errors, self.moment, notice);
     }
 
     // Tells of connections that were turned away, where it is time to.
-    fn tell_of_turned_away(&mut self) {
-        if let Some(count) = self
-            .turned_away
-            .take(self.listener.turned_away, self.moment)
-        {
+    fn tell_of_turned_away(&mut self)
+        ensures { self.new.listener ≡ self.old.listener }
+    {
+        let count = self.listener.turned_away();
+        if let Some(count) = self.turned_away.take(count, self.moment) {
             self.tell(Notice::TurnedAway(count));
         }
     }
 
     // Tells that the system was short of something, where it is time to.
-    fn tell_of_shortage(&mut self) {
-        if let Some(count) = self.short.take(self.listener.short, self.moment) {
+    fn tell_of_shortage(&mut self)
+        ensures { self.new.listener ≡ self.old.listener }
+    {
+        let count = self.listener.short();
+        if let Some(count) = self.short.take(count, self.moment) {
             self.tell(Notice::Short(count));
         }
     }
 
     // Tells what came often, where something did that wasn't told.
-    fn tell_what_came(&mut self) {
-        if self.listener.turned_away == 0 && self.listener.short == 0 {
+    fn tell_what_came(&mut self)
+        ensures { self.new.listener ≡ self.old.listener }
+    {
+        if self.listener.turned_away() == 0 && self.listener.short() == 0 {
             return;
         }
         self.moment = self.clock.now().unwrap_or(self.moment);
@@ -133,19 +171,20 @@ impl<'a, R, M: Moments, O, E: Write> Reception<'a, R, M, O, E> {
         self.ends == Ends::InOrder
     }
 
-    /// Tells how it ended, where it was told to end: in order, or because the time for that was over.
-    pub(crate) fn tell_end(&mut self) {
-        match self.ends {
-            Ends::Not => {}
-            Ends::InOrder => self.tell(Notice::Ended),
-            Ends::AtOnce => self.tell(Notice::BrokenOff),
+    /// Tells how it ended, where it was told to end and didn't fail: in order, or because the time for that was over.
+    pub(crate) fn tell_end(&mut self, ended: &Result<(), Fault>) {
+        if let Some(notice) = notice_of_end(self.ends, ended) {
+            self.tell(notice);
         }
     }
 }
 
-impl<R: Clock + Wait, M: Moments, O: Write, E: Write> Accepts for Reception<'_, R, M, O, E> {
+impl<L: Receives, M: Moments, O: Write, E: Write> Accepts for Reception<L, M, O, E> {
+    // What became of those that the listener took became of them.
+    ghost dealt = { λ reception. L.dealt reception.listener };
+
     fn begin(&mut self) -> bool {
-        self.is_mute = tell_addresses(&mut self.out, &self.listener.listening.named).is_err();
+        self.is_mute = tell_addresses(&mut self.out, self.listener.named()).is_err();
         let _ = tell_beginning(&mut self.errors, self.begins);
         !self.is_mute
     }

@@ -7,8 +7,8 @@ ghost use Rattle.nr_service.specs.Stories.{Story};
 ghost use Rattle.nr_server.specs.Runs.{alone as one_connection, IsFresh, IsServed};
 ghost use Rattle.nr_server.specs.Going.{IsDone, Ends};
 
+use crate::fault::Fault;
 use nr_answering::Answering;
-use nr_blob::Memory;
 use nr_nodes::Setup;
 use nr_service::{Answers, Client, Moments, Nowhere, Service, Standing, Stream};
 use std::alloc::Global;
@@ -95,24 +95,24 @@ fn exchange_all<A: Answers + Drop, S: Stream + Drop, M: Moments + Drop>(
 ///
 /// # Errors
 ///
-/// `Memory` where there is no room for the server.
+/// `Memory` where there is no memory for the server.
 pub fn serve_stream<S: Stream + Drop, M: Moments + Drop>(
     alloc: Global,
     keys: RandomState,
     stream: S,
     clock: M,
-) -> Result<Served<S>, Memory>
+) -> Result<Served<S>, Fault>
     requires { IsFresh S.received S.sent S.course stream }
     ensures { IfOk result (IsServed S.received S.sent S.course M.gives clock) }
 {
     let answering = Answering::new(alloc, keys, alone())?;
     let mut service = Service::new(alloc, 0, 0, answering, Nowhere, clock, LIMIT, 0)?;
     if !service.admit(stream)? {
-        return Err(Memory);
+        return Err(Fault::Memory);
     }
     let done = exchange_all(&mut service);
     if service.clients.is_empty() {
-        return Err(Memory);
+        return Err(Fault::Memory);
     }
     let Client { stream, .. } = service.clients.swap_remove(0);
     Ok(Served { stream, done })

@@ -1,11 +1,13 @@
 // Serving by TCP: each worker of each node on a thread of its own.
-ghost use Rattle.std.specs.Prelude.{◌≡◌, ◌+◌, ◌*◌, IfOk, IfErr};
+ghost use Rattle.std.specs.IoError.{error_kind, raw_os_error};
+ghost use Rattle.std.specs.Prelude.{◌≡◌, ◌<◌, ◌+◌, ◌*◌, length, IfOk, IfErr};
 ghost use Rattle.std.specs.Vec.{vec_len};
 ghost use Rattle.nr_crew.specs.Dealing.{HasDealt};
 ghost use Rattle.nr_crew.specs.Together.{AreServedTogether};
-ghost use Rattle.nr_server.specs.Listening.{IsRefused, IsUnheardOf};
+ghost use Rattle.nr_server.specs.Listening.{IsRefused, IsRefusedAt, IsUnheardOf, IsUnopened, TellsOf};
 ghost use Rattle.nr_server.specs.Serving.{ended_by, told_of};
 ghost use Rattle.nr_sockets.specs.Addresses.{AreSaid};
+ghost use Rattle.nr_sockets.specs.Unheard.{IsUnheardAt};
 
 use crate::fault::Fault;
 use crate::parting::part_from_all;
@@ -13,16 +15,16 @@ use crate::reception::{Begins, Reception};
 use crate::refusal::Refusal;
 use nr_blob::Memory;
 use nr_config::{Lasts, Settings};
-use nr_crew::{Place, ServeError, Served, Shape, Size, serve_nodes};
+use nr_crew::{ClientLimits, Place, ServeError, Served, Shape, Size, StartError, serve_nodes};
 use nr_service::{Accepts, Device, Gate, MachineClock, Moments, Rings, Stream};
 use nr_sockets::{
-    Door, Entrance, Listener, Listening, Lookout, Socket, Terms, Unheard, most_descriptors,
-    open_lanes,
+    Door, Entrance, ListenError, Listener, Listening, Lookout, Socket, Terms, Unheard,
+    most_descriptors, open_lanes,
 };
 use std::alloc::Global;
 use std::fs::Files;
 use std::hash::RandomState;
-use std::io::{Error, ErrorKind, Write};
+use std::io::{Error, Write};
 use std::net::Net;
 use std::os::fd::RawFd;
 use std::rt::Clock;
@@ -32,38 +34,62 @@ use std::thread::{self, Threads};
 /// The descriptor of standard input.
 const STANDARD_INPUT: RawFd = 0;
 
-// The fault of an address at which nobody can listen.
+// What is told of an address at which nobody can listen, by what the system says of that.
 fn refused(alloc: Global, address: &str, error: &Error) -> Result<Fault, Memory>
-    ensures { IfOk result (IsRefused address.now) }
+    ensures { IfOk result (IsRefused address.now (error_kind error.now) (raw_os_error error.now)) }
 {
-    if error.kind() == ErrorKind::OutOfMemory {
+    if Memory::of(error).is_some() {
         return Ok(Fault::Memory);
     }
     let address = String::from_str(alloc, address)?;
     Ok(Fault::CannotListen(address, Refusal::of(error)))
 }
 
-// The same, by its place among these, of which it is one.
-fn unheard(
+// The same of the one that stands at this place.
+fn refused_at(
     alloc: Global,
     addresses: &[String],
     place: usize,
     error: &Error,
 ) -> Result<Fault, Memory>
-    ensures { IfOk result (IsUnheardOf addresses.now) }
+    requires { place < length addresses.now }
+    ensures { IfOk result (IsRefusedAt addresses.now place (error_kind error.now) (raw_os_error error.now)) }
 {
-    let Some(address) = addresses.get(place) else {
-        return Ok(Fault::Memory);
-    };
-    let fault = refused(alloc, address.as_str(), error)?;
+    let fault = refused(alloc, addresses[place].as_str(), error)?;
     Ok(fault)
+}
+
+// Why there is nothing by which the system tells of connections: memory was refused, or it has no descriptors for that.
+fn unopened(error: &Error) -> Fault
+    ensures { IsUnopened (error_kind error.now) result }
+{
+    if Memory::of(error).is_some() {
+        Fault::Memory
+    } else {
+        Fault::Listener
+    }
+}
+
+// What is told where nobody listens at these addresses.
+fn unheard(alloc: Global, addresses: &[String], error: &ListenError) -> Result<Fault, Memory>
+    requires { IsUnheardAt addresses.now error.now }
+    ensures { IfOk result (TellsOf addresses.now error.now) }
+{
+    match error {
+        ListenError::Poll(error) => Ok(unopened(error)),
+        ListenError::Address(Unheard { place, error }) => {
+            let fault = refused_at(alloc, addresses, *place, error)?;
+            Ok(fault)
+        }
+    }
 }
 
 /// Listens where the settings say.
 ///
 /// # Errors
 ///
-/// `CannotListen` where the system refuses an address, with what it says; `Memory` where memory runs out.
+/// `CannotListen` with the first address that the system refuses, and what it says; `Listener` where it has no descriptor for what tells of connections;
+/// `Memory` where memory runs out.
 pub fn listen_on<R: Files + Net>(
     alloc: Global,
     rt: &R,
@@ -74,7 +100,7 @@ pub fn listen_on<R: Files + Net>(
 {
     match Listening::listen(alloc, rt, &settings.listen) {
         Ok(listening) => Ok(listening),
-        Err(Unheard { place, error }) => Err(unheard(alloc, &settings.listen, place, &error)?),
+        Err(error) => Err(unheard(alloc, &settings.listen, &error)?),
     }
 }
 
@@ -84,8 +110,8 @@ fn size_of(settings: &Settings) -> Size
     ensures workers { result.shape.workers ≡ settings.now.workers }
     ensures places { result.places ≡ settings.now.places }
     ensures connections { result.connections ≡ settings.now.connections }
-    ensures limit { result.limit ≡ settings.now.queue_limit }
-    ensures timeout { result.timeout ≡ settings.now.timeout * 1000 }
+    ensures limit { result.limits.limit ≡ settings.now.queue_limit }
+    ensures timeout { result.limits.timeout ≡ settings.now.timeout * 1000 }
 {
     Size {
         shape: Shape {
@@ -94,8 +120,10 @@ fn size_of(settings: &Settings) -> Size
         },
         places: settings.places,
         connections: settings.connections,
-        limit: settings.queue_limit,
-        timeout: settings.timeout as u64 * 1_000,
+        limits: ClientLimits {
+            limit: settings.queue_limit,
+            timeout: settings.timeout as u64 * 1_000,
+        },
     }
 }
 
@@ -105,7 +133,7 @@ fn size_of(settings: &Settings) -> Size
 ///
 /// # Errors
 ///
-/// `Memory` where memory runs out before any worker starts.
+/// [`StartError`]'s, before any worker starts.
 pub fn serve_on<R, S, D, M, K, G, L>(
     rt: &R,
     alloc: Global,
@@ -115,7 +143,7 @@ pub fn serve_on<R, S, D, M, K, G, L>(
     bells: K,
     main: L,
     gate: &G,
-) -> Result<(Served<S, D, M>, L), Memory>
+) -> Result<(Served<S, D, M>, L), StartError>
 where
     R: Threads + Wait + Sync,
     S: Stream + Drop + Send,
@@ -146,7 +174,7 @@ fn told_of(ended: Result<(), ServeError>) -> Result<(), Fault>
 {
     match ended {
         Ok(()) => Ok(()),
-        Err(ServeError::Memory) => Err(Fault::Memory),
+        Err(ServeError::Down | ServeError::Memory(_)) => Err(Fault::Memory),
         Err(ServeError::Device) => Err(Fault::Listener),
         Err(ServeError::NoThread) => Err(Fault::NoThread),
     }
@@ -165,15 +193,6 @@ impl Rings for Bells<'_> {
 
     fn take_lost(&self, lane: usize) -> u64 {
         self.entrance.take_lost(lane)
-    }
-}
-
-// Why there are no lanes: memory was refused, or the system has no descriptors for them.
-fn unopened(error: &Error) -> Fault {
-    if error.kind() == ErrorKind::OutOfMemory {
-        Fault::Memory
-    } else {
-        Fault::Listener
     }
 }
 
@@ -245,7 +264,7 @@ fn ended_by(ended: Result<(), ServeError>, is_mute: bool) -> Result<(), Fault>
 /// then nothing more is taken or read, and it ends once all that was read is executed and all that was answered is written, or `shutdown_seconds` are over. Clients that are left then are let go of as ones that have
 /// finished, and for a second what they still send is read and dropped, so that nothing that was written is taken back. On `out`
 /// stands where it listens, a line for each address, once all workers serve; on `errors` by how many threads, and then a line for each node that falls, for
-/// connections that are turned away or find no descriptor, at most one a minute each, and for the end of the input.
+/// connections that are turned away or find no descriptor, at most one a minute each, and for the end of the input, unless it fails.
 ///
 /// # Errors
 ///
@@ -289,12 +308,13 @@ where
         MachineClock<'_, R>,
         Bells<'_>,
         G,
-        Reception<'_, R, MachineClock<'_, R>, O, E>,
+        Reception<Listener<'_, R>, MachineClock<'_, R>, O, E>,
     >(rt, alloc, keys, settings, places, bells, reception, gate)?;
     reception.listener.listening.leave(rt);
     if reception.has_ended_in_order() {
         part_from_all(alloc, &mut served.lefts, &mut MachineClock { runtime: rt });
     }
-    reception.tell_end();
-    ended_by(served.ended, reception.is_mute)
+    let ended = ended_by(served.ended, reception.is_mute);
+    reception.tell_end(&ended);
+    ended
 }

@@ -14,6 +14,7 @@ use Rattle.nr_service.specs.Endings.{ByCause, ByEnding, BreaksOff, BreaksOffAcce
 use Rattle.nr_service.specs.Readings.{IsFedAmong, IsFedAt, IsNeverFed}
 use Rattle.nr_service.specs.Serving.{connection, streams_of, IsApart, IsLeft, IsServing}
 use Rattle.nr_service.specs.declared.client.Client.{Client}
+use Rattle.nr_blob.specs.declared.memory.Memory.{Memory}
 use Rattle.nr_service.specs.declared.ended.Ended.{Ended}
 use Rattle.nr_service.specs.declared.ended.Ended.TheVariants as endings
 use Rattle.nr_service.specs.declared.service.Service.{Service}
@@ -180,17 +181,18 @@ ran_out_still was_received was_sent course gives is_past is_left keeps parted se
 }
 
 -- the error is that memory ran out
-pub ends_by_memory : {T : Type 0} (result : Result T Ended) (P Q R : Type 0) → IfErr result (λ ended. ended ≡ endings.Memory) → Q
+pub ends_by_memory : {T : Type 0} (memory : Memory) (result : Result T Ended) (P Q R : Type 0) → IfErr result (λ ended. ended ≡ endings.Memory memory) → Q
     → IfErr result (λ ended. ByCause ended P Q R)
-ends_by_memory (Ok _) P Q R is q = tt
-ends_by_memory (Err ended) P Q R is q = subst (λ (e : Ended). ByCause e P Q R) (sym is) q
+ends_by_memory memory (Ok _) P Q R is q = tt
+ends_by_memory memory (Err ended) P Q R is q = subst (λ (e : Ended). ByCause e P Q R) (sym is) q
 
 -- whatever the error is
 by_cause : {T : Type 0} (result : Result T Ended) (P Q R S : Type 0) → IfErr result (λ ended. ByCause ended ⊥ P Q) → (P → S) → (Q → R)
     → IfErr result (λ ended. ByEnding ended R S)
 by_cause (Ok _) P Q R S is breaks turn = tt
 by_cause (Err endings.Stopped) P Q R S is breaks turn = absurd is
-by_cause (Err endings.Memory) P Q R S is breaks turn = breaks is
+by_cause (Err (endings.Memory memory)) P Q R S is breaks turn = breaks is
+by_cause (Err endings.Down) P Q R S is breaks turn = breaks is
 by_cause (Err endings.Device) P Q R S is breaks turn = turn is
 
 -- the clients are served yet, or where memory ran out they are left

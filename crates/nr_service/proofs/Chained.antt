@@ -126,7 +126,8 @@ takes_none_left says goes turns breaks is_done left turn asked old new so_far en
 -- in one turn more, or behind it
 cause_of_turn : (ended : Ended) (P O Q R : Type 0) → O → ByCause ended ⊥ Q R → ByCause ended P (O × Q) (O × R)
 cause_of_turn endings.Stopped P O Q R on by = absurd by
-cause_of_turn endings.Memory P O Q R on by = (on, by)
+cause_of_turn (endings.Memory memory) P O Q R on by = (on, by)
+cause_of_turn endings.Down P O Q R on by = (on, by)
 cause_of_turn endings.Device P O Q R on by = (on, by)
 
 pub takes_one_more : {T : Type 0} (says : ℕ → Go → Type 0) (goes : T → Type 0) (turns : Bool → T → T → Type 0) (breaks : T → T → Type 0)

@@ -13,6 +13,7 @@ use Rattle.nr_service.specs.Arriving.{ArrivesFew, refused}
 use Rattle.nr_service.specs.Readings.{Feedings, IsFedAmong, IsFedAt, IsNeverFed, Reads}
 use Rattle.nr_service.specs.Serving.{connection, streams_of, AreOpened, IsApart, IsLeft, IsServed, AreServed, IsServing}
 use Rattle.nr_service.specs.Leaving.{client_of, parting_of, shut_by, LetsGo}
+use Rattle.nr_service.specs.Silence.{AreHeard, OpensAt}
 use Rattle.nr_service.specs.Steps.{Accepts, HasServed, Exchanges}
 use Rattle.nr_service.specs.Devices.{Abandoned, AreGivenBack, Parting, stream_of}
 use Rattle.nr_service.specs.declared.answers.Standing.{Standing}
@@ -164,9 +165,10 @@ pub took : {A S D M : Type 0} (was_received was_sent : S → Option Bytes) (cour
     (xs ys : List (Client S)) (old new : Service A S D M)
     → Accepts was_received was_sent course is_past keeps old.answers a old.clients.items xs
     → ArrivesFew most_accepted is_full is_placed parted old.answers a old.accepted new.accepted old.device d old.clients.items xs
+    → OpensAt old.moment old.clients.items xs
     → Reads gives old.clock new.clock old.moment new.moment
     → Exchanges was_received was_sent course is_past is_settled keeps busy new.moment a b xs ys
-    → map connection ys ≡ map connection xs
+    → map connection ys ≡ map connection xs → AreHeard new.moment xs ys
     → LetsGo was_received was_sent course is_past keeps stands busy is_gone parted (bounds_of new) b new.answers d e ys new.clients.items
     → IsSameWorker old new → parted new.device ≡ parted e → (busy new.answers ≡ true → is_busy ≡ true)
     → LooksSoon old.until new.until (is_busy ≡ false → IsDistinct same_connection (map connection ys)
@@ -174,7 +176,7 @@ pub took : {A S D M : Type 0} (was_received was_sent : S → Option Bytes) (cour
     → waits e new.device is_busy told → told ≡ answer
     → Turns was_received was_sent course is_past is_settled keeps stands busy is_full is_placed is_gone parted waits gives answer old new
 took was_received was_sent course gives is_past is_settled keeps stands busy is_full is_placed is_gone parted waits told answer is_busy a b d e xs ys old new
-    accepts came reads exchanges same gone worker none at_once looked waited is = record {
+    accepts came opens reads exchanges same heard gone worker none at_once looked waited is = record {
       opened = a;
       worked = b;
       device = d;
@@ -184,9 +186,11 @@ took was_received was_sent course gives is_past is_settled keeps stands busy is_
       accepts = accepts;
       arrives = came.arrives;
       few = came.few;
+      opens = opens;
       reads = reads;
       exchanges = exchanges;
       same = same;
+      heard = heard;
       lets_go = gone;
       worker = worker;
       parts_none = none;

@@ -13,16 +13,17 @@ use Rattle.nr_service.specs.declared.client.Client.{Client}
 use Rattle.nr_service.specs.declared.gate.Go.{Go}
 use Rattle.nr_service.specs.declared.gate.Go.TheVariants as told
 use Rattle.nr_service.specs.declared.ended.Ended.{Ended}
-use Rattle.nr_service.specs.declared.ended.Ended.TheVariants.{Stopped, Memory, Device}
+use Rattle.nr_service.specs.declared.ended.Ended.TheVariants.{Stopped, Memory, Down, Device}
 use Rattle.nr_service.specs.declared.service.Service.{Service}
 use Rattle.nr_service.specs.Turns.{IsSameWorker, most_accepted}
 use Rattle.nr_service.specs.Stories.{Story, Past, Kept, fed_in}
 use Rattle.nr_service.specs.Streams.{Course}
 
--- the first, or the second where memory ran out
+-- the first, or the second where memory ran out or every node is down
 abbrev pub ByEnding : Ended → Type 0 → Type 0 → Type 0
 ByEnding Stopped P Q = P
-ByEnding Memory P Q = Q
+ByEnding (Memory memory) P Q = Q
+ByEnding Down P Q = Q
 ByEnding Device P Q = P
 
 -- Memory ran out while connections were accepted: the clock wasn't read.
@@ -75,7 +76,8 @@ pub record BreaksOff {A S D M : Type 0} (was_received was_sent : S → Option By
 -- the first where the gate stopped it, the second where memory ran out, the third where the device can't wait any more
 abbrev pub ByCause : Ended → Type 0 → Type 0 → Type 0 → Type 0
 ByCause Stopped P Q R = P
-ByCause Memory P Q R = Q
+ByCause (Memory memory) P Q R = Q
+ByCause Down P Q R = Q
 ByCause Device P Q R = R
 
 -- behind so many turns it may be done although clients are left

@@ -7,6 +7,7 @@ use Rattle.nr_service.specs.Arriving.{Arrives}
 use Rattle.nr_service.specs.Leaving.{LetsGo}
 use Rattle.nr_service.specs.Readings.{Reads}
 use Rattle.nr_service.specs.Serving.{connection}
+use Rattle.nr_service.specs.Silence.{AreHeard, OpensAt}
 use Rattle.nr_service.specs.Steps.{Accepts, Exchanges}
 use Rattle.nr_service.specs.Sweeps.{AreSent, LooksSoon}
 use Rattle.nr_service.specs.declared.client.Client.{Client}
@@ -48,10 +49,14 @@ pub record Turns {A S D M : Type 0} (was_received was_sent : S → Option Bytes)
   pub accepts : Accepts was_received was_sent course is_past keeps old.answers opened old.clients.items taken
   pub arrives : Arrives is_full is_placed parted old.answers opened old.accepted new.accepted old.device device old.clients.items taken
   pub few : length arrives.came ≤ most_accepted
+  -- those count as heard at the last moment before this turn
+  pub opens : OpensAt old.moment old.clients.items taken
   -- the clock was read once, and at the moment behind that bytes were fed
   pub reads : Reads gives old.clock new.clock old.moment new.moment
   pub exchanges : Exchanges was_received was_sent course is_past is_settled keeps busy new.moment opened worked taken served
   pub same : map connection served ≡ map connection taken
+  -- and behind the exchange each as heard at the moment of this turn, or as before
+  pub heard : AreHeard new.moment taken served
   pub lets_go : LetsGo was_received was_sent course is_past keeps stands busy is_gone parted (bounds_of new) worked new.answers device left_device served
       new.clients.items
   pub worker : IsSameWorker old new

@@ -39,8 +39,8 @@ fn open_one<A: Answers, S: Stream>(
     ensures items { clients.new.items ≡ clients.old.items }
     ensures room { IfOk result (λ opened. IfSome opened (λ conn. vec_len clients.new + 1 ≤ vec_capacity clients.new)) }
 {
-    if clients.try_reserve(1).is_err() {
-        answers.turn_away()?;
+    if let Err(error) = clients.try_reserve(1) {
+        answers.turn_away(error.into())?;
         return Ok(None);
     }
     let opened = answers.open(number)?;
@@ -98,6 +98,7 @@ fn accept_one<A: Answers, S: Stream + Drop, D: Device<S>>(
         accepted.old device.old device.new clients.old.items clients.new.items) }
     ensures arrives { OnOk result (ArrivesFew 1 A.is_full A.is_placed D.parted answers.old answers.new accepted.old accepted.new device.old device.new
         clients.old.items clients.new.items) }
+    ensures heard { OnOk result (OpensAt moment clients.old.items clients.new.items) }
 {
     answers.leaves();
     let Some(stream) = device.accept()? else {
@@ -121,6 +122,7 @@ pub(crate) fn accept_each<A: Answers, S: Stream + Drop, D: Device<S>>(
         accepted.old device.old device.new clients.old.items clients.new.items) }
     ensures arrives { OnOk result (ArrivesFew most_accepted A.is_full A.is_placed D.parted answers.old answers.new accepted.old accepted.new device.old
         device.new clients.old.items clients.new.items) }
+    ensures heard { OnOk result (OpensAt moment clients.old.items clients.new.items) }
 {
     for _ in 0..MOST_ACCEPTED {
         let more = accept_one(answers, device, clients, accepted, signs, moment)?;

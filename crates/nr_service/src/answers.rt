@@ -57,6 +57,9 @@ pub trait Answers {
     // A connection takes no room: it was closed, or what answered it is down.
     ghost is_gone: { Self → Connection → Type 0 };
 
+    // What it said as it was asked whether messages may come to a connection.
+    ghost listens: { Self → Connection → Bool → Type 0 } = { λ _ _ _. Unit {0} };
+
     /// Opens the connection that was accepted as this number, from 0 on, or `None` where there was no room for it.
     fn open(&mut self, number: u64) -> Result<Option<ConnId>, Memory>
         ensures opened { IfOk result (λ opened. IfSome opened (λ conn. IsOpened (connection_of conn) (is_past self.old) (is_past self.new) (kept self.old)
@@ -66,8 +69,9 @@ pub trait Answers {
         ensures placed { IfOk result (λ opened. IfSome opened (λ conn. is_placed self.old self.new number (connection_of conn))) }
         ensures left { OnErr result (IsLeftOf (is_past self.old) (is_left self.new)) };
 
-    /// There is no memory for one more client: the connection that was accepted is turned away, and the room that was taken for it comes back.
-    fn turn_away(&mut self) -> Result<(), Memory>
+    /// There is no memory for one more client: the connection that was accepted is turned away, and the room that was taken for it comes back. An error is
+    /// that want of memory.
+    fn turn_away(&mut self, memory: Memory) -> Result<(), Memory>
         ensures kept { OnOk result (Keeps (is_past self.old) (is_past self.new) (kept self.old) (kept self.new)) }
         ensures full { OnOk result (is_full self.old) }
         ensures left { OnErr result (IsLeftOf (is_past self.old) (is_left self.new)) };
@@ -106,9 +110,8 @@ pub trait Answers {
     fn told(&self, place: usize) -> Option<ConnId>;
 
     /// Whether messages may come to a connection by what it is subscribed to, so that its silence is none. A hint.
-    fn is_listening(&self, _: ConnId) -> bool {
-        false
-    }
+    fn is_listening(&self, conn: ConnId) -> bool
+        ensures { listens self.now (connection_of conn) result };
 
     /// The bytes that it keeps for a connection.
     fn pending(&self, conn: ConnId) -> &[u8]

@@ -7,8 +7,10 @@ use nr_blob::Memory;
 pub enum Ended {
     /// The gate said so.
     Stopped,
-    /// Memory ran out, or every node is down.
-    Memory,
+    /// Memory ran out.
+    Memory(Memory),
+    /// Every node is down.
+    Down,
     /// The device can't wait any more.
     Device,
 }
@@ -17,9 +19,9 @@ impl From<Memory> for Ended {
     ghost use Rattle.std.specs.Prelude.{◌≡◌};
     ghost use Rattle.nr_service.specs.declared.ended.Ended.TheVariants as endings;
 
-    ghost from_gives = { λ _ ended. ended ≡ endings.Memory };
+    ghost from_gives = { λ memory ended. ended ≡ endings.Memory memory };
 
-    fn from(_: Memory) -> Ended {
-        Ended::Memory
+    fn from(memory: Memory) -> Ended {
+        Ended::Memory(memory)
     }
 }

@@ -1,11 +1,11 @@
 // Reading what is there, and feeding it.
-ghost use Rattle.std.specs.Prelude.{◌≡◌, ◌⊎◌, false, [], OnOk, OnErr, map};
+ghost use Rattle.std.specs.Prelude.{◌≡◌, false, [], OnOk, OnErr, map};
 ghost use Rattle.std.specs.Bool.{OnTrue, OnFalse};
 ghost use Rattle.nr_entry.specs.Jobs.{connection_of};
 ghost use Rattle.nr_service.specs.Leaving.{TakesNone};
 ghost use Rattle.nr_service.specs.Readings.{IsFedAmong, IsFedAtRest, IsFedTo, IsNeverFed};
 ghost use Rattle.nr_service.specs.Serving.{connection};
-ghost use Rattle.nr_service.specs.Silence.{IsHeard};
+ghost use Rattle.nr_service.specs.Silence.{AreHeard, IsHeard, IsHeardBefore, IsHeardBehind};
 ghost use Rattle.nr_service.specs.Steps.{Leaves, LeavesOne, Serves, ServesOne};
 ghost use Rattle.nr_service.specs.declared.answers.Standing.TheVariants as standings;
 
@@ -63,7 +63,7 @@ fn take_in<A: Answers, S: Stream>(
 
 // When a client that is looked at counts as heard last, before it is read: at this moment, where it wasn't looked at before, or messages may come to it.
 fn heard_by<A: Answers, S>(answers: &A, client: &Client<S>, moment: u64) -> u64
-    ensures { (result ≡ moment) ⊎ (result ≡ client.now.heard) }
+    ensures { IsHeardBefore (A.listens answers.now (connection client.now)) moment client.now.is_new client.now.heard result }
 {
     if client.is_new || answers.is_listening(client.conn) {
         return moment;
@@ -84,7 +84,8 @@ fn read_one<A: Answers, S: Stream>(
         (connection client.old)) answers.old answers.new client.old client.new) }
     ensures err { OnErr result (LeavesOne S.received S.sent S.course A.is_past A.is_left A.kept IsNeverFed answers.old answers.new client.old client.new) }
     ensures conn { client.new.conn ≡ client.old.conn }
-    ensures heard { IsHeard moment client.old.heard client.new.heard (S.received client.old.stream) (S.received client.new.stream) }
+    ensures heard { IsHeardBehind (A.listens answers.old (connection client.old)) moment client.old.is_new client.old.heard client.new.heard
+        (S.received client.old.stream) (S.received client.new.stream) }
     ensures all { signs.new.is_all ≡ signs.old.is_all }
 {
     client.heard = heard_by(answers, client, moment);
@@ -121,6 +122,7 @@ fn read_at<A: Answers, S: Stream>(
     ensures err { OnErr result (Leaves S.received S.sent S.course A.is_past A.is_left A.kept IsNeverFed answers.old answers.new clients.old
         clients.new) }
     ensures same { map connection clients.new ≡ map connection clients.old }
+    ensures heard { AreHeard moment clients.old clients.new }
     ensures all { signs.new.is_all ≡ signs.old.is_all }
 {
     if place >= clients.len() {
@@ -152,6 +154,7 @@ pub(crate) fn read_listed<A: Answers, S: Stream>(
     ensures err { OnErr result (Leaves S.received S.sent S.course A.is_past A.is_left A.kept (IsFedAmong moment
         (map connection clients.old)) answers.old answers.new clients.old clients.new) }
     ensures same { map connection clients.new ≡ map connection clients.old }
+    ensures heard { AreHeard moment clients.old clients.new }
     ensures all { signs.new.is_all ≡ signs.old.is_all }
 {
     if !may_read(answers) {

@@ -8,7 +8,7 @@ ghost use Rattle.nr_service.specs.Devices.{PartsWith, turned_away};
 ghost use Rattle.nr_service.specs.Endings.{BreaksOff, ByCause, ByEnding, GoesOn, IsDone, IsGoing, RanOut, TakesTurns, most_turns_down};
 ghost use Rattle.nr_service.specs.Readings.{IsFedAmong, IsNeverFed, Reads};
 ghost use Rattle.nr_service.specs.Serving.{connection, IsServing};
-ghost use Rattle.nr_service.specs.Silence.{OpensAt};
+ghost use Rattle.nr_service.specs.Silence.{AreHeard, OpensAt};
 ghost use Rattle.nr_service.specs.Streams.{fresh_course};
 ghost use Rattle.nr_service.specs.Steps.{Accepts, Exchanges, IsTakenOn, Leaves, Serves, next_number};
 ghost use Rattle.nr_service.specs.Sweeps.{IsSentOrBroken, LooksSoon};
@@ -118,6 +118,7 @@ fn exchange_each<A: Answers, S: Stream>(
     ensures err { OnErr result (Leaves S.received S.sent S.course A.is_past A.is_left A.kept (IsFedAmong moment (map connection clients.old)) answers.old
         answers.new clients.old clients.new) }
     ensures same { map connection clients.new ≡ map connection clients.old }
+    ensures heard { AreHeard moment clients.old clients.new }
     ensures all { signs.new.is_all ≡ signs.old.is_all }
     ensures sent { OnOk result (signs.old.is_all ≡ true → signs.new.is_busy ≡ false → IsDistinct same_connection (map connection clients.new)
         → All (IsSentOrBroken (A.kept answers.new)) clients.new) }
@@ -259,6 +260,7 @@ where
         ensures err { OnErr result (Leaves S.received S.sent S.course A.is_past A.is_left A.kept (IsFedAmong self.new.moment (map connection
             self.old.clients.items)) self.old.answers self.new.answers self.old.clients.items self.new.clients.items) }
         ensures same { map connection self.new.clients.items ≡ map connection self.old.clients.items }
+        ensures heard { AreHeard self.new.moment self.old.clients.items self.new.clients.items }
         ensures reads { Reads M.gives self.old.clock self.new.clock self.old.moment self.new.moment }
         ensures device { self.new.device ≡ self.old.device }
         ensures accepted { self.new.accepted ≡ self.old.accepted }
@@ -300,6 +302,7 @@ where
         ensures err { OnErr result (Leaves S.received S.sent S.course A.is_past A.is_left A.kept (IsFedAmong self.new.moment (map connection
             self.old.clients.items)) self.old.answers self.new.answers self.old.clients.items self.new.clients.items) }
         ensures same { map connection self.new.clients.items ≡ map connection self.old.clients.items }
+        ensures heard { AreHeard self.new.moment self.old.clients.items self.new.clients.items }
         ensures reads { Reads M.gives self.old.clock self.new.clock self.old.moment self.new.moment }
         ensures device { self.new.device ≡ self.old.device }
         ensures accepted { self.new.accepted ≡ self.old.accepted }
@@ -403,7 +406,7 @@ where
             return Ok(());
         }
         if self.clients.is_empty() || *left == 0 {
-            return Err(Ended::Memory);
+            return Err(Ended::Down);
         }
         *left -= 1;
         Ok(())

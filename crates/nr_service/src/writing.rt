@@ -4,7 +4,7 @@ ghost use Rattle.std.specs.List.{IsDistinct};
 ghost use Rattle.nr_model.specs.Items.{same_connection};
 ghost use Rattle.nr_service.specs.Readings.{IsNeverFed};
 ghost use Rattle.nr_service.specs.Serving.{connection};
-ghost use Rattle.nr_service.specs.Silence.{IsHeard};
+ghost use Rattle.nr_service.specs.Silence.{AreHeard, IsHeard};
 ghost use Rattle.nr_service.specs.Steps.{Serves, ServesOne, settled_past};
 ghost use Rattle.nr_service.specs.Stories.{KeepsOthers, kept_bytes};
 ghost use Rattle.nr_service.specs.Sweeps.{IsSentOrBroken, IsWrittenOn, WritesAt, most_written};
@@ -160,6 +160,7 @@ fn write_at<A: Answers, S: Stream>(
     ensures served { Serves S.received S.sent S.course (settled_past A.is_past A.is_settled) A.kept IsNeverFed [] answers.old answers.new
         clients.old clients.new }
     ensures same { map connection clients.new ≡ map connection clients.old }
+    ensures heard { AreHeard moment clients.old clients.new }
     ensures all { signs.new.is_all ≡ signs.old.is_all }
     ensures sent { WritesAt A.kept place signs.old.is_busy signs.new.is_busy answers.old answers.new clients.old clients.new }
 {
@@ -180,6 +181,7 @@ pub(crate) fn write_listed<A: Answers, S: Stream>(
     ensures served { Serves S.received S.sent S.course (settled_past A.is_past A.is_settled) A.kept IsNeverFed [] answers.old answers.new
         clients.old clients.new }
     ensures same { map connection clients.new ≡ map connection clients.old }
+    ensures heard { AreHeard moment clients.old clients.new }
     ensures all { signs.new.is_all ≡ signs.old.is_all }
     ensures sent { signs.old.is_all ≡ true → signs.new.is_busy ≡ false → IsDistinct same_connection (map connection clients.new)
         → All (IsSentOrBroken (A.kept answers.new)) clients.new }

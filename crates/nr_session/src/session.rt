@@ -1,6 +1,7 @@
 // The session of a connection: bytes in, jobs out. It owns the reader and the number of the next job, and touches nothing else.
 ghost use Rattle.std.specs.Prelude.{◌≡◌, ◌↔◌, ◌+◌, ◌<◌, ◌≤◌, ◌^◌, ◌++◌, [], true, false, None, Some, Err, OnOk, OnErr, IfOk, IfSome, IsNone, IsTrue, is_ok, is_some, cond, not, ◌||◌, unwrap_or, if◌then◌else◌, length};
 ghost use Rattle.nr_model.specs.Items.{End};
+ghost use Rattle.nr_blob.specs.declared.memory.Memory.{Memory};
 ghost use Rattle.nr_model.specs.Keyspace.{last_moment};
 ghost use Rattle.nr_model.specs.Asked.{jobs_from};
 ghost use Rattle.nr_resp.specs.Frames.{frames_seen};
@@ -31,7 +32,7 @@ fn read(reader: &mut Reader, piece: &[u8], frames: &mut Vec<Frame>) -> Result<Op
     match reader.feed(piece, frames) {
         Ok(()) => Ok(None),
         Err(FeedError::Fault(fault)) => Ok(Some(fault)),
-        Err(FeedError::Memory) => Err(Memory),
+        Err(FeedError::Memory(refused)) => Err(refused),
     }
 }
 
@@ -81,7 +82,18 @@ pub enum SessionError {
     /// The connection has ended. Nothing changes.
     Ended,
     /// There was no memory left. The session has ended.
-    Memory,
+    Memory(Memory),
+}
+
+impl From<Memory> for SessionError {
+    ghost use Rattle.std.specs.Prelude.{◌≡◌};
+    ghost use Rattle.nr_session.specs.declared.session.SessionError.TheVariants as errors;
+
+    ghost from_gives = { λ memory e. e ≡ errors.Memory memory };
+
+    fn from(memory: Memory) -> SessionError {
+        SessionError::Memory(memory)
+    }
 }
 
 // Where a connection is in its life.
@@ -164,6 +176,13 @@ impl Session {
         (bytes as u64) < u64::MAX - self.fed
     }
 
+    /// Where so many more bytes bring the count of all that it was fed to its end, 2^64 - 1, what that comes to: want of memory.
+    pub fn last_count(&self, bytes: usize) -> Option<Memory>
+        ensures { IsNone result ↔ (self.now.fed + bytes + 1 < 2 ^ 64) }
+    {
+        Memory::at_last(self.fed.saturating_add(bytes as u64))
+    }
+
     /// Takes bytes, and adds the jobs that they ask for, numbered on, each at the moment, in milliseconds, at most 2^53. A fault's error is
     /// the reply of a close.
     ///
@@ -195,10 +214,10 @@ impl Session {
 
         ensures ended { (result ≡ Err SessionError.Ended) ↔ (self.old.ended ≡ true) }
         ensures unchanged { result ≡ Err SessionError.Ended → (self.new ≡ self.old) × (jobs.new.items ≡ jobs.old.items) }
-        ensures memory { result ≡ Err SessionError.Memory → (self.new.ended ≡ true)
+        ensures memory { (memory : Memory) → result ≡ Err (SessionError.Memory memory) → (self.new.ended ≡ true)
             × AddsFront (items_of jobs.old.items) (items_of jobs.new.items) self.old.next self.new.next
             (request_jobs self.old.connection self.old.next moment self.old.mode (framed self.old.rest bytes.now).frames) }
-        ensures no_end { result ≡ Err SessionError.Memory → ends (items_of jobs.new.items) ≡ ends (items_of jobs.old.items) }
+        ensures no_end { (memory : Memory) → result ≡ Err (SessionError.Memory memory) → ends (items_of jobs.new.items) ≡ ends (items_of jobs.old.items) }
     {
         if self.has_ended() {
             return Err(SessionError::Ended);
@@ -222,9 +241,9 @@ impl Session {
                 self.fed += bytes.len() as u64;
                 Ok(())
             }
-            Err(Memory) => {
+            Err(refused) => {
                 self.life = Life::Cut;
-                Err(SessionError::Memory)
+                Err(SessionError::Memory(refused))
             }
         }
     }

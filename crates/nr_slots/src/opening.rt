@@ -6,7 +6,7 @@ ghost use Rattle.nr_slots.specs.Rule.{opening_view};
 use crate::combiner::CombinerSeat;
 use crate::slots::Slots;
 use crate::steps::cut;
-use crate::view::{SlotSeat, SlotWords};
+use crate::view::{SlotSeat, SlotTable, SlotWords};
 use crate::worker::WorkerSeat;
 use atomic_table::Table;
 use nr_blob::Memory;
@@ -18,7 +18,18 @@ pub enum OpenError {
     /// The workers aren't 1 to 16.
     BadShape,
     /// There is no memory for them.
-    Memory,
+    Memory(Memory),
+}
+
+impl From<Memory> for OpenError {
+    ghost use Rattle.std.specs.Prelude.{◌≡◌};
+    ghost use Rattle.nr_slots.specs.declared.opening.OpenError.TheVariants as errors;
+
+    ghost from_gives = { λ memory e. e ≡ errors.Memory memory };
+
+    fn from(memory: Memory) -> OpenError {
+        OpenError::Memory(memory)
+    }
 }
 
 impl Slots {
@@ -36,18 +47,21 @@ impl Slots {
         if workers < 1 || workers > 16 {
             return Err(OpenError::BadShape);
         }
-        let Ok(words) = Vec::from_elem(alloc, 0u64, 16 * workers + 16) else {
-            return Err(OpenError::Memory);
-        };
-        let Ok((table, seat)) = Table::vacant(alloc, words.as_slice(), 2 * workers, &workers) else {
-            return Err(OpenError::Memory);
-        };
+        let (table, seat) = laid(alloc, workers)?;
         let slots = Slots { table, workers };
-        let Ok((seats, combiner)) = seats(alloc, &slots.table.shared, seat, workers) else {
-            return Err(OpenError::Memory);
-        };
+        let (seats, combiner) = seats(alloc, &slots.table.shared, seat, workers)?;
         Ok((slots, seats, combiner))
     }
+}
+
+// The words and slots of so many workers, and the first seat at them.
+fn laid(alloc: Global, workers: usize) -> Result<(SlotTable, SlotSeat), Memory>
+    requires { (1 ≤ workers) × (workers ≤ 16) }
+    ensures table { IfOk result (λ laid. IsOfWorkers laid.0.shared.table_id workers × (laid.0.shared.key ≡ workers)) }
+    ensures seat { IfOk result (λ laid. (laid.1.table_id ≡ laid.0.shared.table_id) × (laid.1.me ≡ (opening_view workers 0, []))) }
+{
+    let words = Vec::from_elem(alloc, 0u64, 16 * workers + 16)?;
+    Ok(Table::vacant(alloc, words.as_slice(), 2 * workers, &workers)?)
 }
 
 // The seats of all workers, cut from the first one, and the combiner's, which is what is left of it.

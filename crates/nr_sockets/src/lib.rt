@@ -8,7 +8,7 @@ pub use door::Door;
 pub use entrance::{Entrance, Lookout, open_lanes};
 pub use limits::most_descriptors;
 pub use listener::{Listener, Terms};
-pub use listening::{Listening, Unheard};
+pub use listening::{ListenError, Listening, Unheard};
 pub use peer::Peer;
 pub use socket::Socket;
 

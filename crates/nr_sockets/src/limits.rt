@@ -5,7 +5,7 @@ use libc::types::rlimit;
 
 // A limit of the system's, whose greatest number stands for none.
 fn limited(limit: u64) -> Option<u64>
-    ensures { result ≡ (if limit == 18446744073709551615 then None else Some limit) }
+    ensures { result ≡ (if limit == u64.MAX then None else Some limit) }
 {
     if limit == u64::MAX { None } else { Some(limit) }
 }

@@ -136,7 +136,7 @@ impl<R: Clock + Wait> Accepts for Listener<'_, R> {
 
     fn turn_away(&mut self)
         ensures dealt { Deals (None ∷ []) (⟦<Self as Accepts>⟧.dealt self.old) (⟦<Self as Accepts>⟧.dealt self.new) }
-        ensures counted { self.new.turned_away ≡ min (self.old.turned_away + 1) 18446744073709551615 }
+        ensures counted { self.new.turned_away ≡ min (self.old.turned_away + 1) u64.MAX }
     {
         self.turned_away = self.turned_away.saturating_add(1);
         if let Some(peer) = self.held.take() {

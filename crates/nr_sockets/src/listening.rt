@@ -1,6 +1,7 @@
 // The sockets that listen, and what tells of the connections that come there.
-ghost use Rattle.std.specs.Prelude.{◌≡◌, ◌<◌, ◌+◌, length, IfOk, IfErr, OnOk, if◌then◌else◌, nat_lt};
+ghost use Rattle.std.specs.Prelude.{◌≡◌, ◌<◌, ◌+◌, length, IfOk, IfErr, OnOk, OnErr, if◌then◌else◌, nat_lt};
 ghost use Rattle.nr_sockets.specs.Addresses.{AreSaid, IsNamed};
+ghost use Rattle.nr_sockets.specs.Unheard.{IsUnheardAt};
 
 use crate::ear::Ear;
 use crate::peer::Peer;
@@ -18,11 +19,22 @@ pub(crate) const INPUT: Token = Token(usize::MAX);
 /// Of how many changes the system tells at once.
 const MOST_EVENTS: usize = 64;
 
-/// Why nobody listens: the place of an address, from 0 on, and what the system says of it.
+/// An address at which nobody can listen.
 #[derive(Debug, Drop)]
 pub struct Unheard {
+    /// Its place among the addresses, from 0 on: at so many, those before it, it was listened already.
     pub place: usize,
+    /// What the system says of it.
     pub error: io::Error,
+}
+
+/// Why nobody listens.
+#[derive(Debug, Drop)]
+pub enum ListenError {
+    /// The system has nothing by which it tells of connections: what it says of that.
+    Poll(io::Error),
+    /// It can't be listened at one of the addresses.
+    Address(Unheard),
 }
 
 /// Sockets that listen.
@@ -60,7 +72,7 @@ fn following(turn: usize, count: usize) -> usize
     }
 }
 
-// Listens at each of the addresses, and says where that is.
+// Listens at each of the addresses, and says where that is. Where it can't be listened at one, those before it listen.
 fn open_each<R: Files + Net>(
     alloc: Global,
     rt: &R,
@@ -69,7 +81,9 @@ fn open_each<R: Files + Net>(
     ears: &mut Vec<Ear>,
 ) -> Result<Vec<String>, Unheard>
     ensures named { IfOk result (λ named. AreSaid addresses.now named.items) }
+    ensures opened { IfOk result (λ _. length ears.new.items ≡ length ears.old.items + length addresses.now) }
     ensures place { IfErr result (λ unheard. unheard.place < length addresses.now) }
+    ensures before { IfErr result (λ unheard. length ears.new.items ≡ length ears.old.items + unheard.place) }
 {
     let mut named = Vec::new(alloc);
     for (place, address) in addresses.iter().enumerate() {
@@ -100,11 +114,13 @@ fn open_one<R: Files + Net>(
     ears: &mut Vec<Ear>,
     named: &mut Vec<String>,
 ) -> io::Result<()>
-    ensures { OnOk result (IsNamed address.now named.old.items named.new.items) }
+    ensures ok { OnOk result (IsNamed address.now named.old.items named.new.items) }
+    ensures opened { OnOk result (length ears.new.items ≡ length ears.old.items + 1) }
+    ensures err { OnErr result (ears.new.items ≡ ears.old.items) }
 {
     let (ear, text) = Ear::open(alloc, rt, registry, token, address)?;
-    ears.push(ear)?;
     named.push(text)?;
+    ears.push(ear)?;
     Ok(())
 }
 
@@ -154,19 +170,20 @@ impl Listening {
     ///
     /// # Errors
     ///
-    /// Those of the system where it can't be listened at one of them, as `AddrInUse` where somebody does, or where the path is that of a file that is
-    /// no socket, or where memory is refused. None is listened at then.
+    /// `Address` with the first at which it can't be listened, as with `AddrInUse` where somebody does, or where the path is that of a file that is no
+    /// socket; `Poll` where the system has no descriptor for what tells of connections. With `OutOfMemory` each where memory is refused. None is
+    /// listened at then.
     pub fn listen<R: Files + Net>(
         alloc: Global,
         rt: &R,
         addresses: &[String],
-    ) -> Result<Listening, Unheard>
+    ) -> Result<Listening, ListenError>
         ensures named { IfOk result (λ listening. AreSaid addresses.now listening.named.items) }
-        ensures place { IfErr result (λ unheard. 0 < length addresses.now → unheard.place < length addresses.now) }
+        ensures unheard { IfErr result (IsUnheardAt addresses.now) }
     {
         let (poll, events) = match open_poll(alloc, rt) {
             Ok(opened) => opened,
-            Err(error) => return Err(Unheard { place: 0, error }),
+            Err(error) => return Err(ListenError::Poll(error)),
         };
         let mut ears = Vec::new(alloc);
         match open_each(alloc, rt, poll.registry(), addresses, &mut ears) {
@@ -179,7 +196,7 @@ impl Listening {
             }),
             Err(unheard) => {
                 leave_each(rt, &ears);
-                Err(unheard)
+                Err(ListenError::Address(unheard))
             }
         }
     }

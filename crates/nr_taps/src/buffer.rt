@@ -2,6 +2,7 @@
 ghost use Rattle.std.specs.Prelude.{◌≡◌, ◌<◌, ◌≤◌, ◌++◌, [], drop, length, IfErr, OnOk, OnErr};
 
 use bytes::BytesMut;
+use nr_blob::Memory;
 use nr_replica::Spares;
 use std::alloc::Global;
 use std::marker::Model;
@@ -32,10 +33,10 @@ impl Buffer {
     }
 
     /// Puts bytes behind the others. Where there are none they are taken over, else they are copied. Where memory runs out they come back.
-    pub fn put(&mut self, bytes: Vec<u8>) -> Result<(), Vec<u8>>
+    pub fn put(&mut self, bytes: Vec<u8>) -> Result<(), (Vec<u8>, Memory)>
         ensures put { OnOk result (self.new ≡ self.old ++ bytes.items) }
         ensures some { OnErr result (0 < length self.old) }
-        ensures back { IfErr result (λ back. back.items ≡ bytes.items) }
+        ensures back { IfErr result (λ back. back.0.items ≡ bytes.items) }
         ensures unchanged { OnErr result (self.new ≡ self.old) }
     {
         if self.bytes.is_empty() {
@@ -44,7 +45,7 @@ impl Buffer {
         }
         match self.bytes.extend_from_slice(&bytes) {
             Ok(()) => Ok(()),
-            Err(_) => Err(bytes),
+            Err(error) => Err((bytes, error.into())),
         }
     }
 

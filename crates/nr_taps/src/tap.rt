@@ -1,5 +1,6 @@
 // A connection's tap.
-ghost use Rattle.std.specs.Prelude.{◌≡◌, ◌≤◌, ◌<◌, ◌+◌, ◌^◌, ◌⊎◌, ◌↔◌, [], ◌++◌, true, length, drop, None, Some, IfErr, IfSome, IsOk, OnOk, OnErr, option_map};
+ghost use Rattle.std.specs.Prelude.{◌≡◌, ◌≤◌, ◌<◌, ◌+◌, ◌^◌, ◌⊎◌, ◌↔◌, [], ◌++◌, true, length, drop, None, Some, IfErr, IfSome, IfNone, IsOk, OnOk, OnErr, option_map};
+ghost use Rattle.nr_blob.specs.declared.memory.Memory.{Memory};
 ghost use Rattle.nr_model.specs.Bytes.{IsBeginningOf};
 ghost use Rattle.nr_model.specs.Sequential.{emitted_for};
 ghost use Rattle.nr_entry.specs.Jobs.{connection_of};
@@ -8,6 +9,7 @@ ghost use Rattle.nr_node.specs.Sound.{IsSound};
 ghost use Rattle.nr_taps.specs.Taps.{HaveMet, IsSamePiece, accepted, bytes_accepted, fresh_tap, refusal, standing_of, with_piece, with_written};
 
 use crate::buffer::Buffer;
+use nr_blob::Memory;
 use nr_entry::ConnId;
 use nr_oplog::{LogName, Oplog, Token};
 use nr_replica::Piece;
@@ -21,8 +23,8 @@ pub enum Refused {
     OtherConnection,
     /// It doesn't begin behind the last byte that was accepted.
     Gap,
-    /// Memory was refused, or a u64 doesn't count the bytes.
-    Memory,
+    /// Memory was refused, or 2^64 - 1 bytes and more would have been accepted.
+    Memory(Memory),
 }
 
 /// What was handed out for a connection and isn't written yet, with a token of the moment at which its last bytes were handed out.
@@ -92,8 +94,8 @@ impl<B: LogName> Tap<B> {
         ensures bytes { OnOk result (bytes_accepted self.new ≡ bytes_accepted self.old ++ piece.bytes.items) }
         ensures due { OnOk result (refusal self.old (connection_of piece.conn) piece.from ≡ None) }
         ensures met { OnOk result (HaveMet self.old.standing (Some token.standing)) }
-        ensures refused { IfErr result (λ r. (refusal self.old (connection_of piece.conn) piece.from ≡ Some r.2) ⊎ ((refusal self.old (connection_of piece.conn) piece.from ≡ None) × (r.2 ≡ Refused.Memory))) }
-        ensures taken_over { self.old.pending ≡ [] → refusal self.old (connection_of piece.conn) piece.from ≡ None → piece.from + length piece.bytes.items < 2 ^ 64 → IsOk result }
+        ensures refused { IfErr result (λ r. (refusal self.old (connection_of piece.conn) piece.from ≡ Some r.2) ⊎ ((refusal self.old (connection_of piece.conn) piece.from ≡ None) × ((memory : Memory) × (r.2 ≡ Refused.Memory memory)))) }
+        ensures taken_over { self.old.pending ≡ [] → refusal self.old (connection_of piece.conn) piece.from ≡ None → piece.from + length piece.bytes.items + 1 < 2 ^ 64 → IsOk result }
         ensures back { IfErr result (λ r. IsSamePiece r.0 piece × (r.1.standing ≡ token.standing)) }
         ensures unchanged { OnErr result (self.new ≡ self.old) }
     {
@@ -101,15 +103,19 @@ impl<B: LogName> Tap<B> {
             return Err((piece, token, why));
         }
         let Piece { conn, from, bytes } = piece;
-        if !is_counted(from, bytes.len()) {
-            return Err((Piece { conn, from, bytes }, token, Refused::Memory));
+        if let Some(memory) = last_count(from, bytes.len()) {
+            let refused = Refused::Memory(memory);
+            return Err((Piece { conn, from, bytes }, token, refused));
         }
         match self.bytes.put(bytes) {
             Ok(()) => {
                 replace(log, &mut self.token, token);
                 Ok(())
             }
-            Err(bytes) => Err((Piece { conn, from, bytes }, token, Refused::Memory)),
+            Err((bytes, memory)) => {
+                let refused = Refused::Memory(memory);
+                Err((Piece { conn, from, bytes }, token, refused))
+            }
         }
     }
 
@@ -148,11 +154,12 @@ impl<B: LogName> Tap<B> {
     }
 }
 
-// Whether a u64 counts the bytes.
-fn is_counted(from: u64, more: usize) -> bool
-    ensures { (result ≡ true) ↔ (from + more < 2 ^ 64) }
+// Where so many more bytes reach the last count of a u64.
+fn last_count(from: u64, more: usize) -> Option<Memory>
+    ensures few { IfNone result (from + more + 1 < 2 ^ 64) }
+    ensures many { IfSome result (λ _. 2 ^ 64 ≤ from + more + 1) }
 {
-    more as u64 <= u64::MAX - from
+    Memory::at_last(from.saturating_add(more as u64))
 }
 
 // Puts a token in the place of the last one, which it meets.

@@ -7,7 +7,7 @@ ghost use Rattle.nr_model.specs.Sequential.{emitted_for};
 use nr_answering::Answering;
 use nr_blob::Memory;
 use nr_nodes::Setup;
-use nr_server::serve_stream;
+use nr_server::{Fault, serve_stream};
 use nr_service::{Device, Ended, MachineClock, Moments, Open, Received, Sent, Service, Stream};
 use std::alloc::{AllocError, Global};
 use std::hash::RandomState;
@@ -379,7 +379,7 @@ fn sent_alone<M: Moments + Drop>(
     keys: RandomState,
     clock: M,
     peer: Peer,
-) -> Result<Vec<u8>, Memory>
+) -> Result<Vec<u8>, Fault>
     ensures { IfOk result (λ bytes. (c : Connection) × (items : Sequence) × IsBeginningOf bytes.items (emitted_for c items)) }
 {
     let served = serve_stream(alloc, keys, Line::new(alloc, peer), clock)?;
@@ -392,7 +392,9 @@ fn serves_one_alone(rt: HostRuntime) -> Result<(), Fail> {
     let keys = RandomState::new(&rt)?;
     for piece in [1, 7, 4_096] {
         let clock = MachineClock { runtime: &rt };
-        let sent = sent_alone(rt.alloc(), keys, clock, asking(INPUT, piece, usize::MAX))?;
+        let sent = sent_alone(rt.alloc(), keys, clock, asking(INPUT, piece, usize::MAX))
+            .ok()
+            .expect(&rt, "it is served");
         assert!(&rt; sent.as_slice() == OUTPUT);
     }
     Ok(())

@@ -4,6 +4,7 @@ use nr_entry::ConnId;
 use nr_nodes::{Setup, World};
 use std::alloc::Global;
 use std::hash::RandomState;
+use std::process::Abort;
 use std::test::Fail;
 
 const CONN: ConnId = ConnId { node: 0, serial: 0 };
@@ -15,9 +16,7 @@ const ITEMS: u32 = 20_000;
 
 // A server of one node with one connection.
 fn opened(alloc: Global, keys: RandomState) -> Result<World, Memory> {
-    let Some(setup) = Setup::new(1, 2, 1, 1, 1 << 30) else {
-        return Err(Memory);
-    };
+    let setup = Setup::new(1, 2, 1, 1, 1 << 30).unwrap();
     let mut world = World::new(alloc, keys, setup)?;
     world.open(0, 0)?;
     Ok(world)
@@ -178,20 +177,24 @@ fn no_word_is_too_long(rt: HostRuntime) -> Result<(), Fail> {
     Ok(())
 }
 
-// A collection with each number below a count, and a copy of it at `m`; an error too where it isn't copied.
-fn copied(alloc: Global, keys: RandomState, words: &[u8], is_twice: bool) -> Result<World, Memory> {
+// A collection with each number below a count, and a copy of it at `m`.
+fn copied(
+    rt: &impl Abort,
+    alloc: Global,
+    keys: RandomState,
+    words: &[u8],
+    is_twice: bool,
+) -> Result<World, Memory> {
     let mut world = opened(alloc, keys)?;
     fill(alloc, &mut world, words, ITEMS, is_twice)?;
-    if !is_answered(alloc, &mut world, b"", b"COPY k m", b":1\r\n")? {
-        return Err(Memory);
-    }
+    assert!(rt; is_answered(alloc, &mut world, b"", b"COPY k m", b":1\r\n")?);
     Ok(world)
 }
 
 #[test]
 fn no_list_is_too_long(rt: HostRuntime) -> Result<(), Fail> {
     let alloc = rt.alloc();
-    let mut world = copied(alloc, RandomState::new(&rt)?, b"RPUSH k", false)?;
+    let mut world = copied(&rt, alloc, RandomState::new(&rt)?, b"RPUSH k", false)?;
     let all = numbers(alloc, ITEMS)?;
     assert!(rt; is_answered(alloc, &mut world, b"", b"LRANGE m 0 -1", &all)?);
     Ok(())
@@ -200,7 +203,7 @@ fn no_list_is_too_long(rt: HostRuntime) -> Result<(), Fail> {
 #[test]
 fn no_fields_are_too_many(rt: HostRuntime) -> Result<(), Fail> {
     let alloc = rt.alloc();
-    let mut world = copied(alloc, RandomState::new(&rt)?, b"HSET k", true)?;
+    let mut world = copied(&rt, alloc, RandomState::new(&rt)?, b"HSET k", true)?;
     assert!(rt; is_answered(alloc, &mut world, b"", b"HLEN m", b":20000\r\n")?);
     assert!(rt; is_answered(alloc, &mut world, b"", b"HGET m 19999", b"$5\r\n19999\r\n")?);
     Ok(())
@@ -209,7 +212,7 @@ fn no_fields_are_too_many(rt: HostRuntime) -> Result<(), Fail> {
 #[test]
 fn no_members_are_too_many(rt: HostRuntime) -> Result<(), Fail> {
     let alloc = rt.alloc();
-    let mut world = copied(alloc, RandomState::new(&rt)?, b"SADD k", false)?;
+    let mut world = copied(&rt, alloc, RandomState::new(&rt)?, b"SADD k", false)?;
     assert!(rt; is_answered(alloc, &mut world, b"", b"SCARD m", b":20000\r\n")?);
     assert!(rt; is_answered(alloc, &mut world, b"", b"SISMEMBER m 19999", b":1\r\n")?);
     Ok(())
@@ -218,7 +221,7 @@ fn no_members_are_too_many(rt: HostRuntime) -> Result<(), Fail> {
 #[test]
 fn no_scores_are_too_many(rt: HostRuntime) -> Result<(), Fail> {
     let alloc = rt.alloc();
-    let mut world = copied(alloc, RandomState::new(&rt)?, b"ZADD k", true)?;
+    let mut world = copied(&rt, alloc, RandomState::new(&rt)?, b"ZADD k", true)?;
     assert!(rt; is_answered(alloc, &mut world, b"", b"ZCARD m", b":20000\r\n")?);
     assert!(rt;
         is_answered(

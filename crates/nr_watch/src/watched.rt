@@ -36,9 +36,9 @@ impl Model for Watched {
 
 impl Watched {
     /// Where memory runs out the watch comes back.
-    pub(crate) fn new(alloc: Global, watch: Watch) -> Result<Watched, Watch>
+    pub(crate) fn new(alloc: Global, watch: Watch) -> Result<Watched, (Watch, Memory)>
         ensures ok { IfOk result (λ watched. watched ≡ record { watches = watch ∷ []; touched = false }) }
-        ensures err { IfErr result (λ back. back ≡ watch) }
+        ensures err { IfErr result (λ back. back.0 ≡ watch) }
     {
         let mut watches = Vec::new(alloc);
         match watches.push(watch) {
@@ -46,7 +46,7 @@ impl Watched {
                 watches,
                 touched: false,
             }),
-            Err(refused) => Err(refused.value),
+            Err(failed) => Err(Memory::giving_back(failed)),
         }
     }
 
@@ -75,14 +75,14 @@ impl Watched {
     }
 
     /// Where memory runs out nothing changes, and the watch comes back.
-    pub(crate) fn add(&mut self, watch: Watch) -> Result<(), Watch>
+    pub(crate) fn add(&mut self, watch: Watch) -> Result<(), (Watch, Memory)>
         ensures ok { OnOk result (self.new ≡ record self.old { watches = self.old.watches ++ watch ∷ [] }) }
         ensures err { OnErr result (self.new ≡ self.old) }
-        ensures back { IfErr result (λ back. back ≡ watch) }
+        ensures back { IfErr result (λ back. back.0 ≡ watch) }
     {
         match self.watches.push(watch) {
             Ok(()) => Ok(()),
-            Err(refused) => Err(refused.value),
+            Err(failed) => Err(Memory::giving_back(failed)),
         }
     }
 

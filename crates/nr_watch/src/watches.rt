@@ -89,10 +89,10 @@ fn add(
     by_conn: &mut BTreeMap<ConnId, Watched>,
     conn: ConnId,
     watch: Watch,
-) -> Result<(), Watch>
+) -> Result<(), (Watch, Memory)>
     ensures ok { OnOk result (IsPut conn (Some (with_watch watch (kept_at (connection_of conn) by_conn.old.entries))) by_conn.old.entries by_conn.new.entries) }
     ensures err { OnErr result (IsKeptAsBefore by_conn.old.entries by_conn.new.entries) }
-    ensures back { IfErr result (λ back. back ≡ watch) }
+    ensures back { IfErr result (λ back. back.0 ≡ watch) }
 {
     if let Some(watched) = by_conn.get_mut(&conn) {
         watched.add(watch)?;
@@ -100,7 +100,10 @@ fn add(
     }
     match by_conn.insert(conn, Watched::new(alloc, watch)?) {
         Ok(_) => Ok(()),
-        Err(refused) => Err(refused.value.1.into_first()),
+        Err(failed) => {
+            let ((_, watched), refused) = Memory::giving_back(failed);
+            Err((watched.into_first(), refused))
+        }
     }
 }
 
@@ -118,13 +121,13 @@ fn begin(
     ensures indexed { IsIndexed by_conn.new.entries by_name.new.conns.entries }
 {
     let is_new = by_name.add(watch.name(), conn)?;
-    let Err(watch) = add(alloc, by_conn, conn, watch) else {
+    let Err((watch, refused)) = add(alloc, by_conn, conn, watch) else {
         return Ok(());
     };
     if is_new {
         by_name.remove(watch.name(), conn);
     }
-    Err(Memory)
+    Err(refused)
 }
 
 // Keeps this as what a connection watches.

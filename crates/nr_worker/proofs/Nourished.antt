@@ -1,7 +1,6 @@
 -- A desk stands for a worker of the law once bytes were fed.
 use Rattle.std.proofs.Common.{◌≤◌, suc, zero, ◌≡◌, ℕ, ◌+◌, ◌<◌, inl, inr, Bool, true, false, cond, List, [], ◌∷◌, ◌++◌, map, filter, take, drop, length, Contains, Option, Some, None, refl, ap, sym, ◌∙◌, subst, arith, append_assoc, append-nil, eq-eqb}
-use Rattle.std.specs.Prelude.{◌≢◌, ◌==◌, ◌&&◌, not}
-use Rattle.std.specs.Bool.{OnFalse, OnTrue}
+use Rattle.std.specs.Prelude.{◌≢◌, ◌==◌, ◌&&◌, not, Result, Ok, Err, OnOk, OnErr}
 use Rattle.std.specs.List.{AllByRecursion}
 use Rattle.std.proofs.Math.Seq.{drop-append_seam}
 use Rattle.std.proofs.lemmas.Bool.{eqb-true}
@@ -448,28 +447,28 @@ both_hold false b is = absurd (cc is)
 takes_it : (o : Option SeatState) (s : SeatState) → o ≡ Some s → takes_here o ≡ true → takes s ≡ true
 takes_it o s is takes = ap takes_here (sym is) ∙ takes
 
-pub fed_at : (v : WorkState) (seats : SeatsState) (jobs : List Job) (serial moment : ℕ) (bytes : Bytes) (result : Bool)
+pub fed_at : (v : WorkState) (seats : SeatsState) (jobs : List Job) (serial moment : ℕ) (bytes : Bytes) {E : Type 0} (result : Result (Unit {0}) E)
     → takes_here (seat_at serial v.seats) ≡ true
-    → OnTrue result (FeedsSeat serial moment bytes v.seats seats (items_of v.jobs) (items_of jobs))
-    → OnFalse result (StopsSeat serial moment bytes v.seats seats (items_of v.jobs) (items_of jobs))
+    → OnOk result (FeedsSeat serial moment bytes v.seats seats (items_of v.jobs) (items_of jobs))
+    → OnErr result (StopsSeat serial moment bytes v.seats seats (items_of v.jobs) (items_of jobs))
     → Goes (all_fed (feeding_of (named v.worker.node serial) moment bytes)) v (record v { seats = seats; jobs = jobs })
-fed_at v seats jobs serial moment bytes true takes fed stopped =
+fed_at v seats jobs serial moment bytes (Ok done) takes fed stopped =
     let f = fed in
     let taken = takes_it (seat_at serial v.seats) f.was f.there takes in
     record {
       leads = leads v seats jobs serial moment bytes f.was f.is (new_jobs f.was moment bytes) f.there f.put taken
           (has_fed moment bytes f.was f.is (items_of v.jobs) (items_of jobs) taken f.fed) f.fed.jobs;
     }
-fed_at v seats jobs serial moment bytes false takes fed stopped =
+fed_at v seats jobs serial moment bytes (Err error) takes fed stopped =
     let f = stopped in
     let taken = takes_it (seat_at serial v.seats) f.was f.there takes in
     let gone = has_stopped moment bytes f.was f.is (items_of v.jobs) (items_of jobs) f.stopped in
     record { leads = leads v seats jobs serial moment bytes f.was f.is gone.0 f.there f.put taken gone.2 gone.1 }
 
-pub fed_by : (v u : WorkState) (seats : SeatsState) (jobs : List Job) (late : ℕ) (c : Connection) (moment : ℕ) (bytes : Bytes) (result : Bool) → u ≡ v
+pub fed_by : (v u : WorkState) (seats : SeatsState) (jobs : List Job) (late : ℕ) (c : Connection) (moment : ℕ) (bytes : Bytes) {E : Type 0} (result : Result (Unit {0}) E) → u ≡ v
     → takes_from c v ≡ true
-    → OnTrue result (FeedsSeat c.serial moment bytes u.seats seats (items_of u.jobs) (items_of jobs))
-    → OnFalse result (StopsSeat c.serial moment bytes u.seats seats (items_of u.jobs) (items_of jobs))
+    → OnOk result (FeedsSeat c.serial moment bytes u.seats seats (items_of u.jobs) (items_of jobs))
+    → OnErr result (StopsSeat c.serial moment bytes u.seats seats (items_of u.jobs) (items_of jobs))
     → Goes (all_fed (feeding_of c moment bytes)) v (record u { seats = seats; jobs = jobs; late = late })
 fed_by v u seats jobs late c moment bytes result same takes fed stopped =
     let w : WorkState = record u { seats = seats; jobs = jobs } in
@@ -550,14 +549,14 @@ stops_behind serial moment bytes old new r a b f =
       };
     }
 
-pub on_feeds : (result : Bool) (serial moment : ℕ) (bytes : Bytes) (old new : SeatsState) (r a b : List Job)
-    → OnTrue result (FeedsSeat serial moment bytes old new (items_of a) (items_of b))
-    → OnTrue result (FeedsSeat serial moment bytes old new (items_of (r ++ a)) (items_of (r ++ b)))
-on_feeds true serial moment bytes old new r a b f = feeds_behind serial moment bytes old new r a b f
-on_feeds false serial moment bytes old new r a b f = tt
+pub on_feeds : {E : Type 0} (result : Result (Unit {0}) E) (serial moment : ℕ) (bytes : Bytes) (old new : SeatsState) (r a b : List Job)
+    → OnOk result (FeedsSeat serial moment bytes old new (items_of a) (items_of b))
+    → OnOk result (FeedsSeat serial moment bytes old new (items_of (r ++ a)) (items_of (r ++ b)))
+on_feeds (Ok done) serial moment bytes old new r a b f = feeds_behind serial moment bytes old new r a b f
+on_feeds (Err error) serial moment bytes old new r a b f = tt
 
-pub on_stops : (result : Bool) (serial moment : ℕ) (bytes : Bytes) (old new : SeatsState) (r a b : List Job)
-    → OnFalse result (StopsSeat serial moment bytes old new (items_of a) (items_of b))
-    → OnFalse result (StopsSeat serial moment bytes old new (items_of (r ++ a)) (items_of (r ++ b)))
-on_stops true serial moment bytes old new r a b f = tt
-on_stops false serial moment bytes old new r a b f = stops_behind serial moment bytes old new r a b f
+pub on_stops : {E : Type 0} (result : Result (Unit {0}) E) (serial moment : ℕ) (bytes : Bytes) (old new : SeatsState) (r a b : List Job)
+    → OnErr result (StopsSeat serial moment bytes old new (items_of a) (items_of b))
+    → OnErr result (StopsSeat serial moment bytes old new (items_of (r ++ a)) (items_of (r ++ b)))
+on_stops (Ok done) serial moment bytes old new r a b f = tt
+on_stops (Err error) serial moment bytes old new r a b f = stops_behind serial moment bytes old new r a b f

@@ -1,6 +1,5 @@
 // The jobs that wait to be handed in.
-ghost use Rattle.std.specs.Prelude.{◌≡◌, ◌<◌, ◌≤◌, ◌==◌, ◌+◌, ◌++◌, ◌∷◌, [], true, length, take, drop, IsSome, IfSome, IfNone, OnOk, OnErr};
-ghost use Rattle.std.specs.Bool.{OnTrue, OnFalse};
+ghost use Rattle.std.specs.Prelude.{◌≡◌, ◌<◌, ◌≤◌, ◌==◌, ◌+◌, ◌++◌, ◌∷◌, [], true, length, take, drop, IsOk, IfOk, OnOk, OnErr};
 ghost use Rattle.std.specs.Vec.{vec_len, vec_capacity};
 ghost use Rattle.nr_model.specs.Keyspace.{last_moment};
 ghost use Rattle.nr_entry.specs.Jobs.{items_of};
@@ -9,6 +8,7 @@ ghost use Rattle.nr_worker.specs.Due.{emptied, fresh_due, with_room};
 
 use nr_blob::Memory;
 use nr_entry::Job;
+use nr_replica::Cut;
 use nr_seats::Seats;
 use std::alloc::Global;
 use std::marker::Model;
@@ -85,33 +85,47 @@ impl DueJobs {
         self.lasts.push_reserved(job);
     }
 
-    /// Feeds a connection at its seat, as [`Seats::feed`] does: its jobs wait behind the others, those that are late among them. Where there is no memory for the
-    /// late ones no bytes are fed, and the connection is cut. Logarithmic, and linear in the bytes and in the late ones.
-    pub(crate) fn feed(&mut self, seats: &mut Seats, serial: u64, moment: u64, bytes: &[u8]) -> bool
+    /// Feeds a connection at its seat, as [`Seats::feed`] does: its jobs wait behind the others, those that are late among them. Logarithmic, and linear in the bytes
+    /// and in the late ones.
+    ///
+    /// # Errors
+    ///
+    /// Those of [`Seats::feed`]; and `Memory` where there is none for the late ones: then no bytes are fed, and the connection is cut.
+    pub(crate) fn feed(
+        &mut self,
+        seats: &mut Seats,
+        serial: u64,
+        moment: u64,
+        bytes: &[u8],
+    ) -> Result<(), Memory>
         requires taken { takes_here (seat_at serial seats.old) ≡ true }
         requires in_time { moment ≤ last_moment }
-        ensures fed { OnTrue result (FeedsSeat serial moment bytes.now seats.old seats.new (items_of self.old.jobs) (items_of self.new.jobs)) }
-        ensures stopped { OnFalse result (StopsSeat serial moment bytes.now seats.old seats.new (items_of self.old.jobs) (items_of self.new.jobs)) }
-        ensures late { OnTrue result (self.new.late ≡ 0) }
+        ensures fed { OnOk result (FeedsSeat serial moment bytes.now seats.old seats.new (items_of self.old.jobs) (items_of self.new.jobs)) }
+        ensures stopped { OnErr result (StopsSeat serial moment bytes.now seats.old seats.new (items_of self.old.jobs) (items_of self.new.jobs)) }
+        ensures late { OnOk result (self.new.late ≡ 0) }
         ensures room { self.new.room ≡ self.old.room }
         ensures count { length seats.new ≡ length seats.old }
     {
-        if !gather(&mut self.jobs, &mut self.lasts) {
-            seats.cut(serial);
-            return false;
+        if let Err(memory) = gather(&mut self.jobs, &mut self.lasts) {
+            seats.cut(serial, Cut::Refused(memory));
+            return Err(memory);
         }
         seats.feed(serial, moment, bytes, &mut self.jobs)
     }
 
-    /// Takes the first jobs, at most so many, and none where memory runs out: then nothing changes. The late ones aren't late any more, where some of them are among
-    /// the first. Linear in those that are left and in the late ones, and nothing is copied where there are none.
-    pub(crate) fn take_front(&mut self, alloc: Global, most: usize) -> Option<Vec<Job>>
-        ensures front { IfSome result (λ front. front.items ≡ take most self.old.jobs) }
-        ensures behind { IfSome result (λ front. self.new.jobs ≡ drop most self.old.jobs) }
-        ensures few { IfSome result (λ front. length front.items ≤ most) }
+    /// Takes the first jobs, at most so many. The late ones aren't late any more, where some of them are among the first. Linear in those that are left and in the late
+    /// ones, and nothing is copied where there are none.
+    ///
+    /// # Errors
+    ///
+    /// `Memory` where memory runs out: then nothing changes. It doesn't where at most so many wait, none of them late.
+    pub(crate) fn take_front(&mut self, alloc: Global, most: usize) -> Result<Vec<Job>, Memory>
+        ensures front { IfOk result (λ front. front.items ≡ take most self.old.jobs) }
+        ensures behind { OnOk result (self.new.jobs ≡ drop most self.old.jobs) }
+        ensures few { IfOk result (λ front. length front.items ≤ most) }
         ensures room { self.new.room ≡ self.old.room }
-        ensures same { IfNone result (self.new ≡ self.old) }
-        ensures all { self.old.late ≡ 0 → length self.old.jobs ≤ most → IsSome result }
+        ensures same { OnErr result (self.new ≡ self.old) }
+        ensures all { self.old.late ≡ 0 → length self.old.jobs ≤ most → IsOk result }
     {
         if self.jobs.len() > most {
             return take_first(alloc, &mut self.jobs, most);
@@ -135,15 +149,16 @@ impl DueJobs {
     }
 }
 
-// Moves the late ones behind the others. False where memory runs out: then nothing changes. Linear in them.
-fn gather(jobs: &mut Vec<Job>, lasts: &mut Vec<Job>) -> bool
-    ensures all { OnTrue result (jobs.new.items ≡ jobs.old.items ++ lasts.old.items) }
-    ensures none { OnTrue result (lasts.new.items ≡ []) }
-    ensures same { OnFalse result ((jobs.new.items ≡ jobs.old.items) × (lasts.new.items ≡ lasts.old.items)) }
+// Moves the late ones behind the others. Where memory runs out nothing changes. Linear in them.
+fn gather(jobs: &mut Vec<Job>, lasts: &mut Vec<Job>) -> Result<(), Memory>
+    ensures all { OnOk result (jobs.new.items ≡ jobs.old.items ++ lasts.old.items) }
+    ensures none { OnOk result (lasts.new.items ≡ []) }
+    ensures same { OnErr result ((jobs.new.items ≡ jobs.old.items) × (lasts.new.items ≡ lasts.old.items)) }
     ensures room { vec_capacity lasts.new ≡ vec_capacity lasts.old }
-    ensures fits { vec_len jobs.old + vec_len lasts.old ≤ vec_capacity jobs.old → result ≡ true }
+    ensures fits { vec_len jobs.old + vec_len lasts.old ≤ vec_capacity jobs.old → IsOk result }
 {
-    jobs.append(lasts).is_ok()
+    jobs.append(lasts)?;
+    Ok(())
 }
 
 // The same where there is room for them.
@@ -153,60 +168,52 @@ fn join(jobs: &mut Vec<Job>, lasts: &mut Vec<Job>)
     ensures none { lasts.new.items ≡ [] }
     ensures room { vec_capacity lasts.new ≡ vec_capacity lasts.old }
 {
-    let _is_whole = gather(jobs, lasts);
+    let _there_is_room = gather(jobs, lasts);
 }
 
-// Takes those behind the first so many away, and none where memory runs out. Linear in them.
-fn split_behind(alloc: Global, jobs: &mut Vec<Job>, count: usize) -> Option<Vec<Job>>
-    ensures front { IfSome result (λ behind. jobs.new.items ≡ take count jobs.old.items) }
-    ensures behind { IfSome result (λ behind. behind.items ≡ drop count jobs.old.items) }
-    ensures same { IfNone result (jobs.new.items ≡ jobs.old.items) }
+// Takes those behind the first so many away. Where memory runs out nothing changes. Linear in them.
+fn split_behind(alloc: Global, jobs: &mut Vec<Job>, count: usize) -> Result<Vec<Job>, Memory>
+    ensures front { OnOk result (jobs.new.items ≡ take count jobs.old.items) }
+    ensures behind { IfOk result (λ behind. behind.items ≡ drop count jobs.old.items) }
+    ensures same { OnErr result (jobs.new.items ≡ jobs.old.items) }
     ensures room { vec_capacity jobs.new ≡ vec_capacity jobs.old }
-    ensures all { length jobs.old.items ≤ count → IsSome result }
+    ensures all { length jobs.old.items ≤ count → IsOk result }
 {
     if jobs.len() <= count {
-        return Some(Vec::new(alloc));
+        return Ok(Vec::new(alloc));
     }
-    let Ok(behind) = jobs.split_off(count) else {
-        return None;
-    };
-    Some(behind)
+    let behind = jobs.split_off(count)?;
+    Ok(behind)
 }
 
-// Takes the first jobs, at most so many, and none where memory runs out.
-fn take_first(alloc: Global, jobs: &mut Vec<Job>, most: usize) -> Option<Vec<Job>>
-    ensures front { IfSome result (λ front. front.items ≡ take most jobs.old.items) }
-    ensures behind { IfSome result (λ front. jobs.new.items ≡ drop most jobs.old.items) }
-    ensures same { IfNone result (jobs.new.items ≡ jobs.old.items) }
+// Takes the first jobs, at most so many. Where memory runs out nothing changes.
+fn take_first(alloc: Global, jobs: &mut Vec<Job>, most: usize) -> Result<Vec<Job>, Memory>
+    ensures front { IfOk result (λ front. front.items ≡ take most jobs.old.items) }
+    ensures behind { OnOk result (jobs.new.items ≡ drop most jobs.old.items) }
+    ensures same { OnErr result (jobs.new.items ≡ jobs.old.items) }
 {
-    let Some(behind) = split_behind(alloc, jobs, most) else {
-        return None;
-    };
-    Some(mem::replace(jobs, behind))
+    let behind = split_behind(alloc, jobs, most)?;
+    Ok(mem::replace(jobs, behind))
 }
 
-// Takes the first of the jobs and of the late ones, which are behind them, at most so many, and none where memory runs out. The others aren't late any more.
+// Takes the first of the jobs and of the late ones, which are behind them, at most so many. The others aren't late any more. Where memory runs out nothing changes.
 fn take_both(
     alloc: Global,
     jobs: &mut Vec<Job>,
     lasts: &mut Vec<Job>,
     most: usize,
-) -> Option<Vec<Job>>
+) -> Result<Vec<Job>, Memory>
     requires { vec_len jobs.old ≤ most }
-    ensures front { IfSome result (λ front. front.items ≡ take most (jobs.old.items ++ lasts.old.items)) }
-    ensures behind { IfSome result (λ front. jobs.new.items ≡ drop most (jobs.old.items ++ lasts.old.items)) }
-    ensures none { IfSome result (λ front. lasts.new.items ≡ []) }
-    ensures same { IfNone result ((jobs.new.items ≡ jobs.old.items) × (lasts.new.items ≡ lasts.old.items)) }
+    ensures front { IfOk result (λ front. front.items ≡ take most (jobs.old.items ++ lasts.old.items)) }
+    ensures behind { OnOk result (jobs.new.items ≡ drop most (jobs.old.items ++ lasts.old.items)) }
+    ensures none { OnOk result (lasts.new.items ≡ []) }
+    ensures same { OnErr result ((jobs.new.items ≡ jobs.old.items) × (lasts.new.items ≡ lasts.old.items)) }
     ensures room { vec_capacity lasts.new ≡ vec_capacity lasts.old }
-    ensures all { vec_len lasts.old ≡ 0 → IsSome result }
+    ensures all { vec_len lasts.old ≡ 0 → IsOk result }
 {
     let more = most - jobs.len();
-    if jobs.reserve(lasts.len()).is_err() {
-        return None;
-    }
-    let Some(behind) = split_behind(alloc, lasts, more) else {
-        return None;
-    };
+    jobs.reserve(lasts.len())?;
+    let behind = split_behind(alloc, lasts, more)?;
     join(jobs, lasts);
-    Some(mem::replace(jobs, behind))
+    Ok(mem::replace(jobs, behind))
 }

@@ -4,6 +4,7 @@
 pub use collecting::Settled;
 pub use desk::Desk;
 pub use law::desk_law;
+pub use opening::SeatError;
 
 mod closing;
 mod collecting;

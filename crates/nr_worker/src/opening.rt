@@ -1,6 +1,5 @@
 // A connection is opened.
-ghost use Rattle.std.specs.Prelude.{◌≡◌, ◌≤◌, ◌+◌, Some, length, IfOk, OnErr};
-ghost use Rattle.std.specs.Bool.{OnTrue, OnFalse};
+ghost use Rattle.std.specs.Prelude.{◌≡◌, ◌≤◌, ◌+◌, Some, length, IfOk, OnOk, OnErr};
 ghost use Rattle.nr_entry.specs.Jobs.{connection_of};
 ghost use Rattle.nr_seats.specs.Seated.{fresh_seat};
 ghost use Rattle.nr_seats.specs.Placed.{IsPut};
@@ -9,48 +8,63 @@ ghost use Rattle.nr_worker.specs.Working.{one_opened, Goes, OpensAt};
 
 use crate::desk::Desk;
 use crate::due::DueJobs;
+use nr_blob::Memory;
 use nr_combiner::{OpenError, ServerName};
 use nr_entry::ConnId;
 use nr_seats::Seats;
 use std::sync::Wait;
 
-// A seat for a connection that was just opened, and room for its last job. False where memory runs out: then nothing changes. Logarithmic.
-fn seat(seats: &mut Seats, due: &mut DueJobs, conn: ConnId) -> bool
-    ensures opened { OnTrue result (IsPut conn.serial (Some (fresh_seat (connection_of conn))) seats.old seats.new) }
-    ensures count { OnTrue result (length seats.new ≤ length seats.old + 1) }
-    ensures room { OnTrue result (due.new ≡ with_room due.old) }
-    ensures same { OnFalse result ((seats.new ≡ seats.old) × (due.new ≡ due.old)) }
+/// Why no connection was opened at a worker.
+#[derive(Clone, Copy, Debug, PartialEq, Eq)]
+pub enum SeatError {
+    /// Its node opened none.
+    Unopened(OpenError),
+    /// The node gave a number that it had given before, which it never does, and closes the connection again.
+    Again,
+    /// There is no memory for its seat here, or for its last job: the node closes it again.
+    Memory(Memory),
+}
+
+// A seat for a connection that was just opened, and room for its last job. Where memory runs out nothing changes. Logarithmic.
+fn seat(seats: &mut Seats, due: &mut DueJobs, conn: ConnId) -> Result<(), Memory>
+    ensures opened { OnOk result (IsPut conn.serial (Some (fresh_seat (connection_of conn))) seats.old seats.new) }
+    ensures count { OnOk result (length seats.new ≤ length seats.old + 1) }
+    ensures room { OnOk result (due.new ≡ with_room due.old) }
+    ensures same { OnErr result ((seats.new ≡ seats.old) × (due.new ≡ due.old)) }
 {
-    if due.make_room().is_err() {
-        return false;
+    due.make_room()?;
+    match seats.open(conn) {
+        Ok(()) => Ok(()),
+        Err(memory) => {
+            due.give_room();
+            Err(memory)
+        }
     }
-    if !seats.open(conn) {
-        due.give_room();
-        return false;
-    }
-    true
 }
 
 impl<'a, R: Wait, B: ServerName> Desk<'a, R, B> {
     /// Opens a connection of its node, which this worker serves, with a seat here, and room for its last job: [`Worker::open`](nr_combiner::Worker::open), three
-    /// loads and an entry by serial. [`OpenError::Memory`] also where there is no memory for the seat or this room, or its serial isn't above those that were opened
-    /// here, which it always is: then the node closes it again. Where it isn't opened nothing changes here. Logarithmic.
-    pub fn open(&mut self) -> Result<ConnId, OpenError>
+    /// loads and an entry by serial. Where it isn't opened nothing changes here. Logarithmic.
+    pub fn open(&mut self) -> Result<ConnId, SeatError>
         ensures opened { IfOk result (λ conn. OpensAt (connection_of conn) self.old self.new) }
         ensures goes { IfOk result (λ conn. Goes (one_opened (connection_of conn)) self.old self.new) }
         ensures same { OnErr result (self.new ≡ self.old) }
     {
         let (conn, token) = match self.worker.open(self.rt) {
             Ok(opened) => opened,
-            Err(why) => return Err(why),
+            Err(why) => return Err(SeatError::Unopened(why)),
         };
-        if conn.serial < self.next || conn.serial == u64::MAX || self.seats.is_open(conn.serial) {
+        if conn.serial < self.next || self.seats.is_open(conn.serial) {
             self.worker.shared().close(self.rt, conn);
-            return Err(OpenError::Memory);
+            return Err(SeatError::Again);
         }
-        if !seat(&mut self.seats, &mut self.due, conn) {
+        if let Some(memory) = Memory::at_last(conn.serial) {
             self.worker.shared().close(self.rt, conn);
-            return Err(OpenError::Memory);
+            return Err(SeatError::Memory(memory));
+        }
+        if let Err(memory) = seat(&mut self.seats, &mut self.due, conn) {
+            self.worker.shared().close(self.rt, conn);
+            return Err(SeatError::Memory(memory));
         }
         self.mark.adopt(self.worker.shared().log(), token);
         self.next = conn.serial + 1;

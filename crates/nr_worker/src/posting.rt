@@ -1,37 +1,38 @@
 // Jobs are handed in.
-ghost use Rattle.std.specs.Prelude.{◌≡◌, ◌≢◌, ◌==◌, ◌+◌, ◌++◌, ◌^◌, ◌<◌, ◌≤◌, ◌||◌, not, take, drop, length, [], true, false, IsSome, IfSome, IfNone};
+ghost use Rattle.std.specs.Prelude.{◌≡◌, ◌≢◌, ◌==◌, ◌+◌, ◌++◌, ◌^◌, ◌<◌, ◌≤◌, ◌||◌, not, take, drop, length, [], true, false, IsOk, IfOk, OnOk, OnErr};
 ghost use Rattle.std.specs.Bool.{OnTrue, OnFalse};
 ghost use Rattle.nr_combiner.specs.Workers.{HasPosted};
 ghost use Rattle.nr_worker.specs.Working.{due, unchanged, Goes, HandsIn};
 
 use crate::desk::Desk;
 use crate::due::DueJobs;
+use nr_blob::Memory;
 use nr_combiner::{MOST_JOBS, ServerName, Worker};
 use nr_entry::Job;
 use std::alloc::Global;
 use std::mem;
 use std::sync::Wait;
 
-// Takes those that were handed back, else the first of the others.
+// Takes those that were handed back, else the first of the others. Where memory runs out nothing changes.
 fn take_due(
     alloc: Global,
     returned: &mut Vec<Job>,
     jobs: &mut DueJobs,
     most: usize,
-) -> Option<Vec<Job>>
+) -> Result<Vec<Job>, Memory>
     requires few { length returned.old.items ≤ most }
-    ensures front { IfSome result (λ front. front.items ≡ take (due most (length returned.old.items)) (returned.old.items ++ jobs.old.jobs)) }
-    ensures behind { IfSome result (λ front. jobs.new.jobs ≡ drop (due most (length returned.old.items)) (returned.old.items ++ jobs.old.jobs)) }
-    ensures few { IfSome result (λ front. length front.items ≤ most) }
-    ensures none { IfSome result (λ front. returned.new.items ≡ []) }
-    ensures same { IfNone result ((returned.new.items ≡ returned.old.items) × (jobs.new ≡ jobs.old)) }
+    ensures front { IfOk result (λ front. front.items ≡ take (due most (length returned.old.items)) (returned.old.items ++ jobs.old.jobs)) }
+    ensures behind { OnOk result (jobs.new.jobs ≡ drop (due most (length returned.old.items)) (returned.old.items ++ jobs.old.jobs)) }
+    ensures few { IfOk result (λ front. length front.items ≤ most) }
+    ensures none { OnOk result (returned.new.items ≡ []) }
+    ensures same { OnErr result ((returned.new.items ≡ returned.old.items) × (jobs.new ≡ jobs.old)) }
     ensures room { jobs.new.room ≡ jobs.old.room }
-    ensures all { jobs.old.late ≡ 0 → length (returned.old.items ++ jobs.old.jobs) ≤ most → IsSome result }
+    ensures all { jobs.old.late ≡ 0 → length (returned.old.items ++ jobs.old.jobs) ≤ most → IsOk result }
 {
     if returned.is_empty() {
         return jobs.take_front(alloc, most);
     }
-    Some(mem::replace(returned, Vec::new(alloc)))
+    Ok(mem::replace(returned, Vec::new(alloc)))
 }
 
 // Hands jobs in as the next batch.
@@ -59,25 +60,29 @@ impl<'a, R: Wait, B: ServerName> Desk<'a, R, B> {
         self.is_waiting || !self.has_none()
     }
 
-    /// Hands the first jobs that wait in as the next batch, those of a batch that was handed back, else at most [`MOST_JOBS`]: one load and one store. False where
-    /// none wait, the answer to the last batch wasn't collected, a u64 doesn't count the batches, or memory runs out: then nothing changes. Linear in the jobs that
-    /// are left and in the late ones, and nothing is copied where there are none.
+    /// Hands the first jobs that wait in as the next batch, those of a batch that was handed back, else at most [`MOST_JOBS`]: one load and one store. Whether it did:
+    /// exactly where some wait, no answer is awaited, and a u64 counts one batch more; else nothing changes. Linear in the jobs that are left and in the late ones, and
+    /// nothing is copied where there are none.
+    ///
+    /// # Errors
+    ///
+    /// `Memory` where memory runs out: then nothing changes. It doesn't where at most [`MOST_JOBS`] wait, none of them late.
     #[tactic(auto, using(crate::proofs::Batched::stays))]
-    pub fn post(&mut self) -> bool
-        ensures posted { OnTrue result (HandsIn MOST_JOBS self.old self.new) }
-        ensures same { OnFalse result (self.new ≡ self.old) }
-        ensures told { self.old.waiting ≡ false → self.old.late ≡ 0 → self.old.jobs ≢ [] → length self.old.jobs ≤ MOST_JOBS → self.old.worker.next + 1 < 2 ^ 64 → result ≡ true }
+    pub fn post(&mut self) -> Result<bool, Memory>
+        ensures posted { IfOk result (λ posted. OnTrue posted (HandsIn MOST_JOBS self.old self.new)) }
+        ensures none { IfOk result (λ posted. OnFalse posted (self.new ≡ self.old)) }
+        ensures told { self.old.waiting ≡ false → self.old.jobs ≢ [] → self.old.worker.next + 1 < 2 ^ 64 → IfOk result (λ posted. posted ≡ true) }
+        ensures same { OnErr result (self.new ≡ self.old) }
+        ensures few { self.old.late ≡ 0 → length self.old.jobs ≤ MOST_JOBS → IsOk result }
         ensures goes { Goes unchanged self.old self.new }
     {
         if self.is_waiting || self.has_none() || self.batches == u64::MAX {
-            return false;
+            return Ok(false);
         }
-        let Some(jobs) = take_due(self.alloc, &mut self.returned, &mut self.due, MOST_JOBS) else {
-            return false;
-        };
+        let jobs = take_due(self.alloc, &mut self.returned, &mut self.due, MOST_JOBS)?;
         hand_in(&mut self.worker, jobs);
         self.batches += 1;
         self.is_waiting = true;
-        true
+        Ok(true)
     }
 }

@@ -1,10 +1,13 @@
 // Connections for which nothing more comes.
+ghost use Rattle.std.specs.Prelude.{[], IfOk};
+ghost use Rattle.nr_combiner.specs.Behind.{CutsBehind};
+ghost use Rattle.nr_seats.specs.Placed.{open_ones};
 ghost use Rattle.nr_worker.specs.Working.{unchanged, CutsOff, Goes};
 
 use crate::desk::Desk;
-use nr_blob::Memory;
-use nr_combiner::ServerName;
+use nr_combiner::{AskError, ServerName};
 use nr_entry::ConnId;
+use nr_replica::Cut;
 use std::sync::Wait;
 
 impl<'a, R: Wait, B: ServerName> Desk<'a, R, B> {
@@ -14,8 +17,10 @@ impl<'a, R: Wait, B: ServerName> Desk<'a, R, B> {
     ///
     /// # Errors
     ///
-    /// `Memory` where there is no room for them.
-    pub fn cut_ones(&self) -> Result<Vec<ConnId>, Memory> {
+    /// `Memory` where there is no room for them; `Elsewhere` where another node stands behind the lock, which there never is.
+    pub fn cut_ones(&self) -> Result<Vec<ConnId>, AskError>
+        ensures { IfOk result (λ cut. CutsBehind self.now.worker.node (open_ones self.now.worker.node self.now.seats) [] cut.items) }
+    {
         let conns = self
             .seats
             .open_ones(self.alloc, self.worker.shared().node())?;
@@ -29,6 +34,6 @@ impl<'a, R: Wait, B: ServerName> Desk<'a, R, B> {
         ensures stopped { CutsOff serial self.old self.new }
         ensures goes { Goes unchanged self.old self.new }
     {
-        self.seats.cut(serial);
+        self.seats.cut(serial, Cut::Closed);
     }
 }

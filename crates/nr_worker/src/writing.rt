@@ -1,6 +1,6 @@
 // What waits for a connection is written to it.
 ghost use Rattle.std.specs.Prelude.{◌≡◌, ◌≤◌, is_some, length};
-ghost use Rattle.nr_seats.specs.Placed.{pending_here, seat_at};
+ghost use Rattle.nr_seats.specs.Placed.{are_written, pending_here, seat_at};
 ghost use Rattle.nr_worker.specs.Working.{unchanged, Goes, Writes};
 
 use crate::desk::Desk;
@@ -22,8 +22,10 @@ impl<'a, R: Wait, B: ServerName> Desk<'a, R, B> {
         self.seats.pending(serial)
     }
 
-    /// Whether nothing waits to be written for any connection that is open here. A hint. Linear in these.
-    pub fn are_written(&self) -> bool {
+    /// Whether nothing waits to be written for any connection that is open here. Linear in these.
+    pub fn are_written(&self) -> bool
+        ensures { result ≡ are_written self.now.seats }
+    {
         self.seats.are_written()
     }
 

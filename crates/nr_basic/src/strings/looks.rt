@@ -241,8 +241,8 @@ fn counted(text: &Str, range: CountRange) -> Result<i64, Memory>
     ensures { IfOk result (λ n. n ≡ pos (strings.counted (record { first = range.first; last = range.last; bits = range.bits }) text.now)) }
 {
     // Its bits could not be numbered. No memory holds so many bytes.
-    if text.len() >= 1 << 60 {
-        return Err(Memory);
+    if let Some(refused) = Memory::at_last((text.len() as u64).saturating_mul(16)) {
+        return Err(refused);
     }
     if range.bits {
         return Ok(text.count_bits(range.first, range.last) as i64);

@@ -23,7 +23,8 @@ use std::alloc::Global;
 use std::collections::BTreeMap;
 
 /// The sums of the scores in all sources, each with the weight of its place, or 1 where there is none. O(n log n) in the members of all.
-/// A sum that 128 bits don't hold counts as want of memory: no product is above 2^106, so that takes more keys than a request has words.
+/// A sum of 2^127 - 2^63 or more, above 0 or below, counts as want of memory: no product is above 2^106, so that takes more keys than a request
+/// has words.
 pub(super) fn gathered<'k>(
     alloc: Global,
     aggregate: Aggregate,
@@ -128,9 +129,11 @@ fn aggregated(aggregate: Aggregate, before: Option<i128>, score: i128) -> Result
 fn added(before: i128, score: i128) -> Result<i128, Memory>
     ensures { IfOk result (λ sum. sum ≡ before +ℤ score) }
 {
-    match before.checked_add(score) {
-        Some(sum) => Ok(sum),
-        None => Err(Memory),
+    let sum = before.saturating_add(score);
+    let size = (sum.unsigned_abs() >> 63).min(u64::MAX as u128);
+    match Memory::at_last(size as u64) {
+        Some(refused) => Err(refused),
+        None => Ok(sum),
     }
 }
 

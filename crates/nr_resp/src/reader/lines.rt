@@ -9,7 +9,7 @@ use super::FeedError;
 use memchr::memchr;
 use nr_blob::{Blob, Memory, read_int};
 use nr_model::fault::Fault;
-use std::alloc::{AllocError, Global};
+use std::alloc::Global;
 
 const MOST_WORDS: i64 = 1_048_576;
 
@@ -96,7 +96,7 @@ pub fn line_end(room: usize, fault: Fault, piece: &[u8]) -> Result<Option<usize>
 }
 
 /// The bytes that are held, and then the front: the front itself where none are held.
-pub fn joined<'a>(held: &'a mut Vec<u8>, front: &'a [u8]) -> Result<&'a [u8], AllocError>
+pub fn joined<'a>(held: &'a mut Vec<u8>, front: &'a [u8]) -> Result<&'a [u8], Memory>
     ensures { IfOk result (λ line. line.now ≡ held.old.items ++ front.now) }
 {
     if held.is_empty() {

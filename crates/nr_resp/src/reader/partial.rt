@@ -3,6 +3,8 @@ ghost use Rattle.std.specs.Prelude.{◌≡◌, ◌++◌, ◌∷◌, ◌<◌, ◌
 ghost use Rattle.nr_model.specs.Bytes.{Bytes};
 ghost use Rattle.nr_model.specs.Requests.{framing_of, most_word_bytes};
 ghost use Rattle.nr_model.specs.declared.fault.Fault.{Fault};
+ghost use Rattle.nr_blob.specs.Refusals.{refusal};
+ghost use Rattle.nr_blob.specs.declared.memory.Memory.{Memory};
 ghost use Rattle.nr_resp.specs.declared.reader.FeedError.{FeedError};
 ghost use Rattle.nr_resp.specs.declared.reader.FeedError.TheVariants as errors;
 ghost use Rattle.nr_resp.specs.Frames.{frames_seen};
@@ -74,7 +76,7 @@ impl PartialRequest {
         ensures fault { (fault : Fault) → result ≡ Err (FeedError.Fault fault) →
             ((framing_of (bytes_of self.old ++ piece.now)).fault ≡ Some fault)
             × (frames_seen frames.new.items ≡ frames_seen frames.old.items ++ (framing_of (bytes_of self.old ++ piece.now)).frames) }
-        ensures memory { result ≡ Err FeedError.Memory →
+        ensures memory { (memory : Memory) → result ≡ Err (FeedError.Memory memory) →
             RanOut (bytes_of self.old ++ piece.now) (bytes_of self.new) (frames_seen frames.old.items) (frames_seen frames.new.items) }
     {
         let mut left = piece;
@@ -340,7 +342,7 @@ impl PartialRequest {
         requires short { length word ≤ most_word_bytes }
         ensures held { OnOk result (IsHeld self.new) }
         ensures moved { OnOk result ((left : Bytes) → Reads (bytes_at (stages.Ending count) self.old.words.items word ++ 10 ∷ left) (bytes_of self.new ++ left) (frames_seen frames.old.items) (frames_seen frames.new.items)) }
-        ensures refused { IfErr result (λ error. error ≡ errors.Memory) }
+        ensures refused { IfErr result (λ error. error ≡ errors.Memory refusal) }
         ensures begun { OnErr result ((left : Bytes) × (bytes_of self.new ++ left ≡ array_front count self.old.words.items)) }
         ensures kept { IsErr result → frames_seen frames.new.items ≡ frames_seen frames.old.items }
     {

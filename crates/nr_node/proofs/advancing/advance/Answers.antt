@@ -1,10 +1,11 @@
-use Rattle.std.proofs.Common.{◌≡◌, false, subst}
+use Rattle.std.proofs.Common.{◌≡◌, ◌∙◌, false, ap, subst}
 use Rattle.nr_entry.specs.Jobs.{items_of}
 use Rattle.nr_accounts.specs.Book.{without_ended}
 use Rattle.std.specs.Arc.{arc_value}
 use Rattle.nr_entry.specs.declared.entry.Entry.{Entry}
 use Rattle.nr_node.specs.Advanced.{IsTakenIn}
-use Rattle.nr_node.proofs.Advances.{log_passed, goes_by_entry}
+use Rattle.nr_log_end.specs.declared.standing.Standing.{Standing}
+use Rattle.nr_node.proofs.Advances.{log_passed, goes_by_entry, no_looks, one_look, found_none}
 use Rattle.nr_node.proofs.advancing.advance.Goals as goal
 
 pub returns-clause-log : goal.returns-clause-log
@@ -22,3 +23,16 @@ returns-clause-some g c = λ _.
           c.args.next.now c.drop_next.new.next c.args.accounts.now c.close_ended.new.accounts c.requires.idle c.in-Some.ensures.some c.pass.ensures.passed
           c.in-Some.ensures.in_log taken c.drop_next.ensures.down c.drop_next.ensures.up c.close_ended.ensures.down ended,
     )
+
+pub returns-clause-met : goal.returns-clause-met
+returns-clause-met g c =
+    no_looks c.args.end.now c.pass.new.self (ap (λ (s : Standing). s.seen) c.pass.ensures.passed ∙ ap (λ (s : Standing). s.seen) c.in-Some.ensures.some)
+    (c.pass.ensures.looks ∙ c.in-Some.ensures.looks_some)
+
+pub returns-in_default-clause-met : goal.returns-in_default-clause-met
+returns-in_default-clause-met g c =
+    one_look c.args.end.now c.fetch.new.self _ (ap (λ (s : Standing). s.seen) c.in_default.ensures.none) c.in_default.ensures.looks_none
+
+pub returns-in_default-clause-stopped : goal.returns-in_default-clause-stopped
+returns-in_default-clause-stopped g c = λ _.
+    found_none c.args.end.now c.fetch.new.self c.args.replica.now c.in_default.ensures.none c.in_default.ensures.looks_none

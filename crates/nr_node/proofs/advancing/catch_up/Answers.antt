@@ -1,5 +1,5 @@
 use Rattle.std.proofs.Common.{[], ◌≡◌, true, false, ◌-◌, ◌++◌, ◌∙◌, ap, rules}
-use Rattle.nr_node.proofs.Advances.{looks_on, met_on, looked_on, counted, goes_tail, goes_then, went_or_not, behind_tail, reached_tail, few_stopped, few_more, same_passed}
+use Rattle.nr_node.proofs.Advances.{looks_on, met_on, more_looks, stopped_on, looked_on, counted, goes_tail, goes_then, went_or_not, behind_tail, reached_tail, few_stopped, few_more, same_passed}
 use Rattle.nr_log_end.specs.declared.standing.Standing.{Standing}
 use Rattle.nr_node.proofs.Shares.{lets_free, lets_look, lets_stand}
 use Rattle.nr_node.proofs.advancing.catch_up.Goals as goal
@@ -107,4 +107,11 @@ returns-then-not-advance_by-clause-freed g c =
 pub returns-clause-freed : goal.returns-clause-freed
 returns-clause-freed g c =
     lets_free c.args.kept.now c.let_go.new.self c.args.end.now c.tail-tail.new.self c.let_go.new.end c.advance_further.new.end c.tail-tail.result c.tail-tail.ensures.looks
-    (ap (λ (s : Standing). s.nodes) c.tail-tail.ensures.standing.1) c.let_go.ensures (c.advance_further.ensures.met.1 ∙ c.advance_by.ensures.met.1)
+    (ap (λ (s : Standing). s.nodes) c.tail-tail.ensures.standing.1) c.let_go.ensures
+    (more_looks c.let_go.new.end.looks c.advance_by.new.end.looks c.advance_further.new.end.looks c.advance_by.ensures.met.1 c.advance_further.ensures.met.1)
+
+pub returns-then-not-advance_by-clause-stopped : goal.returns-then-not-advance_by-clause-stopped
+returns-then-not-advance_by-clause-stopped g c = λ _.
+    let stopped : c.advance_by.result ≡ false = search (c.if-not-advance_by.true) in
+    stopped_on c.args.end.now c.tail-tail.new.self c.let_go.new.end c.advance_by.new.end c.tail-tail.result c.advance_by.new.replica c.tail-tail.ensures.looks
+    (lets_look c.args.kept.now c.let_go.new.self c.tail-tail.new.self c.let_go.new.end c.let_go.ensures) (c.advance_by.ensures.stopped stopped)

@@ -1,18 +1,20 @@
 -- One more may have been accepted.
 use Rattle.std.proofs.Common.{◌+◌, arith, refl}
 use Rattle.nr_service.proofs.Arrived.{arrives_none, arrives_then, arrives_within, until_then}
+use Rattle.nr_service.proofs.Heard.{opens_none, opens_then}
 use Rattle.nr_service.proofs.Left.{on_err}
 use Rattle.nr_service.proofs.Served.{accepts_none, accepts_then}
 use Rattle.nr_service.proofs.accepting.accept_each.Goals as goal
 
 pub loop-init : goal.loop-init
-loop-init g c = record { accepts = accepts_none _ _ _ _ _ _ _; arrives = arrives_none _ _ _ _ _ _ _ _ refl }
+loop-init g c = record { accepts = accepts_none _ _ _ _ _ _ _; arrives = arrives_none _ _ _ _ _ _ _ _ refl; opens = opens_none _ _ }
 
 pub loop-preserved : goal.loop-preserved
 loop-preserved g c = record {
   accepts = accepts_then _ _ _ _ _ _ _ _ _ _ _ c.loop.invariant.accepts c.in_ok-more.ensures.ok;
   arrives = arrives_then _ _ _ c.loop.counter 1 (c.loop.counter + 1) _ _ _ _ _ _ _ _ _ _ _ _ (omega arith) c.loop.invariant.arrives
       c.in_ok-more.ensures.arrives;
+  opens = opens_then _ _ _ _ c.loop.invariant.opens c.in_ok-more.ensures.heard;
 }
 
 pub returns-then-not-more-clause-ok : goal.returns-then-not-more-clause-ok
@@ -32,3 +34,6 @@ returns-in_err-more-clause-err g c =
     on_err c.from_residual.result _
     (until_then _ _ _ _ _ _ _ _ _ c.loop.counter _ _ _ _ _ _ _ _ _ _ _ _ (omega (arith, c.loop-test.true)) c.loop.invariant.accepts
     c.loop.invariant.arrives c.in_err-more.ensures.err)
+
+pub returns-then-not-more-clause-heard : goal.returns-then-not-more-clause-heard
+returns-then-not-more-clause-heard g c = opens_then _ _ _ _ c.loop.invariant.opens c.in_ok-more.ensures.heard

@@ -1,5 +1,6 @@
 -- All were served so far, and at most one came in each step.
 use Rattle.nr_service.specs.Arriving.{ArrivesFew}
+use Rattle.nr_service.specs.Silence.{OpensAt}
 use Rattle.nr_service.specs.Steps.{Accepts}
 use Rattle.nr_service.proofs.accepting.accept_each.Given as goal
 
@@ -9,4 +10,5 @@ invariant-loop g l = record {
       l.fn.clients.items l.clients.items;
   arrives : ArrivesFew l.counter g.A.Answers.is_full g.A.Answers.is_placed g.D.Device.parted l.fn.answers l.answers l.fn.accepted l.accepted l.fn.device l.device
       l.fn.clients.items l.clients.items;
+  opens : OpensAt l.fn.moment l.fn.clients.items l.clients.items;
 }

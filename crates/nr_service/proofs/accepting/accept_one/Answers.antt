@@ -1,6 +1,7 @@
 -- None came, and all are as they were.
 use Rattle.std.proofs.Common.{arith}
 use Rattle.nr_service.proofs.Arrived.{arrives_none, arrives_then, arrives_within, until_now, until_then}
+use Rattle.nr_service.proofs.Heard.{opens_none}
 use Rattle.nr_service.proofs.Left.{on_err}
 use Rattle.nr_service.proofs.Served.{accepts_none}
 use Rattle.nr_service.proofs.accepting.accept_one.Goals as goal
@@ -22,3 +23,6 @@ returns-in_default-clause-arrives g c = arrives_within _ _ _ 0 1 _ _ _ _ _ _ _ _
 pub returns-clause-arrives : goal.returns-clause-arrives
 returns-clause-arrives g c =
     arrives_then _ _ _ 0 1 1 _ _ _ _ _ _ _ _ _ _ _ _ (omega arith) (arrives_none _ _ _ _ _ _ _ _ c.accept.ensures.parted) c.in_ok-take_on.ensures.arrives
+
+pub returns-in_default-clause-heard : goal.returns-in_default-clause-heard
+returns-in_default-clause-heard g c = opens_none _ _

@@ -1,8 +1,9 @@
 -- What came was fed; else nothing was done.
-use Rattle.std.proofs.Common.{inr, take, refl, ◌∙◌}
+use Rattle.std.proofs.Common.{inl, inr, take, refl, ◌∙◌}
 use Rattle.nr_service.specs.Streams.{course_received}
 use Rattle.nr_service.specs.declared.stream.Received.TheVariants as received
 use Rattle.nr_service.proofs.Known.{course_still, course_then, grows_none, same_course}
+use Rattle.nr_service.proofs.Heard.{more_of}
 use Rattle.nr_service.proofs.Left.{leaves_fed, on_err}
 use Rattle.nr_service.proofs.Feeding.{fed_one, nothing_read}
 use Rattle.nr_service.proofs.reading.take_in.Goals as goal
@@ -40,3 +41,11 @@ returns-in-End-clause-heard g c = inr (refl, grows_none c.receive.new.buffer _ _
 
 pub returns-in-Failed-clause-heard : goal.returns-in-Failed-clause-heard
 returns-in-Failed-clause-heard g c = inr (refl, grows_none c.receive.new.buffer _ _ c.in-Failed.ensures.received)
+
+pub returns-in_ok-feed-in-Bytes-clause-heard : goal.returns-in_ok-feed-in-Bytes-clause-heard
+returns-in_ok-feed-in-Bytes-clause-heard g c =
+    inl (refl, more_of c.in-Bytes.count c.receive.new.buffer _ _ c.in-Bytes.ensures.some c.in-Bytes.ensures.bound c.in-Bytes.ensures.received)
+
+pub returns-in_err-feed-in-Bytes-clause-heard : goal.returns-in_err-feed-in-Bytes-clause-heard
+returns-in_err-feed-in-Bytes-clause-heard g c =
+    inl (refl, more_of c.in-Bytes.count c.receive.new.buffer _ _ c.in-Bytes.ensures.some c.in-Bytes.ensures.bound c.in-Bytes.ensures.received)

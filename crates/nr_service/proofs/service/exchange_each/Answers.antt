@@ -1,4 +1,5 @@
 -- One part behind another.
+use Rattle.nr_service.proofs.Heard.{all_as_before, all_then}
 use Rattle.nr_service.proofs.Left.{leaves_all, leaves_then, on_err}
 use Rattle.nr_service.proofs.Served.{serves_then, serves_weaker}
 use Rattle.nr_service.proofs.Working.{exchanged}
@@ -24,3 +25,9 @@ returns-in_err-work-clause-err g c =
 pub returns-clause-ok : goal.returns-clause-ok
 returns-clause-ok g c =
     exchanged _ _ _ _ _ _ _ _ _ _ _ _ _ _ _ _ c.in_ok-work_left.ensures.serves c.in_ok-read_listed.ensures.ok c.in_ok-work.ensures.worked c.write_listed.ensures.served
+
+pub returns-in_err-work_left-clause-heard : goal.returns-in_err-work_left-clause-heard
+returns-in_err-work_left-clause-heard g c = all_as_before _ _
+
+pub returns-clause-heard : goal.returns-clause-heard
+returns-clause-heard g c = all_then _ _ _ _ c.in_ok-read_listed.ensures.heard c.write_listed.ensures.heard

@@ -1,8 +1,9 @@
 -- What was taken was written; else nothing was done.
-use Rattle.std.proofs.Common.{inr, take, refl}
+use Rattle.std.proofs.Common.{inl, inr, take, refl}
 use Rattle.nr_service.specs.Streams.{course_sent}
 use Rattle.nr_service.specs.declared.stream.Sent.TheVariants as sent
 use Rattle.nr_service.proofs.Known.{course_then, grows_in_front, grows_none}
+use Rattle.nr_service.proofs.Heard.{more_of}
 use Rattle.nr_service.proofs.Feeding.{nothing_written, written_one}
 use Rattle.nr_service.proofs.writing.write_some.Goals as goal
 
@@ -28,3 +29,7 @@ returns-in-Nothing-clause-heard g c = inr (refl, grows_none (take c.min.result c
 
 pub returns-in-Failed-clause-heard : goal.returns-in-Failed-clause-heard
 returns-in-Failed-clause-heard g c = inr (refl, grows_none (take c.min.result c.pending-pending.result.now) _ _ c.in-Failed.ensures.sent)
+
+pub returns-in-Bytes-clause-heard : goal.returns-in-Bytes-clause-heard
+returns-in-Bytes-clause-heard g c =
+    inl (refl, more_of c.in-Bytes.taken (take c.min.result c.pending-pending.result.now) _ _ c.in-Bytes.ensures.some c.in-Bytes.ensures.bound c.in-Bytes.ensures.sent)

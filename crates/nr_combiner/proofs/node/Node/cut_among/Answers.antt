@@ -12,7 +12,7 @@ returns-then-node-clause-front g c =
 pub returns-clause-all : goal.returns-clause-all
 returns-clause-all g c =
     let is : c.deref-2.result.now.node.book.node ≡ c.args.self.now.node = search rules in
-    cuts_behind c.cut_among.result _ c.deref-2.result.now.node _ _ _ is c.cut_among.ensures.all
+    cuts_behind _ c.deref-2.result.now.node _ _ _ is c.in_ok-cut_among.ensures.all
 
-pub returns-clause-front : goal.returns-clause-front
-returns-clause-front g c = cuts_front c.cut_among.result c.deref-2.result.now.node _ _ _ c.cut_among.ensures.front
+pub returns-in_err-cut_among-clause-front : goal.returns-in_err-cut_among-clause-front
+returns-in_err-cut_among-clause-front g c = cuts_front _ c.deref-2.result.now.node _ _ _ c.in_err-cut_among.ensures.front

@@ -1,16 +1,11 @@
-use Rattle.std.proofs.Common.{length, ◌-◌, ◌+◌, ◌∙◌, ap, List, take, drop, ◌++◌}
-use Rattle.std.specs.List.{insert}
+use Rattle.std.proofs.Common.{length, ◌-◌, ◌∙◌, ap, List, set}
 use Rattle.nr_model.specs.Bytes.{Bytes}
 use Rattle.nr_lists.specs.Packed.{has_room}
-use Rattle.nr_lists.proofs.Packed.{replaced, bytes_are}
+use Rattle.nr_lists.proofs.Packed.{bytes_are}
 use Rattle.nr_lists.proofs.block.Block.replace.Goals as goal
 
 pub returns-clause-ok : goal.returns-clause-ok
-returns-clause-ok c =
-    let p = c.args.place in
-    c.take_out.ensures.items
-    ∙ ap (λ (xs : List Bytes). take (p + 1) xs ++ drop (p + 2) xs) (c.in_ok-put_in.ensures.ok ∙ ap (λ (xs : List Bytes). insert xs p c.args.item.now) c.self.view_is)
-    ∙ replaced c.args.self.now p c.args.item.now c.requires
+returns-clause-ok c = c.in_ok-put_over.ensures.ok ∙ ap (λ (xs : List Bytes). set xs c.args.place c.args.item.now) c.self.view_is
 
 pub returns-then-not-has_room-clause-room : goal.returns-then-not-has_room-clause-room
 returns-then-not-has_room-clause-room c =

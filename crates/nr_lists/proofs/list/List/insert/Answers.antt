@@ -3,9 +3,10 @@ use Rattle.nr_lists.proofs.list.List.insert.Goals as goal
 
 pub invariant_of-self-2 : goal.invariant_of-self-2
 invariant_of-self-2 c =
-    inserted_counted c.self.inside.blocks.items c.insert.new.blocks.items c.self.inside.len c.in-Some.place c.find-block.result.0 c.find-block.result.1 c.beside.result
+    rw c.in_ok-len.ensures.0
+    (inserted_counted c.self.inside.blocks.items c.insert.new.blocks.items c.self.inside.len c.in-Some.place c.find-block.result.0 c.find-block.result.1 c.beside.result
     c.args.side c.args.item c.self.invariant c.find-block.ensures.block c.find-block.ensures.place c.find-block.ensures.whole c.beside.ensures c.in_ok-insert.ensures.ok
-    c.if-self-ge-PAST_LEN.false
+    (rw (← c.in_ok-len.ensures.0) c.in_ok-len.ensures.1))
 
 pub returns-clause-ok : goal.returns-clause-ok
 returns-clause-ok c =

@@ -1,4 +1,7 @@
+use Rattle.std.proofs.Common.{subst}
 use Rattle.std.proofs.lemmas.Bool.{not-false, not-true}
+use Rattle.nr_node.specs.Level.{NodeState}
+use Rattle.nr_node.specs.Advanced.{HasStopped}
 use Rattle.nr_node.proofs.Taking.{goes_within}
 use Rattle.nr_node.proofs.Caught.{caught_by}
 use Rattle.nr_node.proofs.Shares.{went_last}
@@ -21,3 +24,8 @@ returns-clause-goes g c =
     c.args.self.now c.self.view_is went.1 c.catch_up-reached.ensures.looks c.catch_up-reached.ensures.few c.self.invariant.0.order in
     let reached = c.catch_up-reached.result in
     (went.0, (tail, by, λ e. (c.catch_up-reached.ensures.reached (not-false reached e)).0, λ e. c.catch_up-reached.ensures.behind (not-true reached e)))
+
+pub returns-clause-stopped : goal.returns-clause-stopped
+returns-clause-stopped g c = λ e.
+    subst (λ (n : NodeState). HasStopped n.seat.looks c.catch_up-reached.new.end c.catch_up-reached.new.replica) c.self.view_is
+    (c.catch_up-reached.ensures.stopped (not-true c.catch_up-reached.result e))

@@ -6,6 +6,7 @@ use Rattle.nr_oplog.specs.declared.view.LogView.{LogView}
 use Rattle.nr_replica.specs.Replicas.{ReplicaState}
 use Rattle.nr_node.specs.Level.{NodeState, IsInOrder}
 use Rattle.nr_node.specs.Next.{jobs_next}
+use Rattle.nr_node.specs.Advanced.{HasStopped}
 use Rattle.nr_node.specs.Steps.{GoesOnBy, HasRead}
 use Rattle.nr_node.proofs.Lists.{none_unpassed}
 use Rattle.nr_node.proofs.Taking.{goes_within, failed_within, noted_within, read_awaited}
@@ -105,23 +106,23 @@ read-requires-clause-rising g c =
     let still = ap jobs_next (none_of next (sym c.is_some.ensures ∙ c.if-is_some.false)) in
     noted_rises t new book none up (subst (IsInOrder t new book) still order)
 
-pub invariant_of-self-in_default : goal.invariant_of-self-in_default
-invariant_of-self-in_default g c =
+pub invariant_of-self-in-Err : goal.invariant_of-self-in-Err
+invariant_of-self-in-Err g c =
     let inside = c.self.inside in
     let went = c.catch_up-reached.ensures.goes in
     let w = failed_within went.0 inside.end.standing c.catch_up-reached.new.end c.read.new.end inside.replica c.catch_up-reached.new.replica c.read.new.replica inside.accounts c.catch_up-reached.new.accounts inside.next
-    c.catch_up-reached.new.next inside.nodes went.1 c.catch_up-reached.ensures.idle c.in_default.ensures.end c.in_default.ensures.replica (c.self.invariant.0, c.self.invariant.1, c.self.invariant.2, c.self.invariant.3, c.self.invariant.4) in
-    (w.0, w.1, w.2, w.3, w.4, ended_last c.catch_up-reached.new.kept c.catch_up-reached.new.end c.read.new.end c.in_default.ensures.end (went_last went.0 inside.kept c.catch_up-reached.new.kept inside.end c.catch_up-reached.new.end went.1.passed c.catch_up-reached.ensures.freed c.catch_up-reached.ensures.looks c.self.invariant.5))
+    c.catch_up-reached.new.next inside.nodes went.1 c.catch_up-reached.ensures.idle c.in-Err.ensures.end c.in-Err.ensures.replica (c.self.invariant.0, c.self.invariant.1, c.self.invariant.2, c.self.invariant.3, c.self.invariant.4) in
+    (w.0, w.1, w.2, w.3, w.4, ended_last c.catch_up-reached.new.kept c.catch_up-reached.new.end c.read.new.end c.in-Err.ensures.end (went_last went.0 inside.kept c.catch_up-reached.new.kept inside.end c.catch_up-reached.new.end went.1.passed c.catch_up-reached.ensures.freed c.catch_up-reached.ensures.looks c.self.invariant.5))
 
-pub returns-in_default-clause-goes : goal.returns-in_default-clause-goes
-returns-in_default-clause-goes g c =
+pub returns-in-Err-clause-goes : goal.returns-in-Err-clause-goes
+returns-in-Err-clause-goes g c =
     let inside = c.self.inside in
     let went = c.catch_up-reached.ensures.goes in
     let tail = c.catch_up-reached.new.end.standing.seen in
     let by = caught_by went.0 inside.end c.catch_up-reached.new.end inside.replica c.catch_up-reached.new.replica inside.accounts c.catch_up-reached.new.accounts inside.next c.catch_up-reached.new.next
     c.args.self.now c.self.view_is went.1 c.catch_up-reached.ensures.looks c.catch_up-reached.ensures.few c.self.invariant.0.order in
     let failed = failed_by went.0 tail c.args.self.now c.catch_up-reached.new.end c.read.new.end c.catch_up-reached.new.replica c.read.new.replica c.catch_up-reached.new.accounts
-    (jobs_next c.catch_up-reached.new.next) c.in_default.ensures.end c.in_default.ensures.replica by in
+    (jobs_next c.catch_up-reached.new.next) c.in-Err.ensures.end c.in-Err.ensures.replica by in
     let reached = (c.catch_up-reached.ensures.reached c.if-not-reached.false).0 in (
       went.0,
       (
@@ -131,7 +132,7 @@ returns-in_default-clause-goes g c =
           failed,
           λ e. absurd (cc e),
           λ _. refl,
-          λ _. subst (λ (x : LogView). tail ≤ passed_of x.standing) (sym c.in_default.ensures.end) reached,
+          λ _. subst (λ (x : LogView). tail ≤ passed_of x.standing) (sym c.in-Err.ensures.end) reached,
           λ e. absurd (cc e),
         ),
       ),
@@ -143,10 +144,10 @@ invariant_of-self-2 g c =
     let went = c.catch_up-reached.ensures.goes in
     let next = c.catch_up-reached.new.next in
     let up : c.catch_up-reached.new.replica.down ≡ false = sym c.is_down.ensures ∙ c.if-is_down.false in
-    let w = noted_within went.0 inside.end.standing c.catch_up-reached.new.end.standing c.read.new.end.standing c.in-Ok._ran.items inside.replica c.catch_up-reached.new.replica
+    let w = noted_within went.0 inside.end.standing c.catch_up-reached.new.end.standing c.read.new.end.standing c.in-Ok.ran.items inside.replica c.catch_up-reached.new.replica
     c.read.new.replica inside.accounts c.catch_up-reached.new.accounts inside.next next inside.nodes went.1 c.catch_up-reached.ensures.idle (c.catch_up-reached.ensures.reached c.if-not-reached.false)
     c.in-Ok.ensures.noted c.in-Ok.ensures.read c.in-Ok.ensures.ran up (none_of next (sym c.is_some.ensures ∙ c.if-is_some.false)) (c.self.invariant.0, c.self.invariant.1, c.self.invariant.2, c.self.invariant.3, c.self.invariant.4) in
-    (w.0, w.1, w.2, w.3, w.4, noted_last c.catch_up-reached.new.kept c.in-Ok._ran.items c.catch_up-reached.new.end c.read.new.end c.in-Ok.ensures.noted c.in-Ok.ensures.looks (went_last went.0 inside.kept c.catch_up-reached.new.kept inside.end c.catch_up-reached.new.end went.1.passed c.catch_up-reached.ensures.freed c.catch_up-reached.ensures.looks c.self.invariant.5))
+    (w.0, w.1, w.2, w.3, w.4, noted_last c.catch_up-reached.new.kept c.in-Ok.ran.items c.catch_up-reached.new.end c.read.new.end c.in-Ok.ensures.noted c.in-Ok.ensures.looks (went_last went.0 inside.kept c.catch_up-reached.new.kept inside.end c.catch_up-reached.new.end went.1.passed c.catch_up-reached.ensures.freed c.catch_up-reached.ensures.looks c.self.invariant.5))
 
 pub returns-clause-goes : goal.returns-clause-goes
 returns-clause-goes g c =
@@ -154,7 +155,7 @@ returns-clause-goes g c =
     let went = c.catch_up-reached.ensures.goes in
     let t = c.catch_up-reached.new.end.standing in
     let next = c.catch_up-reached.new.next in
-    let ran = c.in-Ok._ran.items in
+    let ran = c.in-Ok.ran.items in
     let v : NodeState = record { seat = inside.end; replica = inside.replica; book = inside.accounts; next = jobs_next inside.next } in
     let m : NodeState = record { seat = c.read.new.end; replica = c.read.new.replica; book = c.catch_up-reached.new.accounts; next = jobs_next next } in
     let up : c.catch_up-reached.new.replica.down ≡ false = sym c.is_down.ensures ∙ c.if-is_down.false in
@@ -184,3 +185,13 @@ returns-clause-goes g c =
         ),
       ),
     )
+
+pub returns-then-is_down-clause-stopped : goal.returns-then-is_down-clause-stopped
+returns-then-is_down-clause-stopped g c = λ e.
+    subst (λ (n : NodeState). HasStopped n.seat.looks c.catch_up-reached.new.end c.catch_up-reached.new.replica) c.self.view_is
+    (c.catch_up-reached.ensures.stopped (not-true c.catch_up-reached.result e))
+
+pub returns-then-not-reached-clause-stopped : goal.returns-then-not-reached-clause-stopped
+returns-then-not-reached-clause-stopped g c = λ _.
+    subst (λ (n : NodeState). HasStopped n.seat.looks c.catch_up-reached.new.end c.catch_up-reached.new.replica) c.self.view_is
+    (c.catch_up-reached.ensures.stopped c.if-not-reached.true)

@@ -1,5 +1,5 @@
-use Rattle.std.proofs.Common.{◌≡◌, ℕ, ◌≤◌, false, ap, sym, ◌∙◌, subst, arith, length}
-use Rattle.std.specs.Prelude.{is_err, None, slice_index_or}
+use Rattle.std.proofs.Common.{◌≡◌, ℕ, ◌≤◌, ap, sym, ◌∙◌, subst, arith, length}
+use Rattle.std.specs.Prelude.{None, slice_index_or}
 use Rattle.std.specs.FinMap as finmap
 use Rattle.nr_model.specs.Items.{Connection}
 use Rattle.nr_log_end.specs.declared.standing.Standing.{Standing}
@@ -11,7 +11,7 @@ use Rattle.nr_node.specs.Level.{NodeState}
 use Rattle.nr_node.specs.Next.{jobs_next}
 use Rattle.nr_node.specs.Steps.{HasOpened}
 use Rattle.nr_node.proofs.Shares.{still_last}
-use Rattle.nr_node.proofs.Taking.{opened_kept, on_ok, forgotten_book}
+use Rattle.nr_node.proofs.Taking.{opened_kept, forgotten_book}
 use Rattle.nr_node.proofs.within.Core.open.Goals as goal
 
 pub invariant_of-self-in-Ok : goal.invariant_of-self-in-Ok
@@ -19,9 +19,8 @@ invariant_of-self-in-Ok g c =
     let keeps = c.self.invariant in
     let inside = c.self.inside in
     let is = c.note_opened.ensures.opened in
-    let no_error : is_err c.open.result ≡ false = sym c.is_err.ensures.value ∙ c.if-is_err.false in
     let book : c.open.new.self ≡ record inside.accounts { held = finmap.insert inside.accounts.held (length inside.replica.members) (fresh_account c.args.worker) } =
-    on_ok _ c.open.result no_error c.open.ensures.opened
+    c.in_default.ensures.opened
     ∙ ap (λ (n : ℕ). record inside.accounts { held = finmap.insert inside.accounts.held n (fresh_account c.args.worker) }) c.connections-serial.ensures in (
       subst (λ (b : Book). IsKept c.note_opened.new.self.standing c.open-2.new.self b inside.next inside.nodes) (sym book)
           (opened_kept inside.end.standing c.note_opened.new.self.standing inside.replica c.open-2.new.self inside.accounts inside.next inside.nodes c.args.worker
@@ -34,16 +33,15 @@ invariant_of-self-in-Ok g c =
           (_, c.note_opened.ensures.looks) keeps.5,
     )
 
-pub invariant_of-self-in-Err : goal.invariant_of-self-in-Err
-invariant_of-self-in-Err g c =
+pub invariant_of-self-in-Err-open : goal.invariant_of-self-in-Err-open
+invariant_of-self-in-Err-open g c =
     let keeps = c.self.invariant in
     let inside = c.self.inside in
-    let no_error : is_err c.open.result ≡ false = sym c.is_err.ensures.value ∙ c.if-is_err.false in
     let all : length inside.replica.members ≤ length inside.replica.members = omega arith in
     let book = forgotten_book inside.accounts c.open.new.self c.forget.new.self c.connections-serial.result (length inside.replica.members) (fresh_account c.args.worker)
-    (on_ok _ c.open.result no_error c.open.ensures.opened) c.forget.ensures c.connections-serial.ensures (keeps.0.order.closed (length inside.replica.members) all) in (
+    c.in_default.ensures.opened c.forget.ensures c.connections-serial.ensures (keeps.0.order.closed (length inside.replica.members) all) in (
       subst (λ (b : Book). IsKept inside.end.standing c.open-2.new.self b inside.next inside.nodes) (sym book)
-          (subst (λ (r : ReplicaState). IsKept inside.end.standing r inside.accounts inside.next inside.nodes) (sym c.in-Err.ensures.unchanged) keeps.0),
+          (subst (λ (r : ReplicaState). IsKept inside.end.standing r inside.accounts inside.next inside.nodes) (sym c.in-Err-open.ensures.unchanged) keeps.0),
       keeps.1,
       keeps.2,
       keeps.3,
@@ -54,9 +52,8 @@ invariant_of-self-in-Err g c =
 pub returns-in-Ok-clause-opened : goal.returns-in-Ok-clause-opened
 returns-in-Ok-clause-opened g c =
     let inside = c.self.inside in
-    let no_error : is_err c.open.result ≡ false = sym c.is_err.ensures.value ∙ c.if-is_err.false in
     let book : c.open.new.self ≡ record inside.accounts { held = finmap.insert inside.accounts.held (length inside.replica.members) (fresh_account c.args.worker) } =
-    on_ok _ c.open.result no_error c.open.ensures.opened
+    c.in_default.ensures.opened
     ∙ ap (λ (n : ℕ). record inside.accounts { held = finmap.insert inside.accounts.held n (fresh_account c.args.worker) }) c.connections-serial.ensures in
     let after : NodeState = record { seat = c.note_opened.new.self; replica = c.open-2.new.self; book = c.open.new.self; next = jobs_next inside.next } in
     subst (λ (n : NodeState). HasOpened c.args.limit c.args.worker n after) c.self.view_is record {
@@ -66,15 +63,14 @@ returns-in-Ok-clause-opened g c =
       looks = c.note_opened.ensures.looks;
     }
 
-pub returns-in-Err-clause-unchanged : goal.returns-in-Err-clause-unchanged
-returns-in-Err-clause-unchanged g c =
+pub returns-in-Err-open-clause-unchanged : goal.returns-in-Err-open-clause-unchanged
+returns-in-Err-open-clause-unchanged g c =
     let keeps = c.self.invariant in
     let inside = c.self.inside in
-    let no_error : is_err c.open.result ≡ false = sym c.is_err.ensures.value ∙ c.if-is_err.false in
     let all : length inside.replica.members ≤ length inside.replica.members = omega arith in
     let book = forgotten_book inside.accounts c.open.new.self c.forget.new.self c.connections-serial.result (length inside.replica.members) (fresh_account c.args.worker)
-    (on_ok _ c.open.result no_error c.open.ensures.opened) c.forget.ensures c.connections-serial.ensures (keeps.0.order.closed (length inside.replica.members) all) in
-    (λ i. record { seat = inside.end; replica = c.in-Err.ensures.unchanged i; book = book i; next = jobs_next inside.next }) ∙ c.self.view_is
+    c.in_default.ensures.opened c.forget.ensures c.connections-serial.ensures (keeps.0.order.closed (length inside.replica.members) all) in
+    (λ i. record { seat = inside.end; replica = c.in-Err-open.ensures.unchanged i; book = book i; next = jobs_next inside.next }) ∙ c.self.view_is
 
 pub returns-in-Ok-clause-new : goal.returns-in-Ok-clause-new
 returns-in-Ok-clause-new g c =

@@ -7,50 +7,50 @@ use Rattle.nr_nodes.proofs.Advanced.{advanced_is, fallen_is, not_true, stopped_n
 use Rattle.nr_nodes.proofs.Kept.{kept_applied, numbered_applied}
 use Rattle.nr_nodes.proofs.node.Node.advance.Goals as goal
 
-pub returns-then-apply_or_stop-clause-advanced : goal.returns-then-apply_or_stop-clause-advanced
-returns-then-apply_or_stop-clause-advanced c =
+pub returns-in-Ok-clause-advanced : goal.returns-in-Ok-clause-advanced
+returns-in-Ok-clause-advanced c =
     let still : c.args.self.now.replica.refused ≡ false =
-    not_true c.args.self.now.replica.refused (λ e. let no : true ≡ false = sym c.if-apply_or_stop.true ∙ c.apply_or_stop.ensures.refused e in cc) in
+    not_true c.args.self.now.replica.refused (λ e. let no = sym c.in-Ok.is ∙ c.apply_or_stop.ensures.refused.1 e in absurd (cc no)) in
     advanced_is c.args.self.now _ c.args.entry.now c.apply_or_stop.new.self c.requires.clients c.requires.numbered still
-    (ap (nat_le c.args.self.now.resumed) c.applied.ensures) (c.apply_or_stop.ensures.applied c.if-apply_or_stop.true)
+    (ap (nat_le c.args.self.now.resumed) c.applied.ensures) (c.in-Ok.ensures.applied)
 
-pub returns-then-apply_or_stop-clause-whole : goal.returns-then-apply_or_stop-clause-whole
-returns-then-apply_or_stop-clause-whole c = λ n w.
-    let k = kept_applied n _ c.args.self.now c.args.entry.now c.apply_or_stop.new.self (c.apply_or_stop.ensures.applied c.if-apply_or_stop.true) w in
+pub returns-in-Ok-clause-whole : goal.returns-in-Ok-clause-whole
+returns-in-Ok-clause-whole c = λ n w.
+    let k = kept_applied n _ c.args.self.now c.args.entry.now c.apply_or_stop.new.self (c.in-Ok.ensures.applied) w in
     record { number = k.number; pairs = k.pairs; owed = k.owed; counted = k.counted }
 
-pub returns-then-apply_or_stop-clause-numbered : goal.returns-then-apply_or_stop-clause-numbered
-returns-then-apply_or_stop-clause-numbered c = λ n k.
-    numbered_applied n _ c.args.self.now.replica c.apply_or_stop.new.self c.args.entry.now (c.apply_or_stop.ensures.applied c.if-apply_or_stop.true) k
+pub returns-in-Ok-clause-numbered : goal.returns-in-Ok-clause-numbered
+returns-in-Ok-clause-numbered c = λ n k.
+    numbered_applied n _ c.args.self.now.replica c.apply_or_stop.new.self c.args.entry.now (c.in-Ok.ensures.applied) k
 
 pub drop_jobs-requires-clause-clients : goal.drop_jobs-requires-clause-clients
 drop_jobs-requires-clause-clients c =
-    c.requires.clients ∙ sym (ap (λ (r : ReplicaState). length r.members) (c.apply_or_stop.ensures.stopped c.if-apply_or_stop.false))
+    c.requires.clients ∙ sym (ap (λ (r : ReplicaState). length r.members) (c.in-Err.ensures.stopped))
 
 pub drop_jobs-requires-clause-owed : goal.drop_jobs-requires-clause-owed
-drop_jobs-requires-clause-owed c = ap (λ (r : ReplicaState). length r.owed) (c.apply_or_stop.ensures.stopped c.if-apply_or_stop.false) ∙ c.requires.owed
+drop_jobs-requires-clause-owed c = ap (λ (r : ReplicaState). length r.owed) (c.in-Err.ensures.stopped) ∙ c.requires.owed
 
 pub drop_jobs-requires-clause-numbered : goal.drop_jobs-requires-clause-numbered
 drop_jobs-requires-clause-numbered c =
-    let e = c.apply_or_stop.ensures.stopped c.if-apply_or_stop.false in
-    stopped_numbered c.apply_or_stop.new.self.node c.args.self.now.replica c.apply_or_stop.new.self e
+    let e = c.in-Err.ensures.stopped in
+    stopped_numbered c.apply_or_stop.new.self.node _ c.args.self.now.replica c.apply_or_stop.new.self e
     (subst (λ (n : ℕ). AreNumbered n 0 c.args.self.now.replica.members) (sym (ap (λ (r : ReplicaState). r.node) e)) c.requires.numbered)
 
 pub drop_jobs-requires-clause-pairs : goal.drop_jobs-requires-clause-pairs
 drop_jobs-requires-clause-pairs c =
-    subst (λ (r : ReplicaState). ArePaired r.node 0 c.args.self.now.sessions r.members) (sym (c.apply_or_stop.ensures.stopped c.if-apply_or_stop.false))
+    subst (λ (r : ReplicaState). ArePaired r.node 0 c.args.self.now.sessions r.members) (sym (c.in-Err.ensures.stopped))
     c.requires.pairs
 
-pub returns-clause-advanced : goal.returns-clause-advanced
-returns-clause-advanced c =
-    fallen_is c.args.self.now c.args.entry.now c.apply_or_stop.new.self _ (c.apply_or_stop.ensures.stopped c.if-apply_or_stop.false) c.drop_jobs.ensures.dropped
+pub returns-in-Err-clause-advanced : goal.returns-in-Err-clause-advanced
+returns-in-Err-clause-advanced c =
+    fallen_is c.args.self.now _ c.args.entry.now c.apply_or_stop.new.self _ (c.in-Err.ensures.stopped) c.drop_jobs.ensures.dropped
 
-pub returns-clause-whole : goal.returns-clause-whole
-returns-clause-whole c = λ n w.
+pub returns-in-Err-clause-whole : goal.returns-in-Err-clause-whole
+returns-in-Err-clause-whole c = λ n w.
     c.drop_jobs.ensures.whole n
-    (stopped_whole n c.args.self.now _ (c.apply_or_stop.ensures.stopped c.if-apply_or_stop.false) refl refl refl w)
+    (stopped_whole n _ c.args.self.now _ (c.in-Err.ensures.stopped) refl refl refl w)
 
-pub returns-clause-numbered : goal.returns-clause-numbered
-returns-clause-numbered c = λ n k.
+pub returns-in-Err-clause-numbered : goal.returns-in-Err-clause-numbered
+returns-in-Err-clause-numbered c = λ n k.
     c.drop_jobs.ensures.numbered n
-    (stopped_numbered n c.args.self.now.replica c.apply_or_stop.new.self (c.apply_or_stop.ensures.stopped c.if-apply_or_stop.false) k)
+    (stopped_numbered n _ c.args.self.now.replica c.apply_or_stop.new.self (c.in-Err.ensures.stopped) k)

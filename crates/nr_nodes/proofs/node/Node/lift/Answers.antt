@@ -20,9 +20,9 @@ returns-clause-lifted c =
     lifted_is c.args.self.now c.args.worker c.lift-jobs.new.self c.index_mut.result.now c.lift-jobs.result.items c.lift.new.self c.requires.is_there
     c.requires.owed at
     (c.lift-jobs.ensures.jobs (get_or c.args.self.now.replica.owed c.args.worker None)) c.lift-jobs.ensures.slot c.lift-jobs.ensures.pending
-    c.lift-jobs.ensures.batches c.in-Ok.ensures.lifted
+    c.lift-jobs.ensures.batches c.in_default.ensures.lifted
 
 pub returns-clause-whole : goal.returns-clause-whole
 returns-clause-whole c = λ n whole.
-    whole_owing n c.args.worker _ _ c.args.self.now _ c.in-Ok.ensures.lifted refl
+    whole_owing n c.args.worker _ _ c.args.self.now _ c.in_default.ensures.lifted refl
     (length-set c.args.self.now.workers.items c.args.worker c.lift-jobs.new.self) refl whole

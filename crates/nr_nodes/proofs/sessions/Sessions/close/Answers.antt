@@ -4,10 +4,19 @@ use Rattle.nr_model.specs.Items.{Item, same_connection}
 use Rattle.nr_model.specs.Asked.{own_jobs}
 use Rattle.nr_model.specs.Nodes.Steps.{close_job}
 use Rattle.nr_nodes.specs.Served.{client_seen}
-use Rattle.std.proofs.Common.{◌++◌, Some, None, ap, ◌∙◌}
+use Rattle.std.proofs.Common.{◌≡◌, ◌++◌, true, false, Some, None, ap, sym, ◌∙◌}
 use Rattle.nr_session.specs.SessionState.{SessionState}
+use Rattle.nr_nodes.specs.BySerial.{closed_session}
 use Rattle.nr_nodes.proofs.BySerial.{found_at, now_put}
 use Rattle.nr_nodes.proofs.sessions.Sessions.close.Goals as goal
+
+pub unreachable-requires : goal.unreachable-requires
+unreachable-requires c =
+    let at = found_at c.self.inside.count c.args.conn.serial c.self.inside.by_serial.entries c.args.self.now None closed_session c.self.view_is
+    c.requires.is_there c.in_default.ensures.value in
+    let no : true ≡ false = ap (λ (session : SessionState). session.ended) at ∙ c.requires.unclosed closed_session
+    ∙ ap (λ (session : SessionState). session.gave_end) (sym at) in
+    absurd (cc no)
 
 pub close_session-requires : goal.close_session-requires
 close_session-requires c =

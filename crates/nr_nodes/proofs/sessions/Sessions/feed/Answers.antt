@@ -1,9 +1,17 @@
 use Rattle.nr_entry.specs.Jobs.{items_of}
 use Rattle.nr_nodes.specs.Fed.{IsFed}
-use Rattle.std.proofs.Common.{rules, Some, ap, ◌∙◌}
+use Rattle.std.proofs.Common.{rules, ◌≡◌, true, false, Some, None, ap, ◌∙◌}
 use Rattle.nr_session.specs.SessionState.{SessionState}
+use Rattle.nr_nodes.specs.BySerial.{closed_session}
 use Rattle.nr_nodes.proofs.BySerial.{found_at, now_set, now_at, fed_between}
 use Rattle.nr_nodes.proofs.sessions.Sessions.feed.Goals as goal
+
+pub unreachable-requires : goal.unreachable-requires
+unreachable-requires c =
+    let at = found_at c.self.inside.count c.args.serial c.self.inside.by_serial.entries c.args.self.now None closed_session c.self.view_is
+    c.requires.is_there c.in_default.ensures.value in
+    let no : true ≡ false = ap (λ (session : SessionState). session.ended) at ∙ c.requires.going closed_session in
+    absurd (cc no)
 
 pub feed_session-requires : goal.feed_session-requires
 feed_session-requires c =

@@ -1,4 +1,5 @@
-use Rattle.std.proofs.Common.{arith, refl, ◌≡◌, get_or, subst, set, false}
+use Rattle.std.proofs.Common.{arith, refl, ◌≡◌, get_or, subst, set, ap}
+use Rattle.std.specs.Prelude.{is_some}
 use Rattle.nr_model.specs.Nodes.Steps as steps
 use Rattle.nr_entry.specs.Jobs.{connection_of}
 use Rattle.nr_replica.specs.Members.{fresh_member}
@@ -8,19 +9,18 @@ use Rattle.nr_nodes.specs.Taken.{Steps}
 use Rattle.nr_nodes.proofs.Connects.{idle_found, done_found, there_node, may_feed, ready, going, unclosed_fed, feeds_on}
 use Rattle.nr_nodes.proofs.world.World.feed.Goals as goal
 
-pub returns-in-Some-clause-taken : goal.returns-in-Some-clause-taken
-returns-in-Some-clause-taken c =
+pub returns-in-Some-why_not_feed-clause-taken : goal.returns-in-Some-why_not_feed-clause-taken
+returns-in-Some-why_not_feed-clause-taken c =
     let v : WorldState = record {
       setup = c.self.inside.setup;
       nodes = c.self.inside.nodes.items;
       log = c.self.inside.log;
-      failed
-          = c.self.inside.has_failed;
+      failed = is_some c.self.inside.failed;
     } in
     subst (λ (w : WorldState). Steps w w (steps.Feed (connection_of c.args.conn) c.args.moment c.args.bytes.now)
-    (steps.Idle c.in-Some.reason)) c.self.view_is
-    (idle_found v (steps.Feed (connection_of c.args.conn) c.args.moment c.args.bytes.now) c.deref.result.now c.why_not_feed.result c.in-Some.reason _
-    (λ setup world. refl) c.deref.ensures.value (c.why_not_feed.ensures c.self.inside.setup c.args.moment c.args.bytes.now) c.in-Some.is)
+    (steps.Idle c.in-Some-why_not_feed.reason)) c.self.view_is
+    (idle_found v (steps.Feed (connection_of c.args.conn) c.args.moment c.args.bytes.now) c.deref.result.now c.why_not_feed.result c.in-Some-why_not_feed.reason _
+    (λ setup world. refl) c.deref.ensures.value (c.why_not_feed.ensures c.self.inside.setup c.args.moment c.args.bytes.now) c.in-Some-why_not_feed.is)
 
 pub index_mut-requires : goal.index_mut-requires
 index_mut-requires c =
@@ -28,12 +28,11 @@ index_mut-requires c =
       setup = c.self.inside.setup;
       nodes = c.self.inside.nodes.items;
       log = c.self.inside.log;
-      failed
-          = c.self.inside.has_failed;
+      failed = is_some c.self.inside.failed;
     } in
-    let held : IsHeld v = c.self.invariant c.if-self.false in
+    let held : IsHeld v = c.self.invariant (ap is_some c.in_default.is) in
     let e = done_found v (steps.Feed (connection_of c.args.conn) c.args.moment c.args.bytes.now) c.deref.result.now c.why_not_feed.result (λ _. steps.Done)
-    c.deref.ensures.value (c.why_not_feed.ensures c.self.inside.setup c.args.moment c.args.bytes.now) c.in_default.is in
+    c.deref.ensures.value (c.why_not_feed.ensures c.self.inside.setup c.args.moment c.args.bytes.now) c.in_default-why_not_feed.is in
     let within = there_node v.nodes (connection_of c.args.conn) (may_feed v.setup v.nodes (connection_of c.args.conn) c.args.moment c.args.bytes.now
     e).there in
     omega (arith, within)
@@ -44,12 +43,11 @@ feed-requires-clause-clients c =
       setup = c.self.inside.setup;
       nodes = c.self.inside.nodes.items;
       log = c.self.inside.log;
-      failed
-          = c.self.inside.has_failed;
+      failed = is_some c.self.inside.failed;
     } in
-    let held : IsHeld v = c.self.invariant c.if-self.false in
+    let held : IsHeld v = c.self.invariant (ap is_some c.in_default.is) in
     let e = done_found v (steps.Feed (connection_of c.args.conn) c.args.moment c.args.bytes.now) c.deref.result.now c.why_not_feed.result (λ _. steps.Done)
-    c.deref.ensures.value (c.why_not_feed.ensures c.self.inside.setup c.args.moment c.args.bytes.now) c.in_default.is in
+    c.deref.ensures.value (c.why_not_feed.ensures c.self.inside.setup c.args.moment c.args.bytes.now) c.in_default-why_not_feed.is in
     let old = c.index_mut.result.now in
     let at : old ≡ get_or v.nodes c.args.conn.node old = c.index_mut.ensures.value in
     (ready v c.args.conn old held at (may_feed v.setup v.nodes (connection_of c.args.conn) c.args.moment c.args.bytes.now e).there).clients
@@ -60,12 +58,11 @@ feed-requires-clause-owed c =
       setup = c.self.inside.setup;
       nodes = c.self.inside.nodes.items;
       log = c.self.inside.log;
-      failed
-          = c.self.inside.has_failed;
+      failed = is_some c.self.inside.failed;
     } in
-    let held : IsHeld v = c.self.invariant c.if-self.false in
+    let held : IsHeld v = c.self.invariant (ap is_some c.in_default.is) in
     let e = done_found v (steps.Feed (connection_of c.args.conn) c.args.moment c.args.bytes.now) c.deref.result.now c.why_not_feed.result (λ _. steps.Done)
-    c.deref.ensures.value (c.why_not_feed.ensures c.self.inside.setup c.args.moment c.args.bytes.now) c.in_default.is in
+    c.deref.ensures.value (c.why_not_feed.ensures c.self.inside.setup c.args.moment c.args.bytes.now) c.in_default-why_not_feed.is in
     let old = c.index_mut.result.now in
     let at : old ≡ get_or v.nodes c.args.conn.node old = c.index_mut.ensures.value in
     (ready v c.args.conn old held at (may_feed v.setup v.nodes (connection_of c.args.conn) c.args.moment c.args.bytes.now e).there).whole.owed
@@ -76,12 +73,11 @@ feed-requires-clause-is_there c =
       setup = c.self.inside.setup;
       nodes = c.self.inside.nodes.items;
       log = c.self.inside.log;
-      failed
-          = c.self.inside.has_failed;
+      failed = is_some c.self.inside.failed;
     } in
-    let held : IsHeld v = c.self.invariant c.if-self.false in
+    let held : IsHeld v = c.self.invariant (ap is_some c.in_default.is) in
     let e = done_found v (steps.Feed (connection_of c.args.conn) c.args.moment c.args.bytes.now) c.deref.result.now c.why_not_feed.result (λ _. steps.Done)
-    c.deref.ensures.value (c.why_not_feed.ensures c.self.inside.setup c.args.moment c.args.bytes.now) c.in_default.is in
+    c.deref.ensures.value (c.why_not_feed.ensures c.self.inside.setup c.args.moment c.args.bytes.now) c.in_default-why_not_feed.is in
     let old = c.index_mut.result.now in
     let at : old ≡ get_or v.nodes c.args.conn.node old = c.index_mut.ensures.value in
     (ready v c.args.conn old held at (may_feed v.setup v.nodes (connection_of c.args.conn) c.args.moment c.args.bytes.now e).there).stands
@@ -92,12 +88,11 @@ feed-requires-clause-worker c =
       setup = c.self.inside.setup;
       nodes = c.self.inside.nodes.items;
       log = c.self.inside.log;
-      failed
-          = c.self.inside.has_failed;
+      failed = is_some c.self.inside.failed;
     } in
-    let held : IsHeld v = c.self.invariant c.if-self.false in
+    let held : IsHeld v = c.self.invariant (ap is_some c.in_default.is) in
     let e = done_found v (steps.Feed (connection_of c.args.conn) c.args.moment c.args.bytes.now) c.deref.result.now c.why_not_feed.result (λ _. steps.Done)
-    c.deref.ensures.value (c.why_not_feed.ensures c.self.inside.setup c.args.moment c.args.bytes.now) c.in_default.is in
+    c.deref.ensures.value (c.why_not_feed.ensures c.self.inside.setup c.args.moment c.args.bytes.now) c.in_default-why_not_feed.is in
     let old = c.index_mut.result.now in
     let at : old ≡ get_or v.nodes c.args.conn.node old = c.index_mut.ensures.value in
     (ready v c.args.conn old held at (may_feed v.setup v.nodes (connection_of c.args.conn) c.args.moment c.args.bytes.now e).there).worker
@@ -108,12 +103,11 @@ feed-requires-clause-named c =
       setup = c.self.inside.setup;
       nodes = c.self.inside.nodes.items;
       log = c.self.inside.log;
-      failed
-          = c.self.inside.has_failed;
+      failed = is_some c.self.inside.failed;
     } in
-    let held : IsHeld v = c.self.invariant c.if-self.false in
+    let held : IsHeld v = c.self.invariant (ap is_some c.in_default.is) in
     let e = done_found v (steps.Feed (connection_of c.args.conn) c.args.moment c.args.bytes.now) c.deref.result.now c.why_not_feed.result (λ _. steps.Done)
-    c.deref.ensures.value (c.why_not_feed.ensures c.self.inside.setup c.args.moment c.args.bytes.now) c.in_default.is in
+    c.deref.ensures.value (c.why_not_feed.ensures c.self.inside.setup c.args.moment c.args.bytes.now) c.in_default-why_not_feed.is in
     let none = fresh_member (connection_of c.args.conn) 0 0 in
     let old = c.index_mut.result.now in
     let at : old ≡ get_or v.nodes c.args.conn.node old = c.index_mut.ensures.value in
@@ -126,46 +120,43 @@ feed-requires-clause-going c = λ d.
       setup = c.self.inside.setup;
       nodes = c.self.inside.nodes.items;
       log = c.self.inside.log;
-      failed
-          = c.self.inside.has_failed;
+      failed = is_some c.self.inside.failed;
     } in
-    let held : IsHeld v = c.self.invariant c.if-self.false in
+    let held : IsHeld v = c.self.invariant (ap is_some c.in_default.is) in
     let e = done_found v (steps.Feed (connection_of c.args.conn) c.args.moment c.args.bytes.now) c.deref.result.now c.why_not_feed.result (λ _. steps.Done)
-    c.deref.ensures.value (c.why_not_feed.ensures c.self.inside.setup c.args.moment c.args.bytes.now) c.in_default.is in
+    c.deref.ensures.value (c.why_not_feed.ensures c.self.inside.setup c.args.moment c.args.bytes.now) c.in_default-why_not_feed.is in
     let old = c.index_mut.result.now in
     let at : old ≡ get_or v.nodes c.args.conn.node old = c.index_mut.ensures.value in
     going v c.args.conn c.args.moment c.args.bytes.now old d held at e
 
-pub invariant_of-self-2 : goal.invariant_of-self-2
-invariant_of-self-2 c = λ _.
+pub invariant_of-self : goal.invariant_of-self
+invariant_of-self c = λ _.
     let v : WorldState = record {
       setup = c.self.inside.setup;
       nodes = c.self.inside.nodes.items;
       log = c.self.inside.log;
-      failed
-          = c.self.inside.has_failed;
+      failed = is_some c.self.inside.failed;
     } in
-    let held : IsHeld v = c.self.invariant c.if-self.false in
+    let held : IsHeld v = c.self.invariant (ap is_some c.in_default.is) in
     let e = done_found v (steps.Feed (connection_of c.args.conn) c.args.moment c.args.bytes.now) c.deref.result.now c.why_not_feed.result (λ _. steps.Done)
-    c.deref.ensures.value (c.why_not_feed.ensures c.self.inside.setup c.args.moment c.args.bytes.now) c.in_default.is in
+    c.deref.ensures.value (c.why_not_feed.ensures c.self.inside.setup c.args.moment c.args.bytes.now) c.in_default-why_not_feed.is in
     let old = c.index_mut.result.now in
     let at : old ≡ get_or v.nodes c.args.conn.node old = c.index_mut.ensures.value in
-    (feeds_on v c.args.conn c.args.moment c.args.bytes.now old c.feed.new.self held at e c.in_ok-feed.ensures.fed c.in_ok-feed.ensures.whole).1
+    (feeds_on v c.args.conn c.args.moment c.args.bytes.now old c.feed.new.self held at e c.in-Ok.ensures.fed c.in-Ok.ensures.whole).1
 
-pub returns-clause-taken : goal.returns-clause-taken
-returns-clause-taken c =
+pub returns-in-Ok-clause-taken : goal.returns-in-Ok-clause-taken
+returns-in-Ok-clause-taken c =
     let v : WorldState = record {
       setup = c.self.inside.setup;
       nodes = c.self.inside.nodes.items;
       log = c.self.inside.log;
-      failed
-          = c.self.inside.has_failed;
+      failed = is_some c.self.inside.failed;
     } in
-    let held : IsHeld v = c.self.invariant c.if-self.false in
+    let held : IsHeld v = c.self.invariant (ap is_some c.in_default.is) in
     let e = done_found v (steps.Feed (connection_of c.args.conn) c.args.moment c.args.bytes.now) c.deref.result.now c.why_not_feed.result (λ _. steps.Done)
-    c.deref.ensures.value (c.why_not_feed.ensures c.self.inside.setup c.args.moment c.args.bytes.now) c.in_default.is in
+    c.deref.ensures.value (c.why_not_feed.ensures c.self.inside.setup c.args.moment c.args.bytes.now) c.in_default-why_not_feed.is in
     let old = c.index_mut.result.now in
     let at : old ≡ get_or v.nodes c.args.conn.node old = c.index_mut.ensures.value in
-    subst (λ (w : WorldState). Steps w (record { setup = v.setup; nodes = set v.nodes c.args.conn.node c.feed.new.self; log = v.log; failed = false })
+    subst (λ (w : WorldState). Steps w (record { setup = v.setup; nodes = set v.nodes c.args.conn.node c.feed.new.self; log = v.log; failed = v.failed })
     (steps.Feed (connection_of c.args.conn) c.args.moment c.args.bytes.now) steps.Done) c.self.view_is
-    (feeds_on v c.args.conn c.args.moment c.args.bytes.now old c.feed.new.self held at e c.in_ok-feed.ensures.fed c.in_ok-feed.ensures.whole).0
+    (feeds_on v c.args.conn c.args.moment c.args.bytes.now old c.feed.new.self held at e c.in-Ok.ensures.fed c.in-Ok.ensures.whole).0

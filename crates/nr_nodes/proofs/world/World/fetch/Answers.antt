@@ -4,19 +4,19 @@ use Rattle.nr_nodes.proofs.Shown.{takes_nothing}
 use Rattle.nr_nodes.proofs.Logged.{fetched_steps, held_same}
 use Rattle.nr_nodes.proofs.world.World.fetch.Goals as goal
 
-pub returns-in-Some-clause-taken : goal.returns-in-Some-clause-taken
-returns-in-Some-clause-taken c = takes_nothing c.args.self.now (steps.Fetch c.args.node) c.in-Some.reason c.in-Some.ensures.reason
+pub returns-in-Some-why_not_fetch-clause-taken : goal.returns-in-Some-why_not_fetch-clause-taken
+returns-in-Some-why_not_fetch-clause-taken c = takes_nothing c.args.self.now (steps.Fetch c.args.node) c.in-Some-why_not_fetch.reason c.in-Some-why_not_fetch.ensures.reason
 
 pub invariant_of-self : goal.invariant_of-self
 invariant_of-self c = λ still.
     let at : c.index_mut.result.now ≡ get_or c.self.inside.nodes.items c.args.node c.index_mut.result.now = search rules in
     held_same _ c.args.self.now c.args.node c.index_mut.result.now c.fetch.new.self (steps.Fetch c.args.node) c.self.view_is (c.self.invariant still)
-    c.in_default.ensures.there at c.fetch.ensures.whole
-    (fetched_steps _ c.args.self.now c.args.node c.index_mut.result.now c.fetch.new.self c.self.view_is c.in_default.ensures.there
-    c.in_default.ensures.reason at c.fetch.ensures.fetched)
+    c.in_default-why_not_fetch.ensures.there at c.fetch.ensures.whole
+    (fetched_steps _ c.args.self.now c.args.node c.index_mut.result.now c.fetch.new.self c.self.view_is c.in_default-why_not_fetch.ensures.there
+    c.in_default-why_not_fetch.ensures.reason at c.fetch.ensures.fetched)
 
 pub returns-clause-taken : goal.returns-clause-taken
 returns-clause-taken c =
     let at : c.index_mut.result.now ≡ get_or c.self.inside.nodes.items c.args.node c.index_mut.result.now = search rules in
-    fetched_steps _ c.args.self.now c.args.node c.index_mut.result.now c.fetch.new.self c.self.view_is c.in_default.ensures.there
-    c.in_default.ensures.reason at c.fetch.ensures.fetched
+    fetched_steps _ c.args.self.now c.args.node c.index_mut.result.now c.fetch.new.self c.self.view_is c.in_default-why_not_fetch.ensures.there
+    c.in_default-why_not_fetch.ensures.reason at c.fetch.ensures.fetched

@@ -1,4 +1,5 @@
-use Rattle.std.proofs.Common.{arith, refl, ◌≡◌, ◌<◌, get_or, length, ap, sym, ◌∙◌, subst, set, false}
+use Rattle.std.proofs.Common.{arith, refl, ◌≡◌, ◌<◌, get_or, length, ap, sym, ◌∙◌, subst, set}
+use Rattle.std.specs.Prelude.{is_some}
 use Rattle.nr_model.specs.Nodes.Steps as steps
 use Rattle.nr_entry.specs.Jobs.{connection_of}
 use Rattle.nr_nodes.specs.declared.node.Node.{Node}
@@ -10,21 +11,20 @@ use Rattle.nr_nodes.proofs.Connects.{idle_found, done_found, may_open, opened_in
 use Rattle.nr_nodes.proofs.Paired.{paired_many}
 use Rattle.nr_nodes.proofs.world.World.open.Goals as goal
 
-pub returns-in-Some-clause-taken : goal.returns-in-Some-clause-taken
-returns-in-Some-clause-taken c =
+pub returns-in-Some-why_not_open-clause-taken : goal.returns-in-Some-why_not_open-clause-taken
+returns-in-Some-why_not_open-clause-taken c =
     let v : WorldState = record {
       setup = c.self.inside.setup;
       nodes = c.self.inside.nodes.items;
       log = c.self.inside.log;
-      failed
-          = c.self.inside.has_failed;
+      failed = is_some c.self.inside.failed;
     } in
-    subst (λ (w : WorldState). Steps w w (steps.Open c.args.node c.args.worker) (steps.Idle c.in-Some.reason)) c.self.view_is
-    (idle_found v (steps.Open c.args.node c.args.worker) c.deref.result.now c.why_not_open.result c.in-Some.reason _ (λ setup world. refl)
-    c.deref.ensures.value c.why_not_open.ensures c.in-Some.is)
+    subst (λ (w : WorldState). Steps w w (steps.Open c.args.node c.args.worker) (steps.Idle c.in-Some-why_not_open.reason)) c.self.view_is
+    (idle_found v (steps.Open c.args.node c.args.worker) c.deref.result.now c.why_not_open.result c.in-Some-why_not_open.reason _ (λ setup world. refl)
+    c.deref.ensures.value c.why_not_open.ensures c.in-Some-why_not_open.is)
 
 pub why_not_open-requires-clause-sized : goal.why_not_open-requires-clause-sized
-why_not_open-requires-clause-sized c = ap length c.deref.ensures.value ∙ held_many _ (c.self.invariant c.if-self.false)
+why_not_open-requires-clause-sized c = ap length c.deref.ensures.value ∙ held_many _ (c.self.invariant (ap is_some c.in_default.is))
 
 pub index_mut-requires : goal.index_mut-requires
 index_mut-requires c =
@@ -32,12 +32,11 @@ index_mut-requires c =
       setup = c.self.inside.setup;
       nodes = c.self.inside.nodes.items;
       log = c.self.inside.log;
-      failed
-          = c.self.inside.has_failed;
+      failed = is_some c.self.inside.failed;
     } in
     let e = done_found v (steps.Open c.args.node c.args.worker) c.deref.result.now c.why_not_open.result (opened_in c.args.node) c.deref.ensures.value
-    c.why_not_open.ensures c.in_default.is in
-    let held : IsHeld v = c.self.invariant c.if-self.false in
+    c.why_not_open.ensures c.in_default-why_not_open.is in
+    let held : IsHeld v = c.self.invariant (ap is_some c.in_default.is) in
     let within = open_within v c.args.node c.args.worker held e in
     omega (arith, within)
 
@@ -47,12 +46,11 @@ open-requires-clause-is_there c =
       setup = c.self.inside.setup;
       nodes = c.self.inside.nodes.items;
       log = c.self.inside.log;
-      failed
-          = c.self.inside.has_failed;
+      failed = is_some c.self.inside.failed;
     } in
     let e = done_found v (steps.Open c.args.node c.args.worker) c.deref.result.now c.why_not_open.result (opened_in c.args.node) c.deref.ensures.value
-    c.why_not_open.ensures c.in_default.is in
-    let held : IsHeld v = c.self.invariant c.if-self.false in
+    c.why_not_open.ensures c.in_default-why_not_open.is in
+    let held : IsHeld v = c.self.invariant (ap is_some c.in_default.is) in
     let old : Node = c.index_mut.result.now in
     let at : old ≡ get_or v.nodes c.args.node old = c.index_mut.ensures.value in
     let has = has_worker v c.args.node c.args.worker held (may_open v.setup v.nodes c.args.node c.args.worker _ e).worker in
@@ -64,12 +62,11 @@ open-requires-clause-clients c =
       setup = c.self.inside.setup;
       nodes = c.self.inside.nodes.items;
       log = c.self.inside.log;
-      failed
-          = c.self.inside.has_failed;
+      failed = is_some c.self.inside.failed;
     } in
     let e = done_found v (steps.Open c.args.node c.args.worker) c.deref.result.now c.why_not_open.result (opened_in c.args.node) c.deref.ensures.value
-    c.why_not_open.ensures c.in_default.is in
-    let held : IsHeld v = c.self.invariant c.if-self.false in
+    c.why_not_open.ensures c.in_default-why_not_open.is in
+    let held : IsHeld v = c.self.invariant (ap is_some c.in_default.is) in
     let old = c.index_mut.result.now in
     let at : old ≡ get_or v.nodes c.args.node old = c.index_mut.ensures.value in
     paired_many c.args.node 0 old.sessions old.replica.members (held_whole v c.args.node old held (open_within v c.args.node c.args.worker held e)
@@ -81,11 +78,10 @@ open-requires-clause-few c =
       setup = c.self.inside.setup;
       nodes = c.self.inside.nodes.items;
       log = c.self.inside.log;
-      failed
-          = c.self.inside.has_failed;
+      failed = is_some c.self.inside.failed;
     } in
     let e = done_found v (steps.Open c.args.node c.args.worker) c.deref.result.now c.why_not_open.result (opened_in c.args.node) c.deref.ensures.value
-    c.why_not_open.ensures c.in_default.is in
+    c.why_not_open.ensures c.in_default-why_not_open.is in
     open_few v c.args.node c.args.worker c.queue_limit.ensures.allowed.most_workers e
 
 pub open-requires-clause-counts : goal.open-requires-clause-counts
@@ -94,48 +90,45 @@ open-requires-clause-counts c =
       setup = c.self.inside.setup;
       nodes = c.self.inside.nodes.items;
       log = c.self.inside.log;
-      failed
-          = c.self.inside.has_failed;
+      failed = is_some c.self.inside.failed;
     } in
     let e = done_found v (steps.Open c.args.node c.args.worker) c.deref.result.now c.why_not_open.result (opened_in c.args.node) c.deref.ensures.value
-    c.why_not_open.ensures c.in_default.is in
-    let held : IsHeld v = c.self.invariant c.if-self.false in
+    c.why_not_open.ensures c.in_default-why_not_open.is in
+    let held : IsHeld v = c.self.invariant (ap is_some c.in_default.is) in
     let old = c.index_mut.result.now in
     let at : old ≡ get_or v.nodes c.args.node old = c.index_mut.ensures.value in
     open_room v c.args.node c.args.worker old held at c.queue_limit.ensures.allowed.most_connections e
 
-pub invariant_of-self-2 : goal.invariant_of-self-2
-invariant_of-self-2 c = λ _.
+pub invariant_of-self : goal.invariant_of-self
+invariant_of-self c = λ _.
     let v : WorldState = record {
       setup = c.self.inside.setup;
       nodes = c.self.inside.nodes.items;
       log = c.self.inside.log;
-      failed
-          = c.self.inside.has_failed;
+      failed = is_some c.self.inside.failed;
     } in
     let e = done_found v (steps.Open c.args.node c.args.worker) c.deref.result.now c.why_not_open.result (opened_in c.args.node) c.deref.ensures.value
-    c.why_not_open.ensures c.in_default.is in
-    let held : IsHeld v = c.self.invariant c.if-self.false in
+    c.why_not_open.ensures c.in_default-why_not_open.is in
+    let held : IsHeld v = c.self.invariant (ap is_some c.in_default.is) in
     let old = c.index_mut.result.now in
     let at : old ≡ get_or v.nodes c.args.node old = c.index_mut.ensures.value in
-    (opens_on v c.args.node c.args.worker c.queue_limit.result old c.open.new.self c.in_ok-conn.conn held c.queue_limit.ensures.value at e
-    c.in_ok-conn.ensures.opened c.in_ok-conn.ensures.conn c.in_ok-conn.ensures.whole).1
+    (opens_on v c.args.node c.args.worker c.queue_limit.result old c.open.new.self c.in-Ok.conn held c.queue_limit.ensures.value at e
+    c.in-Ok.ensures.opened c.in-Ok.ensures.conn c.in-Ok.ensures.whole).1
 
-pub returns-clause-taken : goal.returns-clause-taken
-returns-clause-taken c =
+pub returns-in-Ok-clause-taken : goal.returns-in-Ok-clause-taken
+returns-in-Ok-clause-taken c =
     let v : WorldState = record {
       setup = c.self.inside.setup;
       nodes = c.self.inside.nodes.items;
       log = c.self.inside.log;
-      failed
-          = c.self.inside.has_failed;
+      failed = is_some c.self.inside.failed;
     } in
     let e = done_found v (steps.Open c.args.node c.args.worker) c.deref.result.now c.why_not_open.result (opened_in c.args.node) c.deref.ensures.value
-    c.why_not_open.ensures c.in_default.is in
-    let held : IsHeld v = c.self.invariant c.if-self.false in
+    c.why_not_open.ensures c.in_default-why_not_open.is in
+    let held : IsHeld v = c.self.invariant (ap is_some c.in_default.is) in
     let old = c.index_mut.result.now in
     let at : old ≡ get_or v.nodes c.args.node old = c.index_mut.ensures.value in
-    subst (λ (w : WorldState). Steps w (record { setup = v.setup; nodes = set v.nodes c.args.node c.open.new.self; log = v.log; failed = false })
-    (steps.Open c.args.node c.args.worker) (steps.Opened (connection_of c.in_ok-conn.conn))) c.self.view_is
-    (opens_on v c.args.node c.args.worker c.queue_limit.result old c.open.new.self c.in_ok-conn.conn held c.queue_limit.ensures.value at e
-    c.in_ok-conn.ensures.opened c.in_ok-conn.ensures.conn c.in_ok-conn.ensures.whole).0
+    subst (λ (w : WorldState). Steps w (record { setup = v.setup; nodes = set v.nodes c.args.node c.open.new.self; log = v.log; failed = v.failed })
+    (steps.Open c.args.node c.args.worker) (steps.Opened (connection_of c.in-Ok.conn))) c.self.view_is
+    (opens_on v c.args.node c.args.worker c.queue_limit.result old c.open.new.self c.in-Ok.conn held c.queue_limit.ensures.value at e
+    c.in-Ok.ensures.opened c.in-Ok.ensures.conn c.in-Ok.ensures.whole).0

@@ -48,6 +48,6 @@ returns-clause-applied c =
     let owes : c.settle_counted.new.owed ≡ cond counted (cond (entry.node == inside.node) (owed_from 0 olds (items_of entry.jobs.items) inside.owed.items) inside.owed.items) inside.owed.items =
     c.settle_counted.ensures inside.node
     ∙ ap (λ (owed : List (Option ℕ)). cond counted (cond (entry.node == inside.node) (owed_from 0 olds (items_of entry.jobs.items) owed) owed) owed) c.deref_mut.ensures.value in
-    λ _. applied_from counted entry _ _ _ c.self.view_is
-    (applied_is counted inside.node inside.applied olds news inside.owed.items _ inside.waiting.jobs inside.machine c.stage.new.machine inside.is_refused
+    applied_from counted entry _ _ _ c.self.view_is
+    (applied_is counted inside.node inside.applied olds news inside.owed.items _ inside.waiting.jobs inside.machine c.stage.new.machine inside.is_refused inside.fell
     entry c.stage.new.staging up keeps.2 from-none c.deliver.ensures.given (less ∙ owes) moved)

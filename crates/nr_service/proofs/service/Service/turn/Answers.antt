@@ -11,8 +11,8 @@ returns-clause-turned g c =
     let exchanged = c.in_ok-exchange_listed.ensures in
     let gone = c.in_ok-let_go_listed.ensures in
     took _ _ _ _ _ _ _ _ _ _ _ _ _ _ _ _ _ _ _ _ _ _ _ c.args.self.now _ c.in_ok-accept_each.ensures.ok
-    (arrives_still _ _ _ _ _ _ _ _ _ _ _ _ _ _ exchanged.accepted exchanged.device c.in_ok-accept_each.ensures.arrives) exchanged.reads exchanged.ok
-    exchanged.same gone.gone (record { node_is = exchanged.node; worker_is = exchanged.worker; limit_is = exchanged.limit; timeout_is = exchanged.timeout }) c.wait.ensures.parted
+    (arrives_still _ _ _ _ _ _ _ _ _ _ _ _ _ _ exchanged.accepted exchanged.device c.in_ok-accept_each.ensures.arrives) c.in_ok-accept_each.ensures.heard exchanged.reads
+    exchanged.ok exchanged.same exchanged.heard gone.gone (record { node_is = exchanged.node; worker_is = exchanged.worker; limit_is = exchanged.limit; timeout_is = exchanged.timeout }) c.wait.ensures.parted
     (at_once _ _ _ c.is_busy.ensures)
     (looked _ _ _ _ _ _ _ _ _ _ _ _ _ _ _ exchanged.looks refl (first_rests _ _) gone.calm exchanged.sent gone.go_on) c.wait.ensures.waited
     c.if-not-wait.false
@@ -25,8 +25,8 @@ returns-then-not-wait-clause-ended g c =
     let exchanged = c.in_ok-exchange_listed.ensures in
     let gone = c.in_ok-let_go_listed.ensures in
     took _ _ _ _ _ _ _ _ _ _ _ _ _ _ _ _ _ _ _ _ _ _ _ c.args.self.now _ c.in_ok-accept_each.ensures.ok
-    (arrives_still _ _ _ _ _ _ _ _ _ _ _ _ _ _ exchanged.accepted exchanged.device c.in_ok-accept_each.ensures.arrives) exchanged.reads exchanged.ok
-    exchanged.same gone.gone (record { node_is = exchanged.node; worker_is = exchanged.worker; limit_is = exchanged.limit; timeout_is = exchanged.timeout }) c.wait.ensures.parted
+    (arrives_still _ _ _ _ _ _ _ _ _ _ _ _ _ _ exchanged.accepted exchanged.device c.in_ok-accept_each.ensures.arrives) c.in_ok-accept_each.ensures.heard exchanged.reads
+    exchanged.ok exchanged.same exchanged.heard gone.gone (record { node_is = exchanged.node; worker_is = exchanged.worker; limit_is = exchanged.limit; timeout_is = exchanged.timeout }) c.wait.ensures.parted
     (at_once _ _ _ c.is_busy.ensures)
     (looked _ _ _ _ _ _ _ _ _ _ _ _ _ _ _ exchanged.looks refl (first_rests _ _) gone.calm exchanged.sent gone.go_on) c.wait.ensures.waited
     c.if-not-wait.true
@@ -36,7 +36,7 @@ returns-then-not-wait-clause-err g c = turned _ _ _ _ _ _ _ _ _ _ _ _ _ _ _ c.ar
 
 pub returns-in_err-accept_each-clause-ended : goal.returns-in_err-accept_each-clause-ended
 returns-in_err-accept_each-clause-ended g c =
-    ends_by_memory c.from_residual.result _ _ _ (search rules) (record {
+    ends_by_memory _ c.from_residual.result _ _ _ (search rules) (record {
       worker = record { node_is = refl; worker_is = refl; limit_is = refl; timeout_is = refl };
       way = inl (record { until = c.in_err-accept_each.ensures.err; unread = record { clock_is = refl; moment_is = refl } });
     })
@@ -45,7 +45,7 @@ pub returns-in_err-exchange_listed-clause-ended : goal.returns-in_err-exchange_l
 returns-in_err-exchange_listed-clause-ended g c =
     let left = c.in_err-exchange_listed.ensures in
     let came = arrives_still _ _ _ _ _ _ _ _ _ _ _ _ _ _ left.accepted left.device c.in_ok-accept_each.ensures.arrives in
-    ends_by_memory c.from_residual-in_err-exchange_listed.result _ _ _ (search rules) (record {
+    ends_by_memory _ c.from_residual-in_err-exchange_listed.result _ _ _ (search rules) (record {
       worker = record { node_is = left.node; worker_is = left.worker; limit_is = left.limit; timeout_is = left.timeout };
       way = inr (inl (record {
         opened = _;
@@ -63,7 +63,7 @@ pub returns-in_err-let_go_listed-clause-ended : goal.returns-in_err-let_go_liste
 returns-in_err-let_go_listed-clause-ended g c =
     let exchanged = c.in_ok-exchange_listed.ensures in
     let came = arrives_still _ _ _ _ _ _ _ _ _ _ _ _ _ _ exchanged.accepted exchanged.device c.in_ok-accept_each.ensures.arrives in
-    ends_by_memory c.from_residual-in_err-let_go_listed.result _ _ _ (search rules) (record {
+    ends_by_memory _ c.from_residual-in_err-let_go_listed.result _ _ _ (search rules) (record {
       worker = record { node_is = exchanged.node; worker_is = exchanged.worker; limit_is = exchanged.limit; timeout_is = exchanged.timeout };
       way = inr (inr (record {
         opened = _;

@@ -7,7 +7,7 @@ use Rattle.nr_taps.proofs.tap.Tap.accept.Goals as goal
 pub returns-in-Ok-clause-bytes : goal.returns-in-Ok-clause-bytes
 returns-in-Ok-clause-bytes g c =
     let conn = connection_of c.args.piece.conn in
-    let fits = c.if-not-is_counted.ensures.0 refl in
+    let fits = c.in_default-last_count.ensures.few in
     let count = c.len.ensures in
     let long = c.args.piece.bytes.ok.0 in
     let few : c.args.piece.from + length c.args.piece.bytes.items < 2 ^ 64 = omega (arith, fits, count, long) in
@@ -25,7 +25,7 @@ returns-in-Ok-clause-bytes g c =
 pub invariant_of-self : goal.invariant_of-self
 invariant_of-self g c =
     let conn = connection_of c.args.piece.conn in
-    let fits = c.if-not-is_counted.ensures.0 refl in
+    let fits = c.in_default-last_count.ensures.few in
     let count = c.len.ensures in
     let long = c.args.piece.bytes.ok.0 in
     let few : c.args.piece.from + length c.args.piece.bytes.items < 2 ^ 64 = omega (arith, fits, count, long) in

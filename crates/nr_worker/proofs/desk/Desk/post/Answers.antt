@@ -6,5 +6,5 @@ use Rattle.nr_worker.proofs.desk.Desk.post.Goals as goal
 
 pub returns-clause-goes : goal.returns-clause-goes
 returns-clause-goes g c =
-    goes_by (due MOST_JOBS (length c.self.inside.returned.items)) c.args.self.now _ c.hand_in.new.worker c.in-Some.jobs.items c.take_due.new.returned.items
-    c.take_due.new.jobs.jobs c.take_due.new.jobs.late c.self.view_is c.in-Some.ensures.front c.in-Some.ensures.none c.in-Some.ensures.behind c.hand_in.ensures
+    goes_by (due MOST_JOBS (length c.self.inside.returned.items)) c.args.self.now _ c.hand_in.new.worker c.in_ok-jobs.jobs.items c.take_due.new.returned.items
+    c.take_due.new.jobs.jobs c.take_due.new.jobs.late c.self.view_is c.in_ok-jobs.ensures.front c.in_ok-jobs.ensures.none c.in_ok-jobs.ensures.behind c.hand_in.ensures

@@ -6,7 +6,7 @@ use Rattle.nr_resp.proofs.Stages.{held_unfinished, at_end, at_memory}
 use Rattle.nr_resp.proofs.reader.partial.PartialRequest.feed.Goals as goal
 
 pub returns-in_err-left-clause-memory : goal.returns-in_err-left-clause-memory
-returns-in_err-left-clause-memory c = λ is.
+returns-in_err-left-clause-memory c = λ _ is.
     let loop = c.loop-left in
     at_memory (bytes_of c.args.self.now ++ c.args.piece.now) (bytes_of loop.self ++ loop.left.now) (bytes_of c.step.new.self) (frames_seen c.args.frames.now.items) (frames_seen loop.frames.items) (frames_seen c.step.new.frames.items) loop.invariant.reads (c.in_err-left.ensures.kept refl) c.in_err-left.ensures.begun
 

@@ -1,6 +1,0 @@
-use Rattle.std.proofs.Common.{rules}
-use Rattle.nr_slots.proofs.Openings.{starts}
-use Rattle.nr_slots.proofs.slots.Slots.open.Goals as goal
-
-pub vacant-requires : goal.vacant-requires
-vacant-requires c = starts _ _ _ (search rules) (search rules)
