@@ -12,6 +12,8 @@ mod line;
 #[cfg(test)]
 mod places;
 #[cfg(test)]
+mod sizes;
+#[cfg(test)]
 mod streams;
 #[cfg(test)]
 mod watch;
