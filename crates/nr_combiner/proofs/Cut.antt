@@ -5,7 +5,7 @@ use Rattle.std.proofs.lemmas.Bool.{cases_Bool}
 use Rattle.nr_blob.specs.declared.memory.Memory.{Memory}
 use Rattle.nr_entry.specs.declared.conn.ConnId.{ConnId}
 use Rattle.nr_node.specs.Batches.{is_cut_at}
-use Rattle.nr_node.specs.Level.{NodeState}
+use Rattle.nr_node.specs.Level.{NodeState, IsLevel}
 use Rattle.nr_combiner.specs.Behind.{CutsBehind, CutsFrontBehind}
 use Rattle.nr_combiner.specs.Pieces.{AddsFront}
 
@@ -43,10 +43,10 @@ one_added p conns old mid new i conn within is pushed a =
 
 -- a node told them behind its lock
 pub cuts_behind : (node : ℕ) (n : NodeState) (conns old new : List ConnId) → n.book.node ≡ node → new ≡ old ++ filter (is_cut_at n) conns
-    → CutsBehind node conns old new
-cuts_behind node n conns old new is all = record { at = n; node_is = is; added = all }
+    → IsLevel n.seat.standing n.replica → CutsBehind node conns old new
+cuts_behind node n conns old new is all level = record { at = n; node_is = is; added = all; is_level = level }
 
 pub cuts_front : {T E : Type 0} (r : Result T E) (n : NodeState) (conns old new : List ConnId)
-    → (left : List ConnId) × AddsFront (filter (is_cut_at n) conns) old new left → OnErr r (CutsFrontBehind conns old new)
-cuts_front (Ok done) n conns old new front = tt
-cuts_front (Err why) n conns old new (left, front) = record { at = n; left = left; added = front }
+    → (left : List ConnId) × AddsFront (filter (is_cut_at n) conns) old new left → IsLevel n.seat.standing n.replica → OnErr r (CutsFrontBehind conns old new)
+cuts_front (Ok done) n conns old new front level = tt
+cuts_front (Err why) n conns old new (left, front) level = record { at = n; left = left; added = front; is_level = level }

@@ -34,7 +34,7 @@ use Rattle.nr_node.proofs.Owed.{all_front}
 use Rattle.nr_node.proofs.Ready.{Ascends, all_within, ascends}
 use Rattle.nr_combiner.specs.Heard.{HasHeard, Knows, with_posted}
 use Rattle.nr_combiner.specs.Pieces.{AreHandedIn, AreRising, HasAdded, HasExecuted, HasOwn, IsHandedOf, IsPieceOf}
-use Rattle.nr_combiner.specs.Served.{CombinerState, IsLifted, IsOwnOfBatch, IsServed}
+use Rattle.nr_combiner.specs.Served.{CombinerState, IsLifted, IsOwnOfBatch, IsServed, StandsLevel}
 use Rattle.nr_combiner.specs.Behind.{CollectsBehind, TurnsBehind}
 use Rattle.nr_combiner.specs.Turned.{HandsOutTo, HasCollectedFor, HasTurned, tells_down}
 use Rattle.nr_combiner.specs.declared.answering.Collected.{Collected}
@@ -354,9 +354,9 @@ collects_own node worker most old new told s note b =
 -- a turn was one of this node
 pub turns_behind : (places node worker : ℕ) (which : Lifts) (most : ℕ) (old new : List Handed) (turned : Turned) (s : Standing) (note : NoteView) (c d : CombinerState)
     → HasTurned places worker which most old new turned s note c d → c.node.book.node ≡ node → s.node ≡ c.node.book.node
-    → (turned.combined ≡ Ok rounds.Down) ↔ (d.node.replica.down ≡ true) → (numbers : List ℕ) × IsServed d.node d.seat numbers
+    → (turned.combined ≡ Ok rounds.Down) ↔ (d.node.replica.down ≡ true) → (numbers : List ℕ) × IsServed d.node d.seat numbers → StandsLevel c → StandsLevel d
     → TurnsBehind places node worker which most old new turned s note
-turns_behind places node worker which most old new turned s note c d t is standing down served = record {
+turns_behind places node worker which most old new turned s note c d t is standing down served was_level is_level = record {
   before = c;
   after = d;
   has_turned = t;
@@ -365,12 +365,14 @@ turns_behind places node worker which most old new turned s note c d t is standi
   down = down;
   numbers = served.0;
   served = served.1;
+  was_level = was_level;
+  is_level = is_level;
 }
 
 pub collects_behind : (node worker most : ℕ) (old new : List Handed) (told : Collected) (s : Standing) (note : NoteView) (c d : CombinerState)
     → HandsOutTo worker most old new told.result s note c d → c.node.book.node ≡ node → s.node ≡ c.node.book.node → told.is_down ≡ d.node.replica.down
-    → (numbers : List ℕ) × IsServed d.node d.seat numbers → CollectsBehind node worker most old new told s note
-collects_behind node worker most old new told s note c d h is standing down served = record {
+    → (numbers : List ℕ) × IsServed d.node d.seat numbers → StandsLevel c → StandsLevel d → CollectsBehind node worker most old new told s note
+collects_behind node worker most old new told s note c d h is standing down served was_level is_level = record {
   before = c;
   after = d;
   handed = h;
@@ -379,6 +381,8 @@ collects_behind node worker most old new told s note c d h is standing down serv
   down = down;
   numbers = served.0;
   served = served.1;
+  was_level = was_level;
+  is_level = is_level;
 }
 
 -- in the words of the worker, who posted what was lifted

@@ -1,20 +1,24 @@
--- What a node did behind its lock, between two states of a combiner that nobody else sees.
-use Rattle.std.specs.Prelude.{◌≡◌, ◌↔◌, ℕ, false, true, filter, List, ◌++◌, length, Ok}
+-- What a node did behind its lock, between two states of a combiner that nobody else sees, and that are level with the log.
+use Rattle.std.specs.Prelude.{◌≡◌, ◌↔◌, ℕ, Bool, false, true, filter, List, ◌++◌, length, Result, Ok}
+use Rattle.nr_blob.specs.declared.memory.Memory.{Memory}
 use Rattle.nr_entry.specs.Jobs.{connection_of}
 use Rattle.nr_entry.specs.declared.conn.ConnId.{ConnId}
 use Rattle.nr_log_end.specs.declared.standing.Standing.{Standing}
 use Rattle.nr_slots.specs.Seats.{NoteView, note_of}
-use Rattle.nr_node.specs.Batches.{is_cut_at}
-use Rattle.nr_node.specs.Level.{NodeState, connection_at}
+use Rattle.nr_node.specs.Batches.{is_cut_at, IsOpened}
+use Rattle.nr_node.specs.Level.{NodeState, connection_at, IsLevel}
+use Rattle.nr_node.specs.Steps.{refusing_node}
+use Rattle.nr_node.specs.declared.answers.Round.{Round}
 use Rattle.nr_node.specs.declared.answers.Round.TheVariants as rounds
 use Rattle.nr_node.specs.declared.collecting.Handed.{Handed}
 use Rattle.nr_combiner.specs.declared.answering.Collected.{Collected}
 use Rattle.nr_combiner.specs.declared.answering.Lifts.{Lifts}
+use Rattle.nr_combiner.specs.declared.answering.Lifts.TheVariants.{All}
 use Rattle.nr_combiner.specs.declared.answering.Turned.{Turned}
 use Rattle.nr_combiner.specs.Pieces.{AddsFront}
-use Rattle.nr_combiner.specs.Served.{CombinerState, IsServed}
+use Rattle.nr_combiner.specs.Served.{CombinerState, IsServed, StandsLevel}
 use Rattle.nr_combiner.specs.Shared.{NodeView}
-use Rattle.nr_combiner.specs.Steps.{HasRoom, OpensFor}
+use Rattle.nr_combiner.specs.Steps.{HasCombined, HasRoom, OpensFor, closed_combiner}
 use Rattle.nr_combiner.specs.Turned.{HandsOutTo, HasTurned}
 
 -- A turn of this node: it is down exactly where it says so, and keeps what a combiner keeps.
@@ -27,6 +31,8 @@ pub record TurnsBehind (places node worker : ℕ) (which : Lifts) (most : ℕ) (
   pub down : (turned.combined ≡ Ok rounds.Down) ↔ (after.node.replica.down ≡ true)
   pub numbers : List ℕ
   pub served : IsServed after.node after.seat numbers
+  pub was_level : StandsLevel before
+  pub is_level : StandsLevel after
 
 -- It handed out alone, without a turn: no batch is lifted or answered, nothing is put into the log, and no entry is passed.
 pub record CollectsBehind (node worker most : ℕ) (old new : List Handed) (told : Collected) (s : Standing) (note : NoteView) : Type 0 where
@@ -38,6 +44,8 @@ pub record CollectsBehind (node worker most : ℕ) (old new : List Handed) (told
   pub down : told.is_down ≡ after.node.replica.down
   pub numbers : List ℕ
   pub served : IsServed after.node after.seat numbers
+  pub was_level : StandsLevel before
+  pub is_level : StandsLevel after
 
 -- It opened a connection for a worker, the node being up, where fewer than its limit weren't closed; it has the next serial, and the node's limit of bytes.
 pub record OpensBehind (at : NodeView) (worker : ℕ) (conn : ConnId) (s : Standing) (note : NoteView) : Type 0 where
@@ -50,15 +58,46 @@ pub record OpensBehind (at : NodeView) (worker : ℕ) (conn : ConnId) (s : Stand
   pub conn_is : connection_of conn ≡ connection_at before.node.replica.node (length before.node.replica.members)
   pub token : s ≡ after.node.seat.standing
   pub note_is : note ≡ note_of after.seat
+  pub was_level : StandsLevel before
+  pub is_level : StandsLevel after
+
+-- It closed a connection, if that is one that it opened.
+pub record ClosesBehind (conn : ConnId) : Type 0 where
+  pub before : CombinerState
+  pub after : CombinerState
+  pub closed : IsOpened before.node (connection_of conn) → after ≡ closed_combiner conn.serial before
+  pub other : (IsOpened before.node (connection_of conn) → ⊥) → after ≡ before
+  pub was_level : StandsLevel before
+  pub is_level : StandsLevel after
+
+-- A turn of it, for no worker.
+pub record CombinesBehind (places : ℕ) (result : Result Round Memory) : Type 0 where
+  pub before : CombinerState
+  pub after : CombinerState
+  pub behind : Bool
+  pub combined : HasCombined places All 0 result behind before after
+  pub down : (result ≡ Ok rounds.Down) ↔ (after.node.replica.down ≡ true)
+  pub was_level : StandsLevel before
+  pub is_level : StandsLevel after
+
+-- Its replica falls over the next entry.
+pub record RefusesBehind : Type 0 where
+  pub before : CombinerState
+  pub after : CombinerState
+  pub refused : after ≡ record before { node = refusing_node before.node }
+  pub was_level : StandsLevel before
+  pub is_level : StandsLevel after
 
 -- Those of some connections that were cut as it stood were added, in their order.
 pub record CutsBehind (node : ℕ) (conns old new : List ConnId) : Type 0 where
   pub at : NodeState
   pub node_is : at.book.node ≡ node
   pub added : new ≡ old ++ filter (is_cut_at at) conns
+  pub is_level : IsLevel at.seat.standing at.replica
 
 -- The first of those that were cut as a node stood were added.
 pub record CutsFrontBehind (conns old new : List ConnId) : Type 0 where
   pub at : NodeState
   pub left : List ConnId
   pub added : AddsFront (filter (is_cut_at at) conns) old new left
+  pub is_level : IsLevel at.seat.standing at.replica

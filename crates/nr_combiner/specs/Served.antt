@@ -14,7 +14,7 @@ use Rattle.nr_slots.specs.declared.view.Desk.{Desk}
 use Rattle.nr_slots.specs.Rule.{no_desk}
 use Rattle.nr_slots.specs.Seats.{CombinerView, desk_of}
 use Rattle.nr_slots.specs.Codes.{combiner_code}
-use Rattle.nr_node.specs.Level.{NodeState, coded_node, unpassed, jobs_reserved, all_jobs}
+use Rattle.nr_node.specs.Level.{NodeState, coded_node, unpassed, jobs_reserved, all_jobs, IsLevel}
 use Rattle.nr_node.specs.Owing.{IsServedBy}
 
 -- the node, the combiner's seat at its workers' slots, and how many connections aren't closed
@@ -27,6 +27,10 @@ abbrev pub coded_combiner : Coded CombinerState
 coded_combiner =
     code_by (NodeState × (CombinerView × ℕ)) (coded× coded_node (coded× combiner_code coded_ℕ)) (λ c. (c.node, (c.seat, c.taken)))
     (λ p. record { node = p.0; seat = p.1.0; taken = p.1.1 }) (λ _. refl)
+
+-- its node is level with the log: the replica is down, or is the sequential Redis after the record; and what waits for each connection is what the record emits for it
+abbrev pub StandsLevel : CombinerState → Type 0
+StandsLevel c = IsLevel c.node.seat.standing c.node.replica
 
 -- how many jobs of a worker's batch are neither applied nor run, where one was taken and isn't answered
 abbrev pub owed_at : ℕ → NodeState → Option ℕ

@@ -4,14 +4,14 @@ ghost use Rattle.std.specs.Arc.{arc_value};
 ghost use Rattle.std.specs.List.{AllByRecursion};
 ghost use Rattle.nr_entry.specs.Jobs.{connection_of, items_of};
 ghost use Rattle.nr_slots.specs.Seats.{new_combiner, note_of};
-ghost use Rattle.nr_log_end.specs.Standings.{opened_of};
+ghost use Rattle.nr_log_end.specs.Standings.{opened_of, passed_of};
 ghost use Rattle.nr_node.specs.Level.{connection_at, queue_at, workers_of};
 ghost use Rattle.nr_node.specs.Batches.{AreSame, is_cut_at, IsOpened, IsPiece};
 ghost use Rattle.nr_node.specs.Owing.{IsServedBy};
 ghost use Rattle.nr_node.specs.Sound.{IsSound};
 ghost use Rattle.nr_node.specs.Steps.{taken_node, refusing_node, is_due, HasHandedOut, IsStill};
 ghost use Rattle.nr_combiner.specs.Pieces.{AddsFront};
-ghost use Rattle.nr_combiner.specs.Served.{owed_at, HasNoJobs, IsServed};
+ghost use Rattle.nr_combiner.specs.Served.{owed_at, HasNoJobs, IsServed, StandsLevel};
 ghost use Rattle.nr_combiner.specs.Steps.{HasRoom, OpensFor, closed_combiner, refusal_at, IsRefusedFor, HasLifted, HasLiftedAll, HasLiftedBy, HasLiftedOwn, HasAnswered, HasAnsweredAll, HasTried, HasCombined, outcome_of};
 ghost use Rattle.nr_combiner.specs.Turned.{HandsOutTo, HasCollectedFor, HasTurned};
 
@@ -22,7 +22,7 @@ use nr_blob::Memory;
 use nr_entry::{Answer, Batch, ConnId};
 use nr_node::{Core, Handed, Round, Shape, TakeError};
 use nr_oplog::{LogName, Token};
-use nr_replica::{Piece, Spares};
+use nr_replica::{Piece, Replica, Spares};
 use nr_slots::{CombinerSeat, Note, Slots};
 use std::alloc::Global;
 use std::marker::Model;
@@ -106,6 +106,25 @@ impl<B: ServerName> Combiner<B> {
         ensures { result ≡ self.now.node.replica.down }
     {
         self.core.is_down()
+    }
+
+    /// [`Core::level`] of its node.
+    pub fn level(&self) -> u64
+        ensures passed { result ≡ passed_of self.now.node.seat.standing }
+        ensures level { StandsLevel self.now }
+    {
+        self.core.level()
+    }
+
+    /// [`Core::into_replica`] of its node.
+    pub fn into_replica(self) -> (Replica, Token<B>)
+        ensures replica { result.0 ≡ self.node.replica }
+        ensures kept { result.1.standing ≡ self.node.seat.standing }
+        ensures level { StandsLevel self }
+        ensures sound { IsSound self.node.seat.standing }
+    {
+        let Combiner { core, .. } = self;
+        core.into_replica()
     }
 
     /// Opens a connection that a worker serves, for which at most `limit` bytes wait. There is no room for it where `most` connections aren't closed, or the node

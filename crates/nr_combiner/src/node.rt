@@ -6,7 +6,8 @@ ghost use Rattle.nr_log_end.specs.Standings.{record_of};
 ghost use Rattle.nr_slots.specs.Rule.{no_desk};
 ghost use Rattle.nr_node.specs.Sound.{IsSound, Serves};
 ghost use Rattle.nr_combiner.specs.Pieces.{AreHandedIn, HasAdded, HasExecuted, HasOwn, IsPieceOf};
-ghost use Rattle.nr_combiner.specs.Behind.{CollectsBehind, CutsBehind, CutsFrontBehind, OpensBehind, TurnsBehind};
+ghost use Rattle.nr_combiner.specs.Behind.{ClosesBehind, CollectsBehind, CombinesBehind, CutsBehind, CutsFrontBehind, OpensBehind, RefusesBehind, TurnsBehind};
+ghost use Rattle.nr_combiner.specs.Shared.{IsTakenOut};
 ghost use Rattle.nr_combiner.specs.Turned.{tells_down};
 
 use crate::answering::{AskError, Lifts, OpenError};
@@ -17,7 +18,7 @@ use nr_blob::Memory;
 use nr_entry::ConnId;
 use nr_node::{Handed, Round};
 use nr_oplog::{Oplog, Token};
-use nr_replica::{Piece, Spares};
+use nr_replica::{Piece, Replica, Spares};
 use nr_slots::Slots;
 use std::alloc::Global;
 use std::hint;
@@ -92,6 +93,19 @@ impl<B: ServerName> Node<B> {
         ensures { result ≡ self.now.node }
     {
         self.node
+    }
+
+    /// What stands behind its lock, once nobody shares the node any more: its replica, with a token that keeps how the replica's end of the log stood. `None` where
+    /// another node stands there, which there never is.
+    pub fn into_replica(self) -> Option<(Replica, Token<B>)>
+        ensures { IfSome result (λ left. IsTakenOut self.node left.1.standing left.0) }
+    {
+        let node = self.node;
+        let combiner = self.combiner.into_inner();
+        if combiner.node() != node {
+            return None;
+        }
+        Some(combiner.into_replica())
     }
 
     /// The log that all nodes share.
@@ -185,19 +199,32 @@ impl<B: ServerName> Node<B> {
         if combiner.node() != self.node() {
             return Err(OpenError::Down);
         }
+        combiner.level();
         let conn = combiner.open(worker, self.limit, self.connections)?;
+        combiner.level();
         let (token, note) = combiner.keep();
         Ok(ToldOpened { conn, token, note })
     }
 
     /// [`Combiner::close`] behind the lock.
-    pub fn close<R: Wait>(&self, rt: &R, conn: ConnId) {
-        self.hold(rt).close(conn);
+    pub fn close<R: Wait>(&self, rt: &R, conn: ConnId)
+        ensures { ClosesBehind conn }
+    {
+        let mut combiner = self.hold(rt);
+        combiner.level();
+        combiner.close(conn);
+        combiner.level();
     }
 
     /// [`Combiner::combine`] behind the lock.
-    pub fn combine<R: Wait>(&self, rt: &R) -> Result<Round, Memory> {
-        self.hold(rt).combine()
+    pub fn combine<R: Wait>(&self, rt: &R) -> Result<Round, Memory>
+        ensures { CombinesBehind B.places result }
+    {
+        let mut combiner = self.hold(rt);
+        combiner.level();
+        let round = combiner.combine();
+        combiner.level();
+        round
     }
 
     /// [`Combiner::take_piece`] behind the lock. Its token keeps of which record the bytes are.
@@ -235,7 +262,10 @@ impl<B: ServerName> Node<B> {
         if combiner.node() != self.node {
             return None;
         }
-        Some(combiner.turn(worker, lifts, most, spares, taken))
+        combiner.level();
+        let told = combiner.turn(worker, lifts, most, spares, taken);
+        combiner.level();
+        Some(told)
     }
 
     /// [`Combiner::turn`] behind the lock, which it takes once. `None` where another node stands behind it, which there never is: then nothing is done.
@@ -306,7 +336,10 @@ impl<B: ServerName> Node<B> {
         if self.node != combiner.node() {
             return None;
         }
-        Some(combiner.collect_pieces(worker, most, spares, taken))
+        combiner.level();
+        let told = combiner.collect_pieces(worker, most, spares, taken);
+        combiner.level();
+        Some(told)
     }
 
     /// [`Combiner::cut_among`] behind the lock, which it takes once for all of these connections.
@@ -324,6 +357,7 @@ impl<B: ServerName> Node<B> {
         ensures front { OnErr result (CutsFrontBehind conns.now cut.old.items cut.new.items) }
     {
         let combiner = self.hold(rt);
+        combiner.level();
         if self.node() != combiner.node() {
             return Err(AskError::Elsewhere);
         }
@@ -332,7 +366,12 @@ impl<B: ServerName> Node<B> {
     }
 
     /// [`Combiner::refuse`] behind the lock. It is for tests.
-    pub fn refuse<R: Wait>(&self, rt: &R) {
-        self.hold(rt).refuse();
+    pub fn refuse<R: Wait>(&self, rt: &R)
+        ensures { RefusesBehind }
+    {
+        let mut combiner = self.hold(rt);
+        combiner.level();
+        combiner.refuse();
+        combiner.level();
     }
 }

@@ -12,6 +12,7 @@ use crate::answering::{Collected, Lifts, OpenError, Turned};
 use crate::name::ServerName;
 use crate::node::Node;
 use crate::told::{Told, ToldOpened, ToldPieces};
+use nr_blob::Memory;
 use nr_entry::{Batch, ConnId, Job, Outcome};
 use nr_node::Handed;
 use nr_oplog::Token;
@@ -68,6 +69,18 @@ impl<B: ServerName> Worker<B> {
         ensures { result.now ≡ shared_of self.now }
     {
         &self.shared
+    }
+
+    /// The same, to be held beside its workers.
+    ///
+    /// # Errors
+    ///
+    /// `Memory` where it is shared by as many as can be counted.
+    pub fn share_node(&self) -> Result<Arc<Node<B>, Global>, Memory>
+        ensures { IfOk result (λ node. arc_value node ≡ shared_of self.now) }
+    {
+        let node = Arc::try_clone(&self.shared)?;
+        Ok(node)
     }
 
     /// Opens a connection that this worker serves, and hears what its node and its combiner have done: [`Node::open`], and two loads. The token is of a record in

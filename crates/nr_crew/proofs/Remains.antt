@@ -46,6 +46,7 @@ is_answered was_received was_sent gives parted first setup service mark is r = r
     earlier = r.known.earlier;
     left = r.left;
     opened = r.opened;
+    apart = r.apart;
     given_back = r.given_back;
     in_time = record { last = service.clock; now = service.moment; by_clock = r.in_time };
   };

@@ -4,14 +4,14 @@ use Rattle.nr_model.specs.Bytes.{Bytes}
 use Rattle.nr_log_end.specs.declared.standing.Standing.{Standing}
 use Rattle.nr_service.specs.Devices.{AreGivenBack, Parting}
 use Rattle.nr_service.specs.Readings.{AreFedFrom}
-use Rattle.nr_service.specs.Serving.{AreOpened, IsLeft, streams_of}
+use Rattle.nr_service.specs.Serving.{AreOpened, IsApart, IsLeft, streams_of}
 use Rattle.nr_service.specs.Stories.{Story, fed_in}
 use Rattle.nr_service.specs.declared.client.Client.{Client}
 use Rattle.nr_worker.specs.Desk.{DeskState, IsLed}
 use Rattle.nr_lane.specs.Told.{Tells, WasAtFeeds}
 
--- A story tells of all that was fed to a worker's connections and handed out for them, of those that were ever opened at it. Each was one of a client, of those that
--- left or of those that are there: it was fed a beginning of what its stream received, and its stream sent a beginning of what was handed out for it. The streams of
+-- A story tells of all that was fed to a worker's connections and handed out for them, of those that were ever opened at it, no two of which are one. Each was one of a
+-- client, of those that left or of those that are there: it was fed a beginning of what its stream received, and its stream sent a beginning of what was handed out for it. The streams of
 -- those that left were given back, and bytes were fed at the moments behind the readings of the worker's clock.
 pub record HasServed {S M : Type 0} (was_received was_sent : S → Option Bytes) (gives : M → M → Option ℕ → Type 0) (given : Option (List (Parting S)))
     (clients : List (Client S)) (worker : DeskState) : Type 0 where
@@ -22,6 +22,7 @@ pub record HasServed {S M : Type 0} (was_received was_sent : S → Option Bytes)
   pub earlier : WasAtFeeds story.occurrences worker
   pub left : All (IsLeft was_received was_sent story) (gone ++ clients)
   pub opened : AreOpened story gone clients
+  pub apart : IsApart story
   pub given_back : AreGivenBack (streams_of gone) given
   pub in_time : AreFedFrom gives first (fed_in story.occurrences)
 

@@ -1,4 +1,5 @@
 pub mod Dealing
 pub mod Left
+pub mod Ended
 pub mod Together
 pub mod Nodes

@@ -3,7 +3,7 @@
 
 pub use dealing::Shape;
 pub use lane::{Lane, Left};
-pub use nodes::{Place, Served, Size, StartError, lanes_of, serve_nodes};
+pub use nodes::{Place, Served, Size, StartError, lanes_of, serve_nodes, share_nodes};
 pub use running::{Ran, ServeError, run_workers};
 pub use serving::ClientLimits;
 

@@ -5,6 +5,7 @@ ghost use Rattle.std.specs.Vec.{vec_len};
 ghost use Rattle.nr_oplog.specs.Opening.{name_of, nodes_of, places_of};
 ghost use Rattle.nr_combiner.specs.Opened.{AreNamed, AreOfWorkers};
 ghost use Rattle.nr_crew.specs.Dealing.{HasDealt};
+ghost use Rattle.nr_crew.specs.Ended.{HasEnded};
 ghost use Rattle.nr_crew.specs.Nodes.{AreFresh, IsFresh};
 ghost use Rattle.nr_crew.specs.Together.{AreServedTogether};
 
@@ -13,9 +14,10 @@ use crate::lane::{Lane, Left};
 use crate::running::{ServeError, run_workers};
 use crate::serving::ClientLimits;
 use nr_blob::Memory;
-use nr_combiner::{BuildError, OpenedSlots, Plan, ServerName, Worker, build, open_slots};
+use nr_combiner::{BuildError, Node, OpenedSlots, Plan, ServerName, Worker, build, open_slots};
 use nr_lane::Crew;
 use nr_oplog::{OpenError, Opened, Oplog};
+use nr_replica::Replica;
 use nr_service::{Accepts, Device, Gate, Moments, Rings, Stream};
 use std::alloc::Global;
 use std::hash::RandomState;
@@ -40,10 +42,11 @@ pub struct Place<D, M> {
     pub clock: M,
 }
 
-/// What the workers of a server left, and why they ended.
+/// What the workers of a server left, the replicas of its nodes, that of node 0 first, and why they ended.
 #[derive(Drop)]
 pub struct Served<S, D, M> {
     pub lefts: Vec<Left<S, D, M>>,
+    pub replicas: Vec<Replica>,
     pub ended: Result<(), ServeError>,
 }
 
@@ -85,20 +88,17 @@ fn add_lanes<B: ServerName, D: Drop, M: Drop>(
             return Err(StartError::FewPlaces);
         };
         let lane = Lane::new(alloc, worker, number, device, clock)?;
-        keep_lane(lane, lanes)?;
+        keep(lane, lanes)?;
         number = number.saturating_add(1);
     }
     Ok(())
 }
 
-// Keeps one more lane.
-fn keep_lane<B: ServerName, D: Drop, M: Drop>(
-    lane: Lane<B, D, M>,
-    lanes: &mut Vec<Lane<B, D, M>>,
-) -> Result<(), Memory>
-    ensures { OnOk result (vec_len lanes.new ≡ vec_len lanes.old + 1) }
+// Keeps one more.
+fn keep<T: Drop>(one: T, all: &mut Vec<T>) -> Result<(), Memory>
+    ensures { OnOk result (vec_len all.new ≡ vec_len all.old + 1) }
 {
-    lanes.push(lane)?;
+    all.push(one)?;
     Ok(())
 }
 
@@ -161,9 +161,9 @@ where
     requires nodes { size.shape.nodes ≡ B.nodes }
     requires slots { (length slots.items ≡ B.nodes) × AreNamed B.slots slots.items }
     requires workers { AreOfWorkers size.shape.workers slots.items }
-    ensures together { IfOk result (λ served. AreServedTogether S.received S.sent M.gives D.parted served.0.lefts.items) }
+    ensures together { IfOk result (λ served. AreServedTogether S.received S.sent M.gives D.parted served.0.lefts.items served.0.replicas.items) }
     ensures dealt { IfOk result (λ served. HasDealt size.shape.nodes size.shape.workers (L.dealt main) (L.dealt served.1)) }
-    ensures all { IfOk result (λ served. IfOk served.0.ended (λ _. vec_len served.0.lefts ≡ size.shape.nodes * size.shape.workers)) }
+    ensures ended { IfOk result (λ served. HasEnded (size.shape.nodes * size.shape.workers) served.0.ended served.0.lefts.items) }
 {
     let shape = size.shape;
     let crew = Crew::new(alloc, bells, shape.nodes, shape.workers, size.connections)?;
@@ -174,11 +174,13 @@ where
     };
     let built = build::<B>(alloc, keys, opened, slots, plan)?;
     let log = share_log(&built)?;
+    let nodes = share_nodes(alloc, &built)?;
     let lanes = lanes_of(alloc, built, shape.workers, places)?;
     let (ran, main) = run_workers::<B, R, S, D, M, K, G, L>(
         rt,
         alloc,
         lanes,
+        nodes,
         &log,
         &crew,
         main,
@@ -189,6 +191,7 @@ where
     Ok((
         Served {
             lefts: ran.lefts,
+            replicas: ran.replicas,
             ended: ran.ended,
         },
         main,
@@ -202,6 +205,33 @@ fn share_log<B: ServerName>(built: &[Vec<Worker<B>>]) -> Result<Arc<Oplog<B>, Gl
     };
     match workers.first() {
         Some(worker) => Ok(worker.shared().share_log()?),
+        None => Err(StartError::BadShape),
+    }
+}
+
+/// The nodes that these workers share, in order.
+///
+/// # Errors
+///
+/// `Memory` where memory runs out, `BadShape` where a node has no worker.
+pub fn share_nodes<B: ServerName>(
+    alloc: Global,
+    built: &[Vec<Worker<B>>],
+) -> Result<Vec<Arc<Node<B>, Global>>, StartError>
+    ensures { IfOk result (λ nodes. vec_len nodes ≡ length built.now) }
+{
+    let mut nodes = Vec::new(alloc);
+    for workers in built {
+        let node = share_node(workers)?;
+        keep(node, &mut nodes)?;
+    }
+    Ok(nodes)
+}
+
+// The node that these workers share.
+fn share_node<B: ServerName>(workers: &[Worker<B>]) -> Result<Arc<Node<B>, Global>, StartError> {
+    match workers.first() {
+        Some(worker) => Ok(worker.share_node()?),
         None => Err(StartError::BadShape),
     }
 }
@@ -231,9 +261,9 @@ where
     K: Rings + Drop + Sync,
     G: Gate + Sync,
     L: Accepts + Drop,
-    ensures together { IfOk result (λ served. AreServedTogether S.received S.sent M.gives D.parted served.0.lefts.items) }
+    ensures together { IfOk result (λ served. AreServedTogether S.received S.sent M.gives D.parted served.0.lefts.items served.0.replicas.items) }
     ensures dealt { IfOk result (λ served. HasDealt size.shape.nodes size.shape.workers (L.dealt main) (L.dealt served.1)) }
-    ensures all { IfOk result (λ served. IfOk served.0.ended (λ _. vec_len served.0.lefts ≡ size.shape.nodes * size.shape.workers)) }
+    ensures ended { IfOk result (λ served. HasEnded (size.shape.nodes * size.shape.workers) served.0.ended served.0.lefts.items) }
 {
     let opened = match Opened::open(alloc, size.shape.nodes, size.places) {
         Ok(opened) => opened,

@@ -1,22 +1,27 @@
 // The workers of a server, each on a thread of its own, beside the thread that deals connections out.
-ghost use Rattle.std.specs.Prelude.{◌≡◌, ◌+◌, ◌<◌, ◌≤◌, [], IsTrue, IfOk};
+ghost use Rattle.std.specs.Prelude.{◌≡◌, ◌+◌, ◌<◌, ◌≤◌, [], List, IsTrue, IfOk, IfSome, OnOk};
 ghost use Rattle.std.specs.Vec.{vec_len, vec_capacity};
+ghost use Rattle.nr_taps.specs.Marks.{MarkState};
+ghost use Rattle.nr_node.specs.Level.{IsLevel};
+ghost use Rattle.nr_node.specs.Sound.{IsSound};
 ghost use Rattle.nr_crew.specs.Dealing.{HasDealt};
+ghost use Rattle.nr_crew.specs.Ended.{HasEnded, any_device, any_down, ended_of, is_device, is_down, unless_wanted};
 ghost use Rattle.nr_crew.specs.Left.{IsAnswered};
-ghost use Rattle.nr_crew.specs.Together.{AreAnsweredTogether, AreLeft};
+ghost use Rattle.nr_crew.specs.Together.{AreAnsweredTogether, AreLeft, AreTakenOut};
 
 use crate::dealing::{Shape, deal_out};
 use crate::lane::{Answered, Lane, Leaving, Left};
 use crate::serving::{ClientLimits, serve_lane};
 use nr_blob::Memory;
-use nr_combiner::ServerName;
+use nr_combiner::{Node, ServerName};
 use nr_lane::Crew;
-use nr_oplog::Oplog;
+use nr_oplog::{Oplog, Token};
+use nr_replica::Replica;
 use nr_service::{Accepts, Device, Ended, Gate, Moments, Rings, Stream};
 use nr_taps::{Mark, meet_marks};
 use nr_worker::desk_law;
 use std::alloc::Global;
-use std::sync::Wait;
+use std::sync::{Arc, Wait};
 use std::thread::{self, PromisedHandle, Scope, Threads};
 
 /// Why a server's workers ended before they were to.
@@ -32,12 +37,21 @@ pub enum ServeError {
     NoThread,
 }
 
-/// What the workers left that had started, and why they ended. And their marks: what the node of each had done when it last handed something out to it.
+/// What the workers left that had started, and why they ended; and the replicas of the nodes, in the order in which those were told, but of a node that somebody else holds still.
+/// And the marks: what the node of each worker had done when it last handed something out to it, and behind these how the end of the log of each replica stood.
 #[derive(Drop)]
 pub struct Ran<B: ServerName, S, D, M> {
     pub marks: Vec<Mark<B>>,
     pub lefts: Vec<Left<S, D, M>>,
+    pub replicas: Vec<Replica>,
     pub ended: Result<(), ServeError>,
+}
+
+// The same without the replicas.
+struct Joined<B: ServerName, S, D, M> {
+    marks: Vec<Mark<B>>,
+    lefts: Vec<Left<S, D, M>>,
+    ended: Result<(), ServeError>,
 }
 
 // Room for all that is made of so many lanes.
@@ -116,31 +130,58 @@ fn ended_by<S, D, M>(
     has_all_threads: bool,
     comes_more: bool,
 ) -> Result<(), ServeError>
-    ensures { IfOk result (λ _. IsTrue has_all_threads) }
+    ensures { result ≡ ended_of has_all_threads comes_more lefts.now }
 {
     if !has_all_threads {
         return Err(ServeError::NoThread);
     }
-    if !comes_more || lefts.iter().any(|left| left.ended == Ended::Device) {
+    if !comes_more || any_device(lefts) {
         return Err(ServeError::Device);
     }
-    if lefts.iter().any(|left| left.ended == Ended::Down) {
+    if any_down(lefts) {
         return Err(ServeError::Down);
     }
-    match wanted_by(lefts) {
-        Some(memory) => Err(ServeError::Memory(memory)),
-        None => Ok(()),
-    }
+    unless_wanted(lefts)
+}
+
+// Whether one of these ended since its device can't wait any more.
+fn any_device<S, D, M>(lefts: &[Left<S, D, M>]) -> bool
+    ensures { result ≡ any_device lefts.now }
+{
+    lefts.iter().any(|left| is_device(left.ended))
+}
+
+// Whether one of these ended since every node is down.
+fn any_down<S, D, M>(lefts: &[Left<S, D, M>]) -> bool
+    ensures { result ≡ any_down lefts.now }
+{
+    lefts.iter().any(|left| is_down(left.ended))
+}
+
+// Whether it ended since its device can't wait any more.
+fn is_device(ended: Ended) -> bool
+    ensures { result ≡ is_device ended }
+{
+    matches!(ended, Ended::Device)
+}
+
+// Whether it ended since every node is down.
+fn is_down(ended: Ended) -> bool
+    ensures { result ≡ is_down ended }
+{
+    matches!(ended, Ended::Down)
 }
 
 // The want of memory for which the first of those ended that did for that.
-fn wanted_by<S, D, M>(lefts: &[Left<S, D, M>]) -> Option<Memory> {
+fn unless_wanted<S, D, M>(lefts: &[Left<S, D, M>]) -> Result<(), ServeError>
+    ensures { result ≡ unless_wanted lefts.now }
+{
     for left in lefts {
         if let Ended::Memory(memory) = left.ended {
-            return Some(memory);
+            return Err(ServeError::Memory(memory));
         }
     }
-    None
+    Ok(())
 }
 
 // Keeps the thread that was started. Whether it was: else all that did are told to stop.
@@ -277,7 +318,7 @@ fn run_all<B, R, S, D, M, K, G, L>(
     gate: &G,
     shape: Shape,
     limits: ClientLimits,
-) -> Result<(Ran<B, S, D, M>, L), Memory>
+) -> Result<(Joined<B, S, D, M>, L), Memory>
 where
     B: ServerName + Send + Sync,
     R: Threads + Wait + Sync,
@@ -289,16 +330,16 @@ where
     L: Accepts + Drop,
     ensures left { IfOk result (λ r. AreLeft S.received S.sent M.gives D.parted r.0.marks.items r.0.lefts.items) }
     ensures dealt { IfOk result (λ r. HasDealt shape.nodes shape.workers (L.dealt main) (L.dealt r.1)) }
-    ensures all { IfOk result (λ r. IfOk r.0.ended (λ _. vec_len r.0.lefts ≡ vec_len lanes)) }
+    ensures ended { IfOk result (λ r. HasEnded (vec_len lanes) r.0.ended r.0.lefts.items) }
 {
     let ClientLimits { limit, timeout } = limits;
     thread::scope(
         thread::scope_env(),
         rt,
-        move |scope| -> Result<(Ran<B, S, D, M>, L), Memory>
+        move |scope| -> Result<(Joined<B, S, D, M>, L), Memory>
             ensures left { IfOk result (λ r. AreLeft S.received S.sent M.gives D.parted r.0.marks.items r.0.lefts.items) }
             ensures dealt { IfOk result (λ r. HasDealt shape.nodes shape.workers (L.dealt main) (L.dealt r.1)) }
-            ensures all { IfOk result (λ r. IfOk r.0.ended (λ _. vec_len r.0.lefts ≡ vec_len lanes)) }
+            ensures ended { IfOk result (λ r. HasEnded (vec_len lanes) r.0.ended r.0.lefts.items) }
         {
             let room = room_for(alloc, lanes.len())?;
             let Room {
@@ -321,7 +362,7 @@ where
             join_all(rt, handles, &mut marks, &mut lefts);
             let ended = ended_by(&lefts, has_all_threads, comes_more);
             Ok((
-                Ran {
+                Joined {
                     marks,
                     lefts,
                     ended,
@@ -332,11 +373,66 @@ where
     )
 }
 
+// The replica of a node that nobody else holds any more, with a token that keeps how its end of the log stood.
+fn take_out<B: ServerName>(node: Arc<Node<B>, Global>) -> Option<(Replica, Token<B>)>
+    ensures { IfSome result (λ left. IsLevel left.1.standing left.0 × IsSound left.1.standing) }
+{
+    let node = Arc::try_unwrap(node).ok()?;
+    node.into_replica()
+}
+
+// Room for one more mark and one more replica.
+fn make_room<B: ServerName>(
+    marks: &mut Vec<Mark<B>>,
+    replicas: &mut Vec<Replica>,
+) -> Result<(), Memory>
+    ensures marks { marks.new.items ≡ marks.old.items }
+    ensures replicas { replicas.new.items ≡ replicas.old.items }
+    ensures room { OnOk result ((vec_len marks.new < vec_capacity marks.new) × (vec_len replicas.new < vec_capacity replicas.new)) }
+{
+    marks.reserve(1)?;
+    replicas.reserve(1)?;
+    Ok(())
+}
+
+// Keeps the replica of a node, and how its end of the log stood, where nobody else holds the node and there is room for them.
+fn keep_replica<B: ServerName>(
+    node: Arc<Node<B>, Global>,
+    marks: &mut Vec<Mark<B>>,
+    replicas: &mut Vec<Replica>,
+)
+    ensures { (own : List MarkState) → AreTakenOut own marks.old.items replicas.old.items → AreTakenOut own marks.new.items replicas.new.items }
+{
+    if make_room(marks, replicas).is_err() {
+        return;
+    }
+    let Some((replica, token)) = take_out(node) else {
+        return;
+    };
+    marks.push_reserved(Mark::of(token));
+    replicas.push_reserved(replica);
+}
+
+// Keeps the replicas of all these nodes.
+fn keep_replicas<B: ServerName>(
+    nodes: Vec<Arc<Node<B>, Global>>,
+    marks: &mut Vec<Mark<B>>,
+    replicas: &mut Vec<Replica>,
+)
+    requires { replicas.old.items ≡ [] }
+    ensures { AreTakenOut marks.old.items marks.new.items replicas.new.items }
+{
+    for node in nodes {
+        keep_replica(node, marks, replicas);
+    }
+}
+
 /// Serves by these lanes, each on a thread of its own, and deals the connections out to them that come from `main`: connection number x, from 0 on, goes to
 /// node x mod nodes, worker (x / nodes) mod workers, or to that worker of the next node that takes it. The lanes stand in the order of their nodes, and of the
 /// workers of each: worker w of node n is lane n * workers + w. Each connection is served within these limits. It ends once the gate stopped all workers, every node
 /// is down, one of them can't wait any more, no connection can come any more, `main` told to end, and all rest where that is to be in order, or the crew is
-/// told to stop: then all end, and what they left is handed back with `main`.
+/// told to stop: then all end, and what they left is handed back with `main` and the replicas of these nodes, which are those of the lanes. A node that somebody
+/// else holds then keeps its replica.
 ///
 /// # Errors
 ///
@@ -345,6 +441,7 @@ pub fn run_workers<B, R, S, D, M, K, G, L>(
     rt: &R,
     alloc: Global,
     lanes: Vec<Lane<B, D, M>>,
+    nodes: Vec<Arc<Node<B>, Global>>,
     log: &Oplog<B>,
     crew: &Crew<K>,
     main: L,
@@ -361,13 +458,26 @@ where
     K: Rings + Sync,
     G: Gate + Sync,
     L: Accepts + Drop,
-    ensures together { IfOk result (λ ran. AreAnsweredTogether S.received S.sent M.gives D.parted ran.0.marks.items ran.0.lefts.items) }
+    ensures together { IfOk result (λ ran. AreAnsweredTogether S.received S.sent M.gives D.parted ran.0.marks.items ran.0.lefts.items ran.0.replicas.items) }
     ensures dealt { IfOk result (λ ran. HasDealt shape.nodes shape.workers (L.dealt main) (L.dealt ran.1)) }
-    ensures all { IfOk result (λ ran. IfOk ran.0.ended (λ _. vec_len ran.0.lefts ≡ vec_len lanes)) }
+    ensures ended { IfOk result (λ ran. HasEnded (vec_len lanes) ran.0.ended ran.0.lefts.items) }
 {
     let ran_all = run_all(rt, alloc, lanes, crew, main, gate, shape, limits)?;
-    let (mut ran, main) = ran_all;
-    meet_marks(log, &mut ran.marks);
+    let (joined, main) = ran_all;
+    let Joined {
+        mut marks,
+        lefts,
+        ended,
+    } = joined;
+    let mut replicas = Vec::new(alloc);
+    keep_replicas(nodes, &mut marks, &mut replicas);
+    meet_marks(log, &mut marks);
     desk_law();
+    let ran = Ran {
+        marks,
+        lefts,
+        replicas,
+        ended,
+    };
     Ok((ran, main))
 }

@@ -136,7 +136,9 @@ fn doors(rt: HostRuntime) -> Result<(), Fail> {
     }
     for lookout in lookouts {
         let lane = lookout.lane;
-        let mut door = Door::new(rt.alloc(), &rt, &entrance, lookout)?;
+        let mut door = Door::new(rt.alloc(), &rt, &entrance, lookout)
+            .ok()
+            .expect(&rt, "the lane is there");
         come_in_order(&rt, &mut door, lane);
         holds(
             &rt,

@@ -4,7 +4,7 @@ ghost use Rattle.nr_oplog.specs.Opening.{name_of, nodes_of, places_of};
 ghost use Rattle.nr_combiner.specs.Opened.{AreNamed, AreOfWorkers};
 
 use nr_combiner::{OpenedSlots, Plan, ServerName, Worker, build, open_slots};
-use nr_crew::{Place, Served, Size, StartError, lanes_of, run_workers};
+use nr_crew::{Place, Served, Size, StartError, lanes_of, run_workers, share_nodes};
 use nr_lane::Crew;
 use nr_oplog::{Opened, Oplog};
 use nr_service::{Accepts, Device, Gate, Moments, Silent, Stream};
@@ -62,11 +62,13 @@ where
     };
     let built = build::<B>(alloc, keys, opened, slots, plan)?;
     let log = refuse_first(rt, &built)?;
+    let nodes = share_nodes(alloc, &built)?;
     let lanes = lanes_of(alloc, built, shape.workers, places)?;
     let (ran, main) = run_workers::<B, R, S, D, M, Silent, G, L>(
         rt,
         alloc,
         lanes,
+        nodes,
         &log,
         &crew,
         main,
@@ -77,6 +79,7 @@ where
     Ok((
         Served {
             lefts: ran.lefts,
+            replicas: ran.replicas,
             ended: ran.ended,
         },
         main,

@@ -278,6 +278,22 @@ fn ends_of<R: Abort>(
     Some((count, given))
 }
 
+// Whether these are the replicas of so many nodes, in order, with a connection at least for each client that is left.
+fn have_come_back<S, D, M>(served: &Served<S, D, M>, nodes: usize) -> bool {
+    let mut connections = 0usize;
+    for replica in &served.replicas {
+        connections = connections.saturating_add(replica.connections());
+    }
+    let mut clients = 0usize;
+    for left in &served.lefts {
+        clients = clients.saturating_add(left.clients.len());
+    }
+    let mut replicas = served.replicas.iter().enumerate();
+    served.replicas.len() == nodes
+        && clients <= connections
+        && replicas.all(|(node, replica)| replica.node() == node)
+}
+
 /// Serves these connections by a new server, each worker on a thread of its own, until all went that don't stay, or none can come any more.
 pub(crate) fn serve<R>(rt: &R, alloc: Global, trial: Trial, mut lines: Vec<Line>) -> Came
 where
@@ -306,6 +322,11 @@ where
     let keys = RandomState::new(rt).ok().expect(rt, "random bytes");
     let served = serve_by(rt, alloc, keys, trial, places, arrivals, &watch);
     let (served, arrivals) = served.ok().expect(rt, "memory");
+    if !have_come_back(&served, trial.nodes) {
+        panic!(rt;
+            "the replica of each node comes back from behind its lock, with its connections"
+        );
+    }
     let workers = served.lefts.len();
     let mut gone = Vec::new(alloc);
     let mut stayed = Vec::new(alloc);

@@ -45,12 +45,14 @@ enum Task {
     Messages(u32),
     /// So many subscribers of one worker get what another node publishes.
     Subscribers(usize),
+    /// So often the queue of a connection of the last worker is cut beside others, and it goes.
+    Cuts(u32),
     /// Node 0 falls, and so many entries come behind that.
     Falls(u32),
 }
 
 /// Servers of so many nodes, of so many workers each, with so many places, and what is done there.
-const ROWS: [(usize, usize, usize, Task); 9] = [
+const ROWS: [(usize, usize, usize, Task); 10] = [
     (8, 16, 1_024, Task::EachAlone),
     (5, 16, 64, Task::Woken),
     (1, 1, 64, Task::Batches(200_100)),
@@ -58,7 +60,8 @@ const ROWS: [(usize, usize, usize, Task); 9] = [
     (1, 3, 64, Task::AtOnce(9_000)),
     (1, 1, 64, Task::Replies(17)),
     (1, 2, 64, Task::Messages(17)),
-    (2, 3, 1_024, Task::Subscribers(70)),
+    (2, 3, 1_024, Task::Subscribers(1_000)),
+    (1, 16, 64, Task::Cuts(1_100)),
     (3, 1, 64, Task::Falls(5_000)),
 ];
 
@@ -66,6 +69,13 @@ const ROWS: [(usize, usize, usize, Task); 9] = [
 const CONNECTIONS: usize = 1_024;
 
 const LIMIT: usize = 64 * MEBIBYTE;
+
+/// How many bytes wait for one where its queue is to be cut: one of the replies below, and not two.
+const NARROW: usize = 1_024;
+
+const STORE: (&[u8], &[u8]) = (b"SETRANGE v 999 x\r\n", b":1000\r\n");
+
+const TWICE: &[u8] = b"GET v\r\nGET v\r\n";
 
 const PING: (&[u8], &[u8]) = (b"PING\r\n", b"+PONG\r\n");
 
@@ -382,11 +392,53 @@ fn subscribers<R: Abort, A: Answers>(
     count: usize,
 ) {
     let subscribers = subscribe_many(rt, alloc, server, count);
-    let publish = (b"PUBLISH c m\r\n".as_slice(), b":70\r\n".as_slice());
+    let publish = (b"PUBLISH c m\r\n".as_slice(), b":1000\r\n".as_slice());
     opens_and_asks(rt, server, (1, 0), publish);
     let desk = server.desk(rt, 0, 1);
     works(rt, desk);
     each_gets(rt, desk, &subscribers);
+    works(rt, desk);
+    holds(rt, "nobody is told of twice", desk.told(0).is_none());
+}
+
+// Works until nothing more comes for a connection.
+fn works_until_cut<R: Abort, A: Answers>(rt: &R, desk: &mut A, conn: ConnId) {
+    for _ in 0..MOST_WORKS {
+        if desk.standing(conn) == Standing::Over {
+            return;
+        }
+        works(rt, desk);
+    }
+    panic!(rt; "it is cut");
+}
+
+// One more waits for more than its queue holds, beside one that came behind it; and both go.
+fn cut<R: Abort, A: Answers>(rt: &R, server: &mut Server<'_, A>, worker: usize) {
+    let slow = server.opens(rt, 0, worker);
+    let other = opens_and_asks(rt, server, (0, worker), PING);
+    let desk = server.desk(rt, 0, worker);
+    sends(rt, desk, slow, TWICE);
+    works_until_cut(rt, desk, slow);
+    asks(rt, desk, other, PING);
+    holds(rt, "it is closed", desk.close(slow, 0).is_ok());
+    holds(rt, "so is the other", desk.close(other, 0).is_ok());
+    works(rt, desk);
+}
+
+// So many are cut and go, one by one, while others stay.
+fn cuts<R: Abort, A: Answers>(rt: &R, alloc: Global, server: &mut Server<'_, A>, count: u32) {
+    let worker = server.workers.saturating_sub(1);
+    let mut stay = Vec::new(alloc);
+    for _ in 0..4 {
+        let conn = opens_and_asks(rt, server, (0, worker), STORE);
+        stay.push(conn).ok().expect(rt, "memory");
+    }
+    for _ in 0..count {
+        cut(rt, server, worker);
+    }
+    for conn in &stay {
+        asks(rt, server.desk(rt, 0, worker), *conn, PING);
+    }
 }
 
 // An entry comes, and all nodes pass it.
@@ -417,7 +469,16 @@ fn does<R: Abort, A: Answers>(rt: &R, alloc: Global, server: &mut Server<'_, A>,
         Task::Replies(count) => replies(rt, alloc, server, count),
         Task::Messages(count) => messages(rt, alloc, server, count),
         Task::Subscribers(count) => subscribers(rt, alloc, server, count),
+        Task::Cuts(count) => cuts(rt, alloc, server, count),
         Task::Falls(count) => falls(rt, server, count),
+    }
+}
+
+// How many bytes wait for a connection at most.
+fn limit_of(task: Task) -> usize {
+    match task {
+        Task::Cuts(_) => NARROW,
+        _ => LIMIT,
     }
 }
 
@@ -439,11 +500,12 @@ fn desks_of<'c, B: ServerName, R: Wait + Abort>(
     alloc: Global,
     lanes: Vec<Lane<B, Silent, Silent>>,
     crew: &'c Crew<Bells>,
+    limit: usize,
 ) -> Vec<ServingDesk<'c, R, B, Bells>> {
     let mut desks = Vec::new(alloc);
     for lane in lanes {
         let Lane { worker, number, .. } = lane;
-        let desk = ServingDesk::new(alloc, rt, worker, number, crew, LIMIT, MEBIBYTE);
+        let desk = ServingDesk::new(alloc, rt, worker, number, crew, limit, MEBIBYTE);
         desks.push(desk).ok().expect(rt, "memory");
     }
     desks
@@ -478,7 +540,7 @@ where
     let plan = Plan {
         workers,
         connections: CONNECTIONS,
-        limit: LIMIT,
+        limit: limit_of(task),
     };
     let built = build::<B>(alloc, keys, opened, slots, plan)?;
     if let Task::Falls(_) = task {
@@ -486,7 +548,7 @@ where
     }
     let places = no_places(rt, alloc, lanes);
     let lanes = lanes_of(alloc, built, workers, places)?;
-    let desks = desks_of(rt, alloc, lanes, &crew);
+    let desks = desks_of(rt, alloc, lanes, &crew, limit_of(task));
     let mut server = Server {
         nodes,
         workers,

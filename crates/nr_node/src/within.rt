@@ -10,7 +10,7 @@ ghost use Rattle.nr_log_end.specs.Standings.{opened_of, passed_of};
 ghost use Rattle.nr_log_end.specs.Tries.{IsFull, IsLost};
 ghost use Rattle.nr_oplog.specs.Rule.{opening_view};
 ghost use Rattle.nr_replica.specs.Members.{next_ready};
-ghost use Rattle.nr_node.specs.Level.{connection_at, queue_at, is_closed_at, workers_of};
+ghost use Rattle.nr_node.specs.Level.{connection_at, queue_at, is_closed_at, workers_of, IsLevel};
 ghost use Rattle.nr_node.specs.Advanced.{HasStopped};
 ghost use Rattle.nr_node.specs.Batches.{AreSame, refusal, is_cut_at, IsOpened, IsPiece};
 ghost use Rattle.nr_node.specs.Collected.{IsHanded};
@@ -103,6 +103,30 @@ impl<B: LogName> Core<B> {
         ensures { result ≡ self.now.replica.down }
     {
         self.replica.is_down()
+    }
+
+    /// The level at which it stands: how many entries of the log it has passed, by no load. Whatever other threads do, a replica that is up is the sequential Redis after the
+    /// record of its end, and what waits for each connection is what that record emits for it behind what was handed out: all of it, where the replica is up and the
+    /// queue isn't cut.
+    pub fn level(&self) -> u64
+        ensures passed { result ≡ passed_of self.now.seat.standing }
+        ensures level { IsLevel self.now.seat.standing self.now.replica }
+    {
+        self.end.passed()
+    }
+
+    /// Its replica, with a token that keeps how its end of the log stood: they are level.
+    pub fn into_replica(self) -> (Replica, Token<B>)
+        ensures replica { result.0 ≡ self.replica }
+        ensures kept { result.1.standing ≡ self.seat.standing }
+        ensures level { IsLevel self.seat.standing self.replica }
+        ensures sound { IsSound self.seat.standing }
+    {
+        let mut core = self;
+        let token = core.token();
+        core.level();
+        let Core { replica, .. } = core;
+        (replica, token)
     }
 
     /// Opens a connection that one of the node's workers serves, for which at most `limit` bytes wait, and notes at its end of the log which worker that is, by one

@@ -192,7 +192,7 @@ module _ (law : HoldsOfDesks) (w : WorkerState) (c : Connection) (sent : Bytes) 
   answered_at m n batch got o is g =
       let led = gets m n batch got g (posts m batch is (is_fed m (opens m o))) in
       subst (λ (l : List Batch). IsAnsweredBy (l ++ batch ∷ []) n got) (sym none)
-      (law.answered (at (batch ∷ []) n (served_one c sent got) ∷ []) (led, tt) (alone n))
+      (law.answered [] (at (batch ∷ []) n (served_one c sent got) ∷ []) tt (led, tt) (alone n))
 
   answered_one : (v : WorkerState) (jobs : List Job) (m n : Option Standing) (got : Bytes) → HasOpened w c m → items_of jobs ≡ asked_of asks
       → HasPosted jobs w v → HasGotFirst v c m n got → IsAnsweredBy v.seat.lane.posted n got

@@ -1,9 +1,10 @@
 // What a worker keeps of its connections: their sessions, and what was handed out for them.
 use crate::asserted::{holds, same};
+use nr_blob::Memory;
 use nr_entry::{ConnId, Job};
 use nr_node::Handed;
-use nr_replica::{Piece, Spares};
-use nr_seats::{Closed, Seats};
+use nr_replica::{Cut, Piece, Spares};
+use nr_seats::{Closed, Seat, Seats};
 use std::alloc::Global;
 use std::process::Abort;
 
@@ -90,4 +91,44 @@ fn a_seat_from_first_to_last(rt: HostRuntime) {
         matches!(closed, Closed::Last(_)),
     );
     holds(&rt, "it is gone", !seats.is_open(CONN.serial));
+}
+
+// Want of memory, by a block of 2^62 bytes.
+fn want_of_memory(alloc: Global) -> Result<Vec<u8>, Memory> {
+    Ok(Vec::with_capacity(alloc, 1 << 62)?)
+}
+
+// A seat for which at most eight bytes wait, behind a piece of so many bytes from so many on.
+fn behind_a_piece(rt: &impl Abort, alloc: Global, from: u64, bytes: &[u8], is_cut: bool) -> Seat {
+    let mut seat = Seat::new(alloc, CONN);
+    seat.take_in(handed(rt, alloc, from, bytes, is_cut), 8);
+    seat
+}
+
+// Each way in which a seat is cut leaves its reason, and the first of them stays.
+#[test]
+fn a_cut_keeps_its_first_reason(rt: HostRuntime) {
+    let alloc = rt.alloc();
+    let memory = want_of_memory(alloc)
+        .err()
+        .expect(&rt, "no block has so many bytes");
+    let mut refused = Seat::new(alloc, CONN);
+    refused.cut(Cut::Refused(memory));
+    refused.cut(Cut::Full);
+    let mut last = behind_a_piece(&rt, alloc, 0, b"12345678", true);
+    last.cut(Cut::Fallen);
+    let rows = [
+        (behind_a_piece(&rt, alloc, 0, b"12345678", false), None),
+        (
+            behind_a_piece(&rt, alloc, 0, b"123456789", false),
+            Some(Cut::Full),
+        ),
+        (behind_a_piece(&rt, alloc, 1, b"1", false), Some(Cut::Full)),
+        (behind_a_piece(&rt, alloc, 1, b"1", true), Some(Cut::Full)),
+        (last, Some(Cut::Closed)),
+        (refused, Some(Cut::Refused(memory))),
+    ];
+    for (seat, why) in &rows {
+        assert!(&rt; seat.why_cut() == *why);
+    }
 }

@@ -8,7 +8,7 @@ pub use notice::Notice;
 pub use refusal::Refusal;
 pub use run::{Done, Served, serve_stream};
 pub use script::play_on;
-pub use serve::{listen_on, serve_by_tcp, serve_on};
+pub use serve::{Remains, listen_on, serve_by_tcp, serve_on};
 pub use settings::{settings_on, with_words};
 
 mod bytes;

@@ -1,9 +1,11 @@
 // Serving by TCP: each worker of each node on a thread of its own.
 ghost use Rattle.std.specs.IoError.{error_kind, raw_os_error};
-ghost use Rattle.std.specs.Prelude.{◌≡◌, ◌<◌, ◌+◌, ◌*◌, length, IfOk, IfErr};
+ghost use Rattle.std.specs.Prelude.{◌≡◌, ◌<◌, ◌+◌, ◌*◌, List, length, IfOk, IfErr};
 ghost use Rattle.std.specs.Vec.{vec_len};
 ghost use Rattle.nr_crew.specs.Dealing.{HasDealt};
+ghost use Rattle.nr_crew.specs.Ended.{HasEnded};
 ghost use Rattle.nr_crew.specs.Together.{AreServedTogether};
+ghost use Rattle.nr_replica.specs.Replicas.{ReplicaState};
 ghost use Rattle.nr_server.specs.Listening.{IsRefused, IsRefusedAt, IsUnheardOf, IsUnopened, TellsOf};
 ghost use Rattle.nr_server.specs.Serving.{ended_by, told_of};
 ghost use Rattle.nr_sockets.specs.Addresses.{AreSaid};
@@ -15,10 +17,12 @@ use crate::reception::{Begins, Reception};
 use crate::refusal::Refusal;
 use nr_blob::Memory;
 use nr_config::{Lasts, Settings};
-use nr_crew::{ClientLimits, Place, ServeError, Served, Shape, Size, StartError, serve_nodes};
+use nr_crew::{
+    ClientLimits, Left, Place, ServeError, Served, Shape, Size, StartError, serve_nodes,
+};
 use nr_service::{Accepts, Device, Gate, MachineClock, Moments, Rings, Stream};
 use nr_sockets::{
-    Door, Entrance, ListenError, Listener, Listening, Lookout, Socket, Terms, Unheard,
+    Door, DoorError, Entrance, ListenError, Listener, Listening, Lookout, Socket, Terms, Unheard,
     most_descriptors, open_lanes,
 };
 use std::alloc::Global;
@@ -127,9 +131,16 @@ fn size_of(settings: &Settings) -> Size
     }
 }
 
+/// What the workers of a server left, and why they ended.
+#[derive(Drop)]
+pub struct Remains<S, D, M> {
+    pub lefts: Vec<Left<S, D, M>>,
+    pub ended: Result<(), ServeError>,
+}
+
 /// Serves by a server as large as the settings say, each worker of each node on a thread of its own, with the place of its number: worker w of node n is number
 /// n * workers + w. The connections that come from `main` are dealt out to them in turn. It ends once the gate stops all workers, none is left that serves, or no
-/// connection can come any more; what the workers left is handed back with `main`. Strangers choose the keys, so the hashers take a seed of their own.
+/// connection can come any more; what the workers left is handed back with `main`, and the replicas of the nodes are let go of. Strangers choose the keys, so the hashers take a seed of their own.
 ///
 /// # Errors
 ///
@@ -143,7 +154,7 @@ pub fn serve_on<R, S, D, M, K, G, L>(
     bells: K,
     main: L,
     gate: &G,
-) -> Result<(Served<S, D, M>, L), StartError>
+) -> Result<(Remains<S, D, M>, L), StartError>
 where
     R: Threads + Wait + Sync,
     S: Stream + Drop + Send,
@@ -152,11 +163,11 @@ where
     K: Rings + Drop + Sync,
     G: Gate + Sync,
     L: Accepts + Drop,
-    ensures together { IfOk result (λ served. AreServedTogether S.received S.sent M.gives D.parted served.0.lefts.items) }
-    ensures dealt { IfOk result (λ served. HasDealt settings.now.nodes settings.now.workers (L.dealt main) (L.dealt served.1)) }
-    ensures all { IfOk result (λ served. IfOk served.0.ended (λ _. vec_len served.0.lefts ≡ settings.now.nodes * settings.now.workers)) }
+    ensures together { IfOk result (λ remains. (replicas : List ReplicaState) × AreServedTogether S.received S.sent M.gives D.parted remains.0.lefts.items replicas) }
+    ensures dealt { IfOk result (λ remains. HasDealt settings.now.nodes settings.now.workers (L.dealt main) (L.dealt remains.1)) }
+    ensures ended { IfOk result (λ remains. HasEnded (settings.now.nodes * settings.now.workers) remains.0.ended remains.0.lefts.items) }
 {
-    serve_nodes(
+    let served = serve_nodes(
         rt,
         alloc,
         keys,
@@ -165,7 +176,20 @@ where
         bells,
         main,
         gate,
-    )
+    )?;
+    let (served, main) = served;
+    let remains = remains_of(served);
+    Ok((remains, main))
+}
+
+// The same without the replicas of its nodes, which are let go of.
+fn remains_of<S, D, M>(served: Served<S, D, M>) -> Remains<S, D, M>
+    ensures { (result.lefts ≡ served.lefts) × (result.ended ≡ served.ended) }
+{
+    Remains {
+        lefts: served.lefts,
+        ended: served.ended,
+    }
 }
 
 // What is told of how the workers ended.
@@ -196,6 +220,14 @@ impl Rings for Bells<'_> {
     }
 }
 
+// What is told where a lane has no door.
+fn undoored(why: DoorError) -> Fault {
+    match why {
+        DoorError::NoLane => Fault::Listener,
+        DoorError::Memory(_) => Fault::Memory,
+    }
+}
+
 // The places of the workers, each with the door of its lane.
 fn places_of<'a, R>(
     alloc: Global,
@@ -207,7 +239,7 @@ fn places_of<'a, R>(
     for lookout in lookouts {
         let device = match Door::new(alloc, rt, entrance, lookout) {
             Ok(door) => door,
-            Err(error) => return Err(unopened(&error)),
+            Err(why) => return Err(undoored(why)),
         };
         let clock = MachineClock { runtime: rt };
         if places.push(Place { device, clock }).is_err() {

@@ -1,5 +1,5 @@
 // The door of a lane: the sockets of the connections that its thread serves, and which of them are ready.
-ghost use Rattle.std.specs.Prelude.{◌≡◌, ◌≤◌, true, false, [], None, length, IfOk, IfSome, IsOk};
+ghost use Rattle.std.specs.Prelude.{◌≡◌, ◌≤◌, ◌↔◌, true, false, [], None, Err, length, IfOk, IfSome, IsOk};
 ghost use Rattle.nr_service.specs.Streams.{fresh_course};
 
 use crate::entrance::{Entrance, Lane, Lookout, WAKER};
@@ -15,7 +15,6 @@ use nr_service::{Device, Ready, Stream};
 use nr_transcript::Transcript;
 use slab::Slab;
 use std::alloc::Global;
-use std::io::{self, Error, ErrorKind};
 use std::rt::Clock;
 use std::sync::{Arc, Wait};
 use std::time::{Duration, Instant};
@@ -28,6 +27,15 @@ const MOST_LINGERING: usize = 1_024;
 
 /// In how many waits at most those that linger are looked at, whether their time is over.
 const MOST_WAITS: u32 = 16;
+
+/// Why a lane has no door.
+#[derive(Clone, Copy, Debug, PartialEq, Eq)]
+pub enum DoorError {
+    /// The entrance has no lane of this number: it is that of another lookout.
+    NoLane,
+    /// There was no memory.
+    Memory(Memory),
+}
 
 /// The sockets of one lane, each with a place in the list of what is ready. They come through the lane's letter box, and the lane's bell ends a wait.
 #[derive(Drop)]
@@ -57,15 +65,21 @@ impl<'a, R> Door<'a, R> {
     ///
     /// # Errors
     ///
-    /// `OutOfMemory` where memory is refused, `InvalidInput` where the entrance has no such lane.
+    /// Those of [`DoorError`], in their order.
     pub fn new(
         alloc: Global,
         runtime: &'a R,
         entrance: &'a Entrance,
         lookout: Lookout,
-    ) -> io::Result<Door<'a, R>> {
+    ) -> Result<Door<'a, R>, DoorError>
+        ensures { (result ≡ Err DoorError.NoLane) ↔ (entrance.now ≤ lookout.lane) }
+    {
         let Some(lane) = entrance.lane(lookout.lane) else {
-            return Err(Error::from(ErrorKind::InvalidInput));
+            return Err(DoorError::NoLane);
+        };
+        let dropped = match room_for_a_piece(alloc) {
+            Ok(dropped) => dropped,
+            Err(memory) => return Err(DoorError::Memory(memory)),
         };
         Ok(Door {
             alloc,
@@ -76,7 +90,7 @@ impl<'a, R> Door<'a, R> {
             ready: Slab::new(alloc),
             listed: Vec::new(alloc),
             lingering: Vec::new(alloc),
-            dropped: vec![in alloc; 0; PIECE]?,
+            dropped,
             is_lingering_ready: false,
             waits: MOST_WAITS,
             is_closed: false,
@@ -216,6 +230,11 @@ impl<R: Clock> Door<'_, R> {
             self.ready.try_remove(place);
         }
     }
+}
+
+// Room for the bytes of one read.
+fn room_for_a_piece(alloc: Global) -> Result<Vec<u8>, Memory> {
+    Ok(vec![in alloc; 0; PIECE]?)
 }
 
 // Whether the socket at this place may still be read, of whose end or of whose urgent byte was told.

@@ -1,5 +1,5 @@
 // The entrance of a server that is served in lanes, each by a thread: the bells and the letter boxes of all.
-ghost use Rattle.std.specs.Prelude.{ℕ, ◌≡◌, IfOk, Some, length, slice_get};
+ghost use Rattle.std.specs.Prelude.{ℕ, ◌≡◌, ◌≤◌, ◌↔◌, IfOk, None, Some, length, slice_get};
 
 use crate::bell::Bell;
 use crate::letters::LetterBox;
@@ -8,6 +8,7 @@ use mio::{Events, Poll, Token, Waker};
 use nr_service::Rings;
 use std::alloc::Global;
 use std::io;
+use std::marker::Model;
 use std::net::Net;
 use std::sync::Wait;
 use std::sync::atomic::{AtomicBool, Ordering};
@@ -39,7 +40,7 @@ impl Lane {
     }
 }
 
-/// The bells and the letter boxes of all lanes, which are numbered from 0 on. All threads share it.
+/// The bells and the letter boxes of all lanes, which are numbered from 0 on. All threads share it. Contracts see how many they are.
 #[derive(Drop)]
 pub struct Entrance {
     lanes: Vec<Lane>,
@@ -53,8 +54,21 @@ pub struct Lookout {
     pub(crate) events: Events<Global>,
 }
 
+impl Model for Entrance {
+    ghost use Rattle.std.specs.Prelude.{ℕ, length};
+    ghost use Rattle.std.specs.Coded.{coded_ℕ};
+
+    ghost Value = { ℕ };
+
+    ghost coded = { coded_ℕ };
+
+    ghost view = { λ e. length e.lanes.items };
+}
+
 impl Entrance {
-    pub(crate) fn lane(&self, lane: usize) -> Option<&Lane> {
+    pub(crate) fn lane(&self, lane: usize) -> Option<&Lane>
+        ensures { (result ≡ None) ↔ (self.now ≤ lane) }
+    {
         self.lanes.get(lane)
     }
 
@@ -120,6 +134,7 @@ pub fn open_lanes<N: Net>(
     net: &N,
     count: usize,
 ) -> io::Result<(Entrance, Vec<Lookout>)>
+    ensures lanes { IfOk result (λ opened. opened.0 ≡ count) }
     ensures count { IfOk result (λ opened. length opened.1.items ≡ count) }
     ensures numbers { IfOk result (λ opened. (lane : ℕ) (lookout : _) → slice_get opened.1.items lane ≡ Some lookout → lookout.lane ≡ lane) }
 {

@@ -4,7 +4,7 @@
 #![tactic(auto)]
 
 pub use addresses::unix_path;
-pub use door::Door;
+pub use door::{Door, DoorError};
 pub use entrance::{Entrance, Lookout, open_lanes};
 pub use limits::most_descriptors;
 pub use listener::{Listener, Terms};

@@ -13,6 +13,10 @@ pub record MarkState : Type 0 where
 abbrev pub coded_mark : Coded MarkState
 coded_mark = code_by (Option Standing) (coded_option of_standing.the_row.coded) (λ m. m.standing) (λ o. record { standing = o }) (λ _. refl)
 
+-- one that keeps this
+abbrev pub mark_of : Standing → MarkState
+mark_of s = record { standing = Some s }
+
 -- what it keeps is sound
 abbrev pub IsMarked : MarkState → Type 0
 IsMarked m = IfSome m.standing IsSound

@@ -2,7 +2,7 @@
 ghost use Rattle.std.specs.Prelude.{◌≡◌, ◌<◌, ◌≤◌, ℕ, length, None, Some, IfSome};
 ghost use Rattle.std.specs.List.{AllByRecursion};
 ghost use Rattle.nr_node.specs.Sound.{IsSound};
-ghost use Rattle.nr_taps.specs.Marks.{Adopts, HasMetFrom, IsMarked, MeetsOthers, later_with, standings_of};
+ghost use Rattle.nr_taps.specs.Marks.{Adopts, HasMetFrom, IsMarked, MeetsOthers, later_with, mark_of, standings_of};
 ghost use Rattle.nr_taps.specs.Sequence.{AreAllOfOneLog};
 ghost use Rattle.nr_taps.specs.Taps.{HaveMet, standing_of};
 
@@ -36,6 +36,14 @@ impl<B: LogName> Mark<B> {
         ensures { result ≡ record { standing = None } }
     {
         Mark { token: None }
+    }
+
+    /// One that keeps how a node stood.
+    pub fn of(token: Token<B>) -> Mark<B>
+        requires { IsSound token.standing }
+        ensures { result ≡ mark_of token.standing }
+    {
+        Mark { token: Some(token) }
     }
 
     /// Keeps the later of what it kept and a token of the same node, whichever was made first: all that the other one knows, it knows too. It takes three loads

@@ -22,7 +22,8 @@ use Rattle.nr_taps.specs.Sequence.{AreRun, IsExplainedBy, sequence_of}
 use Rattle.nr_taps.proofs.Explains.{begins_filter, one_sequence, own_in_part}
 use Rattle.nr_taps.specs.Sequence.{AreAllOfOneLog}
 use Rattle.nr_worker.specs.Desk.{asked_of, ArePosted, DeskState, IsLed, IsPosted, IsServedAt, Served, history_of}
-use Rattle.nr_worker.specs.Law.{AreAnswered, IsAnswered, IsPartOf, marks_of}
+use Rattle.nr_worker.specs.Law.{AreAnsweredBeside, IsAnswered, IsPartOf, marks_of}
+use Rattle.nr_worker.proofs.Apart.{serve_apart}
 use Rattle.nr_worker.proofs.Lists.{no_front, all_own, all_weaker, are_asked, posted_at}
 
 -- each item of a connection in a record comes from what the connection asked for
@@ -146,14 +147,32 @@ each_part taken (d ∷ desks) all explained =
     let both = split (IsExplainedBy taken) d.mark (marks_of desks) explained in
     (part_at taken d d.mark refl both.0 all.0.sound, each_part taken desks all.1 both.1)
 
-pub are_answered : (desks : List DeskState) → AllByRecursion IsLed desks → AreAllOfOneLog (marks_of desks) → AreAnswered desks
-are_answered desks all one_log =
-    let one = one_sequence (marks_of desks) (sound_all desks all) one_log in
+both_sound : (ends more : List Standing) → AllByRecursion IsSound ends → AllByRecursion IsSound more → AllByRecursion IsSound (ends ++ more)
+both_sound [] more sound others = others
+both_sound (s ∷ ends) more sound others = (sound.0, both_sound ends more sound.1 others)
+
+parted : (P : Standing → Type 0) (ends more : List Standing) → AllByRecursion P (ends ++ more) → AllByRecursion P ends × AllByRecursion P more
+parted P [] more all = (tt, all)
+parted P (s ∷ ends) more all =
+    let rest = parted P ends more all.1 in
+    ((all.0, rest.0), rest.1)
+
+back_of_log : (ends more : List Standing) → AreAllOfOneLog (ends ++ more) → AreAllOfOneLog more
+back_of_log [] more all = all
+back_of_log (s ∷ ends) more all = back_of_log ends more all.1
+
+pub are_answered : (ends : List Standing) (desks : List DeskState) → AllByRecursion IsSound ends → AllByRecursion IsLed desks
+    → AreAllOfOneLog (ends ++ marks_of desks) → AreAnsweredBeside ends desks
+are_answered ends desks sound all one_log =
+    let one = one_sequence (ends ++ marks_of desks) (both_sound ends (marks_of desks) sound (sound_all desks all)) one_log in
+    let both = parted (IsExplainedBy one.0) ends (marks_of desks) one.2 in
     record {
       taken = one.0;
       run = one.1;
-      each = each_answered one.0 desks one.1 one.5 all one.2;
-      parts = each_part one.0 desks all one.2;
+      each = each_answered one.0 desks one.1 one.5 all both.1;
+      parts = each_part one.0 desks all both.1;
+      apart = serve_apart desks all (back_of_log ends (marks_of desks) one_log);
+      explained = both.0;
       log = one.3;
       reads = one.4;
     }

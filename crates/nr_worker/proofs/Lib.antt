@@ -1,5 +1,6 @@
 mod Lists
 mod Desks
+mod Apart
 mod Answered
 mod Timed
 mod Batched

@@ -14,7 +14,8 @@ use Rattle.nr_log_end.specs.Standings.{record_of}
 use Rattle.nr_slots.specs.declared.view.Lane.{Lane}
 use Rattle.nr_node.specs.declared.collecting.Handed.{Handed}
 use Rattle.nr_combiner.specs.Served.{ComesFrom}
-use Rattle.nr_taps.specs.Sequence.{AreAllOfOneLog, AreReadsOf, AreRun, IsLogOf, reads_by, sequence_of}
+use Rattle.nr_node.specs.Sound.{IsSound}
+use Rattle.nr_taps.specs.Sequence.{AreAllOfOneLog, AreReadsOf, AreRun, IsExplainedBy, IsLogOf, reads_by, sequence_of}
 use Rattle.nr_worker.specs.Desk.{AreAsked, DeskState, IsLed, Served, asked_of, history_of}
 use Rattle.nr_worker.specs.Moves.{Asks, Opens, Posts, Turns, fresh_desk}
 
@@ -58,14 +59,25 @@ pub record IsInTime (d e : DeskState) : Type 0 where
 abbrev pub IsPartOf : List Taken → DeskState → Type 0
 IsPartOf taken d = IsBeginningOf (record_of (history_of d.mark)) (part_from d.node (length (log_of taken)) taken)
 
--- one sequence answers all connections of these workers, and has nothing but what their marks know
-pub record AreAnswered (desks : List DeskState) : Type 0 where
+-- No connection was served at two of these: at whatever two it was, they are one worker of one node.
+abbrev pub ServeApart : List DeskState → Type 0
+ServeApart desks = (d e : DeskState) → Contains desks d → Contains desks e → (x y : Served) → Contains d.served x → Contains e.served y
+    → x.connection ≡ y.connection → (d.node ≡ e.node) × (d.worker ≡ e.worker)
+
+-- One sequence answers all connections of these workers. It explains how the ends of some nodes stood, too, and has nothing but what these and the workers' marks know.
+pub record AreAnsweredBeside (ends : List Standing) (desks : List DeskState) : Type 0 where
   pub taken : List Taken
   pub run : AreRun taken
   pub each : AllByRecursion (λ (d : DeskState). AllByRecursion (IsAnswered taken) d.served) desks
   pub parts : AllByRecursion (IsPartOf taken) desks
-  pub log : IsLogOf (marks_of desks) (log_of taken)
-  pub reads : (node : ℕ) → AreReadsOf (marks_of desks) node (reads_by node taken)
+  pub apart : ServeApart desks
+  pub explained : AllByRecursion (IsExplainedBy taken) ends
+  pub log : IsLogOf (ends ++ marks_of desks) (log_of taken)
+  pub reads : (node : ℕ) → AreReadsOf (ends ++ marks_of desks) node (reads_by node taken)
+
+-- so it answers them by itself, and has nothing but what their marks know
+abbrev pub AreAnswered : List DeskState → Type 0
+AreAnswered desks = AreAnsweredBeside [] desks
 
 pub record HoldsOfDesks : Type 0 where
   pub fresh : (node worker : ℕ) → IsLed (fresh_desk node worker)
@@ -76,4 +88,5 @@ pub record HoldsOfDesks : Type 0 where
       → Turns most down s lane old new d e → IsLed e × GoesTo d e
   pub goes : (d e f : DeskState) → GoesTo d e → GoesTo e f → GoesTo d f
   pub in_time : (d e : DeskState) → IsLed d → IsLed e → GoesTo d e → IsInTime d e
-  pub answered : (desks : List DeskState) → AllByRecursion IsLed desks → AreAllOfOneLog (marks_of desks) → AreAnswered desks
+  pub answered : (ends : List Standing) (desks : List DeskState) → AllByRecursion IsSound ends → AllByRecursion IsLed desks
+      → AreAllOfOneLog (ends ++ marks_of desks) → AreAnsweredBeside ends desks

@@ -9,6 +9,7 @@ loop-number-preserved g c =
     let next = c.push-in-loop-number.new.self.items in
     let one = c.in_ok-lane.lookout in
     let more = c.in_ok-push-2.ensures.items in record {
+      lanes = one_longer c.loop-number.lanes.items _ _ _ _ c.in_ok-push.ensures.items refl c.loop-number.invariant.lanes;
       count = one_longer lookouts next one _ _ more refl c.loop-number.invariant.count;
       numbers = one_added lookouts next one (λ lane (lookout : Lookout). lookout.lane ≡ lane) more (c.in_ok-lane.ensures ∙ sym c.loop-number.invariant.count)
           c.loop-number.invariant.numbers;

@@ -8,7 +8,7 @@ use Rattle.nr_slots.specs.Rule.{no_desk}
 use Rattle.nr_slots.specs.Seats.{NoteView, note_of}
 use Rattle.nr_node.specs.Level.{workers_of}
 use Rattle.nr_combiner.specs.Pieces.{HasOwn}
-use Rattle.nr_combiner.specs.Served.{CombinerState, IsOwnOfBatch}
+use Rattle.nr_combiner.specs.Served.{CombinerState, IsOwnOfBatch, StandsLevel}
 use Rattle.nr_combiner.specs.Shared.{NodeView}
 use Rattle.nr_combiner.specs.Steps.{HasRoom, OpensFor}
 use Rattle.nr_combiner.proofs.Handed.{owns_all}
@@ -31,6 +31,8 @@ returns-clause-opened g c =
     let k = c.keep-token in
     let opened = c.in_ok-conn.ensures in
     let same : c.deref_mut-2.result.now ≡ c.open.new.self = search rules in
+    let before : c.deref-2.result.now ≡ c.deref_mut.result.now = search rules in
+    let after : c.deref-3.result.now ≡ c.open.new.self = search rules in
     record {
       before = c.deref_mut.result.now;
       after = c.open.new.self;
@@ -41,4 +43,6 @@ returns-clause-opened g c =
       conn_is = opened.conn;
       token = k.ensures.token.0 ∙ ap (λ (x : CombinerState). x.node.seat.standing) same;
       note_is = k.ensures.note.0 ∙ ap (λ (x : CombinerState). note_of x.seat) same;
+      was_level = subst StandsLevel before c.level.ensures.level;
+      is_level = subst StandsLevel after c.level-2.ensures.level;
     }

@@ -1,0 +1,17 @@
+use Rattle.std.proofs.Common.{rules, ◌≡◌, subst}
+use Rattle.nr_combiner.specs.Served.{StandsLevel}
+use Rattle.nr_combiner.proofs.node.Node.combine.Goals as goal
+
+pub returns : goal.returns
+returns g c =
+    let before : c.deref.result.now ≡ c.deref_mut.result.now = search rules in
+    let after : c.deref-2.result.now ≡ c.combine-round.new.self = search rules in
+    record {
+      before = c.deref_mut.result.now;
+      after = c.combine-round.new.self;
+      behind = c.combine-round.ensures.combined.0;
+      combined = c.combine-round.ensures.combined.1;
+      down = c.combine-round.ensures.down;
+      was_level = subst StandsLevel before c.level.ensures.level;
+      is_level = subst StandsLevel after c.level-2.ensures.level;
+    }
