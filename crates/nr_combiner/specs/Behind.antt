@@ -5,7 +5,7 @@ use Rattle.nr_entry.specs.Jobs.{connection_of}
 use Rattle.nr_entry.specs.declared.conn.ConnId.{ConnId}
 use Rattle.nr_log_end.specs.declared.standing.Standing.{Standing}
 use Rattle.nr_slots.specs.Seats.{NoteView, note_of}
-use Rattle.nr_node.specs.Batches.{is_cut_at, IsOpened}
+use Rattle.nr_node.specs.Batches.{is_cut_at}
 use Rattle.nr_node.specs.Level.{NodeState, connection_at, IsLevel}
 use Rattle.nr_node.specs.Steps.{refusing_node}
 use Rattle.nr_node.specs.declared.answers.Round.{Round}
@@ -18,7 +18,7 @@ use Rattle.nr_combiner.specs.declared.answering.Turned.{Turned}
 use Rattle.nr_combiner.specs.Pieces.{AddsFront}
 use Rattle.nr_combiner.specs.Served.{CombinerState, IsServed, StandsLevel}
 use Rattle.nr_combiner.specs.Shared.{NodeView}
-use Rattle.nr_combiner.specs.Steps.{HasCombined, HasRoom, OpensFor, closed_combiner}
+use Rattle.nr_combiner.specs.Steps.{HasCombined, HasRoom, OpensFor}
 use Rattle.nr_combiner.specs.Turned.{HandsOutTo, HasTurned}
 
 -- A turn of this node: it is down exactly where it says so, and keeps what a combiner keeps.
@@ -58,15 +58,6 @@ pub record OpensBehind (at : NodeView) (worker : ℕ) (conn : ConnId) (s : Stand
   pub conn_is : connection_of conn ≡ connection_at before.node.replica.node (length before.node.replica.members)
   pub token : s ≡ after.node.seat.standing
   pub note_is : note ≡ note_of after.seat
-  pub was_level : StandsLevel before
-  pub is_level : StandsLevel after
-
--- It closed a connection, if that is one that it opened.
-pub record ClosesBehind (conn : ConnId) : Type 0 where
-  pub before : CombinerState
-  pub after : CombinerState
-  pub closed : IsOpened before.node (connection_of conn) → after ≡ closed_combiner conn.serial before
-  pub other : (IsOpened before.node (connection_of conn) → ⊥) → after ≡ before
   pub was_level : StandsLevel before
   pub is_level : StandsLevel after
 

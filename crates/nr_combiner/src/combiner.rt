@@ -56,6 +56,22 @@ impl<B: ServerName> Model for Combiner<B> {
     ghost invariant = { λ c. IsServed c.core c.seat c.numbers.items × (c.seat.slots ≡ (arc_value c.slots).id) × (c.node ≡ c.core.book.node) × (c.seat.slots ≡ B.slots c.core.book.node) };
 }
 
+/// That a combiner closed a connection, if that is one of its node. It comes of [`Combiner::close`] alone, so that no call that hands one on can leave the close
+/// out. It is seen as the connection.
+#[derive(Debug, Drop)]
+pub struct ClosedQueue {
+    conn: ConnId,
+}
+
+impl Model for ClosedQueue {
+    ghost use Rattle.nr_entry.specs.Jobs.{connection_of};
+    ghost use Rattle.nr_model.specs.Items.{Connection};
+
+    ghost Value = { Connection };
+
+    ghost view = { λ closed. connection_of closed.conn };
+}
+
 // What came of a turn of the combiner, and whom it answered.
 #[derive(Clone, Copy, Debug)]
 struct Combined {
@@ -151,12 +167,14 @@ impl<B: ServerName> Combiner<B> {
     }
 
     /// Closes a connection: what waits for it is dropped, and it gets nothing more. One that isn't the node's is passed over. Logarithmic.
-    pub fn close(&mut self, conn: ConnId)
+    pub fn close(&mut self, conn: ConnId) -> ClosedQueue
+        ensures told { result ≡ connection_of conn }
         ensures closed { IsOpened self.old.node (connection_of conn) → self.new ≡ closed_combiner conn.serial self.old }
         ensures other { (IsOpened self.old.node (connection_of conn) → ⊥) → self.new ≡ self.old }
     {
         self.taken = left_open(self.taken, self.core.is_open(conn));
         self.core.close(conn);
+        ClosedQueue { conn }
     }
 
     /// Hands out at most so many of the first bytes that wait for a connection, and at least one, with a token that keeps of which record they are; or `None`

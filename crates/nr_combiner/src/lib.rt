@@ -3,7 +3,7 @@
 
 pub use answering::{AskError, Collected, Lifts, OpenError, Turned};
 pub use building::{Plan, build};
-pub use combiner::Combiner;
+pub use combiner::{ClosedQueue, Combiner};
 pub use name::ServerName;
 pub use node::Node;
 pub use opened::{BuildError, OpenedSlots, open_slots};

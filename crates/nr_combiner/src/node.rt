@@ -6,12 +6,12 @@ ghost use Rattle.nr_log_end.specs.Standings.{record_of};
 ghost use Rattle.nr_slots.specs.Rule.{no_desk};
 ghost use Rattle.nr_node.specs.Sound.{IsSound, Serves};
 ghost use Rattle.nr_combiner.specs.Pieces.{AreHandedIn, HasAdded, HasExecuted, HasOwn, IsPieceOf};
-ghost use Rattle.nr_combiner.specs.Behind.{ClosesBehind, CollectsBehind, CombinesBehind, CutsBehind, CutsFrontBehind, OpensBehind, RefusesBehind, TurnsBehind};
+ghost use Rattle.nr_combiner.specs.Behind.{CollectsBehind, CombinesBehind, CutsBehind, CutsFrontBehind, OpensBehind, RefusesBehind, TurnsBehind};
 ghost use Rattle.nr_combiner.specs.Shared.{IsTakenOut};
 ghost use Rattle.nr_combiner.specs.Turned.{tells_down};
 
 use crate::answering::{AskError, Lifts, OpenError};
-use crate::combiner::Combiner;
+use crate::combiner::{ClosedQueue, Combiner};
 use crate::name::ServerName;
 use crate::told::{Told, ToldOpened, ToldPieces};
 use nr_blob::Memory;
@@ -207,13 +207,10 @@ impl<B: ServerName> Node<B> {
     }
 
     /// [`Combiner::close`] behind the lock.
-    pub fn close<R: Wait>(&self, rt: &R, conn: ConnId)
-        ensures { ClosesBehind conn }
+    pub fn close<R: Wait>(&self, rt: &R, conn: ConnId) -> ClosedQueue
+        ensures { result ≡ connection_of conn }
     {
-        let mut combiner = self.hold(rt);
-        combiner.level();
-        combiner.close(conn);
-        combiner.level();
+        self.hold(rt).close(conn)
     }
 
     /// [`Combiner::combine`] behind the lock.

@@ -2,6 +2,7 @@
 ghost use Rattle.std.specs.Prelude.{◌≡◌, ◌↔◌, ◌+◌, ◌^◌, ◌<◌, ◌≤◌, length, IsOk, IfOk, IfErr, IfSome, IfNone, OnOk, OnErr};
 ghost use Rattle.std.specs.Arc.{arc_value};
 ghost use Rattle.nr_slots.specs.Seats.{NoteView, new_worker};
+ghost use Rattle.nr_slots.specs.declared.worker.Uncollected.TheVariants as Uncollected;
 ghost use Rattle.nr_node.specs.Sound.{IsSound};
 ghost use Rattle.nr_combiner.specs.Behind.{CollectsBehind, OpensBehind, TurnsBehind};
 ghost use Rattle.nr_combiner.specs.Heard.{HasHeard, KnowsOpened};
@@ -17,7 +18,7 @@ use nr_entry::{Batch, ConnId, Job, Outcome};
 use nr_node::Handed;
 use nr_oplog::Token;
 use nr_replica::Spares;
-use nr_slots::WorkerSeat;
+use nr_slots::{Uncollected, WorkerSeat};
 use std::alloc::Global;
 use std::marker::Model;
 use std::sync::{Arc, Wait};
@@ -210,11 +211,16 @@ impl<B: ServerName> Worker<B> {
     }
 
     /// What became of the batch that it handed in last, once that is answered: one load, and one store where it is.
-    pub fn collect(&mut self) -> Option<Outcome>
-        ensures collected { IfSome result (λ outcome. HasCollected outcome self.old self.new) }
-        ensures none { IfNone result (self.new ≡ self.old) }
+    ///
+    /// # Errors
+    ///
+    /// Those of [`WorkerSeat::collect`].
+    pub fn collect(&mut self) -> Result<Outcome, Uncollected>
+        ensures collected { IfOk result (λ outcome. HasCollected outcome self.old self.new) }
+        ensures none { IfErr result (λ why. (why ≡ Uncollected.NoneAwaited) ↔ (length self.old.seat.lane.posted ≡ length self.old.seat.lane.collected)) }
+        ensures same { OnErr result (self.new ≡ self.old) }
     {
         let answer = self.seat.collect(self.shared.slots())?;
-        Some(answer.outcome)
+        Ok(answer.outcome)
     }
 }

@@ -119,10 +119,7 @@ are_replicas taken (s ∷ ends) [] level explained = absurd level
 are_replicas taken (s ∷ ends) (r ∷ replicas) level explained =
     (replica_of taken s r level.0 explained.0, are_replicas taken ends replicas level.1 explained.1)
 
--- none was taken out yet, and one more was
-pub none_out : (own : List MarkState) → AreTakenOut own own []
-none_out own = record { ends = []; marks_are = sym (append-nil own); level = tt }
-
+-- one more was taken out
 pub same_out : (own ms next : List MarkState) (replicas more : List ReplicaState) → next ≡ ms → more ≡ replicas → AreTakenOut own ms replicas
     → AreTakenOut own next more
 same_out own ms next replicas more same still out =
@@ -186,6 +183,7 @@ module _ {S D M : Type 0} (was_received was_sent : S → Option Bytes) (gives : 
         ends = out.ends;
         marked = ap (λ (l : List MarkState). standings_of l) out.marks_are ∙ told_behind own out.ends
             ∙ ap (λ (l : List (Option Standing)). l ++ map (λ (s : Standing). Some s) out.ends) (sym k.marked);
+        level = out.level;
         each = k.each;
         answered = answered;
         replicated = are_replicas answered.taken out.ends replicas out.level answered.explained;

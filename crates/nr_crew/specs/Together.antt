@@ -61,15 +61,16 @@ pub record AreTakenOut (own marks : List MarkState) (replicas : List ReplicaStat
 abbrev pub standings_of : List MarkState → List (Option Standing)
 standings_of marks = map (λ (m : MarkState). m.standing) marks
 
--- This is what workers left that have served together, these are the replicas of their nodes, and these the marks: the workers' and then how the nodes' ends of the log stood. One
--- sequence answers all their connections, of nothing but what the marks know: what was handed out for each that was ever opened, whether it is left or gone, begins what one
--- sequential Redis emits for it along that sequence, in which its first items are the first that its bytes asked for. Every replica is that Redis after a prefix of it. And of
--- two items of one worker, the one that was answered before the other was fed stands before it.
+-- This is what workers left that have served together, these are the replicas of their nodes, and these the marks: the workers' and then how the nodes' ends of the log stood, with
+-- each of which the replica in its place is level. One sequence answers all their connections, of nothing but what the marks know: what was handed out for each that was ever opened,
+-- whether it is left or gone, begins what one sequential Redis emits for it along that sequence, in which its first items are the first that its bytes asked for. Every replica is that
+-- Redis after a prefix of it. And of two items of one worker, the one that was answered before the other was fed stands before it.
 pub record AreAnsweredTogether {S D M : Type 0} (was_received was_sent : S → Option Bytes) (gives : M → M → Option ℕ → Type 0)
     (parted : D → Option (List (Parting S))) (marks : List MarkState) (lefts : List (Left S D M)) (replicas : List ReplicaState) : Type 0 where
   pub workers : List DeskState
   pub ends : List Standing
   pub marked : standings_of marks ≡ map (λ (worker : DeskState). worker.mark) workers ++ map (λ (s : Standing). Some s) ends
+  pub level : AllPairs IsLevel ends replicas
   pub each : AllPairs (IsLeftBy was_received was_sent gives parted) workers lefts
   pub answered : AreAnsweredBeside ends workers
   pub replicated : AllByRecursion (IsReplicaOf answered.taken) replicas

@@ -156,7 +156,7 @@ impl<B: ServerName> Station<B> {
         ensures none { IfNone result (self.new.worker ≡ self.old.worker) }
         ensures jobs { self.new.jobs ≡ self.old.jobs }
     {
-        let outcome = self.worker.collect()?;
+        let outcome = self.worker.collect().ok()?;
         Some(matches!(outcome, Outcome::Executed))
     }
 

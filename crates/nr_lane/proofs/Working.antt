@@ -121,12 +121,12 @@ works_turned None v w on same =
       node = refl;
     })
 
-pub works_collected : (settled : Option Settled) (v w : WorkState) → IfSome settled (λ told. HasSettled told v w) → IfNone settled (w ≡ v) → Goes unchanged v w
-    → Works v w
-works_collected (Some told) v w s same g =
+pub works_collected : {E : Type 0} (settled : Result Settled E) (v w : WorkState) → IfOk settled (λ told. HasSettled told v w) → OnErr settled (w ≡ v)
+    → Goes unchanged v w → Works v w
+works_collected (Ok told) v w s same g =
     works_none v w g (ap (λ (x : WorkState). x.seats) s.changed)
     (ap (λ (x : WorkState). x.worker.node) s.changed ∙ ap (λ (x : WorkerState). x.node) s.collected.collected)
-works_collected None v w s same g = works_still v w g same
+works_collected (Err why) v w s same g = works_still v w g same
 
 pub works_same : (v : WorkState) → Works v v
 works_same v = works_turned {A = Turned} None v v tt refl

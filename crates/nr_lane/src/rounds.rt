@@ -87,7 +87,7 @@ fn collect_pieces<R: Wait, B: ServerName>(desk: &mut Desk<'_, R, B>) -> Option<C
 fn collect<R: Wait, B: ServerName>(desk: &mut Desk<'_, R, B>) -> Option<Settled>
     ensures { Works desk.old desk.new }
 {
-    desk.collect()
+    desk.collect().ok()
 }
 
 // Whether a batch came back for want of memory, or is one that nobody would take.

@@ -2,7 +2,7 @@ ghost use Rattle.std.specs.Prelude.{◌≡◌, ◌<◌, length};
 ghost use Rattle.nr_slots.specs.Names.{Names};
 
 use nr_entry::{Answer, Batch, Outcome};
-use nr_slots::{CombinerSeat, OpenError, Slots, WorkerSeat};
+use nr_slots::{CombinerSeat, OpenError, Slots, Uncollected, WorkerSeat};
 use std::alloc::Global;
 use std::process::Abort;
 use std::test::Fail;
@@ -53,19 +53,19 @@ fn hand_once(
     ensures combiner { (combiner.new.slots ≡ slots.now.id) × (length combiner.new.desks ≡ length combiner.old.desks) }
 {
     assert!(rt; combiner.lift(slots, worker).is_none());
-    assert!(rt; seat.collect(slots).is_none());
+    assert!(rt; matches!(seat.collect(slots), Err(Uncollected::NoneAwaited)));
     assert!(rt; seat.post(slots, batch(alloc, worker, number)).is_ok());
-    assert!(rt; seat.collect(slots).is_none());
+    assert!(rt; matches!(seat.collect(slots), Err(Uncollected::Unanswered(_))));
     let Some(lifted) = combiner.lift(slots, worker) else {
         panic!(rt; "no batch is there");
     };
     assert!(rt; lifted.worker == worker && lifted.number == number);
-    assert!(rt; seat.collect(slots).is_none());
+    assert!(rt; matches!(seat.collect(slots), Err(Uncollected::Unanswered(_))));
     combiner.answer(slots, worker, answer_to(&lifted));
     assert!(rt; combiner.lift(slots, worker).is_none());
-    let answer = seat.collect(slots);
+    let answer = seat.collect(slots).ok();
     assert!(rt; is_of(answer, worker, number));
-    assert!(rt; seat.collect(slots).is_none());
+    assert!(rt; matches!(seat.collect(slots), Err(Uncollected::NoneAwaited)));
 }
 
 // A second batch comes back while the first one's answer wasn't collected.

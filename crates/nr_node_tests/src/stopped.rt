@@ -82,7 +82,7 @@ fn is_told(rt: &impl Abort, slots: &Slots, seat: &mut WorkerSeat, wanted: bool)
     requires { seat.old.slots ≡ slots.now.id }
     ensures { seat.new.slots ≡ slots.now.id }
 {
-    let answer = seat.collect(slots);
+    let answer = seat.collect(slots).ok();
     holds(rt, "it is answered, or isn't", answer.is_some() == wanted);
     if let Some(answer) = answer {
         holds(

@@ -5,18 +5,12 @@ use Rattle.std.specs.declared.io.ErrorKind.{ErrorKind}
 use Rattle.std.specs.declared.io.ErrorKind.TheVariants.{OutOfMemory}
 use Rattle.std.specs.declared.string.String.{String}
 use Rattle.std.specs.declared.alloc.Global.{Global}
+use Rattle.nr_sockets.specs.Unheard.{IsUnheardAt}
 use Rattle.nr_sockets.specs.declared.listening.ListenError.{ListenError}
 use Rattle.nr_sockets.specs.declared.listening.ListenError.TheVariants as errors
 use Rattle.nr_server.specs.Refusals.{refusal_of}
 use Rattle.nr_server.specs.declared.fault.Fault.{Fault}
 use Rattle.nr_server.specs.declared.fault.Fault.TheVariants as faults
-
--- a text is that of one of these
-pub record IsOneOf (texts : List (String Global)) (text : List ℕ) : Type 0 where
-  pub place : ℕ
-  pub one : String Global
-  pub there : slice_get texts place ≡ Some one
-  pub is : text ≡ string_bytes one
 
 -- By an error of this kind and this number nobody can listen at this address: memory was refused, or else the system refuses the address for that.
 abbrev pub IsRefused : List ℕ → ErrorKind → Option ℤ → Fault → Type 0
@@ -49,17 +43,12 @@ abbrev pub TellsOf : List (String Global) → ListenError → Fault → Type 0
 TellsOf addresses (errors.Poll error) fault = IsUnopened (error_kind error) fault
 TellsOf addresses (errors.Address unheard) fault = IsRefusedAt addresses unheard.place (error_kind unheard.error) (raw_os_error unheard.error) fault
 
--- the system refuses one of these addresses, it tells of no connections, or memory ran out
+-- by an error that comes of these addresses, it tells why nobody listens at them
+pub record IsToldUnheard (addresses : List (String Global)) (fault : Fault) : Type 0 where
+  pub error : ListenError
+  pub at : IsUnheardAt addresses error
+  pub tells : TellsOf addresses error fault
+
+-- that is told where nobody listens at these addresses, or memory ran out
 abbrev pub IsUnheardOf : List (String Global) → Fault → Type 0
-IsUnheardOf addresses (faults.CannotListen address why) = IsOneOf addresses (string_bytes address)
-IsUnheardOf addresses faults.Memory = Unit {0}
-IsUnheardOf addresses faults.Listener = Unit {0}
-IsUnheardOf addresses faults.Read = ⊥
-IsUnheardOf addresses faults.Write = ⊥
-IsUnheardOf addresses (faults.BadStep line) = ⊥
-IsUnheardOf addresses (faults.Script file why) = ⊥
-IsUnheardOf addresses (faults.Settings file why) = ⊥
-IsUnheardOf addresses (faults.NotToml place) = ⊥
-IsUnheardOf addresses (faults.UnknownKey key) = ⊥
-IsUnheardOf addresses (faults.BadValue key kind) = ⊥
-IsUnheardOf addresses faults.NoThread = ⊥
+IsUnheardOf addresses fault = IsToldUnheard addresses fault ⊎ (fault ≡ faults.Memory)

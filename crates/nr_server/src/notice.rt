@@ -1,6 +1,5 @@
 // What an operator is told while the server serves, each in a line with its time.
-ghost use Rattle.std.specs.Prelude.{◌≡◌, ◌+◌, ◌<◌, ◌≤◌, Some, IfSome, IfNone};
-ghost use Rattle.std.specs.Bool.{OnTrue};
+ghost use Rattle.std.specs.Prelude.{◌≡◌, ◌+◌, ◌<◌, ◌≤◌, ◌↔◌, Some, IfSome, IfNone, IsTrue};
 ghost use Rattle.nr_server.specs.Notices.{notice_of_end};
 
 use crate::fault::Fault;
@@ -68,7 +67,7 @@ pub(crate) struct Repeated {
 
 // Whether so long ago is long enough to tell of it again, at this moment, in milliseconds.
 fn is_due(told: Option<u64>, moment: u64) -> bool
-    ensures { OnTrue result (IfSome told (λ before. before + 60000 ≤ moment)) }
+    ensures { IsTrue result ↔ IfSome told (λ before. before + 60000 ≤ moment) }
 {
     match told {
         Some(told) => moment.saturating_sub(told) >= BETWEEN,
@@ -91,6 +90,7 @@ impl Repeated {
         ensures counted { IfSome result (λ _. (self.new.count ≡ count) × (self.new.told ≡ Some moment)) }
         ensures seldom { IfSome result (λ _. IfSome self.old.told (λ before. before + 60000 ≤ moment)) }
         ensures same { IfNone result (self.new ≡ self.old) }
+        ensures due { IfNone result (self.old.count < count → IfSome self.old.told (λ before. before + 60000 ≤ moment) → ⊥) }
     {
         if count <= self.count || !is_due(self.told, moment) {
             return None;

@@ -7,7 +7,7 @@ ghost use Rattle.nr_crew.specs.Ended.{HasEnded};
 ghost use Rattle.nr_crew.specs.Together.{AreServedTogether};
 ghost use Rattle.nr_replica.specs.Replicas.{ReplicaState};
 ghost use Rattle.nr_server.specs.Listening.{IsRefused, IsRefusedAt, IsUnheardOf, IsUnopened, TellsOf};
-ghost use Rattle.nr_server.specs.Serving.{ended_by, told_of};
+ghost use Rattle.nr_server.specs.Serving.{ended_by, input_of, told_of};
 ghost use Rattle.nr_sockets.specs.Addresses.{AreSaid};
 ghost use Rattle.nr_sockets.specs.Unheard.{IsUnheardAt};
 
@@ -271,7 +271,11 @@ fn begins_of<R: Threads>(rt: &R, settings: &Settings) -> Begins {
 }
 
 // On which terms connections are taken.
-fn terms_of(settings: &Settings, lasts: Lasts) -> Terms {
+fn terms_of(settings: &Settings, lasts: Lasts) -> Terms
+    ensures keepalive { result.tcp_keepalive ≡ settings.now.tcp_keepalive }
+    ensures input { result.input ≡ input_of lasts }
+    ensures shutdown { result.shutdown_seconds ≡ settings.now.shutdown_seconds }
+{
     Terms {
         tcp_keepalive: settings.tcp_keepalive as u32,
         input: match lasts {

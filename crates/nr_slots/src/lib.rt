@@ -45,8 +45,9 @@ pub use law::slots_law;
 pub use note::Note;
 pub use opening::OpenError;
 pub use slots::Slots;
+pub use steps::Unanswered;
 pub use view::{Desk, Found, Grip, Hand, Lane};
-pub use worker::WorkerSeat;
+pub use worker::{Uncollected, WorkerSeat};
 
 mod combiner;
 mod law;

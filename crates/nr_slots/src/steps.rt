@@ -1,5 +1,5 @@
 // The steps of a call at one slot: single steps on its word, and plain access to its place between them.
-ghost use Rattle.std.specs.Prelude.{ℕ, ◌≡◌, ◌+◌, ◌<◌, [], ◌∷◌, ◌++◌, length, slice_index_or, MatchOption, true};
+ghost use Rattle.std.specs.Prelude.{ℕ, ◌≡◌, ◌+◌, ◌<◌, [], ◌∷◌, ◌++◌, length, slice_index_or, MatchOption, MatchResult, true};
 ghost use Rattle.nr_entry.specs.declared.batch.Batch.{Batch};
 ghost use Rattle.nr_slots.specs.declared.view.Hand.TheVariants.{Still};
 ghost use Rattle.nr_slots.specs.declared.view.Grip.TheVariants.{Loose};
@@ -38,22 +38,33 @@ pub(crate) fn put_batch(words: &SlotWords, seat: &mut SlotSeat, worker: usize, b
     words.store::<Publish>(seat, word, OFFERED);
 }
 
+/// That no answer stood in a worker's slot as the worker looked there. It comes of that look alone: no other code makes one.
+#[derive(Debug, Drop, PartialEq, Eq)]
+pub struct Unanswered {
+    // Nothing, and private: so no one else writes a value down.
+    looked: (),
+}
+
 // Takes the answer out of the worker's place, where one is ready: one load, and one store.
-pub(crate) fn take_answer(words: &SlotWords, seat: &mut SlotSeat, worker: usize) -> Option<Answer>
+pub(crate) fn take_answer(
+    words: &SlotWords,
+    seat: &mut SlotSeat,
+    worker: usize,
+) -> Result<Answer, Unanswered>
     requires seat { IsAt words.now.table_id words.now.key seat.old }
     requires worker { (worker < 16) × (worker < words.now.key) × (seat.old.me.0 ≡ worker_view worker seat.old.me.0.lane seat.old.me.0.noted) }
     requires still { seat.old.me.0.lane.hand ≡ Still }
     ensures seat { IsSameSeat seat.old seat.new }
-    ensures view { MatchOption result (seat.new.me ≡ seat.old.me) (λ answer. IsForLast answer seat.old.me.0.lane.posted seat.old.me.0.lane.collected × (seat.new.me ≡ (worker_view worker (with_answer answer seat.old.me.0.lane) seat.old.me.0.noted, []))) }
+    ensures view { MatchResult result (λ answer. IsForLast answer seat.old.me.0.lane.posted seat.old.me.0.lane.collected × (seat.new.me ≡ (worker_view worker (with_answer answer seat.old.me.0.lane) seat.old.me.0.noted, []))) (λ _. seat.new.me ≡ seat.old.me) }
 {
     let word = 16 * worker + 16;
     if words.load::<Look>(seat, word) != READY {
-        return None;
+        return Err(Unanswered { looked: () });
     }
     let parcel = words.exchange(seat, 2 * worker, None);
     words.store::<Clear>(seat, word, 0);
     match parcel {
-        Some(Parcel::Answered(answer)) => Some(answer),
+        Some(Parcel::Answered(answer)) => Ok(answer),
         Some(Parcel::Posted(_)) | None => unreachable!(),
     }
 }

@@ -1,15 +1,25 @@
 // A worker's seat at the slots.
-ghost use Rattle.std.specs.Prelude.{◌≡◌, ◌↔◌, ◌*◌, ◌<◌, [], length, slice_index_or, MatchOption, MatchResult, IsOk};
+ghost use Rattle.std.specs.Prelude.{◌≡◌, ◌↔◌, ◌*◌, ◌<◌, [], length, slice_index_or, MatchResult, IsOk, IfOk, IfErr, OnErr};
 ghost use Rattle.nr_slots.specs.Names.{IsForLast, IsTold};
 ghost use Rattle.nr_slots.specs.Seats.{new_worker, with_posted, with_collected, IsOfWorkers};
 ghost use Rattle.nr_slots.specs.Rule.{worker_view, no_lane, no_desk};
+ghost use Rattle.nr_slots.specs.declared.worker.Uncollected.TheVariants as Uncollected;
 
 use crate::note::Note;
 use crate::slots::Slots;
-use crate::steps::{compare, put_batch, take_answer};
+use crate::steps::{Unanswered, compare, put_batch, take_answer};
 use crate::view::SlotSeat;
 use nr_entry::{Answer, Batch};
 use std::marker::Model;
+
+/// Why a worker has no answer to its last batch.
+#[derive(Debug, Drop, PartialEq, Eq)]
+pub enum Uncollected {
+    /// It awaits none.
+    NoneAwaited,
+    /// There is none yet.
+    Unanswered(Unanswered),
+}
 
 /// A worker's seat at the slots of its node. Contracts see whose it is, the batches that it posted, and the answers that it collected.
 #[derive(Drop)]
@@ -64,18 +74,29 @@ impl WorkerSeat {
     }
 
     /// Takes the answer to the batch that was posted last, if it is there: one load, and one store where it is.
-    pub fn collect(&mut self, slots: &Slots) -> Option<Answer>
+    ///
+    /// # Errors
+    ///
+    /// `NoneAwaited` exactly where each batch was answered and the answer collected, else `Unanswered`: the slot held none as it was looked at.
+    pub fn collect(&mut self, slots: &Slots) -> Result<Answer, Uncollected>
         requires { self.old.slots ≡ slots.now.id }
-        ensures collected { MatchOption result (self.new ≡ self.old) (λ answer. self.new ≡ with_collected answer self.old) }
-        ensures own { MatchOption result (Unit {0}) (λ answer. IsForLast answer self.old.lane.posted self.old.lane.collected) }
+        ensures collected { IfOk result (λ answer. self.new ≡ with_collected answer self.old) }
+        ensures own { IfOk result (λ answer. IsForLast answer self.old.lane.posted self.old.lane.collected) }
+        ensures none { IfErr result (λ why. (why ≡ Uncollected.NoneAwaited) ↔ (length self.old.lane.posted ≡ length self.old.lane.collected)) }
+        ensures same { OnErr result (self.new ≡ self.old) }
     {
         if !self.waiting {
-            return None;
+            return Err(Uncollected::NoneAwaited);
         }
-        let answer = take_answer(&slots.table.shared, &mut self.seat, self.worker)?;
-        self.waiting = false;
-        Some(answer)
+        match take_answer(&slots.table.shared, &mut self.seat, self.worker) {
+            Ok(answer) => {
+                self.waiting = false;
+                Ok(answer)
+            }
+            Err(why) => Err(Uncollected::Unanswered(why)),
+        }
     }
+
     /// Looks at the slot, told of a note that the combiner made: the batches that it had lifted are a beginning of those that this worker
     /// posted, and of the answers that it had given and those that this worker collected one is a beginning of the other. It takes two loads.
     pub fn hear(&mut self, slots: &Slots, note: Note)

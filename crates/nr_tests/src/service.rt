@@ -14,7 +14,7 @@ use std::hash::RandomState;
 use std::process::Abort;
 use std::test::Fail;
 
-// Who gives its input and takes its output so many bytes a call, gives what stands behind `first` only once it has taken so many bytes, and fails
+// Who gives its input so many bytes a call and takes its output so many, gives what stands behind `first` only once it has taken so many bytes, and fails
 // once so many calls were made.
 #[derive(Clone, Copy, Drop)]
 struct Peer {
@@ -22,6 +22,7 @@ struct Peer {
     first: usize,
     needed: usize,
     piece: usize,
+    takes: usize,
     calls: usize,
 }
 
@@ -128,7 +129,7 @@ impl Stream for Line {
             self.has_failed = true;
             return Sent::Failed;
         }
-        let count = bytes.len().min(self.peer.piece);
+        let count = bytes.len().min(self.peer.takes);
         match self.output.extend_from_slice(&bytes[..count]) {
             Ok(()) if count > 0 => {
                 self.is_full = false;
@@ -231,7 +232,7 @@ struct Came {
     calm: usize,
 }
 
-// What came of a connection at a server of two nodes, up to its end or for so many turns.
+// What came of a connection at a server of two nodes, up to its end or for so many turns, where one is silent for too long after so many milliseconds.
 fn came_of<R: Abort, M: Moments + Drop>(
     runtime: &R,
     alloc: Global,
@@ -239,6 +240,7 @@ fn came_of<R: Abort, M: Moments + Drop>(
     clock: M,
     peer: Peer,
     turns: usize,
+    timeout: u64,
 ) -> Result<Option<Came>, Fail> {
     let Some(setup) = Setup::new(2, 1_024, 2, 256, 67_108_864) else {
         return Ok(None);
@@ -253,7 +255,7 @@ fn came_of<R: Abort, M: Moments + Drop>(
         busy: 0,
         calm: 0,
     };
-    let mut service = Service::new(alloc, 0, 0, answering, desk, clock, 67_108_864, 0)?;
+    let mut service = Service::new(alloc, 0, 0, answering, desk, clock, 67_108_864, timeout)?;
     if service.serve(&Open) != Ended::Device {
         return Ok(None);
     }
@@ -272,7 +274,7 @@ fn served<R: Abort, M: Moments + Drop>(
     clock: M,
     peer: Peer,
 ) -> Result<Option<Gone>, Fail> {
-    let Some(came) = came_of(runtime, alloc, keys, clock, peer, 10_000)? else {
+    let Some(came) = came_of(runtime, alloc, keys, clock, peer, 10_000, 0)? else {
         return Ok(None);
     };
     Ok(came.gone)
@@ -284,6 +286,7 @@ fn asking(input: &'static [u8], piece: usize, calls: usize) -> Peer {
         first: input.len(),
         needed: 0,
         piece,
+        takes: piece,
         calls,
     }
 }
@@ -357,6 +360,7 @@ fn serves_by_the_clock(rt: HostRuntime) -> Result<(), Fail> {
 
 // A turn with nothing at hand rests at its device. One whose client says nothing rests in each of 100 turns. One whose client gives a byte a turn rests in
 // each of the six in which those of its request come, since all of the reply is written in the last of them, and then not in that in which the client goes.
+// One whose client takes nothing of its reply, and says no more, rests in each of 100, too.
 #[test]
 fn rests_where_nothing_moves(rt: HostRuntime) -> Result<(), Fail> {
     let keys = RandomState::new(&rt)?;
@@ -364,11 +368,50 @@ fn rests_where_nothing_moves(rt: HostRuntime) -> Result<(), Fail> {
     let mut silent = talking;
     silent.first = 0;
     silent.needed = 1;
-    for (peer, calm, busy) in [(silent, 100, 0), (talking, 6, 1)] {
+    let mut deaf = asking(b"PING\r\nPING\r\n", 4_096, usize::MAX);
+    deaf.first = 6;
+    deaf.needed = 1;
+    deaf.takes = 0;
+    for (peer, calm, busy) in [(silent, 100, 0), (talking, 6, 1), (deaf, 100, 0)] {
         let clock = MachineClock { runtime: &rt };
-        let came = came_of(&rt, rt.alloc(), keys, clock, peer, 100)?;
+        let came = came_of(&rt, rt.alloc(), keys, clock, peer, 100, 0)?;
         let came = came.expect(&rt, "turns");
         assert!(&rt; came.calm == calm && came.busy == busy);
+    }
+    Ok(())
+}
+
+// A moment for each turn, 10 milliseconds after the one before.
+const MOMENTS: &[Option<u64>] = &[
+    Some(1_000),
+    Some(1_010),
+    Some(1_020),
+    Some(1_030),
+    Some(1_040),
+    Some(1_050),
+    Some(1_060),
+    Some(1_070),
+    Some(1_080),
+    Some(1_090),
+];
+
+// Where 25 milliseconds of silence are too long, a client that gives a request byte by byte, one in 10 milliseconds, counts as heard with each, and is
+// answered. One that gives two bytes of it and then no more is closed.
+#[test]
+fn hears_each_byte(rt: HostRuntime) -> Result<(), Fail> {
+    let keys = RandomState::new(&rt)?;
+    let talking = asking(b"PING\r\n", 1, usize::MAX);
+    let mut silent = talking;
+    silent.first = 2;
+    silent.needed = 1;
+    let rows: [(Peer, usize, &[u8]); 2] = [(talking, 6, b"+PONG\r\n"), (silent, 2, b"")];
+    for (peer, given, output) in rows {
+        let clock = Readings { left: MOMENTS };
+        let came = came_of(&rt, rt.alloc(), keys, clock, peer, 100, 25)?;
+        let came = came.expect(&rt, "turns");
+        let gone = came.gone.expect(&rt, "an end");
+        assert!(&rt; gone.is_finished && gone.line.given.len() == given);
+        assert!(&rt; gone.line.output.as_slice() == output);
     }
     Ok(())
 }

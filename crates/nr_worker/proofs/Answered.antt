@@ -23,7 +23,7 @@ use Rattle.nr_taps.proofs.Explains.{begins_filter, one_sequence, own_in_part}
 use Rattle.nr_taps.specs.Sequence.{AreAllOfOneLog}
 use Rattle.nr_worker.specs.Desk.{asked_of, ArePosted, DeskState, IsLed, IsPosted, IsServedAt, Served, history_of}
 use Rattle.nr_worker.specs.Law.{AreAnsweredBeside, IsAnswered, IsPartOf, marks_of}
-use Rattle.nr_worker.proofs.Apart.{serve_apart}
+use Rattle.nr_worker.proofs.Apart.{serve_apart, split}
 use Rattle.nr_worker.proofs.Lists.{no_front, all_own, all_weaker, are_asked, posted_at}
 
 -- each item of a connection in a record comes from what the connection asked for
@@ -106,10 +106,6 @@ answered_at taken d x (Some s) run rising explained sound is k =
     (subst (λ (m : Option Standing). IsBeginningOf k.handed.history (history_of m)) is k.handed.kept) k.handed.begins k.handed.jobs
 
 -- all of them
-split : (P : Standing → Type 0) (o : Option Standing) (more : List Standing) → AllByRecursion P (option_to_list o ++ more) → IfSome o P × AllByRecursion P more
-split P None more all = (tt, all)
-split P (Some s) more all = (all.0, all.1)
-
 joined : (P Q : Standing → Type 0) → ((s : Standing) → Q s → P s) → (o : Option Standing) (more : List Standing) → IfSome o Q → AllByRecursion P more
     → AllByRecursion P (option_to_list o ++ more)
 joined P Q f None more here all = all

@@ -16,7 +16,7 @@ use Rattle.nr_worker.proofs.Desks.{opened_begins, opened_front}
 use Rattle.nr_worker.proofs.Lists.{all_at}
 
 -- ---- two marks of a list
-split : (P : Standing → Type 0) (o : Option Standing) (more : List Standing) → AllByRecursion P (option_to_list o ++ more) → IfSome o P × AllByRecursion P more
+pub split : (P : Standing → Type 0) (o : Option Standing) (more : List Standing) → AllByRecursion P (option_to_list o ++ more) → IfSome o P × AllByRecursion P more
 split P None more all = (tt, all)
 split P (Some s) more all = (all.0, all.1)
 

@@ -8,7 +8,7 @@ ghost use Rattle.nr_worker.specs.Working.{all_closed, last_here, last_seen, Clos
 
 use crate::desk::Desk;
 use crate::due::DueJobs;
-use nr_combiner::ServerName;
+use nr_combiner::{ClosedQueue, ServerName};
 use nr_entry::ConnId;
 use nr_seats::Closed;
 use std::sync::Wait;
@@ -31,14 +31,15 @@ impl<'a, R: Wait, B: ServerName> Desk<'a, R, B> {
     /// Closes the connection of its node with this serial, at a moment in milliseconds, at most 2^53: its seat goes, with the bytes that wait for it, and its last job,
     /// which ends it, waits behind the others, unless its bytes asked for their end before. It takes no memory. Its node, whose lock is taken once, lets go of its
     /// queue: its room comes back. Logarithmic.
-    pub fn close(&mut self, serial: u64, moment: u64)
+    pub fn close(&mut self, serial: u64, moment: u64) -> ClosedQueue
         requires in_time { moment ≤ last_moment }
+        ensures node { result ≡ record { node = self.old.worker.node; serial = serial } }
         ensures closed { Closes serial moment self.old self.new }
         ensures goes { Goes (all_closed (last_here moment (seat_at serial self.old.seats))) self.old self.new }
     {
         let closed = self.seats.close(serial, moment);
         put_last(&mut self.due, closed);
         let node = self.worker.shared().node();
-        self.worker.shared().close(self.rt, ConnId { node, serial });
+        self.worker.shared().close(self.rt, ConnId { node, serial })
     }
 }

@@ -1,5 +1,6 @@
 // What became of a batch.
-ghost use Rattle.std.specs.Prelude.{◌≡◌, [], true, IfSome, IfNone};
+ghost use Rattle.std.specs.Prelude.{◌≡◌, ◌↔◌, [], true, false, IfOk, IfErr, OnErr};
+ghost use Rattle.nr_slots.specs.declared.worker.Uncollected.TheVariants as Uncollected;
 ghost use Rattle.nr_worker.specs.Due.{emptied};
 ghost use Rattle.nr_worker.specs.Settling.{back_of, down_of, late_of, left_of, settled_of, HasSettled};
 ghost use Rattle.nr_worker.specs.Working.{unchanged, Goes};
@@ -8,6 +9,7 @@ use crate::desk::Desk;
 use crate::due::DueJobs;
 use nr_combiner::{MOST_JOBS, ServerName};
 use nr_entry::{Job, Outcome, Refusal};
+use nr_slots::Uncollected;
 use std::sync::Wait;
 
 /// What became of the batch that was handed in last.
@@ -62,22 +64,24 @@ fn settle(
 }
 
 impl<'a, R: Wait, B: ServerName> Desk<'a, R, B> {
-    /// What became of the batch that was handed in last, once that is answered: one load, and one store where it is. `None` where it isn't, or none was handed in.
-    /// The jobs of a batch that comes back wait in front of the others, in their order; where the node is down no jobs wait any more. Constant, and linear in the
-    /// jobs that are let go of.
-    pub fn collect(&mut self) -> Option<Settled>
-        ensures settled { IfSome result (λ told. HasSettled told self.old self.new) }
-        ensures none { IfNone result (self.new ≡ self.old) }
+    /// What became of the batch that was handed in last, once that is answered: one load, and one store where it is. The jobs of a batch that comes back wait in
+    /// front of the others, in their order; where the node is down no jobs wait any more. Constant, and linear in the jobs that are let go of.
+    ///
+    /// # Errors
+    ///
+    /// `NoneAwaited` exactly where no answer is awaited, else `Unanswered`: there was none yet as the slot was looked at.
+    pub fn collect(&mut self) -> Result<Settled, Uncollected>
+        ensures settled { IfOk result (λ told. HasSettled told self.old self.new) }
+        ensures none { IfErr result (λ why. (why ≡ Uncollected.NoneAwaited) ↔ (self.old.waiting ≡ false)) }
+        ensures same { OnErr result (self.new ≡ self.old) }
         ensures goes { Goes unchanged self.old self.new }
     {
         if !self.is_waiting {
-            return None;
+            return Err(Uncollected::NoneAwaited);
         }
-        let Some(outcome) = self.worker.collect() else {
-            return None;
-        };
+        let outcome = self.worker.collect()?;
         self.is_waiting = false;
-        Some(settle(
+        Ok(settle(
             outcome,
             &mut self.returned,
             &mut self.due,

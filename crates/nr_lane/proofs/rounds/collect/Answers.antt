@@ -5,4 +5,4 @@ pub collect-requires : goal.collect-requires
 collect-requires g c κs within = within
 
 pub returns : goal.returns
-returns g c = works_collected c.collect.result c.args.desk.now _ c.collect.ensures.settled c.collect.ensures.none c.collect.ensures.goes
+returns g c = works_collected c.collect.result c.args.desk.now _ c.collect.ensures.settled c.collect.ensures.same c.collect.ensures.goes

@@ -1,4 +1,4 @@
-use Rattle.std.proofs.Common.{ap, ◌∙◌, subst}
+use Rattle.std.proofs.Common.{refl, ap, ◌∙◌, subst}
 use Rattle.nr_combiner.specs.Served.{CombinerState}
 use Rattle.nr_combiner.proofs.Moves.{closed_served}
 use Rattle.nr_combiner.proofs.Rooms.{HasClosed, closed_room}
@@ -17,4 +17,4 @@ returns g c =
     let new : CombinerState = record { node = c.close.new.self; seat = inside.seat; taken = c.left_open-self-inside.result } in
     let both = closed_room old c.close.new.self c.args.conn c.is_open.result c.left_open-self-inside.result c.is_open.ensures c.left_open-self-inside.ensures c.close.ensures.closed c.close.ensures.other in
     let there = subst (λ (x : CombinerState). HasClosed c.args.conn x new) c.self.view_is both in
-    record { closed = there.closed; other = there.other }
+    record { told = refl; closed = there.closed; other = there.other }
