@@ -1,7 +1,2 @@
 mod Seen
-pub mod Placed
-pub mod Reading
-pub mod Skipped
-pub mod Around
-pub mod Counted
-pub mod Kept
+mod Large

@@ -1,26 +1,30 @@
-// The two forms of a hash: a few short pairs in one block, or a tree.
-ghost use Rattle.std.specs.Prelude.{◌≡◌, ◌<◌, ◌^◌, ◌&&◌, [], length, map, IfOk, OnOk, OnErr, is_some, is_none, true};
+// The two forms of a hash: a few short pairs in one block, or a table of such blocks.
+ghost use Rattle.std.specs.Prelude.{◌≡◌, ◌<◌, ◌^◌, ◌&&◌, [], length, IfOk, OnOk, OnErr, is_some, is_none, true};
 ghost use Rattle.std.specs.Option.{option_map};
 ghost use Rattle.std.specs.Map.{lookup, remove_entry};
-ghost use Rattle.std.specs.BTreeMap.{insert_entry, is_at, IsOrdered};
+ghost use Rattle.std.specs.BTreeMap.{insert_entry, is_at};
+ghost use Rattle.std.specs.FinMap as map;
 ghost use Rattle.nr_model.specs.Keyspace.{byte_cmp};
-ghost use Rattle.nr_hashes.specs.Packed.{fits};
-ghost use Rattle.nr_hashes.specs.Orders.{AreInOrder};
+ghost use Rattle.nr_packs.specs.Packed.{entries_in, fits};
+ghost use Rattle.nr_packs.specs.Orders.{AreInOrder};
 ghost use Rattle.nr_hashes.specs.Forms.{entries_of, is_packed};
 
-use crate::packed::Packed;
 use crate::pairs::Pairs;
 use nr_blob::{Blob, Memory};
+use nr_packs::{Packed, Table};
 use std::alloc::Global;
-use std::collections::BTreeMap;
+use std::hash::RandomState;
 
-/// The pairs of a hash. A block that would get too many or too long ones becomes a tree, and a tree stays one.
+/// The most bytes of a field or a value in a block of pairs.
+const MOST_LEN: usize = 64;
+
+/// The pairs of a hash. A block that would get too many or too long ones becomes a table, and a table stays one.
 #[derive(Debug, Drop)]
 pub(crate) enum Form {
     /// A few short pairs in one block.
     Packed(Packed),
     /// Any pairs.
-    Tree(BTreeMap<Blob, Blob>),
+    Large(Box<Table>),
 }
 
 impl Form {
@@ -39,60 +43,61 @@ impl Form {
     {
         match self {
             Form::Packed(pairs) => pairs.len(),
-            Form::Tree(pairs) => pairs.len(),
+            Form::Large(pairs) => count(pairs),
         }
     }
 
-    /// The value at a field. In a block linear in the bytes, in a tree logarithmic.
+    /// The value at a field. Linear in the bytes of a block.
     pub(crate) fn get(&self, field: &Blob) -> Option<&[u8]>
         requires { AreInOrder (entries_of self.now) }
         ensures { option_map (λ value. value.now) result ≡ lookup (is_at (byte_cmp field.now)) (entries_of self.now) }
     {
         match self {
             Form::Packed(pairs) => pairs.get(field.bytes()),
-            Form::Tree(pairs) => bytes_of(pairs.get(field)),
+            Form::Large(pairs) => find(pairs, field),
         }
     }
 
-    /// The pairs, by the fields' byte order.
-    pub(crate) fn pairs(&self) -> Pairs<'_>
-        ensures { result ≡ entries_of self.now }
+    /// The pairs, by the fields' byte order. Those of a table are gathered and sorted.
+    pub(crate) fn pairs(&self) -> Result<Pairs<'_>, Memory>
+        ensures { IfOk result (λ pairs. pairs ≡ entries_of self.now) }
     {
         match self {
-            Form::Packed(pairs) => Pairs::packed(pairs.bytes()),
-            Form::Tree(pairs) => Pairs::lent(pairs.iter()),
+            Form::Packed(pairs) => Ok(Pairs::packed(pairs.bytes())),
+            Form::Large(pairs) => Ok(Pairs::listed(pairs.pairs()?)),
         }
     }
 
-    /// Puts a value at a field, in the place of the one that was there, and says whether the field is new. In a block linear in the bytes,
-    /// in a tree logarithmic; a block that becomes a tree costs O(n log n). Where memory runs out nothing is changed.
+    /// Puts a value at a field, in the place of the one that was there, and says whether the field is new. Linear in the bytes of a block; a block
+    /// that becomes a table costs as much for each of its pairs. Where memory runs out nothing is changed.
     pub(crate) fn insert(
         &mut self,
         alloc: Global,
+        keys: RandomState,
         field: &Blob,
         value: &[u8],
     ) -> Result<bool, Memory>
         requires { AreInOrder (entries_of self.old) }
         ensures new { IfOk result (λ is_new. is_new ≡ is_none (lookup (is_at (byte_cmp field.now)) (entries_of self.old))) }
         ensures put { OnOk result (entries_of self.new ≡ insert_entry byte_cmp (entries_of self.old) field.now value.now) }
-        ensures form { OnOk result (is_packed self.new ≡ (is_packed self.old && fits (length (entries_of self.new)) field.now value.now)) }
+        ensures form { OnOk result (is_packed self.new ≡ (is_packed self.old && fits 64 (length (entries_of self.new)) field.now value.now)) }
         ensures err { OnErr result (entries_of self.new ≡ entries_of self.old) }
     {
         match self {
-            Form::Packed(pairs) => match pairs.insert(alloc, field.bytes(), value)? {
+            Form::Packed(pairs) => match pairs.insert(alloc, field.bytes(), value, MOST_LEN)? {
                 Some(is_new) => Ok(is_new),
                 None => {
-                    let mut tree = tree_of(alloc, Pairs::packed(pairs.bytes()))?;
-                    let is_new = put(alloc, &mut tree, field, value)?;
-                    *self = Form::Tree(tree);
+                    let mut table = table_of(alloc, keys, pairs.bytes())?;
+                    let is_new = put(&mut table, field, value)?;
+                    *self = Form::Large(Box::new(alloc, table)?);
                     Ok(is_new)
                 }
             },
-            Form::Tree(pairs) => put(alloc, pairs, field, value),
+            Form::Large(pairs) => put(pairs, field, value),
         }
     }
 
-    /// Takes a field out, and says whether it was there. In a block linear in the bytes, in a tree logarithmic.
+    /// Takes a field out, and says whether it was there. Linear in the bytes of a block.
     pub(crate) fn remove(&mut self, field: &Blob) -> bool
         requires { AreInOrder (entries_of self.old) }
         ensures there { result ≡ is_some (lookup (is_at (byte_cmp field.now)) (entries_of self.old)) }
@@ -101,69 +106,68 @@ impl Form {
     {
         match self {
             Form::Packed(pairs) => pairs.remove(field.bytes()),
-            Form::Tree(pairs) => pairs.remove(field).is_some(),
+            Form::Large(pairs) => take(pairs, field),
         }
     }
 
-    /// The same pairs once more, in the form that they have. O(n log n), and linear in their bytes.
+    /// The same pairs once more, in the form that they have. Linear in their bytes.
     pub(crate) fn copy(&self, alloc: Global) -> Result<Form, Memory>
-        requires { AreInOrder (entries_of self.now) }
         ensures same { IfOk result (λ copied. entries_of copied ≡ entries_of self.now) }
         ensures form { IfOk result (λ copied. is_packed copied ≡ is_packed self.now) }
     {
         match self {
             Form::Packed(pairs) => Ok(Form::Packed(pairs.copy(alloc)?)),
-            Form::Tree(pairs) => Ok(Form::Tree(tree_of(alloc, Pairs::lent(pairs.iter()))?)),
+            Form::Large(pairs) => Ok(Form::Large(Box::new(alloc, pairs.copy()?)?)),
         }
     }
 }
 
-fn bytes_of(value: Option<&Blob>) -> Option<&[u8]>
-    ensures { option_map (λ value. value.now) result ≡ option_map (λ value. value.now) value.entry }
+// The calls of a table in the words of its entries.
+fn count(pairs: &Table) -> usize
+    ensures len { result ≡ length (map.entries pairs.now) }
+    ensures small { result < 2 ^ 63 }
 {
-    match value {
-        Some(value) => Some(value.bytes()),
-        None => None,
+    pairs.len()
+}
+
+fn find<'a>(pairs: &'a Table, field: &Blob) -> Option<&'a [u8]>
+    ensures { option_map (λ value. value.now) result ≡ lookup (is_at (byte_cmp field.now)) (map.entries pairs.now) }
+{
+    pairs.get(field)
+}
+
+fn put(pairs: &mut Table, field: &Blob, value: &[u8]) -> Result<bool, Memory>
+    ensures new { IfOk result (λ is_new. is_new ≡ is_none (lookup (is_at (byte_cmp field.now)) (map.entries pairs.old))) }
+    ensures put { OnOk result (map.entries pairs.new ≡ insert_entry byte_cmp (map.entries pairs.old) field.now value.now) }
+    ensures err { OnErr result (map.entries pairs.new ≡ map.entries pairs.old) }
+{
+    let is_new = pairs.insert(field, value)?;
+    Ok(is_new)
+}
+
+fn take(pairs: &mut Table, field: &Blob) -> bool
+    ensures there { result ≡ is_some (lookup (is_at (byte_cmp field.now)) (map.entries pairs.old)) }
+    ensures removed { map.entries pairs.new ≡ remove_entry (is_at (byte_cmp field.now)) (map.entries pairs.old) }
+{
+    pairs.remove(field)
+}
+
+// The pairs of a block as a table.
+fn table_of(alloc: Global, keys: RandomState, pairs: &[u8]) -> Result<Table, Memory>
+    requires { AreInOrder (entries_in pairs.now) }
+    ensures { IfOk result (λ table. map.entries table ≡ entries_in pairs.now) }
+{
+    let mut table = Table::new(alloc, keys)?;
+    for (field, value) in Pairs::packed(pairs) {
+        put_copy(alloc, &mut table, field, value)?;
     }
+    Ok(table)
 }
 
-// Puts a value at a field of a tree, and says whether the field is new. Where memory runs out nothing is changed.
-fn put(
-    alloc: Global,
-    pairs: &mut BTreeMap<Blob, Blob>,
-    field: &Blob,
-    value: &[u8],
-) -> Result<bool, Memory>
-    ensures new { IfOk result (λ is_new. is_new ≡ is_none (lookup (is_at (byte_cmp field.now)) pairs.old.entries)) }
-    ensures put { OnOk result (pairs.new.entries ≡ insert_entry byte_cmp pairs.old.entries field.now value.now) }
-    ensures err { OnErr result (pairs.new.entries ≡ pairs.old.entries) }
+fn put_copy(alloc: Global, pairs: &mut Table, field: &[u8], value: &[u8]) -> Result<(), Memory>
+    ensures { OnOk result (map.entries pairs.new ≡ insert_entry byte_cmp (map.entries pairs.old) field.now value.now) }
 {
-    let value = Blob::from_slice(alloc, value)?;
-    let before = pairs.insert(field.copy()?, value)?;
-    Ok(before.is_none())
-}
-
-// The same pairs as a tree.
-fn tree_of(alloc: Global, pairs: Pairs<'_>) -> Result<BTreeMap<Blob, Blob>, Memory>
-    requires { AreInOrder pairs }
-    ensures { IfOk result (λ tree. tree.entries ≡ pairs.entry) }
-{
-    let mut tree = BTreeMap::new(alloc);
-    for (field, value) in pairs {
-        put_copy(alloc, &mut tree, field, value)?;
-    }
-    Ok(tree)
-}
-
-fn put_copy(
-    alloc: Global,
-    pairs: &mut BTreeMap<Blob, Blob>,
-    field: &[u8],
-    value: &[u8],
-) -> Result<(), Memory>
-    ensures { OnOk result (pairs.new.entries ≡ insert_entry byte_cmp pairs.old.entries field.now value.now) }
-{
-    let value = Blob::from_slice(alloc, value)?;
-    pairs.insert(Blob::from_slice(alloc, field)?, value)?;
+    let field = Blob::from_slice(alloc, field)?;
+    put(pairs, &field, value)?;
     Ok(())
 }

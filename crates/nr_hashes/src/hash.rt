@@ -7,10 +7,11 @@ use crate::form::Form;
 use crate::pairs::{Fields, Pairs, Values};
 use nr_blob::{Blob, Memory};
 use std::alloc::Global;
+use std::hash::RandomState;
 use std::marker::Model;
 
 /// A hash, as a key holds it. It is seen as a finite map from fields to values. At most 512 fields, none of them nor their values longer than
-/// 64 bytes, stand in one block; more or longer ones make a tree, and a tree stays one. To drop it is linear in its fields.
+/// 64 bytes, stand in one block; more or longer ones make a table of such blocks, and a table stays one. To drop it is linear in its fields.
 #[derive(Debug, Drop)]
 pub struct Hash {
     // Blocks and copies are made with it.
@@ -26,7 +27,7 @@ impl Model for Hash {
 
     ghost coded = { coded_hash };
 
-    ghost use Rattle.nr_hashes.specs.Orders.{AreInOrder};
+    ghost use Rattle.nr_packs.specs.Orders.{AreInOrder};
     ghost use Rattle.nr_hashes.specs.Forms.{entries_of};
 
     ghost view = { λ hash. map.from_sorted (entries_of hash.form) };
@@ -59,18 +60,18 @@ impl Hash {
         self.form.len() == 0
     }
 
-    /// Puts a value at a field, in the place of the one that was there, and says whether the field is new. In a block linear in its bytes,
-    /// in a tree logarithmic; O(n log n) where a block becomes a tree. Where memory runs out nothing is changed.
-    pub fn insert(&mut self, field: &Blob, value: &[u8]) -> Result<bool, Memory>
+    /// Puts a value at a field, in the place of the one that was there, and says whether the field is new. Linear in the bytes of a block;
+    /// where a block becomes a table, in those of all, and the table hashes by these keys. Where memory runs out nothing is changed.
+    pub fn insert(&mut self, keys: RandomState, field: &Blob, value: &[u8]) -> Result<bool, Memory>
         ensures new { IfOk result (λ is_new. is_new ≡ not (map.contains_key self.old field.now)) }
         ensures ok { OnOk result (self.new ≡ map.insert self.old field.now value.now) }
         ensures err { OnErr result (self.new ≡ self.old) }
     {
-        let is_new = self.form.insert(self.alloc, field, value)?;
+        let is_new = self.form.insert(self.alloc, keys, field, value)?;
         Ok(is_new)
     }
 
-    /// The value at a field. In a block linear in its bytes, in a tree logarithmic.
+    /// The value at a field. Linear in the bytes of a block.
     pub fn get(&self, field: &Blob) -> Option<&[u8]>
         ensures { option_map (λ value. value.now) result ≡ map.get self.now field.now }
     {
@@ -84,7 +85,7 @@ impl Hash {
         self.get(field).is_some()
     }
 
-    /// Takes a field out, and says whether it was there. In a block linear in its bytes, in a tree logarithmic.
+    /// Takes a field out, and says whether it was there. Linear in the bytes of a block.
     pub fn remove(&mut self, field: &Blob) -> bool
         ensures there { result ≡ map.contains_key self.old field.now }
         ensures removed { self.new ≡ map.remove self.old field.now }
@@ -92,28 +93,30 @@ impl Hash {
         self.form.remove(field)
     }
 
-    /// The fields with their values, by the fields' byte order.
-    pub fn pairs(&self) -> Pairs<'_>
-        ensures { result ≡ map.entries self.now }
+    /// The fields with their values, by the fields' byte order. Those of one block are lent as they lie; those of a table are gathered and sorted, in
+    /// O(n log n) and memory for 40 bytes each, which may be refused.
+    pub fn pairs(&self) -> Result<Pairs<'_>, Memory>
+        ensures { IfOk result (λ pairs. pairs ≡ map.entries self.now) }
     {
-        self.form.pairs()
+        let pairs = self.form.pairs()?;
+        Ok(pairs)
     }
 
-    /// The fields, in byte order.
-    pub fn fields(&self) -> Fields<'_>
-        ensures { result ≡ map.keys self.now }
+    /// The fields, in byte order. Costs what `pairs` does.
+    pub fn fields(&self) -> Result<Fields<'_>, Memory>
+        ensures { IfOk result (λ fields. fields ≡ map.keys self.now) }
     {
-        Fields::of(self.pairs())
+        Ok(Fields::of(self.pairs()?))
     }
 
-    /// The values, by their fields' byte order.
-    pub fn values(&self) -> Values<'_>
-        ensures { result ≡ map.values self.now }
+    /// The values, by their fields' byte order. Costs what `pairs` does.
+    pub fn values(&self) -> Result<Values<'_>, Memory>
+        ensures { IfOk result (λ values. values ≡ map.values self.now) }
     {
-        Values::of(self.pairs())
+        Ok(Values::of(self.pairs()?))
     }
 
-    /// The same fields and values once more. O(n log n), and linear in their bytes.
+    /// The same fields and values once more. Linear in their bytes.
     pub fn copy(&self) -> Result<Hash, Memory>
         ensures { IfOk result (λ copied. copied ≡ self.now) }
     {

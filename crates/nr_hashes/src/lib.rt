@@ -4,8 +4,6 @@
 pub use hash::Hash;
 pub use pairs::{Fields, Pairs, Values};
 
-mod block;
 mod form;
 mod hash;
-mod packed;
 mod pairs;

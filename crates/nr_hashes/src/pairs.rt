@@ -3,18 +3,16 @@ ghost use Rattle.std.specs.Prelude.{◌≡◌};
 ghost use Rattle.std.specs.Map.{keys_of, values_of};
 ghost use Rattle.std.specs.Map.Iter.{TakesFirst, deref_pair};
 ghost use Rattle.nr_model.specs.Bytes.{Bytes};
-ghost use Rattle.nr_hashes.specs.Packed.{entries_in};
+ghost use Rattle.nr_packs.specs.Packed.{entries_in};
 
-use crate::packed::first_pair;
-use nr_blob::Blob;
-use std::collections::btree_map::Iter;
+use nr_packs::{Listed, first_pair};
 use std::marker::Model;
 
 // The pairs that are left, in the form that they are held in.
 #[derive(Drop)]
 enum Rest<'a> {
     Packed(&'a [u8]),
-    Tree(Iter<'a, Blob, Blob>),
+    Listed(Listed<'a>),
 }
 
 /// Fields with their values, lent, by the fields' byte order. It is seen as those that are left.
@@ -44,12 +42,12 @@ impl<'a> Pairs<'a> {
         }
     }
 
-    /// The pairs of a tree.
-    pub(crate) fn lent(pairs: Iter<'a, Blob, Blob>) -> Pairs<'a>
+    /// The pairs of a table.
+    pub(crate) fn listed(pairs: Listed<'a>) -> Pairs<'a>
         ensures { result ≡ pairs.entry }
     {
         Pairs {
-            rest: Rest::Tree(pairs),
+            rest: Rest::Listed(pairs),
         }
     }
 }
@@ -66,7 +64,7 @@ impl<'a> Iterator for Pairs<'a> {
     fn next(&mut self) -> Option<(&'a [u8], &'a [u8])> {
         match &mut self.rest {
             Rest::Packed(bytes) => next_packed(bytes),
-            Rest::Tree(pairs) => next_lent(pairs),
+            Rest::Listed(pairs) => pairs.next(),
         }
     }
 }
@@ -80,16 +78,6 @@ fn next_packed<'a>(bytes: &mut &'a [u8]) -> Option<(&'a [u8], &'a [u8])>
     };
     *bytes = others;
     Some((field, value))
-}
-
-// The next pair, as bytes.
-fn next_lent<'a>(pairs: &mut Iter<'a, Blob, Blob>) -> Option<(&'a [u8], &'a [u8])>
-    ensures { TakesFirst (deref_pair {K = Bytes} {X = Bytes}) pairs.old result pairs.new }
-{
-    let Some((field, value)) = pairs.next() else {
-        return None;
-    };
-    Some((field.bytes(), value.bytes()))
 }
 
 /// Fields, lent, in byte order. It is seen as those that are left.

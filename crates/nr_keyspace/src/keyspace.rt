@@ -67,6 +67,11 @@ impl Keyspace {
         })
     }
 
+    /// The seed of its hashers, for those of the hashes that it keeps.
+    pub fn keys(&self) -> RandomState {
+        self.keys
+    }
+
     /// A sorted set without members, whose hasher has the seed of this keyspace's. It takes no memory.
     pub fn empty_sorted_set(&self, alloc: Global) -> Zset
         ensures { result ≡ map.empty }

@@ -24,4 +24,6 @@ mod sizes;
 #[cfg(test)]
 mod sorted_sets;
 #[cfg(test)]
+mod tables;
+#[cfg(test)]
 mod worlds;

@@ -20,7 +20,7 @@ use nr_resp::words::{one_word, two_words};
 use nr_resp::{Failure, Item, Reply, Shown};
 use std::alloc::Global;
 
-/// `HGET key field`. Logarithmic in the fields.
+/// `HGET key field`. It looks at one block of the hash.
 pub fn hget<'k>(
     keyspace: &'k Keyspace,
     now: u64,
@@ -112,7 +112,7 @@ fn len_of(hash: Option<&Hash>) -> usize
     }
 }
 
-/// `HEXISTS key field`. Logarithmic in the fields.
+/// `HEXISTS key field`. It looks at one block of the hash.
 pub fn hexists<'k>(
     keyspace: &'k Keyspace,
     now: u64,
@@ -132,7 +132,7 @@ fn one_if(so: bool) -> Reply
     Reply::Int(if so { 1 } else { 0 })
 }
 
-/// `HSTRLEN key field`. Logarithmic in the fields.
+/// `HSTRLEN key field`. It looks at one block of the hash.
 pub fn hstrlen<'k>(
     keyspace: &'k Keyspace,
     now: u64,
@@ -157,7 +157,7 @@ fn bytes_of<'k>(value: Option<&'k [u8]>) -> &'k [u8]
     }
 }
 
-/// `HKEYS key`. Linear in the fields.
+/// `HKEYS key`. Linear in the fields, and O(n log n) in those of a table, which are sorted.
 pub fn hkeys<'k>(
     alloc: Global,
     keyspace: &'k Keyspace,
@@ -186,13 +186,13 @@ fn fields_of<'k>(alloc: Global, hash: &'k Hash) -> Result<Vec<Item<'k>>, Memory>
     ensures { IfOk result (λ items. map item_reply items.items ≡ map replies.Bulk (finmap.keys hash.now)) }
 {
     let mut items = Vec::with_capacity(alloc, hash.len())?;
-    for field in hash.fields() {
+    for field in hash.fields()? {
         items.push(Item::Bulk(field))?;
     }
     Ok(items)
 }
 
-/// `HVALS key`. Linear in the fields.
+/// `HVALS key`. Linear in the fields, and O(n log n) in those of a table, which are sorted.
 pub fn hvals<'k>(
     alloc: Global,
     keyspace: &'k Keyspace,
@@ -214,13 +214,13 @@ fn values_of<'k>(alloc: Global, hash: &'k Hash) -> Result<Vec<Item<'k>>, Memory>
     ensures { IfOk result (λ items. map item_reply items.items ≡ map replies.Bulk (finmap.values hash.now)) }
 {
     let mut items = Vec::with_capacity(alloc, hash.len())?;
-    for value in hash.values() {
+    for value in hash.values()? {
         items.push(Item::Bulk(value))?;
     }
     Ok(items)
 }
 
-/// `HGETALL key`. Linear in the fields.
+/// `HGETALL key`. Linear in the fields, and O(n log n) in those of a table, which are sorted.
 pub fn hgetall<'k>(
     alloc: Global,
     keyspace: &'k Keyspace,
@@ -242,7 +242,7 @@ fn pairs_of<'k>(alloc: Global, hash: &'k Hash) -> Result<Vec<Item<'k>>, Memory>
     ensures { IfOk result (λ items. map item_reply items.items ≡ map replies.Bulk (in_turn hash.now)) }
 {
     let mut items = Vec::with_capacity(alloc, 2 * hash.len())?;
-    for (field, value) in hash.pairs() {
+    for (field, value) in hash.pairs()? {
         items.push(Item::Bulk(field))?;
         items.push(Item::Bulk(value))?;
     }

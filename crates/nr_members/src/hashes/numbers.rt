@@ -20,8 +20,9 @@ use nr_model::refused::Refused;
 use nr_resp::words::{integer, narrowed, three_words};
 use nr_resp::{Failure, Reply};
 use std::alloc::Global;
+use std::hash::RandomState;
 
-/// `HINCRBY key field increment`. Logarithmic in the fields.
+/// `HINCRBY key field increment`. It looks at one block of the hash.
 pub fn hincr_by<T: Touched>(
     alloc: Global,
     keyspace: &mut Keyspace,
@@ -35,7 +36,13 @@ pub fn hincr_by<T: Touched>(
         (staying database (hashes.hincr_by keyspace.old database words.now)) }
 {
     let (name, field, by) = increment_request(words)?;
-    let increment = Increment { alloc, field, by };
+    let keys = keyspace.keys();
+    let increment = Increment {
+        alloc,
+        keys,
+        field,
+        by,
+    };
     let sum = edit_at(alloc, keyspace, now, database, name, increment)?;
     touched.touch(database, name)?;
     Ok(Reply::Int(sum))
@@ -55,6 +62,7 @@ fn increment_request<'k>(words: &'k [Blob]) -> Result<(&'k Blob, &'k Blob, i64),
 #[derive(Clone, Copy)]
 struct Increment<'k> {
     alloc: Global,
+    keys: RandomState,
     field: &'k Blob,
     by: i64,
 }
@@ -77,7 +85,7 @@ impl<'k> HashEdit for Increment<'k> {
         match sum_in(hash, self.field, self.by) {
             Ok(sum) => {
                 let text = number(self.alloc, sum)?;
-                hash.insert(self.field, text.bytes())?;
+                hash.insert(self.keys, self.field, text.bytes())?;
                 Ok(Ok(sum))
             }
             Err(why) => Ok(Err(why)),

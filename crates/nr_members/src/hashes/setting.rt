@@ -18,6 +18,7 @@ use nr_model::refused::Refused;
 use nr_resp::words::three_words;
 use nr_resp::{Failure, Reply};
 use std::alloc::Global;
+use std::hash::RandomState;
 
 // The two commands that set fields with their values.
 #[derive(Clone, Copy)]
@@ -90,7 +91,8 @@ fn set_fields<T: Touched>(
         (staying database (hashes.set_fields (odd_words setting) (set_reply setting) keyspace.old database words.now)) }
 {
     let (name, words) = set_request(odd_words(setting), words)?;
-    let pairs = Pairs { words };
+    let keys = keyspace.keys();
+    let pairs = Pairs { keys, words };
     let added = edit_at(alloc, keyspace, now, database, name, pairs)?;
     touched.touch(database, name)?;
     Ok(set_reply(setting, added))
@@ -133,6 +135,7 @@ fn set_request(odd: Refused, words: &[Blob]) -> Result<(&Blob, &[Blob]), Refused
 // Fields that are set, each in front of its value.
 #[derive(Clone, Copy)]
 struct Pairs<'k> {
+    keys: RandomState,
     words: &'k [Blob],
 }
 
@@ -148,18 +151,18 @@ impl<'k> HashEdit for Pairs<'k> {
 
     fn edit(self, hash: &mut Hash) -> Result<Result<i64, Refused>, Memory> {
         let before = hash.len();
-        insert_all(hash, self.words)?;
+        insert_all(hash, self.keys, self.words)?;
         Ok(Ok(hash.len() as i64 - before as i64))
     }
 }
 
 // Each field has its value, whatever it had. Where memory runs out a front of them has.
-fn insert_all(hash: &mut Hash, words: &[Blob]) -> Result<(), Memory>
+fn insert_all(hash: &mut Hash, keys: RandomState, words: &[Blob]) -> Result<(), Memory>
     ensures { OnOk result (hash.new ≡ hashes.with_fields hash.old words.now) }
 {
     let mut left = words;
     while let Some((field, value, others)) = first_pair(left) {
-        hash.insert(field, value.bytes())?;
+        hash.insert(keys, field, value.bytes())?;
         left = others;
     }
     Ok(())
@@ -176,7 +179,7 @@ fn first_pair(words: &[Blob]) -> Option<(&Blob, &Blob, &[Blob])>
     Some((field, value, others))
 }
 
-/// `HSETNX key field value`. Logarithmic in the fields.
+/// `HSETNX key field value`. It looks at one block of the hash.
 pub fn hset_nx<T: Touched>(
     alloc: Global,
     keyspace: &mut Keyspace,
@@ -193,7 +196,8 @@ pub fn hset_nx<T: Touched>(
     if has_field(hash_at(keyspace, now, database, name)?, field) {
         return Ok(Reply::Int(0));
     }
-    let pair = Pair { field, value };
+    let keys = keyspace.keys();
+    let pair = Pair { keys, field, value };
     edit_at(alloc, keyspace, now, database, name, pair)?;
     touched.touch(database, name)?;
     Ok(Reply::Int(1))
@@ -202,6 +206,7 @@ pub fn hset_nx<T: Touched>(
 // A field that is set to a value.
 #[derive(Clone, Copy)]
 struct Pair<'k> {
+    keys: RandomState,
     field: &'k Blob,
     value: &'k Blob,
 }
@@ -215,7 +220,7 @@ impl<'k> HashEdit for Pair<'k> {
     ghost edits = { λ edit old new given. (given ≡ Ok tt) × (new ≡ map.insert old edit.field.now edit.value.now) };
 
     fn edit(self, hash: &mut Hash) -> Result<Result<(), Refused>, Memory> {
-        hash.insert(self.field, self.value.bytes())?;
+        hash.insert(self.keys, self.field, self.value.bytes())?;
         Ok(Ok(()))
     }
 }

@@ -1,5 +1,5 @@
 use Rattle.std.proofs.Common.{sym}
-use Rattle.nr_hashes.proofs.Reading.{none_in, first_in}
+use Rattle.nr_packs.proofs.Reading.{none_in, first_in}
 use Rattle.nr_hashes.proofs.pairs.next_packed.Goals as goal
 
 pub returns-in_default : goal.returns-in_default

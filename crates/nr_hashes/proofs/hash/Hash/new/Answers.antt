@@ -1,7 +1,7 @@
 use Rattle.std.proofs.Common.{sym, subst}
 use Rattle.std.specs.List.Sorted.{IsStrictlySortedBy}
 use Rattle.nr_hashes.specs.Forms.{entries_of}
-use Rattle.nr_hashes.specs.Orders.{AreInOrder}
+use Rattle.nr_packs.specs.Orders.{AreInOrder}
 use Rattle.nr_hashes.proofs.Seen.{none_seen}
 use Rattle.nr_hashes.proofs.hash.Hash.new.Goals as goal
 

@@ -3,8 +3,8 @@ use Rattle.std.specs.BTreeMap.{is_at}
 use Rattle.std.specs.FinMap as map
 use Rattle.nr_model.specs.Keyspace.{byte_cmp}
 use Rattle.nr_hashes.specs.Forms.{entries_of}
-use Rattle.nr_hashes.specs.Orders.{AreInOrder}
-use Rattle.nr_hashes.proofs.Placed.{rises_remove}
+use Rattle.nr_packs.specs.Orders.{AreInOrder}
+use Rattle.nr_packs.proofs.Placed.{rises_remove}
 use Rattle.nr_hashes.proofs.Seen.{get_seen, removed_seen}
 use Rattle.nr_hashes.proofs.hash.Hash.remove.Goals as goal
 

@@ -1,0 +1,17 @@
+pub mod Placed
+pub mod Reading
+pub mod Skipped
+pub mod Around
+pub mod Counted
+pub mod Kept
+pub mod Looked
+pub mod Moved
+pub mod Spread
+pub mod Stored
+pub mod Parted
+pub mod Walked
+pub mod Tabled
+pub mod Copied
+pub mod Headed
+pub mod Apart
+pub mod Sorting
