@@ -19,7 +19,7 @@ use Rattle.nr_answering.proofs.Apart.{connection_at, is_there, is_feed, effect_f
 
 -- what a step that was done adds
 told_cases : (P : List Occurrence → Type 0) → P [] → ((c : Connection) → P (stories.Opened c ∷ [])) → ((f : Feeding) → P (stories.Fed f ∷ []))
-    → ((c : Connection) → P (stories.Closed c ∷ [])) → (step : Step) (o : Outcome) → P (told_by step o)
+    → ((closing : stories.Closing) → P (stories.Closed closing ∷ [])) → (step : Step) (o : Outcome) → P (told_by step o)
 told_cases P none opens feeds closes (Open n w) (Opened c) = opens c
 told_cases P none opens feeds closes (Open n w) Done = none
 told_cases P none opens feeds closes (Open n w) (Idle reason) = none
@@ -27,7 +27,8 @@ told_cases P none opens feeds closes (Feed c time bytes) o =
     let f : Feeding = record { connection = c; moment = moment time; bytes = bytes } in
     elim (is_done o) as (λ b. P (cond b (stories.Fed f ∷ []) [])) [ true ↦ feeds f | false ↦ none ]
 told_cases P none opens feeds closes (Close c time) o =
-    elim (is_done o) as (λ b. P (cond b (stories.Closed c ∷ []) [])) [ true ↦ closes c | false ↦ none ]
+    let closing : stories.Closing = record { connection = c; moment = moment time } in
+    elim (is_done o) as (λ b. P (cond b (stories.Closed closing ∷ []) [])) [ true ↦ closes closing | false ↦ none ]
 told_cases P none opens feeds closes (Post n w) o = none
 told_cases P none opens feeds closes (Lift n w) o = none
 told_cases P none opens feeds closes (Reserve n) o = none
@@ -42,7 +43,7 @@ told_cases P none opens feeds closes (Revive n f) o = none
 
 -- what was handed out is what happened so
 handed_none : (step : Step) (o : Outcome) → stories.handed_in (told_by step o) ≡ []
-handed_none step o = told_cases (λ (os : List Occurrence). stories.handed_in os ≡ []) refl (λ c. refl) (λ f. refl) (λ c. refl) step o
+handed_none step o = told_cases (λ (os : List Occurrence). stories.handed_in os ≡ []) refl (λ c. refl) (λ f. refl) (λ closing. refl) step o
 
 pub one_handed : (e : Event) → stories.handed_in (told_of e) ≡ e.handed
 one_handed e =
@@ -75,7 +76,7 @@ fed_none (Open n w) (Opened c) is = refl
 fed_none (Open n w) Done is = refl
 fed_none (Open n w) (Idle reason) is = refl
 fed_none (Feed c time bytes) o is = absurd (cc is)
-fed_none (Close c time) o is = elim (is_done o) as (λ b. fed_in (cond b (stories.Closed c ∷ []) []) ≡ []) [ true ↦ refl | false ↦ refl ]
+fed_none (Close c time) o is = elim (is_done o) as (λ b. fed_in (cond b (stories.closed_at c time ∷ []) []) ≡ []) [ true ↦ refl | false ↦ refl ]
 fed_none (Post n w) o is = refl
 fed_none (Lift n w) o is = refl
 fed_none (Reserve n) o is = refl
@@ -222,7 +223,7 @@ there_told setup world (Feed c time bytes) refused o many is =
     elim (is_done o) as (λ b. AreThere (after_step setup world (Feed c time bytes) refused)
     (opened_in (cond b (stories.Fed (record { connection = c; moment = moment time; bytes = bytes }) ∷ []) []))) [ true ↦ tt | false ↦ tt ]
 there_told setup world (Close c time) refused o many is =
-    elim (is_done o) as (λ b. AreThere (after_step setup world (Close c time) refused) (opened_in (cond b (stories.Closed c ∷ []) [])))
+    elim (is_done o) as (λ b. AreThere (after_step setup world (Close c time) refused) (opened_in (cond b (stories.closed_at c time ∷ []) [])))
     [ true ↦ tt | false ↦ tt ]
 there_told setup world (Post n w) refused o many is = tt
 there_told setup world (Lift n w) refused o many is = tt

@@ -136,7 +136,7 @@ close_gone setup world c time refused =
     ∙ gone_third (not (is_client after c)) (node_at c.node after).down)))
 
 close_told : (a b d : Bool) (c : Connection) (time : ℕ)
-    → told_by (Close c time) (idle_where a NoSuch (idle_where b Ended (idle_where d Down Done))) ≡ cond (a || (d || b)) [] (stories.Closed c ∷ [])
+    → told_by (Close c time) (idle_where a NoSuch (idle_where b Ended (idle_where d Down Done))) ≡ cond (a || (d || b)) [] (stories.closed_at c time ∷ [])
 close_told true b d c time = refl
 close_told false true true c time = refl
 close_told false true false c time = refl
@@ -152,7 +152,7 @@ close_opens c (Opened d) time = refl
 close_opens c Done time = refl
 close_opens c (Idle reason) time = refl
 
-pub close_closes : (old new : WorldState) (c : Connection) (time : ℕ) (o : Outcome) → Steps old new (Close c time) o → Closes old new c
+pub close_closes : (old new : WorldState) (c : Connection) (time : ℕ) (o : Outcome) → Steps old new (Close c time) o → Closes old new c time
 close_closes old new c time o steps = record {
   shut = told_by (Close c time) o;
   moves = step_moves old new (Close c time) o (told_by (Close c time) o) steps

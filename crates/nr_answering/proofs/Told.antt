@@ -18,7 +18,7 @@ use Rattle.nr_entry.specs.Jobs.{connection_of}
 use Rattle.nr_nodes.specs.Served.{node_seen}
 use Rattle.nr_nodes.specs.WorldState.{WorldState, Shows}
 use Rattle.nr_nodes.specs.Settles.{Settles, events_of}
-use Rattle.nr_service.specs.Stories.{Occurrence, Opened, Fed, HandedOut, Closed, Story, IsOpened, IsFed, HasWorked, IsShut, IsClosed, Keeps, opened_in, fed_in, handed_in, is_among, going_on}
+use Rattle.nr_service.specs.Stories.{Occurrence, Opened, Fed, HandedOut, Story, closed_at, IsOpened, IsFed, HasWorked, IsShut, IsClosed, Keeps, opened_in, fed_in, handed_in, is_among, going_on}
 use Rattle.nr_service.proofs.Occurrences.{going_none}
 use Rattle.nr_answering.specs.Kept.{Taps, is_conn, kept_at, IsPut, AreKept, IsTapped}
 use Rattle.nr_answering.specs.State.{AnsweringState, IsSound}
@@ -206,24 +206,24 @@ has_worked old new handed sound works rests put =
     }
 
 -- what a close added tells whether its connection took no room before
-shut_told : (old : WorldState) (world : World) (c : Connection) (shut : List Occurrence) → Shows old world
-    → shut ≡ cond (is_gone world c) [] (Closed c ∷ []) → IsShut c (IsGone old c) shut
-shut_told old world c shut shows is =
+shut_told : (old : WorldState) (world : World) (c : Connection) (time : ℕ) (shut : List Occurrence) → Shows old world
+    → shut ≡ cond (is_gone world c) [] (closed_at c time ∷ []) → IsShut c time (IsGone old c) shut
+shut_told old world c time shut shows is =
     elim (cases_Bool (is_gone world c)) [
       | inl gone ↦ inr (
-        is ∙ ap (λ (b : Bool). cond b [] (Closed c ∷ [])) gone,
+        is ∙ ap (λ (b : Bool). cond b [] (closed_at c time ∷ [])) gone,
         λ shown also. gone_in world shown c (sym shows.nodes ∙ also.nodes) gone,
       )
-      | inr there ↦ inl (is ∙ ap (λ (b : Bool). cond b [] (Closed c ∷ [])) there, λ gone. absurd (cc (gone world shows, there)))
+      | inr there ↦ inl (is ∙ ap (λ (b : Bool). cond b [] (closed_at c time ∷ [])) there, λ gone. absurd (cc (gone world shows, there)))
     ]
 
 -- a connection was closed
-pub is_closed : (old new : AnsweringState) (conn : ConnId) → IsSound old.world old.taps → Closes old.world new.world (connection_of conn)
+pub is_closed : (old new : AnsweringState) (conn : ConnId) (time : ℕ) → IsSound old.world old.taps → Closes old.world new.world (connection_of conn) time
     → IsPut conn None old.taps new.taps
-    → IsClosed (connection_of conn) (IsGone old.world (connection_of conn)) (HasLedTo old) (HasLedTo new) (Kept old) (Kept new)
-is_closed old new conn sound closes put = record {
+    → IsClosed (connection_of conn) time (IsGone old.world (connection_of conn)) (HasLedTo old) (HasLedTo new) (Kept old) (Kept new)
+is_closed old new conn time sound closes put = record {
   shut = closes.shut;
-  is = shut_told old.world sound.shown (connection_of conn) closes.shut sound.shows (closes.is sound.events sound.shown sound.past sound.shows);
+  is = shut_told old.world sound.shown (connection_of conn) time closes.shut sound.shows (closes.is sound.events sound.shown sound.past sound.shows);
   past = λ story led. led_on old new story closes.shut closes.moves led;
   kept = own_kept old.taps new.taps conn None put;
   others = others_kept old.taps new.taps conn None put;
@@ -254,8 +254,8 @@ none_told old new None moves same = is_same old new moves same
 none_told old new (Some conn) moves put = tt
 
 -- its connection takes no room any more, in each world that is shown
-pub gone_told : (old new : WorldState) (taps : Taps) (c : Connection) → IsSound old taps → Closes old new c → IsGone new c
-gone_told old new taps c sound closes = closes.gone sound.events sound.shown sound.past sound.shows
+pub gone_told : (old new : WorldState) (taps : Taps) (c : Connection) (time : ℕ) → IsSound old taps → Closes old new c time → IsGone new c
+gone_told old new taps c time sound closes = closes.gone sound.events sound.shown sound.past sound.shows
 
 -- none was opened since no node had room
 pub full_told : (old : WorldState) (taps : Taps) (opened : Option ConnId) → IsSound old taps → IfNone opened (FindsFull old)

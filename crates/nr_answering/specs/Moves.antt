@@ -8,7 +8,7 @@ use Rattle.nr_model.specs.Nodes.Pasts.{Event, AreEvents, IsPast}
 use Rattle.nr_model.specs.Nodes.Settling.{after_events}
 use Rattle.nr_nodes.specs.Settles.{Settles}
 use Rattle.nr_nodes.specs.WorldState.{WorldState, Shows}
-use Rattle.nr_service.specs.Stories.{Occurrence, HandedOut, Closed, opened_in}
+use Rattle.nr_service.specs.Stories.{Occurrence, HandedOut, closed_at, opened_in}
 use Rattle.nr_answering.specs.Stands.{is_gone, takes_none, IsGone, IsFull}
 use Rattle.nr_answering.specs.Told.{told_in}
 
@@ -34,11 +34,11 @@ pub record Rests (old new : WorldState) (handed : List Handed) : Type 0 where
   pub moves : Moves old new (map HandedOut handed)
   pub settles : Settles old new handed
 
--- A connection was closed, and no other, or nothing happened where it took no room. Behind it it takes none.
-pub record Closes (old new : WorldState) (c : Connection) : Type 0 where
+-- A connection was closed at a moment, and no other, or nothing happened where it took no room. Behind it it takes none.
+pub record Closes (old new : WorldState) (c : Connection) (time : ℕ) : Type 0 where
   pub shut : List Occurrence
   pub moves : Moves old new shut
-  pub is : (events : List Event) (world : World) → IsPast old.setup events world → Shows old world → shut ≡ cond (is_gone world c) [] (Closed c ∷ [])
+  pub is : (events : List Event) (world : World) → IsPast old.setup events world → Shows old world → shut ≡ cond (is_gone world c) [] (closed_at c time ∷ [])
   pub gone : (events : List Event) (world : World) → IsPast old.setup events world → Shows old world → IsGone new c
 
 -- nothing moved, and a worker of a node took no connection

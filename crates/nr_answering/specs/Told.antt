@@ -12,12 +12,12 @@ opened_by (Opened c) = stories.Opened c ∷ []
 opened_by Done = []
 opened_by (Idle reason) = []
 
--- an open, a feed or a close that was done; the other steps do nothing to a connection but hand out
+-- an open, a feed or a close that was done, these two at the moment of the step; the other steps do nothing to a connection but hand out
 abbrev pub told_by : Step → Outcome → List stories.Occurrence
 told_by (Open n w) outcome = opened_by outcome
 told_by (Feed c time bytes) outcome =
     cond (is_done outcome) (stories.Fed (record { connection = c; moment = moment time; bytes = bytes }) ∷ []) []
-told_by (Close c time) outcome = cond (is_done outcome) (stories.Closed c ∷ []) []
+told_by (Close c time) outcome = cond (is_done outcome) (stories.closed_at c time ∷ []) []
 told_by _ outcome = []
 
 -- and each piece that was handed out

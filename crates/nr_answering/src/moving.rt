@@ -87,7 +87,7 @@ pub(crate) fn settle(world: &mut World) -> Result<Vec<Handed>, Memory>
 
 /// Closes a connection, where it takes room, at a moment in milliseconds.
 pub(crate) fn close(world: &mut World, conn: ConnId, moment: u64) -> Result<(), Memory>
-    ensures { OnOk result (Closes world.old world.new (connection_of conn)) }
+    ensures { OnOk result (Closes world.old world.new (connection_of conn) moment) }
 {
     world.close(conn, moment)?;
     Ok(())

@@ -14,13 +14,17 @@ use Rattle.nr_slots.specs.contracts.slots.Slots as Slots
 use Rattle.nr_node.proofs.Crossing.{core_send}
 use Rattle.nr_combiner.specs.declared.name.ServerName as server_name
 use Rattle.nr_combiner.specs.contracts.combiner.Combiner as Combiner
+use Rattle.nr_combiner.specs.contracts.counts.Counts as Counts
 use Rattle.nr_combiner.specs.contracts.node.Node as Node
 use Rattle.nr_combiner.specs.contracts.worker.Worker as Worker
 
 module _ (B : RattleType) (s : server_name.Ghosts B.Denot) (g : log_name.Ghosts B.Denot) where
+  counts_send : IsSend Counts.the_row
+  counts_send = view_send Counts.TheInside.the_row _ _ _ _ (declared_send Counts.TheInside.the_type (search sent, (search sent, tt)))
+
   combiner_send : IsSend (Combiner.the_row B s g)
   combiner_send = view_send (Combiner.TheInside.the_row B s g) _ _ _ _ (declared_send (Combiner.TheInside.the_type B s g)
-      (core_send B g, (desk_send, (Arc-send Slots.the_row slots_send slots_sync, (search sent, (search sent, (search sent, tt)))))))
+      (core_send B g, (desk_send, (Arc-send Slots.the_row slots_send slots_sync, (search sent, (search sent, (counts_send, tt)))))))
 
   lock_send : IsSend (Mutex.the_row (Combiner.the_row B s g))
   lock_send = search (crosses, combiner_send)
@@ -38,4 +42,4 @@ module _ (B : RattleType) (s : server_name.Ghosts B.Denot) (g : log_name.Ghosts 
 
   pub worker_send : IsSend (Worker.the_row B s g)
   worker_send = view_send (Worker.TheInside.the_row B s g) _ _ _ _ (declared_send (Worker.TheInside.the_type B s g)
-      (Arc-send (Node.the_row B g s) node_send node_sync, (search sent, (seat_send, (search sent, tt)))))
+      (Arc-send (Node.the_row B g s) node_send node_sync, (search sent, (seat_send, (search sent, (search sent, tt))))))

@@ -2,12 +2,13 @@
 use Rattle.std.proofs.Common.{◌≡◌, ℕ, suc, ◌+◌, ◌<◌, Bool, cond, inl, inr, List, [], ◌∷◌, ◌++◌, length, drop, get_or, drop-cons, add-one, refl, ap, sym, ◌∙◌, append_assoc, append-nil}
 use Rattle.std.specs.Prelude.{filter, Result, Ok, Err, OnErr}
 use Rattle.std.proofs.lemmas.Bool.{cases_Bool}
-use Rattle.nr_blob.specs.declared.memory.Memory.{Memory}
 use Rattle.nr_entry.specs.declared.conn.ConnId.{ConnId}
 use Rattle.nr_node.specs.Batches.{is_cut_at}
 use Rattle.nr_node.specs.Level.{NodeState, IsLevel}
 use Rattle.nr_combiner.specs.Behind.{CutsBehind, CutsFrontBehind}
+use Rattle.nr_combiner.specs.Counts.{generation_of}
 use Rattle.nr_combiner.specs.Pieces.{AddsFront}
+use Rattle.nr_combiner.specs.Served.{CombinerState, StandsLevel}
 
 -- what was added, and what is left to add, is all
 abbrev pub AreAdded : (ConnId → Bool) → List ConnId → List ConnId → List ConnId → ℕ → Type 0
@@ -42,9 +43,10 @@ one_added p conns old mid new i conn within is pushed a =
     ]
 
 -- a node told them behind its lock
-pub cuts_behind : (node : ℕ) (n : NodeState) (conns old new : List ConnId) → n.book.node ≡ node → new ≡ old ++ filter (is_cut_at n) conns
-    → IsLevel n.seat.standing n.replica → CutsBehind node conns old new
-cuts_behind node n conns old new is all level = record { at = n; node_is = is; added = all; is_level = level }
+pub cuts_behind : (node worker generation : ℕ) (c : CombinerState) (conns old new : List ConnId) → c.node.book.node ≡ node
+    → generation_of worker c.counts ≡ generation → new ≡ old ++ filter (is_cut_at c.node) conns → StandsLevel c
+    → CutsBehind node worker generation conns old new
+cuts_behind node worker generation c conns old new is met all level = record { at = c; node_is = is; met = met; added = all; is_level = level }
 
 pub cuts_front : {T E : Type 0} (r : Result T E) (n : NodeState) (conns old new : List ConnId)
     → (left : List ConnId) × AddsFront (filter (is_cut_at n) conns) old new left → IsLevel n.seat.standing n.replica → OnErr r (CutsFrontBehind conns old new)

@@ -133,14 +133,14 @@ names_refused answer batch why node worker number told =
 
 pub hands_back : (c d : CombinerState) (after : CombinerView) (worker : ℕ) (batch back : Batch) (why : TakeError) (answer : Answer)
     → IsRefusedFor worker c.node batch why → AreSame back batch → d.node ≡ c.node → after ≡ with_lifted worker batch c.seat → d.seat ≡ with_answered worker answer after
-    → d.taken ≡ c.taken → Names answer back → IsOutcomeOf why back.jobs.items answer.outcome → HandsBack worker batch answer why c d
+    → d.counts ≡ c.counts → Names answer back → IsOutcomeOf why back.jobs.items answer.outcome → HandsBack worker batch answer why c d
 hands_back c d after worker batch back why answer refused same node is last taken names told = record {
   refused = refused;
   names = (names.0 ∙ same.0, names.1 ∙ same.1, names.2 ∙ same.2, subst (λ (jobs : List Job). IsBackOf answer.outcome jobs) same.3 names.3);
   outcome = subst (λ (jobs : List Job). IsOutcomeOf why jobs answer.outcome) same.3 told;
   node = node;
   seat = last ∙ ap (with_answered worker answer) is;
-  taken = taken;
+  counts = taken;
 }
 
 -- nothing was lifted

@@ -34,6 +34,7 @@ use Rattle.nr_node.proofs.Owed.{all_front}
 use Rattle.nr_node.proofs.Ready.{Ascends, all_within, ascends}
 use Rattle.nr_combiner.specs.Heard.{HasHeard, Knows, with_posted}
 use Rattle.nr_combiner.specs.Pieces.{AreHandedIn, AreRising, HasAdded, HasExecuted, HasOwn, IsHandedOf, IsPieceOf}
+use Rattle.nr_combiner.specs.Counts.{generation_of}
 use Rattle.nr_combiner.specs.Served.{CombinerState, IsLifted, IsOwnOfBatch, IsServed, StandsLevel}
 use Rattle.nr_combiner.specs.Behind.{CollectsBehind, TurnsBehind}
 use Rattle.nr_combiner.specs.Turned.{HandsOutTo, HasCollectedFor, HasTurned, tells_down}
@@ -292,18 +293,18 @@ handed_added worker most told old new r s note mid d numbers h standing is_up se
       }
     ]
 
-pub turned_added : (places node worker : ℕ) (which : Lifts) (most : ℕ) (old new : List Handed) (turned : Turned) (s : Standing) (note : NoteView)
-    → TurnsBehind places node worker which most old new turned s note
+pub turned_added : (places node worker generation : ℕ) (which : Lifts) (most : ℕ) (old new : List Handed) (turned : Turned) (s : Standing) (note : NoteView)
+    → TurnsBehind places node worker generation which most old new turned s note
     → HasAdded most (tells_down turned.combined) s (AreHandedIn (get_or note.desks worker no_desk) (record_of s.history)) old new
-turned_added places node worker which most old new turned s note b =
+turned_added places node worker generation which most old new turned s note b =
     handed_added worker most (tells_down turned.combined) old new turned.collected s note b.has_turned.combined b.after b.numbers b.has_turned.handed
     (b.standing ∙ sym (turned_at places worker which most old new turned s note b.before b.after b.has_turned ∙ b.node_is))
     (is_up turned.combined b.after.node.replica.down b.down) b.served
 
-pub collects_added : (node worker most : ℕ) (old new : List Handed) (told : Collected) (s : Standing) (note : NoteView)
-    → CollectsBehind node worker most old new told s note
+pub collects_added : (node worker generation most : ℕ) (old new : List Handed) (told : Collected) (s : Standing) (note : NoteView)
+    → CollectsBehind node worker generation most old new told s note
     → HasAdded most told.is_down s (AreHandedIn (get_or note.desks worker no_desk) (record_of s.history)) old new
-collects_added node worker most old new told s note b =
+collects_added node worker generation most old new told s note b =
     handed_added worker most told.is_down old new told.result s note b.before b.after b.numbers b.handed
     (b.standing ∙ sym (handed_node worker most old new told.result s note b.before b.after b.handed ∙ b.node_is)) (λ up. sym b.down ∙ up) b.served
 
@@ -321,14 +322,14 @@ handed_executed worker most old new r s note c d numbers h served =
     (subst (λ (v : NoteView). HasExecuted (get_or v.desks worker no_desk) d.node.seat.standing) (sym h.note_is)
     (executed_at worker d.node d.seat numbers served))
 
-pub turned_executed : (places node worker : ℕ) (which : Lifts) (most : ℕ) (old new : List Handed) (turned : Turned) (s : Standing) (note : NoteView)
-    → TurnsBehind places node worker which most old new turned s note → HasExecuted (get_or note.desks worker no_desk) s
-turned_executed places node worker which most old new turned s note b =
+pub turned_executed : (places node worker generation : ℕ) (which : Lifts) (most : ℕ) (old new : List Handed) (turned : Turned) (s : Standing) (note : NoteView)
+    → TurnsBehind places node worker generation which most old new turned s note → HasExecuted (get_or note.desks worker no_desk) s
+turned_executed places node worker generation which most old new turned s note b =
     handed_executed worker most old new turned.collected s note b.has_turned.combined b.after b.numbers b.has_turned.handed b.served
 
-pub collects_executed : (node worker most : ℕ) (old new : List Handed) (told : Collected) (s : Standing) (note : NoteView)
-    → CollectsBehind node worker most old new told s note → HasExecuted (get_or note.desks worker no_desk) s
-collects_executed node worker most old new told s note b =
+pub collects_executed : (node worker generation most : ℕ) (old new : List Handed) (told : Collected) (s : Standing) (note : NoteView)
+    → CollectsBehind node worker generation most old new told s note → HasExecuted (get_or note.desks worker no_desk) s
+collects_executed node worker generation most old new told s note b =
     handed_executed worker most old new told.result s note b.before b.after b.numbers b.handed b.served
 
 -- so are the jobs of its connections
@@ -339,46 +340,49 @@ handed_own worker most old new r s note c d numbers h node served =
     (owns_all d.node d.seat.desks worker s h.opened node
     (subst (λ (x : Standing). AllByRecursion (IsOwnOfBatch d.node d.seat.desks) (record_of x.history)) (sym h.token) served.handed_in.done))
 
-pub turned_own : (places node worker : ℕ) (which : Lifts) (most : ℕ) (old new : List Handed) (turned : Turned) (s : Standing) (note : NoteView)
-    → TurnsBehind places node worker which most old new turned s note → HasOwn worker (get_or note.desks worker no_desk) s
-turned_own places node worker which most old new turned s note b =
+pub turned_own : (places node worker generation : ℕ) (which : Lifts) (most : ℕ) (old new : List Handed) (turned : Turned) (s : Standing) (note : NoteView)
+    → TurnsBehind places node worker generation which most old new turned s note → HasOwn worker (get_or note.desks worker no_desk) s
+turned_own places node worker generation which most old new turned s note b =
     handed_own worker most old new turned.collected s note b.has_turned.combined b.after b.numbers b.has_turned.handed
     (b.standing ∙ sym (turned_at places worker which most old new turned s note b.before b.after b.has_turned ∙ b.node_is)) b.served
 
-pub collects_own : (node worker most : ℕ) (old new : List Handed) (told : Collected) (s : Standing) (note : NoteView)
-    → CollectsBehind node worker most old new told s note → HasOwn worker (get_or note.desks worker no_desk) s
-collects_own node worker most old new told s note b =
+pub collects_own : (node worker generation most : ℕ) (old new : List Handed) (told : Collected) (s : Standing) (note : NoteView)
+    → CollectsBehind node worker generation most old new told s note → HasOwn worker (get_or note.desks worker no_desk) s
+collects_own node worker generation most old new told s note b =
     handed_own worker most old new told.result s note b.before b.after b.numbers b.handed
     (b.standing ∙ sym (handed_node worker most old new told.result s note b.before b.after b.handed ∙ b.node_is)) b.served
 
 -- a turn was one of this node
-pub turns_behind : (places node worker : ℕ) (which : Lifts) (most : ℕ) (old new : List Handed) (turned : Turned) (s : Standing) (note : NoteView) (c d : CombinerState)
+pub turns_behind : (places node worker generation : ℕ) (which : Lifts) (most : ℕ) (old new : List Handed) (turned : Turned) (s : Standing) (note : NoteView) (c d : CombinerState)
     → HasTurned places worker which most old new turned s note c d → c.node.book.node ≡ node → s.node ≡ c.node.book.node
     → (turned.combined ≡ Ok rounds.Down) ↔ (d.node.replica.down ≡ true) → (numbers : List ℕ) × IsServed d.node d.seat numbers → StandsLevel c → StandsLevel d
-    → TurnsBehind places node worker which most old new turned s note
-turns_behind places node worker which most old new turned s note c d t is standing down served was_level is_level = record {
+    → generation_of worker c.counts ≡ generation → TurnsBehind places node worker generation which most old new turned s note
+turns_behind places node worker generation which most old new turned s note c d t is standing down served was_level is_level met = record {
   before = c;
   after = d;
   has_turned = t;
   node_is = is;
   standing = standing ∙ is;
   down = down;
+  met = met;
   numbers = served.0;
   served = served.1;
   was_level = was_level;
   is_level = is_level;
 }
 
-pub collects_behind : (node worker most : ℕ) (old new : List Handed) (told : Collected) (s : Standing) (note : NoteView) (c d : CombinerState)
+pub collects_behind : (node worker generation most : ℕ) (old new : List Handed) (told : Collected) (s : Standing) (note : NoteView) (c d : CombinerState)
     → HandsOutTo worker most old new told.result s note c d → c.node.book.node ≡ node → s.node ≡ c.node.book.node → told.is_down ≡ d.node.replica.down
-    → (numbers : List ℕ) × IsServed d.node d.seat numbers → StandsLevel c → StandsLevel d → CollectsBehind node worker most old new told s note
-collects_behind node worker most old new told s note c d h is standing down served was_level is_level = record {
+    → (numbers : List ℕ) × IsServed d.node d.seat numbers → StandsLevel c → StandsLevel d → generation_of worker c.counts ≡ generation
+    → CollectsBehind node worker generation most old new told s note
+collects_behind node worker generation most old new told s note c d h is standing down served was_level is_level met = record {
   before = c;
   after = d;
   handed = h;
   node_is = is;
   standing = standing ∙ is;
   down = down;
+  met = met;
   numbers = served.0;
   served = served.1;
   was_level = was_level;

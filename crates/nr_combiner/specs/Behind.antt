@@ -16,44 +16,50 @@ use Rattle.nr_combiner.specs.declared.answering.Lifts.{Lifts}
 use Rattle.nr_combiner.specs.declared.answering.Lifts.TheVariants.{All}
 use Rattle.nr_combiner.specs.declared.answering.Turned.{Turned}
 use Rattle.nr_combiner.specs.Pieces.{AddsFront}
+use Rattle.nr_combiner.specs.Counts.{generation_of}
 use Rattle.nr_combiner.specs.Served.{CombinerState, IsServed, StandsLevel}
 use Rattle.nr_combiner.specs.Shared.{NodeView}
 use Rattle.nr_combiner.specs.Steps.{HasCombined, HasRoom, OpensFor}
 use Rattle.nr_combiner.specs.Turned.{HandsOutTo, HasTurned}
 
--- A turn of this node: it is down exactly where it says so, and keeps what a combiner keeps.
-pub record TurnsBehind (places node worker : ℕ) (which : Lifts) (most : ℕ) (old new : List Handed) (turned : Turned) (s : Standing) (note : NoteView) : Type 0 where
+-- A turn of this node: it is down exactly where it says so, and keeps what a combiner keeps. As it began the worker had this generation: nothing was handed out for its
+-- connections, and none of them was closed, since it was told of that.
+pub record TurnsBehind (places node worker generation : ℕ) (which : Lifts) (most : ℕ) (old new : List Handed) (turned : Turned) (s : Standing) (note : NoteView) : Type 0 where
   pub before : CombinerState
   pub after : CombinerState
   pub has_turned : HasTurned places worker which most old new turned s note before after
   pub node_is : before.node.book.node ≡ node
   pub standing : s.node ≡ node
   pub down : (turned.combined ≡ Ok rounds.Down) ↔ (after.node.replica.down ≡ true)
+  pub met : generation_of worker before.counts ≡ generation
   pub numbers : List ℕ
   pub served : IsServed after.node after.seat numbers
   pub was_level : StandsLevel before
   pub is_level : StandsLevel after
 
 -- It handed out alone, without a turn: no batch is lifted or answered, nothing is put into the log, and no entry is passed.
-pub record CollectsBehind (node worker most : ℕ) (old new : List Handed) (told : Collected) (s : Standing) (note : NoteView) : Type 0 where
+pub record CollectsBehind (node worker generation most : ℕ) (old new : List Handed) (told : Collected) (s : Standing) (note : NoteView) : Type 0 where
   pub before : CombinerState
   pub after : CombinerState
   pub handed : HandsOutTo worker most old new told.result s note before after
   pub node_is : before.node.book.node ≡ node
   pub standing : s.node ≡ node
   pub down : told.is_down ≡ after.node.replica.down
+  pub met : generation_of worker before.counts ≡ generation
   pub numbers : List ℕ
   pub served : IsServed after.node after.seat numbers
   pub was_level : StandsLevel before
   pub is_level : StandsLevel after
 
--- It opened a connection for a worker, the node being up, where fewer than its limit weren't closed; it has the next serial, and the node's limit of bytes.
-pub record OpensBehind (at : NodeView) (worker : ℕ) (conn : ConnId) (s : Standing) (note : NoteView) : Type 0 where
+-- It opened a connection for a worker, of this generation then, the node being up, where fewer than its limit weren't closed; it has the next serial, and the node's limit
+-- of bytes.
+pub record OpensBehind (at : NodeView) (worker generation : ℕ) (conn : ConnId) (s : Standing) (note : NoteView) : Type 0 where
   pub before : CombinerState
   pub after : CombinerState
   pub has_opened : OpensFor at.limit worker before after
   pub room : HasRoom worker at.connections before
   pub up : before.node.replica.down ≡ false
+  pub met : generation_of worker before.counts ≡ generation
   pub node_is : before.node.book.node ≡ at.node
   pub conn_is : connection_of conn ≡ connection_at before.node.replica.node (length before.node.replica.members)
   pub token : s ≡ after.node.seat.standing
@@ -79,12 +85,13 @@ pub record RefusesBehind : Type 0 where
   pub was_level : StandsLevel before
   pub is_level : StandsLevel after
 
--- Those of some connections that were cut as it stood were added, in their order.
-pub record CutsBehind (node : ℕ) (conns old new : List ConnId) : Type 0 where
-  pub at : NodeState
-  pub node_is : at.book.node ≡ node
-  pub added : new ≡ old ++ filter (is_cut_at at) conns
-  pub is_level : IsLevel at.seat.standing at.replica
+-- Those of some connections that were cut as it stood were added, in their order. A worker had this generation then.
+pub record CutsBehind (node worker generation : ℕ) (conns old new : List ConnId) : Type 0 where
+  pub at : CombinerState
+  pub node_is : at.node.book.node ≡ node
+  pub met : generation_of worker at.counts ≡ generation
+  pub added : new ≡ old ++ filter (is_cut_at at.node) conns
+  pub is_level : StandsLevel at
 
 -- The first of those that were cut as a node stood were added.
 pub record CutsFrontBehind (conns old new : List ConnId) : Type 0 where

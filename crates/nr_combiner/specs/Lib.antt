@@ -1,3 +1,4 @@
+pub mod Counts
 pub mod Served
 pub mod Steps
 pub mod Pieces

@@ -1,7 +1,7 @@
 -- What a combiner keeps of its node and of the batches that it lifted.
 use Rattle.std.specs.Prelude.{◌≡◌, ℕ, ◌<◌, ◌≤◌, false, List, [], ◌∷◌, ◌++◌, length, Contains, Option, Some, None, slice_index_or, refl}
 use Rattle.std.specs.List.{AllByRecursion, slice_get}
-use Rattle.std.specs.Coded.{Coded, code_by, coded×, coded_ℕ}
+use Rattle.std.specs.Coded.{Coded, code_by, coded×}
 use Rattle.nr_model.specs.Items.{Item, Sequence, is_update}
 use Rattle.nr_model.specs.Entries.{Jobs}
 use Rattle.nr_entry.specs.Jobs.{items_of}
@@ -16,17 +16,18 @@ use Rattle.nr_slots.specs.Seats.{CombinerView, desk_of}
 use Rattle.nr_slots.specs.Codes.{combiner_code}
 use Rattle.nr_node.specs.Level.{NodeState, coded_node, unpassed, jobs_reserved, all_jobs, IsLevel}
 use Rattle.nr_node.specs.Owing.{IsServedBy}
+use Rattle.nr_combiner.specs.Counts.{Counts, coded_counts}
 
--- the node, the combiner's seat at its workers' slots, and how many connections aren't closed
+-- the node, the combiner's seat at its workers' slots, and what it counts of their connections
 pub record CombinerState : Type 0 where
   pub node : NodeState
   pub seat : CombinerView
-  pub taken : ℕ
+  pub counts : Counts
 
 abbrev pub coded_combiner : Coded CombinerState
 coded_combiner =
-    code_by (NodeState × (CombinerView × ℕ)) (coded× coded_node (coded× combiner_code coded_ℕ)) (λ c. (c.node, (c.seat, c.taken)))
-    (λ p. record { node = p.0; seat = p.1.0; taken = p.1.1 }) (λ _. refl)
+    code_by (NodeState × (CombinerView × Counts)) (coded× coded_node (coded× combiner_code coded_counts)) (λ c. (c.node, (c.seat, c.counts)))
+    (λ p. record { node = p.0; seat = p.1.0; counts = p.1.1 }) (λ _. refl)
 
 -- its node is level with the log: the replica is down, or is the sequential Redis after the record; and what waits for each connection is what the record emits for it
 abbrev pub StandsLevel : CombinerState → Type 0

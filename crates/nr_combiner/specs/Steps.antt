@@ -1,5 +1,5 @@
 -- What a combiner's calls come to.
-use Rattle.std.specs.Prelude.{◌≡◌, ◌≢◌, ◌↔◌, ◌⊎◌, ◌==◌, ◌-◌, ◌<◌, ◌≤◌, ℕ, zero, suc, Bool, true, false, if◌then◌else◌, List, [], ◌++◌, length, Option, Some, None, Result, Ok, Err}
+use Rattle.std.specs.Prelude.{◌≡◌, ◌≢◌, ◌↔◌, ◌⊎◌, ◌==◌, ◌<◌, ◌≤◌, ℕ, zero, suc, Bool, true, false, if◌then◌else◌, List, [], ◌++◌, length, Option, Some, None, Result, Ok, Err}
 use Rattle.nr_blob.specs.declared.memory.Memory.{Memory}
 use Rattle.nr_entry.specs.declared.batch.Batch.{Batch}
 use Rattle.nr_entry.specs.declared.batch.Answer.{Answer}
@@ -12,7 +12,7 @@ use Rattle.nr_log_end.specs.Standings.{passed_of}
 use Rattle.nr_log_end.specs.Tries.{IsFull, IsLost}
 use Rattle.nr_slots.specs.Names.{Names, IsForLast}
 use Rattle.nr_slots.specs.Seats.{FoundNone, desk_of, with_lifted, with_answered}
-use Rattle.nr_node.specs.Level.{NodeState, is_closed_at}
+use Rattle.nr_node.specs.Level.{NodeState, is_closed_at, worker_at}
 use Rattle.nr_node.specs.Owing.{answer_of, answered_node}
 use Rattle.nr_node.specs.Batches.{refusal, take_error}
 use Rattle.nr_node.specs.Steps.{closed_node, taken_node, HasOpened, HasReserved, HasNoneDue, GoesOnWaiting, GoesOnBy, HasRead}
@@ -26,22 +26,26 @@ use Rattle.nr_combiner.specs.declared.answering.Lifts.{Lifts}
 use Rattle.nr_combiner.specs.declared.answering.Lifts.TheVariants as lifts
 use Rattle.nr_combiner.specs.declared.answering.OpenError.{OpenError}
 use Rattle.nr_combiner.specs.declared.answering.OpenError.TheVariants as open_errors
+use Rattle.nr_combiner.specs.Counts.{with_closed, with_opened}
 use Rattle.nr_combiner.specs.Served.{CombinerState}
 
 -- fewer connections than so many aren't closed, and the node has this worker
 abbrev pub HasRoom : ℕ → ℕ → CombinerState → Type 0
-HasRoom worker most c = (c.taken < most) × (worker < length c.seat.desks)
+HasRoom worker most c = (c.counts.unclosed < most) × (worker < length c.seat.desks)
 
 -- a connection more
 pub record OpensFor (limit worker : ℕ) (c d : CombinerState) : Type 0 where
   pub node : HasOpened limit worker c.node d.node
   pub seat : d.seat ≡ c.seat
-  pub taken : d.taken ≡ suc c.taken
+  pub counts : d.counts ≡ with_opened c.counts
 
--- one was closed: one fewer, unless it was closed before
+-- one was closed, unless it was before
 abbrev pub closed_combiner : ℕ → CombinerState → CombinerState
 closed_combiner serial c =
-    record c { node = closed_node serial c.node; taken = if is_closed_at serial c.node.replica.members then c.taken else c.taken - 1 }
+    record c {
+      node = closed_node serial c.node;
+      counts = if is_closed_at serial c.node.replica.members then c.counts else with_closed (worker_at serial c.node.replica.members) c.counts;
+    }
 
 -- why no connection was opened, where there is room
 abbrev pub open_error : node_errors.OpenError → OpenError
@@ -68,7 +72,7 @@ pub record TakesIn (worker : ℕ) (batch : Batch) (c d : CombinerState) : Type 0
   pub due : refusal_at worker c.node batch ≡ None
   pub node : d.node ≡ taken_node batch c.node
   pub seat : d.seat ≡ with_lifted worker batch c.seat
-  pub taken : d.taken ≡ c.taken
+  pub counts : d.counts ≡ c.counts
 
 -- one was lifted and refused, and this was answered
 pub record HandsBack (worker : ℕ) (batch : Batch) (answer : Answer) (why : TakeError) (c d : CombinerState) : Type 0 where
@@ -77,10 +81,10 @@ pub record HandsBack (worker : ℕ) (batch : Batch) (answer : Answer) (why : Tak
   pub outcome : IsOutcomeOf why batch.jobs.items answer.outcome
   pub node : d.node ≡ c.node
   pub seat : d.seat ≡ with_answered worker answer (with_lifted worker batch c.seat)
-  pub taken : d.taken ≡ c.taken
+  pub counts : d.counts ≡ c.counts
 
 abbrev pub HasLifted : ℕ → CombinerState → CombinerState → Type 0
-HasLifted worker c d = (FoundNone worker c.seat d.seat × (d.node ≡ c.node) × (d.taken ≡ c.taken))
+HasLifted worker c d = (FoundNone worker c.seat d.seat × (d.node ≡ c.node) × (d.counts ≡ c.counts))
     ⊎ (((batch : Batch) × TakesIn worker batch c d) ⊎ ((batch : Batch) × (answer : Answer) × (why : TakeError) × HandsBack worker batch answer why c d))
 
 -- so it was done at the slots of so many workers, one after the other
@@ -103,7 +107,7 @@ pub record Answers (worker : ℕ) (answer : Answer) (c d : CombinerState) : Type
   pub outcome : answer_of c.node worker ≡ Some answer.outcome
   pub node : d.node ≡ answered_node worker c.node
   pub seat : d.seat ≡ with_answered worker answer c.seat
-  pub taken : d.taken ≡ c.taken
+  pub counts : d.counts ≡ c.counts
 
 abbrev pub HasAnswered : ℕ → CombinerState → CombinerState → Type 0
 HasAnswered worker c d = ((answer_of c.node worker ≡ None) × (d ≡ c)) ⊎ ((answer : Answer) × Answers worker answer c d)
@@ -179,4 +183,4 @@ pub record HasCombined (places : ℕ) (which : Lifts) (worker : ℕ) (round : Re
   pub tail : ℕ
   pub has_looked : HasLooked look_is behind entries ran tail tried looked
   pub round_is : round ≡ outcome_of try_is look_is
-  pub has_answered : HasAnsweredAll (length c.seat.desks) (record { node = looked; seat = lifted.seat; taken = lifted.taken }) d
+  pub has_answered : HasAnsweredAll (length c.seat.desks) (record { node = looked; seat = lifted.seat; counts = lifted.counts }) d

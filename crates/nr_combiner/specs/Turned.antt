@@ -12,15 +12,17 @@ use Rattle.nr_node.specs.declared.answers.Round.TheVariants as rounds
 use Rattle.nr_node.specs.declared.collecting.Handed.{Handed}
 use Rattle.nr_combiner.specs.declared.answering.Lifts.{Lifts}
 use Rattle.nr_combiner.specs.declared.answering.Turned.{Turned}
+use Rattle.nr_combiner.specs.Counts.{with_next}
 use Rattle.nr_combiner.specs.Served.{CombinerState}
 use Rattle.nr_combiner.specs.Steps.{HasCombined}
 
--- a piece of what waited for each of a worker's connections was handed out, and nothing else changed but at the node; one that the node doesn't have got nothing
+-- a piece of what waited for each of a worker's connections was handed out, by which its generation goes up, and nothing else changed but at the node; one that the node
+-- doesn't have got nothing
 pub record HasCollectedFor (worker most : ℕ) (old new : List Handed) (result : Result (Unit {0}) Memory) (c d : CombinerState) : Type 0 where
   pub own : worker < length c.seat.desks → Collects worker most old new result c.node d.node
   pub stranger : length c.seat.desks ≤ worker → (result ≡ Ok tt) × (new ≡ old) × (d ≡ c)
   pub seat : d.seat ≡ c.seat
-  pub taken : d.taken ≡ c.taken
+  pub counts : worker < length c.seat.desks → d.counts ≡ with_next worker c.counts
 
 -- So it was, and then it is kept how the node stands, and what its combiner has done.
 pub record HandsOutTo (worker most : ℕ) (old new : List Handed) (result : Result (Unit {0}) Memory) (s : Standing) (note : NoteView) (c d : CombinerState) : Type 0 where
@@ -28,7 +30,7 @@ pub record HandsOutTo (worker most : ℕ) (old new : List Handed) (result : Resu
   pub has_collected : HasCollectedFor worker most old new result c collected
   pub still : IsStill collected.node d.node
   pub seat : d.seat ≡ collected.seat
-  pub taken : d.taken ≡ collected.taken
+  pub counts : d.counts ≡ collected.counts
   pub token : s ≡ d.node.seat.standing
   pub opened : workers_of d.node.replica.members ≡ opened_of s.history
   pub note_is : note ≡ note_of d.seat

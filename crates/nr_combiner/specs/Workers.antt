@@ -1,5 +1,5 @@
 -- What contracts see of a worker at its node, and of all workers of a node.
-use Rattle.std.specs.Prelude.{◌≡◌, ℕ, zero, suc, List, [], ◌∷◌, refl}
+use Rattle.std.specs.Prelude.{◌≡◌, ◌⊎◌, ℕ, zero, suc, List, [], ◌∷◌, refl}
 use Rattle.std.specs.Coded.{Coded, code_by, coded×, coded_ℕ}
 use Rattle.nr_entry.specs.declared.batch.Batch.{Batch}
 use Rattle.nr_entry.specs.declared.batch.Answer.{Answer}
@@ -8,10 +8,11 @@ use Rattle.nr_entry.specs.declared.job.Job.{Job}
 use Rattle.nr_slots.specs.Names.{IsForLast}
 use Rattle.nr_slots.specs.Seats.{WorkerView, new_worker, with_posted, with_collected}
 use Rattle.nr_slots.specs.Codes.{worker_code}
+use Rattle.nr_combiner.specs.Counts.{next_generation}
 use Rattle.nr_combiner.specs.Shared.{NodeView}
 
 -- which node it is at, and how many workers that has; how many connections of it are open at most, and how many bytes wait for one at most; its seat at the
--- node's slots, and the number of its next batch
+-- node's slots, the number of its next batch, and its generation: how often something was handed out for its connections, or one of them was closed
 pub record WorkerState : Type 0 where
   pub node : ℕ
   pub workers : ℕ
@@ -19,12 +20,22 @@ pub record WorkerState : Type 0 where
   pub limit : ℕ
   pub seat : WorkerView
   pub next : ℕ
+  pub generation : ℕ
 
 abbrev pub coded_worker : Coded WorkerState
 coded_worker =
-    code_by (ℕ × (ℕ × (ℕ × (ℕ × (WorkerView × ℕ))))) (coded× coded_ℕ (coded× coded_ℕ (coded× coded_ℕ (coded× coded_ℕ (coded× worker_code coded_ℕ)))))
-    (λ w. (w.node, (w.workers, (w.connections, (w.limit, (w.seat, w.next))))))
-    (λ p. record { node = p.0; workers = p.1.0; connections = p.1.1.0; limit = p.1.1.1.0; seat = p.1.1.1.1.0; next = p.1.1.1.1.1 }) (λ _. refl)
+    code_by (ℕ × (ℕ × (ℕ × (ℕ × (WorkerView × (ℕ × ℕ))))))
+    (coded× coded_ℕ (coded× coded_ℕ (coded× coded_ℕ (coded× coded_ℕ (coded× worker_code (coded× coded_ℕ coded_ℕ))))))
+    (λ w. (w.node, (w.workers, (w.connections, (w.limit, (w.seat, (w.next, w.generation)))))))
+    (λ p. record {
+      node = p.0;
+      workers = p.1.0;
+      connections = p.1.1.0;
+      limit = p.1.1.1.0;
+      seat = p.1.1.1.1.0;
+      next = p.1.1.1.1.1.0;
+      generation = p.1.1.1.1.1.1;
+    }) (λ _. refl)
 
 -- what its node shows
 abbrev pub shared_of : WorkerState → NodeView
@@ -32,7 +43,7 @@ shared_of w = record { node = w.node; slots = record { id = w.seat.slots; worker
 
 -- one that has handed in nothing yet
 abbrev pub fresh_worker : NodeView → ℕ → WorkerState
-fresh_worker shared worker = record { node = shared.node; workers = shared.slots.workers; connections = shared.connections; limit = shared.limit; seat = new_worker shared.slots.id worker; next = 0 }
+fresh_worker shared worker = record { node = shared.node; workers = shared.slots.workers; connections = shared.connections; limit = shared.limit; seat = new_worker shared.slots.id worker; next = 0; generation = 0 }
 
 -- so many of a node, numbered from one on
 abbrev pub fresh_workers : NodeView → ℕ → ℕ → List WorkerState
@@ -46,6 +57,14 @@ pub record IsNode (workers connections limit node : ℕ) (list : List WorkerStat
   pub wide : shared.slots.workers ≡ workers
   pub limited : (shared.connections ≡ connections) × (shared.limit ≡ limit)
   pub all : list ≡ fresh_workers shared 0 workers
+
+-- something was handed out for its connections
+abbrev pub with_more : WorkerState → WorkerState
+with_more w = record w { generation = next_generation w.generation }
+
+-- a connection was closed, which was one of its own, or none of its own that was open
+abbrev pub MayHaveClosed : WorkerState → WorkerState → Type 0
+MayHaveClosed w v = (v ≡ with_more w) ⊎ (v ≡ w)
 
 -- it handed in these jobs as its next batch
 pub record HasPosted (jobs : List Job) (w v : WorkerState) : Type 0 where

@@ -1,21 +1,23 @@
 // What stands behind a node's lock: the node, and its combiner's seat at the slots.
-ghost use Rattle.std.specs.Prelude.{Bool, cond, ◌∷◌, filter, if◌then◌else◌, ◌-◌, ◌≡◌, ◌≢◌, ◌↔◌, ◌⊎◌, ◌<◌, ◌≤◌, ◌++◌, [], ℕ, length, replicate, true, false, Ok, Err, None, IfOk, IfErr, IfSome, IfNone, OnOk, OnErr, List};
+ghost use Rattle.std.specs.Prelude.{Bool, cond, ◌∷◌, filter, ◌≡◌, ◌≢◌, ◌↔◌, ◌⊎◌, ◌<◌, ◌≤◌, ◌++◌, [], ℕ, length, replicate, true, false, Ok, Err, None, IfOk, IfErr, IfSome, IfNone, OnOk, OnErr, List};
 ghost use Rattle.std.specs.Arc.{arc_value};
 ghost use Rattle.std.specs.List.{AllByRecursion};
 ghost use Rattle.nr_entry.specs.Jobs.{connection_of, items_of};
 ghost use Rattle.nr_slots.specs.Seats.{new_combiner, note_of};
 ghost use Rattle.nr_log_end.specs.Standings.{opened_of, passed_of};
-ghost use Rattle.nr_node.specs.Level.{connection_at, queue_at, workers_of};
+ghost use Rattle.nr_node.specs.Level.{connection_at, is_closed_at, queue_at, worker_at, workers_of};
 ghost use Rattle.nr_node.specs.Batches.{AreSame, is_cut_at, IsOpened, IsPiece};
 ghost use Rattle.nr_node.specs.Owing.{IsServedBy};
 ghost use Rattle.nr_node.specs.Sound.{IsSound};
 ghost use Rattle.nr_node.specs.Steps.{taken_node, refusing_node, is_due, HasHandedOut, IsStill};
+ghost use Rattle.nr_combiner.specs.Counts.{fresh_counts, generation_of, with_next};
 ghost use Rattle.nr_combiner.specs.Pieces.{AddsFront};
 ghost use Rattle.nr_combiner.specs.Served.{owed_at, HasNoJobs, IsServed, StandsLevel};
 ghost use Rattle.nr_combiner.specs.Steps.{HasRoom, OpensFor, closed_combiner, refusal_at, IsRefusedFor, HasLifted, HasLiftedAll, HasLiftedBy, HasLiftedOwn, HasAnswered, HasAnsweredAll, HasTried, HasCombined, outcome_of};
 ghost use Rattle.nr_combiner.specs.Turned.{HandsOutTo, HasCollectedFor, HasTurned};
 
 use crate::answering::{Collected, Lifts, OpenError, Turned, hand_back, open_error};
+use crate::counts::Counts;
 use crate::name::ServerName;
 use crate::told::{Told, ToldPieces};
 use nr_blob::Memory;
@@ -38,8 +40,7 @@ pub struct Combiner<B: ServerName> {
     // For each worker the number of the batch that was taken last.
     numbers: Vec<u64>,
     node: usize,
-    // How many connections aren't closed.
-    taken: usize,
+    counts: Counts,
 }
 
 impl<B: ServerName> Model for Combiner<B> {
@@ -51,7 +52,7 @@ impl<B: ServerName> Model for Combiner<B> {
 
     ghost coded = { coded_combiner };
 
-    ghost view = { λ c. record { node = c.core; seat = c.seat; taken = c.taken } };
+    ghost view = { λ c. record { node = c.core; seat = c.seat; counts = c.counts } };
 
     ghost invariant = { λ c. IsServed c.core c.seat c.numbers.items × (c.seat.slots ≡ (arc_value c.slots).id) × (c.node ≡ c.core.book.node) × (c.seat.slots ≡ B.slots c.core.book.node) };
 }
@@ -61,6 +62,8 @@ impl<B: ServerName> Model for Combiner<B> {
 #[derive(Debug, Drop)]
 pub struct ClosedQueue {
     conn: ConnId,
+    // The worker whose generation went up by that: the one that served it, where it wasn't closed before.
+    worker: Option<usize>,
 }
 
 impl Model for ClosedQueue {
@@ -70,6 +73,13 @@ impl Model for ClosedQueue {
     ghost Value = { Connection };
 
     ghost view = { λ closed. connection_of closed.conn };
+}
+
+impl ClosedQueue {
+    // The worker whose generation went up by that.
+    pub(crate) fn worker(&self) -> Option<usize> {
+        self.worker
+    }
 }
 
 // What came of a turn of the combiner, and whom it answered.
@@ -96,17 +106,18 @@ impl<B: ServerName> Combiner<B> {
         requires connections { core.replica.members ≡ [] }
         requires seat { seat ≡ new_combiner (arc_value slots).id shape.workers }
         requires named { (arc_value slots).id ≡ B.slots shape.node }
-        ensures { IfOk result (λ combiner. combiner ≡ record { node = core; seat = seat; taken = 0 }) }
+        ensures { IfOk result (λ combiner. combiner ≡ record { node = core; seat = seat; counts = fresh_counts shape.workers }) }
     {
         let mut numbers = Vec::with_capacity(alloc, shape.workers)?;
         numbers.resize(shape.workers, 0)?;
+        let counts = Counts::new(alloc, shape.workers)?;
         Ok(Combiner {
             core,
             seat,
             slots,
             numbers,
             node: shape.node,
-            taken: 0,
+            counts,
         })
     }
 
@@ -115,6 +126,13 @@ impl<B: ServerName> Combiner<B> {
         ensures { result ≡ self.now.node.book.node }
     {
         self.node
+    }
+
+    /// The generation of a worker: how often something was handed out for its connections, or one of them was closed.
+    pub fn generation(&self, worker: usize) -> u64
+        ensures { result ≡ generation_of worker self.now.counts }
+    {
+        self.counts.generation(worker)
     }
 
     /// Whether the replica is down.
@@ -159,7 +177,7 @@ impl<B: ServerName> Combiner<B> {
         }
         match self.core.open(worker, limit) {
             Ok(conn) => {
-                self.taken += 1;
+                self.counts.add_opened();
                 Ok(conn)
             }
             Err(why) => Err(open_error(why)),
@@ -172,26 +190,35 @@ impl<B: ServerName> Combiner<B> {
         ensures closed { IsOpened self.old.node (connection_of conn) → self.new ≡ closed_combiner conn.serial self.old }
         ensures other { (IsOpened self.old.node (connection_of conn) → ⊥) → self.new ≡ self.old }
     {
-        self.taken = left_open(self.taken, self.core.is_open(conn));
+        let worker = open_worker(&self.core, conn);
         self.core.close(conn);
-        ClosedQueue { conn }
+        self.counts.close(worker);
+        ClosedQueue { conn, worker }
     }
 
-    /// Hands out at most so many of the first bytes that wait for a connection, and at least one, with a token that keeps of which record they are; or `None`
-    /// where nothing waits, or the connection isn't the node's. Linear in them. Where memory runs out nothing changes.
+    /// Hands out at most so many of the first bytes that wait for a connection of a worker, and at least one, with a token that keeps of which record they are; or
+    /// `None` where nothing waits, or the connection isn't the worker's. Linear in them. Where memory runs out nothing changes.
     pub fn take_piece(
         &mut self,
+        worker: usize,
         conn: ConnId,
         most: usize,
     ) -> Result<Option<(Piece, Token<B>)>, Memory>
         requires some { 0 < most }
         ensures piece { IfOk result (λ taken. IfSome taken (λ t. IsPiece self.old.node (connection_of conn) most t.0 t.1.standing)) }
         ensures sound { IfOk result (λ taken. IfSome taken (λ t. IsSound t.1.standing)) }
-        ensures none { IfOk result (λ taken. IfNone taken ((IsOpened self.old.node (connection_of conn) → (queue_at conn.serial self.old.node.replica.members).waiting ≡ []) × (self.new ≡ self.old))) }
-        ensures taken { IfOk result (λ taken. IfSome taken (λ t. HasHandedOut conn.serial most self.old.node self.new.node × (self.new.seat ≡ self.old.seat) × (self.new.taken ≡ self.old.taken))) }
+        ensures none { IfOk result (λ taken. IfNone taken ((IsOpened self.old.node (connection_of conn) → worker_at conn.serial self.old.node.replica.members ≡ worker → (queue_at conn.serial self.old.node.replica.members).waiting ≡ []) × (self.new ≡ self.old))) }
+        ensures taken { IfOk result (λ taken. IfSome taken (λ t. HasHandedOut conn.serial most self.old.node self.new.node × (self.new.seat ≡ self.old.seat) × (self.new.counts ≡ with_next worker self.old.counts))) }
         ensures unchanged { OnErr result (self.new ≡ self.old) }
     {
-        self.core.take_piece(conn, most)
+        if self.core.worker_of(conn) != Some(worker) {
+            return Ok(None);
+        }
+        let Some(taken) = self.core.take_piece(conn, most)? else {
+            return Ok(None);
+        };
+        self.counts.go_on(worker);
+        Ok(Some(taken))
     }
 
     /// [`Core::collect`], of a worker that the node has. Any other gets nothing.
@@ -208,6 +235,7 @@ impl<B: ServerName> Combiner<B> {
         if worker >= self.numbers.len() {
             return Ok(());
         }
+        self.counts.go_on(worker);
         self.core.collect(worker, most, spares, taken)
     }
 
@@ -325,7 +353,7 @@ impl<B: ServerName> Combiner<B> {
         ensures token { (result.0.standing ≡ self.old.node.seat.standing) × IsSound result.0.standing × (result.0.standing.node ≡ self.old.node.book.node) }
         ensures opened { workers_of self.old.node.replica.members ≡ opened_of result.0.standing.history }
         ensures note { (result.1 ≡ note_of self.old.seat) × (result.1.slots ≡ B.slots self.old.node.book.node) }
-        ensures still { IsStill self.old.node self.new.node × (self.new.seat ≡ self.old.seat) × (self.new.taken ≡ self.old.taken) }
+        ensures still { IsStill self.old.node self.new.node × (self.new.seat ≡ self.old.seat) × (self.new.counts ≡ self.old.counts) }
         ensures served { (numbers : List ℕ) × IsServed self.new.node self.new.seat numbers }
     {
         let token = self.core.token();
@@ -372,7 +400,7 @@ impl<B: ServerName> Combiner<B> {
         ensures room { result ≡ true → HasRoom worker most self.now }
         ensures full { result ≡ false → HasRoom worker most self.now → ⊥ }
     {
-        self.taken < most && worker < self.numbers.len()
+        self.counts.unclosed() < most && worker < self.numbers.len()
     }
 
     // Lifts a worker's batch, if one is offered, and takes its jobs in, or answers it where it is refused. Whether it answers it.
@@ -411,15 +439,15 @@ impl<B: ServerName> Combiner<B> {
     }
 }
 
-// How many connections aren't closed once one was, which was open or not.
-fn left_open(taken: usize, was_open: bool) -> usize
-    ensures { result ≡ (if was_open then taken - 1 else taken) }
+// The worker that serves a connection of the node, where it isn't closed.
+fn open_worker<B: LogName>(core: &Core<B>, conn: ConnId) -> Option<usize>
+    ensures some { IfSome result (λ worker. IsOpened core.now (connection_of conn) × (is_closed_at conn.serial core.now.replica.members ≡ false) × (worker ≡ worker_at conn.serial core.now.replica.members)) }
+    ensures none { IfNone result (IsOpened core.now (connection_of conn) × (is_closed_at conn.serial core.now.replica.members ≡ false) → ⊥) }
 {
-    if was_open {
-        taken.saturating_sub(1)
-    } else {
-        taken
+    if !core.is_open(conn) {
+        return None;
     }
+    core.worker_of(conn)
 }
 
 // Lifts a batch of each worker, of which there are so many, or of this one alone, and tells whose were handed back.

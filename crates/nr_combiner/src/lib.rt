@@ -13,6 +13,7 @@ pub use worker::{MOST_JOBS, Worker};
 mod answering;
 mod building;
 mod combiner;
+mod counts;
 mod name;
 mod node;
 mod opened;

@@ -183,12 +183,18 @@ impl<B: ServerName> Node<B> {
         }
     }
 
-    /// [`Combiner::open`] behind the lock, of a connection that one of its workers serves, with a token and a note that keep how the node stands then: two loads
-    /// more. [`OpenError::Down`] also where another node stands behind the lock, which there never is.
-    pub fn open<R: Wait>(&self, rt: &R, worker: u8) -> Result<ToldOpened<B>, OpenError>
+    /// [`Combiner::open`] behind the lock, of a connection that one of its workers serves, whose generation is this, with a token and a note that keep how the node
+    /// stands then: two loads more. [`OpenError::Down`] also where another node stands behind the lock, or the worker has another generation there, which there never
+    /// is.
+    pub fn open<R: Wait>(
+        &self,
+        rt: &R,
+        worker: u8,
+        generation: u64,
+    ) -> Result<ToldOpened<B>, OpenError>
         requires { worker < self.now.slots.workers }
         ensures node { IfOk result (λ told. told.conn.node ≡ self.now.node) }
-        ensures opened { IfOk result (λ told. OpensBehind self.now worker told.conn told.token.standing told.note) }
+        ensures opened { IfOk result (λ told. OpensBehind self.now worker generation told.conn told.token.standing told.note) }
         ensures serves { IfOk result (λ told. Serves told.token.standing worker (connection_of told.conn)) }
         ensures own { IfOk result (λ told. HasOwn worker (slice_index_or told.note.desks worker no_desk) told.token.standing) }
         ensures executed { IfOk result (λ told. HasExecuted (slice_index_or told.note.desks worker no_desk) told.token.standing) }
@@ -196,7 +202,7 @@ impl<B: ServerName> Node<B> {
         ensures named { IfOk result (λ told. told.note.slots ≡ B.slots self.now.node) }
     {
         let mut combiner = self.hold(rt);
-        if combiner.node() != self.node() {
+        if combiner.node() != self.node() || combiner.generation(worker as usize) != generation {
             return Err(OpenError::Down);
         }
         combiner.level();
@@ -228,13 +234,14 @@ impl<B: ServerName> Node<B> {
     pub fn take_piece<R: Wait>(
         &self,
         rt: &R,
+        worker: usize,
         conn: ConnId,
         most: usize,
     ) -> Result<Option<(Piece, Token<B>)>, Memory>
         requires { 0 < most }
         ensures { IfOk result (λ taken. IfSome taken (λ t. IsPieceOf (connection_of conn) most t.0 t.1.standing)) }
     {
-        self.hold(rt).take_piece(conn, most)
+        self.hold(rt).take_piece(worker, conn, most)
     }
 
     // [`Combiner::turn`] of what stands behind the lock.
@@ -242,13 +249,14 @@ impl<B: ServerName> Node<B> {
         &self,
         combiner: &mut Combiner<B>,
         worker: usize,
+        generation: u64,
         lifts: Lifts,
         most: usize,
         spares: &mut Spares,
         taken: &mut Vec<Handed>,
     ) -> Option<Told<B>>
         requires { 0 < most }
-        ensures turned { IfSome result (λ told. TurnsBehind B.places self.now.node worker lifts most taken.old.items taken.new.items told.turned told.token.standing told.note) }
+        ensures turned { IfSome result (λ told. TurnsBehind B.places self.now.node worker generation lifts most taken.old.items taken.new.items told.turned told.token.standing told.note) }
         ensures added { IfSome result (λ told. HasAdded most (tells_down told.turned.combined) told.token.standing (AreHandedIn (slice_index_or told.note.desks worker no_desk) (record_of told.token.standing.history)) taken.old.items taken.new.items) }
         ensures own { IfSome result (λ told. HasOwn worker (slice_index_or told.note.desks worker no_desk) told.token.standing) }
         ensures executed { IfSome result (λ told. HasExecuted (slice_index_or told.note.desks worker no_desk) told.token.standing) }
@@ -256,7 +264,7 @@ impl<B: ServerName> Node<B> {
         ensures named { IfSome result (λ told. told.note.slots ≡ B.slots self.now.node) }
         ensures none { IfNone result (taken.new.items ≡ taken.old.items) }
     {
-        if combiner.node() != self.node {
+        if combiner.node() != self.node || combiner.generation(worker) != generation {
             return None;
         }
         combiner.level();
@@ -265,18 +273,20 @@ impl<B: ServerName> Node<B> {
         Some(told)
     }
 
-    /// [`Combiner::turn`] behind the lock, which it takes once. `None` where another node stands behind it, which there never is: then nothing is done.
+    /// [`Combiner::turn`] behind the lock, which it takes once, of a worker whose generation is this. `None` where another node stands behind it, or the worker has
+    /// another generation there, which there never is: then nothing is done.
     pub fn turn<R: Wait>(
         &self,
         rt: &R,
         worker: usize,
+        generation: u64,
         lifts: Lifts,
         most: usize,
         spares: &mut Spares,
         taken: &mut Vec<Handed>,
     ) -> Option<Told<B>>
         requires { 0 < most }
-        ensures turned { IfSome result (λ told. TurnsBehind B.places self.now.node worker lifts most taken.old.items taken.new.items told.turned told.token.standing told.note) }
+        ensures turned { IfSome result (λ told. TurnsBehind B.places self.now.node worker generation lifts most taken.old.items taken.new.items told.turned told.token.standing told.note) }
         ensures added { IfSome result (λ told. HasAdded most (tells_down told.turned.combined) told.token.standing (AreHandedIn (slice_index_or told.note.desks worker no_desk) (record_of told.token.standing.history)) taken.old.items taken.new.items) }
         ensures own { IfSome result (λ told. HasOwn worker (slice_index_or told.note.desks worker no_desk) told.token.standing) }
         ensures executed { IfSome result (λ told. HasExecuted (slice_index_or told.note.desks worker no_desk) told.token.standing) }
@@ -285,20 +295,29 @@ impl<B: ServerName> Node<B> {
         ensures none { IfNone result (taken.new.items ≡ taken.old.items) }
     {
         let mut combiner = self.hold(rt);
-        self.turn_behind(&mut combiner, worker, lifts, most, spares, taken)
+        self.turn_behind(
+            &mut combiner,
+            worker,
+            generation,
+            lifts,
+            most,
+            spares,
+            taken,
+        )
     }
 
     /// The same where the lock is free: one try. `None` where it is held, too, and then nothing is done.
     pub fn try_turn(
         &self,
         worker: usize,
+        generation: u64,
         lifts: Lifts,
         most: usize,
         spares: &mut Spares,
         taken: &mut Vec<Handed>,
     ) -> Option<Told<B>>
         requires { 0 < most }
-        ensures turned { IfSome result (λ told. TurnsBehind B.places self.now.node worker lifts most taken.old.items taken.new.items told.turned told.token.standing told.note) }
+        ensures turned { IfSome result (λ told. TurnsBehind B.places self.now.node worker generation lifts most taken.old.items taken.new.items told.turned told.token.standing told.note) }
         ensures added { IfSome result (λ told. HasAdded most (tells_down told.turned.combined) told.token.standing (AreHandedIn (slice_index_or told.note.desks worker no_desk) (record_of told.token.standing.history)) taken.old.items taken.new.items) }
         ensures own { IfSome result (λ told. HasOwn worker (slice_index_or told.note.desks worker no_desk) told.token.standing) }
         ensures executed { IfSome result (λ told. HasExecuted (slice_index_or told.note.desks worker no_desk) told.token.standing) }
@@ -307,21 +326,30 @@ impl<B: ServerName> Node<B> {
         ensures none { IfNone result (taken.new.items ≡ taken.old.items) }
     {
         let mut combiner = self.try_hold()?;
-        self.turn_behind(&mut combiner, worker, lifts, most, spares, taken)
+        self.turn_behind(
+            &mut combiner,
+            worker,
+            generation,
+            lifts,
+            most,
+            spares,
+            taken,
+        )
     }
 
-    /// [`Combiner::collect_pieces`] behind the lock, which it takes once: what waits for a worker's connections is handed out without a turn. `None` where another
-    /// node stands behind it, which there never is: then nothing is done.
+    /// [`Combiner::collect_pieces`] behind the lock, which it takes once: what waits for the connections of a worker, whose generation is this, is handed out without a
+    /// turn. `None` as for a turn: then nothing is done.
     pub fn collect_pieces<R: Wait>(
         &self,
         rt: &R,
         worker: usize,
+        generation: u64,
         most: usize,
         spares: &mut Spares,
         taken: &mut Vec<Handed>,
     ) -> Option<ToldPieces<B>>
         requires { 0 < most }
-        ensures handed { IfSome result (λ told. CollectsBehind self.now.node worker most taken.old.items taken.new.items told.collected told.token.standing told.note) }
+        ensures handed { IfSome result (λ told. CollectsBehind self.now.node worker generation most taken.old.items taken.new.items told.collected told.token.standing told.note) }
         ensures added { IfSome result (λ told. HasAdded most told.collected.is_down told.token.standing (AreHandedIn (slice_index_or told.note.desks worker no_desk) (record_of told.token.standing.history)) taken.old.items taken.new.items) }
         ensures own { IfSome result (λ told. HasOwn worker (slice_index_or told.note.desks worker no_desk) told.token.standing) }
         ensures executed { IfSome result (λ told. HasExecuted (slice_index_or told.note.desks worker no_desk) told.token.standing) }
@@ -330,7 +358,7 @@ impl<B: ServerName> Node<B> {
         ensures none { IfNone result (taken.new.items ≡ taken.old.items) }
     {
         let mut combiner = self.hold(rt);
-        if self.node != combiner.node() {
+        if self.node != combiner.node() || combiner.generation(worker) != generation {
             return None;
         }
         combiner.level();
@@ -339,23 +367,26 @@ impl<B: ServerName> Node<B> {
         Some(told)
     }
 
-    /// [`Combiner::cut_among`] behind the lock, which it takes once for all of these connections.
+    /// [`Combiner::cut_among`] behind the lock, which it takes once for all of these connections, as a worker asks whose generation is this.
     ///
     /// # Errors
     ///
-    /// `Elsewhere` where another node stands behind the lock: none is added. `Memory` where there is none for one more: the first are added.
+    /// `Elsewhere` where another node stands behind the lock, or the worker has another generation there: none is added. `Memory` where there is none for one more: the
+    /// first are added.
     pub fn cut_among<R: Wait>(
         &self,
         rt: &R,
+        worker: usize,
+        generation: u64,
         conns: &[ConnId],
         cut: &mut Vec<ConnId>,
     ) -> Result<(), AskError>
-        ensures all { OnOk result (CutsBehind self.now.node conns.now cut.old.items cut.new.items) }
+        ensures all { OnOk result (CutsBehind self.now.node worker generation conns.now cut.old.items cut.new.items) }
         ensures front { OnErr result (CutsFrontBehind conns.now cut.old.items cut.new.items) }
     {
         let combiner = self.hold(rt);
         combiner.level();
-        if self.node() != combiner.node() {
+        if self.node() != combiner.node() || combiner.generation(worker) != generation {
             return Err(AskError::Elsewhere);
         }
         combiner.cut_among(conns, cut)?;

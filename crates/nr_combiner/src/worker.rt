@@ -4,12 +4,15 @@ ghost use Rattle.std.specs.Arc.{arc_value};
 ghost use Rattle.nr_slots.specs.Seats.{NoteView, new_worker};
 ghost use Rattle.nr_slots.specs.declared.worker.Uncollected.TheVariants as Uncollected;
 ghost use Rattle.nr_node.specs.Sound.{IsSound};
-ghost use Rattle.nr_combiner.specs.Behind.{CollectsBehind, OpensBehind, TurnsBehind};
+ghost use Rattle.nr_entry.specs.Jobs.{connection_of};
+ghost use Rattle.nr_combiner.specs.Behind.{CollectsBehind, CutsBehind, CutsFrontBehind, OpensBehind, TurnsBehind};
+ghost use Rattle.nr_combiner.specs.Pieces.{IsPieceOf};
 ghost use Rattle.nr_combiner.specs.Heard.{HasHeard, KnowsOpened};
 ghost use Rattle.nr_combiner.specs.Turned.{tells_down};
-ghost use Rattle.nr_combiner.specs.Workers.{fresh_worker, shared_of, HasPosted, HasCollected};
+ghost use Rattle.nr_combiner.specs.Workers.{fresh_worker, shared_of, with_more, HasPosted, HasCollected, MayHaveClosed};
 
-use crate::answering::{Collected, Lifts, OpenError, Turned};
+use crate::answering::{AskError, Collected, Lifts, OpenError, Turned};
+use crate::combiner::ClosedQueue;
 use crate::name::ServerName;
 use crate::node::Node;
 use crate::told::{Told, ToldOpened, ToldPieces};
@@ -17,7 +20,7 @@ use nr_blob::Memory;
 use nr_entry::{Batch, ConnId, Job, Outcome};
 use nr_node::Handed;
 use nr_oplog::Token;
-use nr_replica::Spares;
+use nr_replica::{Piece, Spares};
 use nr_slots::{Uncollected, WorkerSeat};
 use std::alloc::Global;
 use std::marker::Model;
@@ -34,6 +37,8 @@ pub struct Worker<B: ServerName> {
     seat: WorkerSeat,
     // The number of its next batch.
     next: u64,
+    // How often something was handed out for its connections, or one of them was closed.
+    generation: u64,
 }
 
 impl<B: ServerName> Model for Worker<B> {
@@ -45,7 +50,7 @@ impl<B: ServerName> Model for Worker<B> {
 
     ghost coded = { coded_worker };
 
-    ghost view = { λ w. record { node = (arc_value w.shared).node; workers = (arc_value w.shared).slots.workers; connections = (arc_value w.shared).connections; limit = (arc_value w.shared).limit; seat = w.seat; next = w.next } };
+    ghost view = { λ w. record { node = (arc_value w.shared).node; workers = (arc_value w.shared).slots.workers; connections = (arc_value w.shared).connections; limit = (arc_value w.shared).limit; seat = w.seat; next = w.next; generation = w.generation } };
 
     ghost invariant = { λ w. (w.seat.slots ≡ (arc_value w.shared).slots.id) × (w.worker ≡ w.seat.worker) × (w.worker < 16) × (w.worker < (arc_value w.shared).slots.workers) };
 }
@@ -62,6 +67,7 @@ impl<B: ServerName> Worker<B> {
             worker,
             seat,
             next: 0,
+            generation: 0,
         }
     }
 
@@ -87,12 +93,14 @@ impl<B: ServerName> Worker<B> {
     /// Opens a connection that this worker serves, and hears what its node and its combiner have done: [`Node::open`], and two loads. The token is of a record in
     /// which each job of a connection that was opened for this worker, as this one was, was handed in by it.
     pub fn open<R: Wait>(&mut self, rt: &R) -> Result<(ConnId, Token<B>), OpenError>
-        ensures behind { IfOk result (λ opened. (note : NoteView) × OpensBehind (shared_of self.old) self.old.seat.worker opened.0 opened.1.standing note) }
+        ensures behind { IfOk result (λ opened. (note : NoteView) × OpensBehind (shared_of self.old) self.old.seat.worker self.old.generation opened.0 opened.1.standing note) }
         ensures opened { IfOk result (λ opened. KnowsOpened self.old.seat.worker opened.0 opened.1.standing self.old.seat.lane) }
         ensures sound { IfOk result (λ opened. IsSound opened.1.standing × (opened.1.standing.node ≡ self.old.node)) }
         ensures same { self.new ≡ self.old }
     {
-        let ToldOpened { conn, token, note } = self.shared.open(rt, self.worker as u8)?;
+        let ToldOpened { conn, token, note } = self
+            .shared
+            .open(rt, self.worker as u8, self.generation)?;
         self.seat.hear(self.shared.slots(), note);
         Ok((conn, token))
     }
@@ -110,19 +118,20 @@ impl<B: ServerName> Worker<B> {
         taken: &mut Vec<Handed>,
     ) -> Option<(Turned, Token<B>)>
         requires { 0 < most }
-        ensures turned { IfSome result (λ told. (note : NoteView) × TurnsBehind B.places self.old.node self.old.seat.worker lifts most taken.old.items taken.new.items told.0 told.1.standing note) }
+        ensures turned { IfSome result (λ told. (note : NoteView) × TurnsBehind B.places self.old.node self.old.seat.worker self.old.generation lifts most taken.old.items taken.new.items told.0 told.1.standing note) }
         ensures heard { IfSome result (λ told. HasHeard self.old.seat.worker most (tells_down told.0.combined) told.1.standing self.old.seat.lane taken.old.items taken.new.items) }
         ensures sound { IfSome result (λ told. IsSound told.1.standing × (told.1.standing.node ≡ self.old.node)) }
-        ensures none { IfNone result (taken.new.items ≡ taken.old.items) }
-        ensures same { self.new ≡ self.old }
+        ensures more { IfSome result (λ _. self.new ≡ with_more self.old) }
+        ensures none { IfNone result ((taken.new.items ≡ taken.old.items) × (self.new ≡ self.old)) }
     {
         let shared = &self.shared;
         let Told {
             turned,
             token,
             note,
-        } = shared.turn(rt, self.worker, lifts, most, spares, taken)?;
+        } = shared.turn(rt, self.worker, self.generation, lifts, most, spares, taken)?;
         self.seat.hear(self.shared.slots(), note);
+        self.generation = self.generation.wrapping_add(1);
         Some((turned, token))
     }
 
@@ -135,19 +144,20 @@ impl<B: ServerName> Worker<B> {
         taken: &mut Vec<Handed>,
     ) -> Option<(Turned, Token<B>)>
         requires { 0 < most }
-        ensures turned { IfSome result (λ told. (note : NoteView) × TurnsBehind B.places self.old.node self.old.seat.worker lifts most taken.old.items taken.new.items told.0 told.1.standing note) }
+        ensures turned { IfSome result (λ told. (note : NoteView) × TurnsBehind B.places self.old.node self.old.seat.worker self.old.generation lifts most taken.old.items taken.new.items told.0 told.1.standing note) }
         ensures heard { IfSome result (λ told. HasHeard self.old.seat.worker most (tells_down told.0.combined) told.1.standing self.old.seat.lane taken.old.items taken.new.items) }
         ensures sound { IfSome result (λ told. IsSound told.1.standing × (told.1.standing.node ≡ self.old.node)) }
-        ensures none { IfNone result (taken.new.items ≡ taken.old.items) }
-        ensures same { self.new ≡ self.old }
+        ensures more { IfSome result (λ _. self.new ≡ with_more self.old) }
+        ensures none { IfNone result ((taken.new.items ≡ taken.old.items) × (self.new ≡ self.old)) }
     {
         let shared = &self.shared;
         let Told {
             turned,
             token,
             note,
-        } = shared.try_turn(self.worker, lifts, most, spares, taken)?;
+        } = shared.try_turn(self.worker, self.generation, lifts, most, spares, taken)?;
         self.seat.hear(self.shared.slots(), note);
+        self.generation = self.generation.wrapping_add(1);
         Some((turned, token))
     }
 
@@ -162,20 +172,72 @@ impl<B: ServerName> Worker<B> {
         taken: &mut Vec<Handed>,
     ) -> Option<(Collected, Token<B>)>
         requires { 0 < most }
-        ensures handed { IfSome result (λ told. (note : NoteView) × CollectsBehind self.old.node self.old.seat.worker most taken.old.items taken.new.items told.0 told.1.standing note) }
+        ensures handed { IfSome result (λ told. (note : NoteView) × CollectsBehind self.old.node self.old.seat.worker self.old.generation most taken.old.items taken.new.items told.0 told.1.standing note) }
         ensures heard { IfSome result (λ told. HasHeard self.old.seat.worker most told.0.is_down told.1.standing self.old.seat.lane taken.old.items taken.new.items) }
         ensures sound { IfSome result (λ told. IsSound told.1.standing × (told.1.standing.node ≡ self.old.node)) }
-        ensures none { IfNone result (taken.new.items ≡ taken.old.items) }
-        ensures same { self.new ≡ self.old }
+        ensures more { IfSome result (λ _. self.new ≡ with_more self.old) }
+        ensures none { IfNone result ((taken.new.items ≡ taken.old.items) × (self.new ≡ self.old)) }
     {
         let shared = &self.shared;
         let ToldPieces {
             collected,
             token,
             note,
-        } = shared.collect_pieces(rt, self.worker, most, spares, taken)?;
+        } = shared.collect_pieces(rt, self.worker, self.generation, most, spares, taken)?;
         self.seat.hear(self.shared.slots(), note);
+        self.generation = self.generation.wrapping_add(1);
         Some((collected, token))
+    }
+
+    /// At most so many of the bytes that wait for one of its connections: [`Node::take_piece`]. `None` where none wait, or the connection isn't its own. It is for
+    /// tests.
+    pub fn take_piece<R: Wait>(
+        &mut self,
+        rt: &R,
+        conn: ConnId,
+        most: usize,
+    ) -> Result<Option<(Piece, Token<B>)>, Memory>
+        requires { 0 < most }
+        ensures piece { IfOk result (λ taken. IfSome taken (λ t. IsPieceOf (connection_of conn) most t.0 t.1.standing)) }
+        ensures more { IfOk result (λ taken. IfSome taken (λ _. self.new ≡ with_more self.old)) }
+        ensures none { IfOk result (λ taken. IfNone taken (self.new ≡ self.old)) }
+        ensures unchanged { OnErr result (self.new ≡ self.old) }
+    {
+        let Some(taken) = self.shared.take_piece(rt, self.worker, conn, most)? else {
+            return Ok(None);
+        };
+        self.generation = self.generation.wrapping_add(1);
+        Ok(Some(taken))
+    }
+
+    /// Closes a connection of its node: [`Node::close`].
+    pub fn close<R: Wait>(&mut self, rt: &R, conn: ConnId) -> ClosedQueue
+        ensures told { result ≡ connection_of conn }
+        ensures closed { MayHaveClosed self.old self.new }
+    {
+        let closed = self.shared.close(rt, conn);
+        if closed.worker() == Some(self.worker) {
+            self.generation = self.generation.wrapping_add(1);
+        }
+        closed
+    }
+
+    /// Those of these connections for which nothing more comes to wait: [`Node::cut_among`].
+    ///
+    /// # Errors
+    ///
+    /// Those of [`Node::cut_among`].
+    pub fn cut_among<R: Wait>(
+        &self,
+        rt: &R,
+        conns: &[ConnId],
+        cut: &mut Vec<ConnId>,
+    ) -> Result<(), AskError>
+        ensures all { OnOk result (CutsBehind self.now.node self.now.seat.worker self.now.generation conns.now cut.old.items cut.new.items) }
+        ensures front { OnErr result (CutsFrontBehind conns.now cut.old.items cut.new.items) }
+    {
+        self.shared
+            .cut_among(rt, self.worker, self.generation, conns, cut)
     }
 
     /// The next entry that its node applies is refused, as where memory runs out: then the node's replica falls. It is for tests.

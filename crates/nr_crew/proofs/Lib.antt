@@ -3,3 +3,4 @@ mod Remains
 mod Together
 pub mod Fresh
 mod Crossing
+pub mod Limits

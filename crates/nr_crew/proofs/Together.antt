@@ -119,12 +119,13 @@ are_replicas taken (s ∷ ends) [] level explained = absurd level
 are_replicas taken (s ∷ ends) (r ∷ replicas) level explained =
     (replica_of taken s r level.0 explained.0, are_replicas taken ends replicas level.1 explained.1)
 
--- one more was taken out
+-- what was taken out stays
 pub same_out : (own ms next : List MarkState) (replicas more : List ReplicaState) → next ≡ ms → more ≡ replicas → AreTakenOut own ms replicas
     → AreTakenOut own next more
 same_out own ms next replicas more same still out =
     subst (λ (l : List ReplicaState). AreTakenOut own next l) (sym still) (subst (λ (l : List MarkState). AreTakenOut own l replicas) (sym same) out)
 
+-- and one more was taken out
 pub one_out : (own ms next : List MarkState) (replicas more : List ReplicaState) (s : Standing) (m : MarkState) (r : ReplicaState) → m ≡ marks.mark_of s
     → next ≡ ms ++ m ∷ [] → more ≡ replicas ++ r ∷ [] → IsLevel s r → AreTakenOut own ms replicas → AreTakenOut own next more
 one_out own ms next replicas more s m r is next_is more_is level out = record {

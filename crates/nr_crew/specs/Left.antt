@@ -1,18 +1,22 @@
 -- What a worker leaves.
 use Rattle.std.specs.Prelude.{◌≡◌, ℕ, List, ◌++◌, Option, All}
+use Rattle.std.specs.List.{AllByRecursion}
 use Rattle.nr_model.specs.Bytes.{Bytes}
 use Rattle.nr_log_end.specs.declared.standing.Standing.{Standing}
 use Rattle.nr_service.specs.Devices.{AreGivenBack, Parting}
 use Rattle.nr_service.specs.Readings.{AreFedFrom}
 use Rattle.nr_service.specs.Serving.{AreOpened, IsApart, IsLeft, streams_of}
-use Rattle.nr_service.specs.Stories.{Story, fed_in}
+use Rattle.nr_service.specs.Stories.{Story, fed_in, closings_in}
 use Rattle.nr_service.specs.declared.client.Client.{Client}
 use Rattle.nr_worker.specs.Desk.{DeskState, IsLed}
 use Rattle.nr_lane.specs.Told.{Tells, WasAtFeeds}
+use Rattle.nr_crew.specs.declared.lane.Left.{Left}
+use Rattle.nr_crew.specs.declared.serving.ClientLimits.{ClientLimits}
 
--- A story tells of all that was fed to a worker's connections and handed out for them, of those that were ever opened at it, no two of which are one. Each was one of a
--- client, of those that left or of those that are there: it was fed a beginning of what its stream received, and its stream sent a beginning of what was handed out for it. The streams of
--- those that left were given back, and bytes were fed at the moments behind the readings of the worker's clock.
+-- A story tells of all that was fed to a worker's connections and handed out for them, of those that were ever opened at it, no two of which are one, and that each whose close
+-- put a last job was closed at the moment of that job. Each was one of a client, of those that left or of those that are there: it was fed a beginning of what its stream received,
+-- and its stream sent a beginning of what was handed out for it. The streams of those that left were given back, and bytes were fed and connections closed at the moments behind the
+-- readings of the worker's clock.
 pub record HasServed {S M : Type 0} (was_received was_sent : S → Option Bytes) (gives : M → M → Option ℕ → Type 0) (given : Option (List (Parting S)))
     (clients : List (Client S)) (worker : DeskState) : Type 0 where
   pub story : Story
@@ -24,7 +28,7 @@ pub record HasServed {S M : Type 0} (was_received was_sent : S → Option Bytes)
   pub opened : AreOpened story gone clients
   pub apart : IsApart story
   pub given_back : AreGivenBack (streams_of gone) given
-  pub in_time : AreFedFrom gives first (fed_in story.occurrences)
+  pub in_time : AreFedFrom gives first (fed_in story.occurrences) (closings_in story.occurrences)
 
 -- So it was with a worker whose mark this is.
 pub record IsAnswered {S M : Type 0} (was_received was_sent : S → Option Bytes) (gives : M → M → Option ℕ → Type 0) (given : Option (List (Parting S)))
@@ -33,3 +37,7 @@ pub record IsAnswered {S M : Type 0} (was_received was_sent : S → Option Bytes
   pub led : IsLed worker
   pub marked : worker.mark ≡ mark
   pub served : HasServed was_received was_sent gives given clients worker
+
+-- each of these served its clients within these limits
+abbrev pub AreServedWithin : {S D M : Type 0} → ClientLimits → List (Left S D M) → Type 0
+AreServedWithin {S} {D} {M} limits lefts = AllByRecursion (λ (left : Left S D M). left.limits ≡ limits) lefts

@@ -3,6 +3,7 @@ ghost use Rattle.std.proofs.Props.{props};
 ghost use Rattle.std.specs.Prelude.{◌≡◌, IfOk};
 ghost use Rattle.nr_combiner.specs.Workers.{fresh_worker, shared_of};
 
+use crate::serving::ClientLimits;
 use nr_blob::Memory;
 use nr_combiner::{ServerName, Worker};
 use nr_service::{Client, Device, Ended, Moments, Stream, read_buffer};
@@ -53,12 +54,13 @@ impl<B: ServerName, D: Drop, M: Drop> Lane<B, D, M> {
     }
 }
 
-/// What a worker leaves: its device and its clock, the clients that were there, and how it ended.
+/// What a worker leaves: its device and its clock, the clients that were there, within which limits it served them, and how it ended.
 #[derive(Drop)]
 pub struct Left<S, D, M> {
     pub device: D,
     pub clock: M,
     pub clients: Vec<Client<S>>,
+    pub limits: ClientLimits,
     pub ended: Ended,
 }
 
@@ -69,12 +71,16 @@ pub(crate) struct Leaving<B: ServerName, S, D, M> {
     pub(crate) left: Left<S, D, M>,
 }
 
-/// What a worker promises of what it leaves.
+/// What a worker promises of what it leaves, which served within these limits.
 #[derive(Drop)]
-pub(crate) struct Answered;
+pub(crate) struct Answered {
+    pub(crate) limits: ClientLimits,
+}
 
 impl<B: ServerName, S: Stream, D: Device<S>, M: Moments> Promise<Leaving<B, S, D, M>> for Answered {
+    ghost use Rattle.std.specs.Prelude.{◌≡◌};
     ghost use Rattle.nr_crew.specs.Left.{IsAnswered};
 
-    ghost kept_by = { λ _ leaving. IsAnswered S.received S.sent M.gives (D.parted leaving.left.device) leaving.mark.standing leaving.left.clients.items };
+    ghost kept_by = { λ promise leaving. IsAnswered S.received S.sent M.gives (D.parted leaving.left.device) leaving.mark.standing leaving.left.clients.items
+        × (leaving.left.limits ≡ promise.limits) };
 }

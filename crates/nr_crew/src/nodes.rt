@@ -6,6 +6,7 @@ ghost use Rattle.nr_oplog.specs.Opening.{name_of, nodes_of, places_of};
 ghost use Rattle.nr_combiner.specs.Opened.{AreNamed, AreOfWorkers};
 ghost use Rattle.nr_crew.specs.Dealing.{HasDealt};
 ghost use Rattle.nr_crew.specs.Ended.{HasEnded};
+ghost use Rattle.nr_crew.specs.Left.{AreServedWithin};
 ghost use Rattle.nr_crew.specs.Nodes.{AreFresh, IsFresh};
 ghost use Rattle.nr_crew.specs.Together.{AreServedTogether};
 
@@ -164,6 +165,7 @@ where
     ensures together { IfOk result (λ served. AreServedTogether S.received S.sent M.gives D.parted served.0.lefts.items served.0.replicas.items) }
     ensures dealt { IfOk result (λ served. HasDealt size.shape.nodes size.shape.workers (L.dealt main) (L.dealt served.1)) }
     ensures ended { IfOk result (λ served. HasEnded (size.shape.nodes * size.shape.workers) served.0.ended served.0.lefts.items) }
+    ensures within { IfOk result (λ served. AreServedWithin size.limits served.0.lefts.items) }
 {
     let shape = size.shape;
     let crew = Crew::new(alloc, bells, shape.nodes, shape.workers, size.connections)?;
@@ -264,6 +266,7 @@ where
     ensures together { IfOk result (λ served. AreServedTogether S.received S.sent M.gives D.parted served.0.lefts.items served.0.replicas.items) }
     ensures dealt { IfOk result (λ served. HasDealt size.shape.nodes size.shape.workers (L.dealt main) (L.dealt served.1)) }
     ensures ended { IfOk result (λ served. HasEnded (size.shape.nodes * size.shape.workers) served.0.ended served.0.lefts.items) }
+    ensures within { IfOk result (λ served. AreServedWithin size.limits served.0.lefts.items) }
 {
     let opened = match Opened::open(alloc, size.shape.nodes, size.places) {
         Ok(opened) => opened,

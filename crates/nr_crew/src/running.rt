@@ -1,12 +1,13 @@
 // The workers of a server, each on a thread of its own, beside the thread that deals connections out.
-ghost use Rattle.std.specs.Prelude.{◌≡◌, ◌+◌, ◌<◌, ◌≤◌, [], List, IsTrue, IfOk, IfSome, OnOk};
+ghost use Rattle.std.specs.Prelude.{◌≡◌, ◌+◌, ◌<◌, ◌≤◌, [], ◌∷◌, ◌++◌, List, IsTrue, IfOk, IfSome, OnOk, OnErr};
+ghost use Rattle.std.specs.List.{AllByRecursion};
 ghost use Rattle.std.specs.Vec.{vec_len, vec_capacity};
 ghost use Rattle.nr_taps.specs.Marks.{MarkState};
 ghost use Rattle.nr_node.specs.Level.{IsLevel};
 ghost use Rattle.nr_node.specs.Sound.{IsSound};
 ghost use Rattle.nr_crew.specs.Dealing.{HasDealt};
 ghost use Rattle.nr_crew.specs.Ended.{HasEnded, any_device, any_down, ended_of, is_device, is_down, unless_wanted};
-ghost use Rattle.nr_crew.specs.Left.{IsAnswered};
+ghost use Rattle.nr_crew.specs.Left.{AreServedWithin, IsAnswered};
 ghost use Rattle.nr_crew.specs.Together.{AreAnsweredTogether, AreLeft, AreTakenOut};
 
 use crate::dealing::{Shape, deal_out};
@@ -91,6 +92,7 @@ where
     M: Moments + Drop,
     requires marks { vec_len marks.old < vec_capacity marks.old }
     requires lefts { vec_len lefts.old < vec_capacity lefts.old }
+    ensures within { AreServedWithin handle.promise.limits lefts.old.items → AreServedWithin handle.promise.limits lefts.new.items }
     ensures marks { (vec_len marks.new ≡ vec_len marks.old + 1) × (vec_capacity marks.new ≡ vec_capacity marks.old) }
     ensures lefts { (vec_len lefts.new ≡ vec_len lefts.old + 1) × (vec_capacity lefts.new ≡ vec_capacity lefts.old) }
     ensures answered { AreLeft S.received S.sent M.gives D.parted marks.old.items lefts.old.items → AreLeft S.received S.sent M.gives D.parted marks.new.items
@@ -105,6 +107,7 @@ where
 fn join_all<B, R, S, D, M>(
     rt: &R,
     handles: Vec<PromisedHandle<Leaving<B, S, D, M>, Answered>>,
+    limits: ClientLimits,
     marks: &mut Vec<Mark<B>>,
     lefts: &mut Vec<Left<S, D, M>>,
 )
@@ -114,9 +117,11 @@ where
     S: Stream + Drop,
     D: Device<S> + Drop,
     M: Moments + Drop,
+    requires promised { AllByRecursion (λ handle. handle.promise.limits ≡ limits) handles.items }
     requires marks { (marks.old.items ≡ []) × (vec_len handles ≤ vec_capacity marks.old) }
     requires lefts { (lefts.old.items ≡ []) × (vec_len handles ≤ vec_capacity lefts.old) }
     ensures answered { AreLeft S.received S.sent M.gives D.parted marks.new.items lefts.new.items }
+    ensures within { AreServedWithin limits lefts.new.items }
     ensures len { vec_len lefts.new ≡ vec_len handles }
 {
     for handle in handles {
@@ -184,7 +189,7 @@ fn unless_wanted<S, D, M>(lefts: &[Left<S, D, M>]) -> Result<(), ServeError>
     Ok(())
 }
 
-// Keeps the thread that was started. Whether it was: else all that did are told to stop.
+// Keeps the thread that was started. Whether it was: else all that were are told to stop.
 fn keep_started<H, E: Drop, K: Rings>(
     started: Result<H, E>,
     handles: &mut Vec<H>,
@@ -192,6 +197,8 @@ fn keep_started<H, E: Drop, K: Rings>(
 ) -> bool
     requires { vec_len handles.old < vec_capacity handles.old }
     ensures kept { IsTrue result → vec_len handles.new ≡ vec_len handles.old + 1 }
+    ensures one { IfOk started (λ handle. handles.new.items ≡ handles.old.items ++ handle ∷ []) }
+    ensures none { OnErr started (handles.new.items ≡ handles.old.items) }
     ensures len { vec_len handles.new ≤ vec_len handles.old + 1 }
     ensures room { vec_capacity handles.new ≡ vec_capacity handles.old }
 {
@@ -220,7 +227,9 @@ struct Shared<'e, R, K, G> {
 
 impl<'e, R, K, G> Shared<'e, R, K, G> {
     // The same once more, for one more thread.
-    fn share(&self) -> Shared<'e, R, K, G> {
+    fn share(&self) -> Shared<'e, R, K, G>
+        ensures { result.limits ≡ self.now.limits }
+    {
         Shared {
             rt: self.rt,
             alloc: self.alloc,
@@ -244,7 +253,8 @@ where
     M: Moments + Drop,
     K: Rings,
     G: Gate,
-    ensures { IsAnswered S.received S.sent M.gives (D.parted result.left.device) result.mark.standing result.left.clients.items }
+    ensures answered { IsAnswered S.received S.sent M.gives (D.parted result.left.device) result.mark.standing result.left.clients.items }
+    ensures limits { result.left.limits ≡ shared.entry.limits }
 {
     let Shared {
         rt,
@@ -272,13 +282,18 @@ where
     K: Rings + Sync + 'e,
     G: Gate + Sync + 'e,
     requires { vec_len handles.old < vec_capacity handles.old }
+    ensures promised { AllByRecursion (λ handle. handle.promise.limits ≡ shared.now.limits) handles.old.items
+        → AllByRecursion (λ handle. handle.promise.limits ≡ shared.now.limits) handles.new.items }
     ensures kept { IsTrue result → vec_len handles.new ≡ vec_len handles.old + 1 }
     ensures len { vec_len handles.new ≤ vec_len handles.old + 1 }
     ensures room { vec_capacity handles.new ≡ vec_capacity handles.old }
 {
     shared.crew.begin();
     let share = shared.share();
-    let started = scope.spawn_with(Answered, move || serve_shared(share, lane));
+    let answered = Answered {
+        limits: shared.limits,
+    };
+    let started = scope.spawn_with(answered, move || serve_shared(share, lane));
     keep_started(started, handles, shared.crew)
 }
 
@@ -298,6 +313,7 @@ where
     K: Rings + Sync + 'e,
     G: Gate + Sync + 'e,
     requires { (handles.old.items ≡ []) × (vec_len lanes ≤ vec_capacity handles.old) }
+    ensures promised { AllByRecursion (λ handle. handle.promise.limits ≡ shared.now.limits) handles.new.items }
     ensures kept { IsTrue result → vec_len handles.new ≡ vec_len lanes }
     ensures len { vec_len handles.new ≤ vec_len lanes }
 {
@@ -331,6 +347,7 @@ where
     ensures left { IfOk result (λ r. AreLeft S.received S.sent M.gives D.parted r.0.marks.items r.0.lefts.items) }
     ensures dealt { IfOk result (λ r. HasDealt shape.nodes shape.workers (L.dealt main) (L.dealt r.1)) }
     ensures ended { IfOk result (λ r. HasEnded (vec_len lanes) r.0.ended r.0.lefts.items) }
+    ensures within { IfOk result (λ r. AreServedWithin limits r.0.lefts.items) }
 {
     let ClientLimits { limit, timeout } = limits;
     thread::scope(
@@ -340,6 +357,7 @@ where
             ensures left { IfOk result (λ r. AreLeft S.received S.sent M.gives D.parted r.0.marks.items r.0.lefts.items) }
             ensures dealt { IfOk result (λ r. HasDealt shape.nodes shape.workers (L.dealt main) (L.dealt r.1)) }
             ensures ended { IfOk result (λ r. HasEnded (vec_len lanes) r.0.ended r.0.lefts.items) }
+            ensures within { IfOk result (λ r. AreServedWithin (record { limit = limit; timeout = timeout }) r.0.lefts.items) }
         {
             let room = room_for(alloc, lanes.len())?;
             let Room {
@@ -359,7 +377,13 @@ where
             let comes_more = deal_out(&mut main, crew, shape);
             crew.stop();
             crew.ring_all();
-            join_all(rt, handles, &mut marks, &mut lefts);
+            join_all(
+                rt,
+                handles,
+                ClientLimits { limit, timeout },
+                &mut marks,
+                &mut lefts,
+            );
             let ended = ended_by(&lefts, has_all_threads, comes_more);
             Ok((
                 Joined {
@@ -461,6 +485,7 @@ where
     ensures together { IfOk result (λ ran. AreAnsweredTogether S.received S.sent M.gives D.parted ran.0.marks.items ran.0.lefts.items ran.0.replicas.items) }
     ensures dealt { IfOk result (λ ran. HasDealt shape.nodes shape.workers (L.dealt main) (L.dealt ran.1)) }
     ensures ended { IfOk result (λ ran. HasEnded (vec_len lanes) ran.0.ended ran.0.lefts.items) }
+    ensures within { IfOk result (λ ran. AreServedWithin limits ran.0.lefts.items) }
 {
     let ran_all = run_all(rt, alloc, lanes, crew, main, gate, shape, limits)?;
     let (joined, main) = ran_all;

@@ -60,7 +60,8 @@ where
     M: Moments + Drop,
     K: Rings,
     G: Gate,
-    ensures { IsAnswered S.received S.sent M.gives (D.parted result.left.device) result.mark.standing result.left.clients.items }
+    ensures answered { IsAnswered S.received S.sent M.gives (D.parted result.left.device) result.mark.standing result.left.clients.items }
+    ensures limits { result.left.limits ≡ limits }
 {
     let Lane {
         worker,
@@ -82,6 +83,10 @@ where
     let ended = service.serve(&Stoppable { gate, crew });
     stop_behind(ended, crew);
     let mark = service.answers.take_mark();
+    let limits = ClientLimits {
+        limit: service.limit,
+        timeout: service.timeout,
+    };
     let (device, clock, clients) = rest_of(service);
     Leaving {
         mark,
@@ -89,6 +94,7 @@ where
             device,
             clock,
             clients,
+            limits,
             ended,
         },
     }

@@ -57,14 +57,14 @@ all_heard worker most lane old new told turned token is none heard =
 -- so did the turn, where nothing was there before
 pub turned_at : (places : ℕ) (worker : WorkerState) (which : Lifts) (most : ℕ) (old new : List Handed) (told : Option (Turned × LogView)) (turned : Turned) (token : LogView)
     → told ≡ Some (turned, token) → old ≡ []
-    → IfSome told (λ (t : Turned × LogView). (note : NoteView) × TurnsBehind places worker.node worker.seat.worker which most old new t.0 t.1.standing note)
+    → IfSome told (λ (t : Turned × LogView). (note : NoteView) × TurnsBehind places worker.node worker.seat.worker worker.generation which most old new t.0 t.1.standing note)
     → HasTurnedAt places worker which most new turned (Some token)
 turned_at places worker which most old new told turned token is none behind =
     let by = subst (λ (o : Option (Turned × LogView)). IfSome o (λ (t : Turned × LogView). (note : NoteView)
-    × TurnsBehind places worker.node worker.seat.worker which most old new t.0 t.1.standing note)) is behind in
+    × TurnsBehind places worker.node worker.seat.worker worker.generation which most old new t.0 t.1.standing note)) is behind in
     record {
       view = token;
       there = refl;
       note = by.0;
-      behind = subst (λ (l : List Handed). TurnsBehind places worker.node worker.seat.worker which most l new turned token.standing by.0) none by.1;
+      behind = subst (λ (l : List Handed). TurnsBehind places worker.node worker.seat.worker worker.generation which most l new turned token.standing by.0) none by.1;
     }

@@ -20,4 +20,4 @@ pub record HasTurnedAt (places : ℕ) (worker : WorkerState) (which : Lifts) (mo
   pub view : LogView
   pub there : token ≡ Some view
   pub note : NoteView
-  pub behind : TurnsBehind places worker.node worker.seat.worker which most [] pieces turned view.standing note
+  pub behind : TurnsBehind places worker.node worker.seat.worker worker.generation which most [] pieces turned view.standing note

@@ -81,11 +81,11 @@ impl<B: ServerName> Client<B> {
         }
     }
 
-    /// Has its tap take in a piece of a connection of this worker's node, its own or another: at most so many of the bytes that wait.
+    /// Has its tap take in a piece of a connection of this worker, its own or another: at most so many of the bytes that wait.
     pub fn offer<R: Wait>(
         &mut self,
         rt: &R,
-        station: &Station<B>,
+        station: &mut Station<B>,
         conn: ConnId,
         most: usize,
     ) -> Result<Offered, Memory>
@@ -94,11 +94,11 @@ impl<B: ServerName> Client<B> {
         ensures err { OnErr result (self.new.tap ≡ self.old.tap) }
         ensures session { self.new.session ≡ self.old.session }
     {
-        let node = station.worker().shared();
-        let Some((piece, token)) = node.take_piece(rt, conn, most)? else {
+        let Some((piece, token)) = station.take_piece(rt, conn, most)? else {
             return Ok(Offered::Nothing);
         };
-        match self.tap.accept(node.log(), piece, token) {
+        let log = station.worker().shared().log();
+        match self.tap.accept(log, piece, token) {
             Ok(()) => Ok(Offered::Accepted),
             Err((back, _, why)) => Ok(Offered::Refused(back.from, why)),
         }

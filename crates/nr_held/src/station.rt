@@ -3,7 +3,9 @@ ghost use Rattle.std.specs.Prelude.{◌≡◌, ◌<◌, ◌≤◌, ◌++◌, [],
 ghost use Rattle.nr_oplog.specs.Opening.{name_of, nodes_of, places_of};
 ghost use Rattle.nr_taps.specs.Taps.{fresh_tap};
 ghost use Rattle.nr_combiner.specs.Opened.{AreNamed, AreOfWorkers};
-ghost use Rattle.nr_combiner.specs.Workers.{HasPosted};
+ghost use Rattle.nr_entry.specs.Jobs.{connection_of};
+ghost use Rattle.nr_combiner.specs.Pieces.{IsPieceOf};
+ghost use Rattle.nr_combiner.specs.Workers.{with_more, HasPosted, MayHaveClosed};
 ghost use Rattle.nr_held.specs.Clients.{HasTold, fresh_session};
 ghost use Rattle.nr_held.specs.Pieces.{AreHandedOut};
 ghost use Rattle.nr_held.specs.Stations.{AreOfNodes, HasTurnedAt};
@@ -17,7 +19,7 @@ use nr_combiner::{
 use nr_entry::{ConnId, Job, Outcome};
 use nr_node::{Handed, Round};
 use nr_oplog::{Opened, Token};
-use nr_replica::Spares;
+use nr_replica::{Piece, Spares};
 use std::alloc::Global;
 use std::hash::RandomState;
 use std::mem;
@@ -117,9 +119,25 @@ impl<B: ServerName> Station<B> {
         Ok(Client::new(self.alloc, conn))
     }
 
-    /// Closes a connection of the worker's node.
-    pub fn close<R: Wait>(&self, rt: &R, conn: ConnId) {
-        self.worker.shared().close(rt, conn);
+    /// Closes a connection of the worker.
+    pub fn close<R: Wait>(&mut self, rt: &R, conn: ConnId)
+        ensures worker { MayHaveClosed self.old.worker self.new.worker }
+        ensures jobs { self.new.jobs ≡ self.old.jobs }
+    {
+        self.worker.close(rt, conn);
+    }
+
+    /// At most so many of the bytes that wait for a connection of the worker, and at least one, with the token that came with them.
+    pub(crate) fn take_piece<R: Wait>(
+        &mut self,
+        rt: &R,
+        conn: ConnId,
+        most: usize,
+    ) -> Result<Option<(Piece, Token<B>)>, Memory>
+        requires { 0 < most }
+        ensures { IfOk result (λ taken. IfSome taken (λ t. IsPieceOf (connection_of conn) most t.0 t.1.standing)) }
+    {
+        self.worker.take_piece(rt, conn, most)
     }
 
     /// Hands in what was gathered as the worker's next batch. While the last one wasn't collected, or where these are more jobs than a batch has, that is an error,
@@ -166,7 +184,8 @@ impl<B: ServerName> Station<B> {
         requires { 0 < most }
         ensures turned { IfOk result (λ turn. HasTurnedAt B.places self.old.worker lifts most turn.pieces.items turn.turned turn.token) }
         ensures handed { IfOk result (λ turn. AreHandedOut turn.pieces.items turn.token) }
-        ensures worker { self.new.worker ≡ self.old.worker }
+        ensures worker { OnOk result (self.new.worker ≡ with_more self.old.worker) }
+        ensures same { OnErr result (self.new.worker ≡ self.old.worker) }
         ensures jobs { self.new.jobs ≡ self.old.jobs }
     {
         let mut pieces = Vec::new(self.alloc);

@@ -5,22 +5,27 @@ use Rattle.std.specs.Option.{option_map}
 use Rattle.std.proofs.lemmas.Bool.{eqb-true, ne_eqb}
 use Rattle.nr_model.specs.Bytes.{Bytes}
 use Rattle.nr_model.specs.Keyspace.{moment}
-use Rattle.nr_model.specs.Items.{Connection, same_connection}
+use Rattle.nr_model.specs.Items.{Connection, Item, same_connection}
 use Rattle.nr_model.specs.Connections.{Feeding}
 use Rattle.nr_model.proofs.JobLists.{same_is}
-use Rattle.nr_service.specs.Stories.{Closed, Fed, HasWorked, IsClosed, IsFed, IsOpened, IsWritten, KeepsOthers, Story, fed_in, going_on, kept_bytes}
+use Rattle.nr_service.specs.Stories.{Closing, Fed, HasWorked, IsClosed, IsFed, IsOpened, IsWritten, KeepsOthers, Story, closed_at, fed_in, going_on, kept_bytes}
 use Rattle.nr_service.specs.declared.answers.Standing.TheVariants as standings
 use Rattle.nr_service.proofs.Occurrences.{going_none}
-use Rattle.nr_seats.specs.Seated.{SeatState, fresh_seat, with_written}
+use Rattle.nr_combiner.specs.Workers.{WorkerState}
+use Rattle.nr_seats.specs.Seated.{SeatState, fresh_seat, last_job, with_written}
 use Rattle.nr_seats.specs.Placed.{IsPut, SeatsState, pending_here, seat_at, takes_here}
 use Rattle.nr_seats.specs.Portions.{seat_of, waiting_of}
 use Rattle.nr_seats.proofs.Putting.{named, seat_here, seat_others}
-use Rattle.nr_worker.specs.Working.{Closes, Feeds, Goes, OpensAt, Stops, WorkState, Writes, all_closed, all_fed, last_here, one_opened, takes_from, unchanged}
+use Rattle.nr_worker.specs.Desk.{DeskState, Served}
+use Rattle.nr_worker.specs.Working.{Closes, Feeds, Goes, IsSeatOf, OpensAt, Reflects, Stops, WorkState, Writes, all_closed, all_fed, last_here, one_opened, takes_from, unchanged}
 use Rattle.nr_lane.specs.Serving.{ServingState, kept_at, standing_of}
 use Rattle.nr_lane.specs.Led.{HasLedTo, IsAtRest}
-use Rattle.nr_lane.specs.Works.{IsIdle, Works}
+use Rattle.nr_lane.specs.Works.{IsResting, Works}
+use Rattle.nr_lane.specs.Told.{close_by}
+use Rattle.nr_lane.proofs.Lists.{at_one}
 use Rattle.nr_lane.proofs.Telling.{nothing_fed}
-use Rattle.nr_lane.proofs.Leading.{absent_new, led_closed, led_fed, led_handed, led_opened, led_still}
+use Rattle.nr_lane.proofs.Working.{looked_still}
+use Rattle.nr_lane.proofs.Leading.{IsPutBy, absent_new, led_closed, led_fed, led_handed, led_opened, led_still}
 
 -- ---- seats of a node
 pub own_seat : (node : ℕ) (seats : SeatsState) (c : Connection) → c.node ≡ node → seat_of node seats c ≡ seat_at c.serial seats
@@ -120,12 +125,12 @@ is_fed is_whole v w c time capped bytes takes_it is feeds stops g =
     }
 
 -- ---- work
-pub has_worked : (v w : ServingState) → Works v.desk w.desk → (w.busy ≡ false → IsIdle w.desk)
-    → HasWorked (HasLedTo v) (HasLedTo w) (IsAtRest w) (kept_at v) (kept_at w)
-has_worked v w k idle = record {
+pub has_worked : (places : ℕ) (v w : ServingState) → Works v.desk w.desk → (w.busy ≡ false → IsResting places w.desk)
+    → HasWorked (HasLedTo v) (HasLedTo w) (IsAtRest places w) (kept_at v) (kept_at w)
+has_worked places v w k rest = record {
   handed = k.handed;
   past = λ story h. led_handed v w k.handed story k.goes k.waiting h;
-  rest = λ story h. record { led = led_handed v w k.handed story k.goes k.waiting h; idle = idle };
+  rest = λ story h. record { led = led_handed v w k.handed story k.goes k.waiting h; rest = rest };
   kept = λ c. ap (λ n. waiting_of n w.desk.seats c) k.node ∙ k.waiting.waiting c;
 }
 
@@ -144,34 +149,37 @@ written_waits : (count : ℕ) (o : Option SeatState) → option_map (λ (s : Sea
 written_waits count None = refl
 written_waits count (Some s) = refl
 
-rest_still : (v w : ServingState) → Goes unchanged v.desk w.desk → w.busy ≡ v.busy → w.desk.jobs ≡ v.desk.jobs → w.desk.waiting ≡ v.desk.waiting
-    → (story : Story) → IsAtRest v story → IsAtRest w story
-rest_still v w g busy jobs waiting story r = record {
+rest_still : (places : ℕ) (v w : ServingState) → Goes unchanged v.desk w.desk → w.busy ≡ v.busy → w.desk.jobs ≡ v.desk.jobs → w.desk.waiting ≡ v.desk.waiting
+    → w.desk.worker.node ≡ v.desk.worker.node → w.desk.mark ≡ v.desk.mark → (story : Story) → IsAtRest places v story → IsAtRest places w story
+rest_still places v w g busy jobs waiting node mark story r = record {
   led = led_still v w story g r.led;
-  idle = λ calm.
-      let i = r.idle (sym busy ∙ calm) in
-      record { none = jobs ∙ i.none; answered = waiting ∙ i.answered };
+  rest = λ calm.
+      let i = r.rest (sym busy ∙ calm) in
+      record {
+        idle = record { none = jobs ∙ i.idle.none; answered = waiting ∙ i.idle.answered };
+        looked = looked_still places v.desk w.desk node mark i.looked;
+      };
 }
 
-pub is_written : (v w : ServingState) (c : Connection) (count : ℕ) → c.node ≡ v.desk.worker.node → Writes c.serial count v.desk w.desk
+pub is_written : (places : ℕ) (v w : ServingState) (c : Connection) (count : ℕ) → c.node ≡ v.desk.worker.node → Writes c.serial count v.desk w.desk
     → Goes unchanged v.desk w.desk → w.busy ≡ v.busy
-    → IsWritten c count (HasLedTo v) (HasLedTo w) (IsAtRest v) (IsAtRest w) (kept_at v) (kept_at w)
-is_written v w c count here k g busy =
+    → IsWritten c count (HasLedTo v) (HasLedTo w) (IsAtRest places v) (IsAtRest places w) (kept_at v) (kept_at w)
+is_written places v w c count here k g busy =
     let node : w.desk.worker.node ≡ v.desk.worker.node = ap (λ (x : WorkState). x.worker.node) k.changed in
     let seat = option_map (with_written count) (seat_at c.serial v.desk.seats) in
     record {
       past = λ story h. led_still v w story g h;
-      rest = rest_still v w g busy (ap (λ (x : WorkState). x.jobs) k.changed) (ap (λ (x : WorkState). x.waiting) k.changed);
+      rest = rest_still places v w g busy (ap (λ (x : WorkState). x.jobs) k.changed) (ap (λ (x : WorkState). x.waiting) k.changed) node (ap (λ (x : WorkState). x.mark) k.changed);
       kept = put_here v.desk w.desk c seat here node k.put ∙ written_waits count (seat_at c.serial v.desk.seats)
           ∙ sym (ap (λ (o : Option SeatState). option_map (λ (bytes : Bytes). drop count bytes) (option_map (λ (s : SeatState). s.pending) o))
           (own_seat v.desk.worker.node v.desk.seats c here));
       others = put_others v.desk w.desk c seat here node k.put;
     }
 
-pub is_written_none : (v w : ServingState) (c : Connection) (count : ℕ) → (c.node == v.desk.worker.node) ≡ false → w ≡ v
-    → IsWritten c count (HasLedTo v) (HasLedTo w) (IsAtRest v) (IsAtRest w) (kept_at v) (kept_at w)
-is_written_none v w c count other same =
-    subst (λ (x : ServingState). IsWritten c count (HasLedTo v) (HasLedTo x) (IsAtRest v) (IsAtRest x) (kept_at v) (kept_at x)) (sym same) (record {
+pub is_written_none : (places : ℕ) (v w : ServingState) (c : Connection) (count : ℕ) → (c.node == v.desk.worker.node) ≡ false → w ≡ v
+    → IsWritten c count (HasLedTo v) (HasLedTo w) (IsAtRest places v) (IsAtRest places w) (kept_at v) (kept_at w)
+is_written_none places v w c count other same =
+    subst (λ (x : ServingState). IsWritten c count (HasLedTo v) (HasLedTo x) (IsAtRest places v) (IsAtRest places x) (kept_at v) (kept_at x)) (sym same) (record {
       past = λ story h. h;
       rest = λ story r. r;
       kept = kept_elsewhere v c other ∙ sym (ap (option_map (λ (bytes : Bytes). drop count bytes)) (kept_elsewhere v c other));
@@ -185,30 +193,67 @@ IsGoneFrom v c = seat_of v.desk.worker.node v.desk.seats c ≡ None
 there_not_gone : (o : Option SeatState) → is_some o ≡ true → o ≡ None → ⊥
 there_not_gone o there gone = true≢false (sym there ∙ ap is_some gone)
 
-pub is_closed : (v w : ServingState) (c : Connection) (time : ℕ) → c.node ≡ v.desk.worker.node → is_some (seat_at c.serial v.desk.seats) ≡ true
-    → Closes c.serial time v.desk w.desk → Goes (all_closed (last_here time (seat_at c.serial v.desk.seats))) v.desk w.desk
-    → IsClosed c (IsGoneFrom v c) (HasLedTo v) (HasLedTo w) (kept_at v) (kept_at w)
-is_closed v w c time here there k g =
-    let node : w.desk.worker.node ≡ v.desk.worker.node = ap (λ (x : WorkState). x.worker.node) k.changed in
+there_is : (o : Option SeatState) → is_some o ≡ true → (s : SeatState) × (o ≡ Some s)
+there_is None there = absurd (true≢false (sym there))
+there_is (Some s) there = (s, refl)
+
+-- a seat is of its connection
+own_connection : (v : WorkState) (d : DeskState) (c : Connection) (s : SeatState) → Reflects v d → seat_of v.worker.node v.seats c ≡ Some s
+    → s.session.connection ≡ c
+own_connection v d c s r at =
+    let seated = r.seats c s at in
+    let known = seated.known in
+    (at_one (λ (x : Served). x.connection ≡ c → IsSeatOf s x) d.served known.one seated.seat known.there known.connection).own ∙ known.connection
+
+-- its last job is its own, at the moment of its close
+own_job : (gave_end : Bool) (item job : Item) → cond gave_end None (Some item) ≡ Some job → close_by job.connection job ≡ close_by item.connection item
+own_job true item job is = absurd (cc is)
+own_job false item job is =
+    ap (λ (o : Option Item). elim o [ None ↦ close_by item.connection item | Some one ↦ close_by one.connection one ]) (sym is)
+
+last_is_put : (v : WorkState) (d : DeskState) (c : Connection) (time : ℕ) (s : SeatState) → Reflects v d → seat_of v.worker.node v.seats c ≡ Some s
+    → IsPutBy (record { connection = c; moment = time }) (last_job time s)
+last_is_put v d c time s r at put is =
+    own_job s.session.gave_end _ put is
+    ∙ ap (λ (e : Connection). let closing : Closing = record { connection = e; moment = time } in closing) (own_connection v d c s r at)
+
+-- it is of the same node
+closed_node : (serial time : ℕ) (v w : WorkState) → Closes serial time v w → w.worker.node ≡ v.worker.node
+closed_node serial time v w k = elim k.worker [ inl more ↦ ap (λ (x : WorkerState). x.node) more | inr same ↦ ap (λ (x : WorkerState). x.node) same ]
+
+pub is_closed : (v w : ServingState) (c : Connection) (time capped : ℕ) → c.node ≡ v.desk.worker.node → is_some (seat_at c.serial v.desk.seats) ≡ true
+    → capped ≡ moment time → Closes c.serial capped v.desk w.desk
+    → Goes (all_closed (last_here capped (seat_at c.serial v.desk.seats))) v.desk w.desk
+    → IsClosed c time (IsGoneFrom v c) (HasLedTo v) (HasLedTo w) (kept_at v) (kept_at w)
+is_closed v w c time capped here there is k g =
+    let node : w.desk.worker.node ≡ v.desk.worker.node = closed_node c.serial capped v.desk w.desk k in
+    let seat = there_is (seat_at c.serial v.desk.seats) there in
+    let at : seat_of v.desk.worker.node v.desk.seats c ≡ Some seat.0 = own_seat v.desk.worker.node v.desk.seats c here ∙ seat.1 in
+    let closes : Goes (all_closed (last_job capped seat.0)) v.desk w.desk =
+    subst (λ (o : Option SeatState). Goes (all_closed (last_here capped o)) v.desk w.desk) seat.1 g in
+    let put : (d : DeskState) → Reflects v.desk d → IsPutBy (record { connection = c; moment = moment time }) (last_job capped seat.0) =
+    λ d r.
+    subst (λ (m : ℕ). IsPutBy (record { connection = c; moment = m }) (last_job capped seat.0)) is (last_is_put v.desk d c capped seat.0 r at) in
     record {
-      shut = Closed c ∷ [];
+      shut = closed_at c time ∷ [];
       is = inl (refl, λ gone. there_not_gone (seat_at c.serial v.desk.seats) there (sym (own_seat v.desk.worker.node v.desk.seats c here) ∙ gone));
-      past = λ story h. led_closed v w c (last_here time (seat_at c.serial v.desk.seats)) story g h;
+      past = λ story h.
+          led_closed v w (record { connection = c; moment = moment time }) seat.0 (last_job capped seat.0) story closes at put h;
       kept = put_here v.desk w.desk c None here node k.gone;
       others = put_others v.desk w.desk c None here node k.gone;
     }
 
 pub is_gone_now : (v w : ServingState) (c : Connection) (time : ℕ) → c.node ≡ v.desk.worker.node → Closes c.serial time v.desk w.desk → IsGoneFrom w c
 is_gone_now v w c time here k =
-    let node : w.desk.worker.node ≡ v.desk.worker.node = ap (λ (x : WorkState). x.worker.node) k.changed in
+    let node : w.desk.worker.node ≡ v.desk.worker.node = closed_node c.serial time v.desk w.desk k in
     ap (λ n. seat_of n w.desk.seats c) node
     ∙ ap (seat_of v.desk.worker.node w.desk.seats) (sym (own_name v.desk.worker.node c here))
     ∙ seat_here v.desk.worker.node c.serial None v.desk.seats w.desk.seats k.gone
 
-pub is_closed_none : (v w : ServingState) (c : Connection) → IsGoneFrom v c → w ≡ v
-    → IsClosed c (IsGoneFrom v c) (HasLedTo v) (HasLedTo w) (kept_at v) (kept_at w)
-is_closed_none v w c gone same =
-    subst (λ (x : ServingState). IsClosed c (IsGoneFrom v c) (HasLedTo v) (HasLedTo x) (kept_at v) (kept_at x)) (sym same) (record {
+pub is_closed_none : (v w : ServingState) (c : Connection) (time : ℕ) → IsGoneFrom v c → w ≡ v
+    → IsClosed c time (IsGoneFrom v c) (HasLedTo v) (HasLedTo w) (kept_at v) (kept_at w)
+is_closed_none v w c time gone same =
+    subst (λ (x : ServingState). IsClosed c time (IsGoneFrom v c) (HasLedTo v) (HasLedTo x) (kept_at v) (kept_at x)) (sym same) (record {
       shut = [];
       is = inr (refl, gone);
       past = λ story h. subst (HasLedTo v) (sym (going_none story)) h;

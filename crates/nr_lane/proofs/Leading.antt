@@ -1,11 +1,13 @@
 -- A story that led to a desk goes on.
-use Rattle.std.proofs.Common.{◌≡◌, ℕ, ◌≤◌, true, false, cond, List, [], ◌∷◌, ◌++◌, map, Option, Some, None, refl, ap, sym, ◌∙◌, subst, append-nil, true≢false}
+use Rattle.std.proofs.Common.{◌≡◌, ℕ, ◌≤◌, true, false, cond, inl, inr, List, [], ◌∷◌, ◌++◌, map, Contains, Option, Some, None, refl, ap, sym, ◌∙◌, subst, append-nil, true≢false}
+use Rattle.std.specs.Prelude.{◌⊎◌}
 use Rattle.std.proofs.lemmas.List.{map-id}
 use Rattle.nr_model.specs.Items.{Connection, Item, same_connection}
 use Rattle.nr_model.specs.Connections.{Feeding, Handed, handed_to}
 use Rattle.nr_model.proofs.JobLists.{same_is, same_self}
-use Rattle.nr_service.specs.Stories.{Closed, Fed, HandedOut, Occurrence, Opened, Story, beginning, fed_in, going_on, is_among, opened_in}
-use Rattle.nr_service.proofs.Occurrences.{pieces_fed, pieces_handed, pieces_opened}
+use Rattle.nr_model.proofs.NodesExecutedLists.{first_in}
+use Rattle.nr_service.specs.Stories.{Closed, Closing, Fed, HandedOut, Occurrence, Opened, Story, beginning, fed_in, going_on, is_among, opened_in}
+use Rattle.nr_service.proofs.Occurrences.{pieces_closings, pieces_fed, pieces_handed, pieces_opened}
 use Rattle.nr_seats.specs.Seated.{SeatState}
 use Rattle.nr_seats.specs.Portions.{HandsOut, seat_of}
 use Rattle.nr_model.specs.Connections.{Setup}
@@ -13,10 +15,10 @@ use Rattle.nr_worker.specs.Desk.{DeskState, Served}
 use Rattle.nr_worker.specs.Moves.{fresh_desk}
 use Rattle.nr_worker.specs.Working.{Goes, IsServed, Reflects, WorkState, all_closed, all_fed, all_handed, closed_with, connections_of, fed_more, handed_more, one_opened, unchanged}
 use Rattle.nr_lane.specs.Serving.{ServingState}
-use Rattle.nr_lane.specs.Told.{Tells, feeds_to}
+use Rattle.nr_lane.specs.Told.{Tells, close_by, closings_of, feeds_to}
 use Rattle.nr_lane.specs.Led.{HasLedTo}
 use Rattle.nr_lane.proofs.Lists.{at_one, fresh_is_led, goes_further, goes_nowhere}
-use Rattle.nr_lane.proofs.Telling.{NoneElse, some_there, absent_above, none_among, tells_map, tells_opened, was_fed, was_on}
+use Rattle.nr_lane.proofs.Telling.{IsClosedBy, NoneElse, some_there, absent_above, none_among, tells_map, tells_opened, was_fed, was_on}
 
 -- ---- who isn't told of has no seat
 absent_served : (served : List Served) (c : Connection) → is_among c (connections_of served) ≡ false → IsServed served c → ⊥
@@ -41,6 +43,17 @@ among_told occurrences d c t absent = ap (is_among c) (sym t.opened) ∙ absent
 pub absent_new : (v : WorkState) (d : DeskState) (occurrences : List Occurrence) (c : Connection) → Reflects v d → Tells occurrences d.served
     → v.next ≤ c.serial → is_among c (opened_in occurrences) ≡ false
 absent_new v d occurrences c r t later = ap (is_among c) t.opened ∙ absent_above d.served c v.next later r.below
+
+-- and who is told of is none of whom nothing is told
+apart_from : (v : WorkState) (d : DeskState) (occurrences : List Occurrence) (c other : Connection) (s : SeatState) → Reflects v d → Tells occurrences d.served
+    → seat_of v.worker.node v.seats c ≡ Some s → is_among other (opened_in occurrences) ≡ false → same_connection c other ≡ false
+apart_from v d occurrences c other s r t at absent = elim (same_connection c other) as (λ b. same_connection c other ≡ b → b ≡ false) [
+  | true ↦ λ same.
+      let is = same_is c other same in
+      let none = absent_seat v d c r (among_told occurrences d c t (ap (λ (e : Connection). is_among e (opened_in occurrences)) is ∙ absent)) in
+      absurd (cc (at, none))
+  | false ↦ λ apart. refl
+] refl
 
 -- ---- a story goes on
 pub led_on : (v w : ServingState) (story : Story) (more : List Occurrence) (change : List Served → List Served) → Goes change v.desk w.desk → fed_in more ≡ []
@@ -83,6 +96,7 @@ none_handed : (v w : WorkState) (d : DeskState) (occurrences : List Occurrence) 
 none_handed v w d occurrences handed out r t = λ c absent. (
   ap (feeds_to c) (pieces_fed handed),
   ap (handed_to c) (pieces_handed handed) ∙ (out.none c (absent_seat v d c r (among_told occurrences d c t absent))).0,
+  ap (closings_of c) (pieces_closings handed),
 )
 
 pub led_handed : (v w : ServingState) (handed : List Handed) (story : Story) → Goes (all_handed handed) v.desk w.desk
@@ -93,7 +107,7 @@ led_handed v w handed story g out h =
     (λ d r t.
     tells_map story.occurrences more (handed_more handed) d.served (pieces_opened handed) (λ x. refl)
     (λ x. sym (append-nil x.fed) ∙ ap (λ (l : List Feeding). x.fed ++ feeds_to x.connection l) (sym (pieces_fed handed)))
-    (λ x. ap (λ (l : List Handed). x.handed ++ handed_to x.connection l) (sym (pieces_handed handed)))
+    (λ x. ap (λ (l : List Handed). x.handed ++ handed_to x.connection l) (sym (pieces_handed handed))) (λ x job is. inl is)
     (none_handed v.desk w.desk d story.occurrences handed out r t) t) h
 
 -- bytes were fed
@@ -107,14 +121,8 @@ fed_is feeding x = elim (same_connection feeding.connection x.connection) as
 none_fed_else : (v : WorkState) (d : DeskState) (occurrences : List Occurrence) (feeding : Feeding) (s : SeatState) → Reflects v d
     → Tells occurrences d.served → seat_of v.worker.node v.seats feeding.connection ≡ Some s → NoneElse occurrences (Fed feeding ∷ [])
 none_fed_else v d occurrences feeding s r t at = λ c absent. (
-  elim (same_connection feeding.connection c) as (λ b. same_connection feeding.connection c ≡ b → cond b (feeding ∷ []) [] ≡ []) [
-    | true ↦ λ same.
-        let is = same_is feeding.connection c same in
-        let none = absent_seat v d feeding.connection r
-        (among_told occurrences d feeding.connection t (ap (λ (e : Connection). is_among e (opened_in occurrences)) is ∙ absent)) in
-        absurd (cc (at, none))
-    | false ↦ λ other. refl
-  ] refl,
+  ap (λ b. cond b (feeding ∷ []) []) (apart_from v d occurrences feeding.connection c s r t at absent),
+  refl,
   refl,
 )
 
@@ -128,27 +136,54 @@ led_fed v w feeding s story g at h =
       led = l.led;
       reflects = l.reflects;
       tells = subst (Tells (story.occurrences ++ more)) (sym l.served)
-          (tells_map story.occurrences more (fed_more feeding) h.worker.served refl (λ x. refl) (fed_is feeding) (λ x. sym (append-nil x.handed))
+          (tells_map story.occurrences more (fed_more feeding) h.worker.served refl (λ x. refl) (fed_is feeding) (λ x. sym (append-nil x.handed)) (λ x job is. inl is)
           (none_fed_else v.desk h.worker story.occurrences feeding s h.reflects h.tells at) h.tells);
       earlier = was_fed story.occurrences feeding h.worker l.then
           (record { earlier = h.worker; led = h.led; tells = h.tells; goes = goes_nowhere h.worker }) l.goes h.earlier;
     }
 
--- one was closed
-closed_told : (occurrences : List Occurrence) (c : Connection) (job : Option Item) (xs : List Served) → Tells occurrences xs
-    → Tells (occurrences ++ Closed c ∷ []) (all_closed job xs)
-closed_told occurrences c None xs t =
-    subst (Tells (occurrences ++ Closed c ∷ [])) (map-id xs)
-    (tells_map occurrences (Closed c ∷ []) (λ (x : Served). x) xs refl (λ x. refl) (λ x. sym (append-nil x.fed)) (λ x. sym (append-nil x.handed))
-    (λ d absent. (refl, refl)) t)
-closed_told occurrences c (Some job) xs t =
-    tells_map occurrences (Closed c ∷ []) (closed_with job) xs refl (λ x. refl) (λ x. sym (append-nil x.fed)) (λ x. sym (append-nil x.handed))
-    (λ d absent. (refl, refl)) t
+-- one was closed, and the job that its close put, if it put one, is its own, at the moment of the close
+abbrev pub IsPutBy : Closing → Option Item → Type 0
+IsPutBy closing job = (put : Item) → job ≡ Some put → close_by put.connection put ≡ closing
 
-pub led_closed : (v w : ServingState) (c : Connection) (job : Option Item) (story : Story) → Goes (all_closed job) v.desk w.desk → HasLedTo v story
-    → HasLedTo w (going_on story (Closed c ∷ []))
-led_closed v w c job story g h =
-    led_on v w story (Closed c ∷ []) (all_closed job) g refl (λ d r t. closed_told story.occurrences c job d.served t) h
+same_job : (job put : Item) → Some job ≡ Some put → job ≡ put
+same_job job put is = ap (λ (o : Option Item). elim o [ None ↦ job | Some item ↦ item ]) is
+
+closed_by : (closing : Closing) (job : Item) → close_by job.connection job ≡ closing → (x : Served) → IsClosedBy (Closed closing ∷ []) x (closed_with job x)
+closed_by closing job is x put at = elim (same_connection job.connection x.connection) as
+    (λ b. same_connection job.connection x.connection ≡ b → cond b (Some job) x.closing ≡ Some put
+    → (x.closing ≡ Some put) ⊎ Contains (closing ∷ []) (close_by x.connection put)) [
+      | true ↦ λ same its.
+          inr (subst (λ (c : Closing). Contains (closing ∷ []) c)
+          (sym is ∙ ap (λ (c : Connection). close_by c job) (same_is job.connection x.connection same) ∙ ap (close_by x.connection) (same_job job put its))
+          (first_in closing []))
+      | false ↦ λ apart its. inl its
+    ] refl at
+
+none_closed_else : (v : WorkState) (d : DeskState) (occurrences : List Occurrence) (closing : Closing) (s : SeatState) → Reflects v d
+    → Tells occurrences d.served → seat_of v.worker.node v.seats closing.connection ≡ Some s → NoneElse occurrences (Closed closing ∷ [])
+none_closed_else v d occurrences closing s r t at = λ c absent. (
+  refl,
+  refl,
+  ap (λ b. cond b (closing ∷ []) []) (apart_from v d occurrences closing.connection c s r t at absent),
+)
+
+closed_told : (occurrences : List Occurrence) (closing : Closing) (job : Option Item) (xs : List Served) → IsPutBy closing job
+    → NoneElse occurrences (Closed closing ∷ []) → Tells occurrences xs → Tells (occurrences ++ Closed closing ∷ []) (all_closed job xs)
+closed_told occurrences closing None xs put else t =
+    subst (Tells (occurrences ++ Closed closing ∷ [])) (map-id xs)
+    (tells_map occurrences (Closed closing ∷ []) (λ (x : Served). x) xs refl (λ x. refl) (λ x. sym (append-nil x.fed)) (λ x. sym (append-nil x.handed))
+    (λ x job is. inl is) else t)
+closed_told occurrences closing (Some job) xs put else t =
+    tells_map occurrences (Closed closing ∷ []) (closed_with job) xs refl (λ x. refl) (λ x. sym (append-nil x.fed)) (λ x. sym (append-nil x.handed))
+    (closed_by closing job (put job refl)) else t
+
+pub led_closed : (v w : ServingState) (closing : Closing) (s : SeatState) (job : Option Item) (story : Story) → Goes (all_closed job) v.desk w.desk
+    → seat_of v.desk.worker.node v.desk.seats closing.connection ≡ Some s → ((d : DeskState) → Reflects v.desk d → IsPutBy closing job) → HasLedTo v story
+    → HasLedTo w (going_on story (Closed closing ∷ []))
+led_closed v w closing s job story g at put h =
+    led_on v w story (Closed closing ∷ []) (all_closed job) g refl
+    (λ d r t. closed_told story.occurrences closing job d.served (put d r) (none_closed_else v.desk d story.occurrences closing s r t at) t) h
 
 -- at first
 pub led_fresh : (v : ServingState) (node worker : ℕ) (setup : Setup) → Reflects v.desk (fresh_desk node worker) → HasLedTo v (beginning setup)
@@ -156,6 +191,6 @@ led_fresh v node worker setup r = record {
   worker = fresh_desk node worker;
   led = fresh_is_led node worker;
   reflects = r;
-  tells = record { opened = refl; each = tt; others = λ c absent. record { fed = refl; handed = refl } };
+  tells = record { opened = refl; each = tt; others = λ c absent. record { fed = refl; handed = refl; closed = refl } };
   earlier = λ front back feeding is. absurd (some_there front back (Fed feeding) (sym is));
 }

@@ -1,22 +1,22 @@
 -- A story that goes on tells of what a worker's connections have become.
-use Rattle.std.proofs.Common.{◌≡◌, ℕ, ◌≤◌, ◌<◌, inl, inr, Bool, true, false, cond, List, [], ◌∷◌, ◌++◌, map, None, refl, ap, sym, ◌∙◌, subst, append-nil, arith, true≢false}
+use Rattle.std.proofs.Common.{◌≡◌, ℕ, ◌≤◌, ◌<◌, inl, inr, Bool, true, false, cond, List, [], ◌∷◌, ◌++◌, map, Contains, None, Some, refl, ap, sym, ◌∙◌, subst, append-nil, arith, true≢false}
 use Rattle.std.specs.Prelude.{◌⊎◌, ◌==◌, ◌&&◌, ◌||◌}
 use Rattle.std.specs.List.{AllByRecursion}
 use Rattle.std.proofs.lemmas.Bool.{eqb-true}
 use Rattle.std.proofs.lemmas.List.{map-append}
-use Rattle.std.proofs.lemmas.List.Elements.{filter-append}
+use Rattle.std.proofs.lemmas.List.Elements.{Contains-append_left, Contains-append_right, filter-append}
 use Rattle.std.proofs.lemmas.List.Folds.{list_any-append}
 use Rattle.nr_model.specs.Bytes.{Bytes}
-use Rattle.nr_model.specs.Items.{Connection, same_connection}
+use Rattle.nr_model.specs.Items.{Connection, Item, same_connection}
 use Rattle.nr_model.specs.Connections.{Feeding, fed_to, handed_to}
 use Rattle.nr_model.proofs.Exchanged.{handed_to-append}
 use Rattle.nr_model.proofs.JobLists.{All-append}
-use Rattle.nr_service.specs.Stories.{Occurrence, Opened, Fed, opened_in, fed_in, handed_in, is_among}
-use Rattle.nr_service.proofs.Occurrences.{opened_both, fed_both, handed_both}
+use Rattle.nr_service.specs.Stories.{Closing, Occurrence, Opened, Fed, opened_in, fed_in, handed_in, closings_in, is_among}
+use Rattle.nr_service.proofs.Occurrences.{opened_both, fed_both, handed_both, closings_both}
 use Rattle.nr_worker.specs.Desk.{DeskState, Served}
 use Rattle.nr_worker.specs.Law.{GoesTo}
 use Rattle.nr_worker.specs.Working.{connections_of}
-use Rattle.nr_lane.specs.Told.{feeds_to, IsTold, IsUntold, Tells, Was, WasAtFeeds}
+use Rattle.nr_lane.specs.Told.{close_by, closings_of, feeds_to, IsTold, IsUntold, Tells, Was, WasAtFeeds}
 use Rattle.nr_lane.proofs.Lists.{each_mapped, each_weaker, goes_further}
 
 -- ---- Bools
@@ -65,9 +65,13 @@ absent_above (x ∷ served) c next later below =
     ∙ (λ i. never (x.connection.node == c.node) i || is_among c (connections_of served)) ∙ absent_above served c next later below.1
 
 -- ---- what is told of one
+-- its last job is the one that it had, or a close at that job's moment is among these
+abbrev pub IsClosedBy : List Occurrence → Served → Served → Type 0
+IsClosedBy more x y = (job : Item) → y.closing ≡ Some job → (x.closing ≡ Some job) ⊎ Contains (closings_in more) (close_by x.connection job)
+
 told_on : (occurrences more : List Occurrence) (x y : Served) → y.connection ≡ x.connection → y.fed ≡ x.fed ++ feeds_to x.connection (fed_in more)
-    → y.handed ≡ x.handed ++ handed_to x.connection (handed_in more) → IsTold occurrences x → IsTold (occurrences ++ more) y
-told_on occurrences more x y same fed handed t =
+    → y.handed ≡ x.handed ++ handed_to x.connection (handed_in more) → IsClosedBy more x y → IsTold occurrences x → IsTold (occurrences ++ more) y
+told_on occurrences more x y same fed handed closed t =
     let c = x.connection in
     let test = λ (feeding : Feeding). same_connection feeding.connection c in
     let was = fed_in occurrences in
@@ -79,17 +83,29 @@ told_on occurrences more x y same fed handed t =
       handed = subst (λ (d : Connection). y.handed ≡ handed_to d (handed_in (occurrences ++ more))) (sym same)
           (handed ∙ ap (λ (b : Bytes). b ++ handed_to c (handed_in more)) t.handed ∙ sym (handed_to-append c had (handed_in more))
           ∙ ap (handed_to c) (sym (handed_both occurrences more)));
+      closed = λ job is.
+          let were = closings_in occurrences in
+          let here = closings_in more in
+          subst (λ (d : Connection). Contains (closings_in (occurrences ++ more)) (close_by d job)) (sym same)
+          (subst (λ (l : List Closing). Contains l (close_by c job)) (sym (closings_both occurrences more))
+          (elim (closed job is) [
+            | inl was ↦ Contains-append_left were here (close_by c job) (t.closed job was)
+            | inr now ↦ Contains-append_right were here (close_by c job) now
+          ]));
     }
 
 untold_on : (occurrences more : List Occurrence) (c : Connection) → feeds_to c (fed_in more) ≡ [] → handed_to c (handed_in more) ≡ []
-    → IsUntold occurrences c → IsUntold (occurrences ++ more) c
-untold_on occurrences more c fed handed u =
+    → closings_of c (closings_in more) ≡ [] → IsUntold occurrences c → IsUntold (occurrences ++ more) c
+untold_on occurrences more c fed handed closed u =
     let test = λ (feeding : Feeding). same_connection feeding.connection c in
+    let closes = λ (closing : Closing). same_connection closing.connection c in
     record {
       fed = ap (feeds_to c) (fed_both occurrences more) ∙ filter-append test (fed_in occurrences) (fed_in more)
           ∙ (λ i. u.fed i ++ fed i);
       handed = ap (handed_to c) (handed_both occurrences more) ∙ handed_to-append c (handed_in occurrences) (handed_in more)
           ∙ (λ i. u.handed i ++ handed i);
+      closed = ap (closings_of c) (closings_both occurrences more) ∙ filter-append closes (closings_in occurrences) (closings_in more)
+          ∙ (λ i. u.closed i ++ closed i);
     }
 
 -- no bytes were fed where nothing was
@@ -109,44 +125,44 @@ same_connections f (x ∷ xs) same = λ i. same x i ∷ same_connections f xs sa
 -- nothing more is told of others
 abbrev pub NoneElse : List Occurrence → List Occurrence → Type 0
 NoneElse occurrences more = (c : Connection) → is_among c (opened_in occurrences) ≡ false
-    → (feeds_to c (fed_in more) ≡ []) × (handed_to c (handed_in more) ≡ [])
+    → (feeds_to c (fed_in more) ≡ []) × (handed_to c (handed_in more) ≡ []) × (closings_of c (closings_in more) ≡ [])
 
 pub tells_map : (occurrences more : List Occurrence) (f : Served → Served) (xs : List Served) → opened_in more ≡ []
     → ((x : Served) → (f x).connection ≡ x.connection) → ((x : Served) → (f x).fed ≡ x.fed ++ feeds_to x.connection (fed_in more))
-    → ((x : Served) → (f x).handed ≡ x.handed ++ handed_to x.connection (handed_in more)) → NoneElse occurrences more → Tells occurrences xs
-    → Tells (occurrences ++ more) (map f xs)
-tells_map occurrences more f xs none same fed handed else t =
+    → ((x : Served) → (f x).handed ≡ x.handed ++ handed_to x.connection (handed_in more)) → ((x : Served) → IsClosedBy more x (f x))
+    → NoneElse occurrences more → Tells occurrences xs → Tells (occurrences ++ more) (map f xs)
+tells_map occurrences more f xs none same fed handed closed else t =
     let still : opened_in (occurrences ++ more) ≡ opened_in occurrences =
     opened_both occurrences more ∙ ap (λ (l : List Connection). opened_in occurrences ++ l) none ∙ append-nil (opened_in occurrences) in
     record {
       opened = still ∙ t.opened ∙ sym (same_connections f xs same);
       each = each_mapped (IsTold (occurrences ++ more)) f xs
           (each_weaker (IsTold occurrences) (λ (x : Served). IsTold (occurrences ++ more) (f x))
-          (λ x is. told_on occurrences more x (f x) (same x) (fed x) (handed x) is) xs t.each);
+          (λ x is. told_on occurrences more x (f x) (same x) (fed x) (handed x) (closed x) is) xs t.each);
       others = λ c absent.
           let was : is_among c (opened_in occurrences) ≡ false = ap (is_among c) (sym still) ∙ absent in
-          untold_on occurrences more c (else c was).0 (else c was).1 (t.others c was);
+          untold_on occurrences more c (else c was).0 (else c was).1 (else c was).2 (t.others c was);
     }
 
 abbrev new_one : Connection → Served
 new_one c = record { connection = c; fed = []; closing = None; handed = [] }
 
 told_still : (occurrences : List Occurrence) (c : Connection) (x : Served) → IsTold occurrences x → IsTold (occurrences ++ Opened c ∷ []) x
-told_still occurrences c x t = told_on occurrences (Opened c ∷ []) x x refl (sym (append-nil x.fed)) (sym (append-nil x.handed)) t
+told_still occurrences c x t = told_on occurrences (Opened c ∷ []) x x refl (sym (append-nil x.fed)) (sym (append-nil x.handed)) (λ job is. inl is) t
 
 pub tells_opened : (occurrences : List Occurrence) (c : Connection) (xs : List Served) → is_among c (opened_in occurrences) ≡ false → Tells occurrences xs
     → Tells (occurrences ++ Opened c ∷ []) (xs ++ new_one c ∷ [])
 tells_opened occurrences c xs absent t =
     let more = Opened c ∷ [] in
-    let u = untold_on occurrences more c refl refl (t.others c absent) in
+    let u = untold_on occurrences more c refl refl refl (t.others c absent) in
     record {
       opened = opened_both occurrences more ∙ ap (λ (l : List Connection). l ++ c ∷ []) t.opened
           ∙ sym (map-append (λ (x : Served). x.connection) xs (new_one c ∷ []));
       each = All-append (IsTold (occurrences ++ more)) xs (new_one c ∷ [])
           (each_weaker (IsTold occurrences) (IsTold (occurrences ++ more)) (told_still occurrences c) xs t.each)
-          (record { fed = sym u.fed; handed = sym u.handed }, tt);
+          (record { fed = sym u.fed; handed = sym u.handed; closed = λ job is. absurd (cc is) }, tt);
       others = λ d other.
-          untold_on occurrences more d refl refl
+          untold_on occurrences more d refl refl refl
           (t.others d (among_front d (opened_in occurrences) (c ∷ []) (ap (is_among d) (sym (opened_both occurrences more)) ∙ other)));
     }
 

@@ -1,5 +1,5 @@
 -- What is done one behind the other is a work of the desk.
-use Rattle.std.proofs.Common.{◌≡◌, ℕ, Bool, true, false, cond, List, [], ◌∷◌, ◌++◌, Option, Some, None, refl, ap, sym, ◌∙◌, subst, append-nil, append_assoc}
+use Rattle.std.proofs.Common.{◌≡◌, ℕ, inl, inr, Bool, true, false, cond, List, [], ◌∷◌, ◌++◌, Option, Some, None, refl, ap, sym, ◌∙◌, subst, append-nil, append_assoc}
 use Rattle.std.specs.Prelude.{IfSome, IfNone, Result, Ok, Err, IfOk, OnErr}
 use Rattle.std.specs.Bool.{OnTrue, OnFalse}
 use Rattle.std.specs.Option.{option_map}
@@ -8,6 +8,8 @@ use Rattle.nr_model.specs.Connections.{Handed, handed_to}
 use Rattle.nr_model.proofs.Exchanged.{handed_to-append}
 use Rattle.nr_combiner.specs.Workers.{WorkerState}
 use Rattle.nr_combiner.specs.declared.worker.TheConstants.{MOST_JOBS}
+use Rattle.nr_combiner.specs.declared.answering.Collected.{Collected}
+use Rattle.nr_combiner.specs.declared.answering.Lifts.TheVariants.{All}
 use Rattle.nr_combiner.specs.declared.answering.Turned.{Turned}
 use Rattle.std.specs.Prelude.{◌==◌}
 use Rattle.std.proofs.lemmas.Bool.{eqb-true}
@@ -18,8 +20,9 @@ use Rattle.nr_seats.specs.Portions.{HandsOut, seat_of, waiting_of}
 use Rattle.nr_worker.specs.Desk.{Served}
 use Rattle.nr_worker.specs.Settling.{HasSettled}
 use Rattle.nr_worker.specs.declared.collecting.Settled.{Settled}
-use Rattle.nr_worker.specs.Working.{CutsOff, Goes, HandsIn, HandsOn, WorkState, all_handed, unchanged}
-use Rattle.nr_lane.specs.Works.{Works}
+use Rattle.nr_worker.specs.Working.{CutsOff, Goes, HandsIn, HandsOn, TakesPieces, TakesTurn, WorkState, all_handed, unchanged}
+use Rattle.nr_lane.specs.declared.rounds.TheConstants.{EVERY}
+use Rattle.nr_lane.specs.Works.{HasLooked, IsBehindPieces, IsBehindTurn, LeftNothing, Works}
 use Rattle.nr_lane.proofs.Lists.{goes_further, goes_nowhere}
 
 -- ---- what was handed out in two parts
@@ -130,6 +133,41 @@ works_collected (Err why) v w s same g = works_still v w g same
 
 pub works_same : (v : WorkState) → Works v v
 works_same v = works_turned {A = Turned} None v v tt refl
+
+-- ---- behind a turn
+pub behind_turned : (places : ℕ) (turned : Option Turned) (v w : WorkState) → IfSome turned (λ t. TakesTurn places All EVERY t v w)
+    → IfSome turned (λ t. IsBehindTurn places t w)
+behind_turned places (Some turned) v w took = record { before = v; after = w; took = took; node = refl; mark = refl }
+behind_turned places None v w took = tt
+
+pub behind_pieces : (collected : Option Collected) (v w : WorkState) → IfSome collected (λ c. TakesPieces EVERY c v w)
+    → IfSome collected (λ c. IsBehindPieces c w)
+behind_pieces (Some collected) v w took = record { before = v; after = w; took = took; node = refl; mark = refl }
+behind_pieces None v w took = tt
+
+pub mark_collected : {E : Type 0} (settled : Result Settled E) (v w : WorkState) → IfOk settled (λ told. HasSettled told v w) → OnErr settled (w ≡ v)
+    → w.mark ≡ v.mark
+mark_collected (Ok told) v w s same = ap (λ (x : WorkState). x.mark) s.changed
+mark_collected (Err why) v w s same = ap (λ (x : WorkState). x.mark) same
+
+turn_still : (places : ℕ) (turned : Turned) (v w : WorkState) → w.worker.node ≡ v.worker.node → w.mark ≡ v.mark → IsBehindTurn places turned v
+    → IsBehindTurn places turned w
+turn_still places turned v w node mark b = record { before = b.before; after = b.after; took = b.took; node = node ∙ b.node; mark = mark ∙ b.mark }
+
+pieces_still : (collected : Collected) (v w : WorkState) → w.worker.node ≡ v.worker.node → w.mark ≡ v.mark → IsBehindPieces collected v
+    → IsBehindPieces collected w
+pieces_still collected v w node mark b = record { before = b.before; after = b.after; took = b.took; node = node ∙ b.node; mark = mark ∙ b.mark }
+
+pub looked_still : (places : ℕ) (v w : WorkState) → w.worker.node ≡ v.worker.node → w.mark ≡ v.mark → HasLooked places v → HasLooked places w
+looked_still places v w node mark (inl (turned, behind, nothing)) = inl (turned, turn_still places turned v w node mark behind, nothing)
+looked_still places v w node mark (inr (collected, behind, all)) = inr (collected, pieces_still collected v w node mark behind, all)
+
+pub looked_turned : (places : ℕ) (turned : Turned) (v w : WorkState) → Works v w → w.mark ≡ v.mark → IsBehindTurn places turned v → LeftNothing turned
+    → HasLooked places w
+looked_turned places turned v w k mark behind nothing = inl (turned, turn_still places turned v w k.node mark behind, nothing)
+
+pub looked_got : (places : ℕ) (collected : Collected) (w : WorkState) → IsBehindPieces collected w → collected.result ≡ Ok tt → HasLooked places w
+looked_got places collected w behind all = inr (collected, behind, all)
 
 -- ---- no more bytes are taken from one
 abbrev pending_of : Option SeatState → Option Bytes

@@ -1,11 +1,11 @@
 -- Which stories may have led to a desk.
-use Rattle.std.specs.Prelude.{◌≡◌, false}
+use Rattle.std.specs.Prelude.{◌≡◌, ℕ, false}
 use Rattle.nr_service.specs.Stories.{Story}
 use Rattle.nr_worker.specs.Desk.{DeskState, IsLed}
 use Rattle.nr_worker.specs.Working.{Reflects}
 use Rattle.nr_lane.specs.Serving.{ServingState}
 use Rattle.nr_lane.specs.Told.{Tells, WasAtFeeds}
-use Rattle.nr_lane.specs.Works.{IsIdle}
+use Rattle.nr_lane.specs.Works.{IsResting}
 
 -- So may a story have led to it: it stands for a worker of the law of which the story tells.
 pub record HasLedTo (d : ServingState) (story : Story) : Type 0 where
@@ -15,7 +15,7 @@ pub record HasLedTo (d : ServingState) (story : Story) : Type 0 where
   pub tells : Tells story.occurrences worker.served
   pub earlier : WasAtFeeds story.occurrences worker
 
--- And nothing is left to be done, unless it is busy: each job that was asked for was handed in, and what became of it is known.
-pub record IsAtRest (d : ServingState) (story : Story) : Type 0 where
+-- And nothing is left to be done, unless it is busy: each job that was asked for was handed in, what became of it is known, and the last turn of its work left nothing.
+pub record IsAtRest (places : ℕ) (d : ServingState) (story : Story) : Type 0 where
   pub led : HasLedTo d story
-  pub idle : d.busy ≡ false → IsIdle d.desk
+  pub rest : d.busy ≡ false → IsResting places d.desk

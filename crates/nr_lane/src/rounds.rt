@@ -1,7 +1,7 @@
 // The work of a desk: its jobs are handed in, its node takes turns, and what becomes of its batches is taken in.
-ghost use Rattle.std.specs.Prelude.{◌≡◌, false};
+ghost use Rattle.std.specs.Prelude.{◌≡◌, false, Ok, IfSome};
 ghost use Rattle.std.specs.Bool.{OnFalse};
-ghost use Rattle.nr_lane.specs.Works.{IsIdle, Works};
+ghost use Rattle.nr_lane.specs.Works.{HasLooked, HasWaited, IsBehindPieces, IsBehindTurn, IsIdle, IsResting, LeftNothing, Works};
 
 use crate::news::News;
 use nr_combiner::{Collected, Lifts, ServerName, Turned};
@@ -64,28 +64,32 @@ fn hand_in<R: Wait, B: ServerName>(desk: &mut Desk<'_, R, B>)
 
 // A turn at its node, once its lock is free.
 fn turn<R: Wait, B: ServerName>(desk: &mut Desk<'_, R, B>) -> Option<Turned>
-    ensures { Works desk.old desk.new }
+    ensures works { Works desk.old desk.new }
+    ensures turned { IfSome result (λ turned. IsBehindTurn B.places turned desk.new) }
 {
     desk.turn(Lifts::All, EVERY)
 }
 
 // A turn at its node, where its lock is free.
 fn try_turn<R: Wait, B: ServerName>(desk: &mut Desk<'_, R, B>) -> Option<Turned>
-    ensures { Works desk.old desk.new }
+    ensures works { Works desk.old desk.new }
+    ensures turned { IfSome result (λ turned. IsBehindTurn B.places turned desk.new) }
 {
     desk.try_turn(Lifts::All, EVERY)
 }
 
 // What waits at its node, without a turn.
 fn collect_pieces<R: Wait, B: ServerName>(desk: &mut Desk<'_, R, B>) -> Option<Collected>
-    ensures { Works desk.old desk.new }
+    ensures works { Works desk.old desk.new }
+    ensures handed { IfSome result (λ collected. IsBehindPieces collected desk.new) }
 {
     desk.collect_pieces(EVERY)
 }
 
 // What became of the batch, where that is known.
 fn collect<R: Wait, B: ServerName>(desk: &mut Desk<'_, R, B>) -> Option<Settled>
-    ensures { Works desk.old desk.new }
+    ensures works { Works desk.old desk.new }
+    ensures mark { desk.new.mark ≡ desk.old.mark }
 {
     desk.collect().ok()
 }
@@ -99,7 +103,9 @@ fn came_back(settled: Option<Settled>) -> bool {
 }
 
 // What is done behind a turn that was done. A batch that was executed in another worker's turn, behind this one: what is emitted for it waits yet.
-fn next_done(turned: Turned, settled: Option<Settled>, is_at_work: bool) -> Next {
+fn next_done(turned: Turned, settled: Option<Settled>, is_at_work: bool) -> Next
+    ensures { result ≡ Next.Rest → turned.collected ≡ Ok tt }
+{
     if turned.collected.is_err() || came_back(settled) {
         return Next::Later;
     }
@@ -110,7 +116,9 @@ fn next_done(turned: Turned, settled: Option<Settled>, is_at_work: bool) -> Next
 }
 
 // What is done behind a turn: where entries are left that can't be passed yet, what was handed out is written first.
-fn next_of(turned: Turned, settled: Option<Settled>, is_at_work: bool) -> Next {
+fn next_of(turned: Turned, settled: Option<Settled>, is_at_work: bool) -> Next
+    ensures { result ≡ Next.Rest → LeftNothing turned }
+{
     match turned.combined {
         Ok(Round::Down) if is_at_work => Next::Turn,
         Ok(Round::Down) => Next::Rest,
@@ -122,7 +130,9 @@ fn next_of(turned: Turned, settled: Option<Settled>, is_at_work: bool) -> Next {
 }
 
 // What is done once what waited was handed out without a turn, since the batch was answered.
-fn next_collected(collected: Collected, settled: Settled, is_at_work: bool) -> Next {
+fn next_collected(collected: Collected, settled: Settled, is_at_work: bool) -> Next
+    ensures { result ≡ Next.Rest → collected.result ≡ Ok tt }
+{
     if collected.result.is_err() || came_back(Some(settled)) {
         return Next::Later;
     }
@@ -131,7 +141,8 @@ fn next_collected(collected: Collected, settled: Settled, is_at_work: bool) -> N
 
 // Tries to take a turn for a while, and looks whether the batch was answered meanwhile. `None` where neither was.
 fn try_for_a_while<R: Wait, B: ServerName>(desk: &mut Desk<'_, R, B>) -> Option<Waited>
-    ensures { Works desk.old desk.new }
+    ensures works { Works desk.old desk.new }
+    ensures waited { IfSome result (λ waited. HasWaited B.places waited desk.new) }
 {
     for _ in 0..TRIES {
         if let Some(settled) = collect(desk) {
@@ -147,7 +158,8 @@ fn try_for_a_while<R: Wait, B: ServerName>(desk: &mut Desk<'_, R, B>) -> Option<
 
 // The same, counted as one who waits for the lock.
 fn try_counted<R: Wait, B: ServerName>(desk: &mut Desk<'_, R, B>) -> Option<Waited>
-    ensures { Works desk.old desk.new }
+    ensures works { Works desk.old desk.new }
+    ensures waited { IfSome result (λ waited. HasWaited B.places waited desk.new) }
 {
     desk.begin_to_wait();
     let waited = try_for_a_while(desk);
@@ -157,7 +169,8 @@ fn try_counted<R: Wait, B: ServerName>(desk: &mut Desk<'_, R, B>) -> Option<Wait
 
 // A turn at its node: at once where its lock is free, else as soon as it is, unless the batch is answered before that.
 fn wait_for_turn<R: Wait, B: ServerName>(desk: &mut Desk<'_, R, B>) -> Waited
-    ensures { Works desk.old desk.new }
+    ensures works { Works desk.old desk.new }
+    ensures waited { HasWaited B.places result desk.new }
 {
     if let Some(turned) = try_turn(desk) {
         return Waited::Turned(turned);
@@ -177,7 +190,9 @@ fn go_on_behind<R: Wait, B: ServerName>(
     turned: Turned,
     worked: &mut Worked,
 ) -> Next
-    ensures { Works desk.old desk.new }
+    requires { IsBehindTurn B.places turned desk.old }
+    ensures works { Works desk.old desk.new }
+    ensures rest { result ≡ Next.Rest → HasLooked B.places desk.new }
 {
     let settled = collect(desk);
     worked.news.add(turned);
@@ -192,7 +207,8 @@ fn go_on_answered<R: Wait, B: ServerName>(
     settled: Settled,
     worked: &mut Worked,
 ) -> Next
-    ensures { Works desk.old desk.new }
+    ensures works { Works desk.old desk.new }
+    ensures rest { result ≡ Next.Rest → HasLooked B.places desk.new }
 {
     let Some(collected) = collect_pieces(desk) else {
         return Next::Later;
@@ -204,7 +220,8 @@ fn go_on_answered<R: Wait, B: ServerName>(
 
 // Hands jobs in, waits for a turn, and takes in what became of the batch.
 fn take_turn<R: Wait, B: ServerName>(desk: &mut Desk<'_, R, B>, worked: &mut Worked) -> Next
-    ensures { Works desk.old desk.new }
+    ensures works { Works desk.old desk.new }
+    ensures rest { result ≡ Next.Rest → HasLooked B.places desk.new }
 {
     hand_in(desk);
     match wait_for_turn(desk) {
@@ -220,7 +237,8 @@ fn take_bounded<R: Wait, B: ServerName>(
     worked: &mut Worked,
     enough: usize,
 ) -> Next
-    ensures { Works desk.old desk.new }
+    ensures works { Works desk.old desk.new }
+    ensures rest { result ≡ Next.Rest → HasLooked B.places desk.new }
 {
     let next = take_turn(desk, worked);
     if next == Next::Turn && desk.most_waiting() > enough {
@@ -264,7 +282,8 @@ fn take_turns<R: Wait, B: ServerName>(
     worked: &mut Worked,
     enough: usize,
 ) -> bool
-    ensures { Works desk.old desk.new }
+    ensures works { Works desk.old desk.new }
+    ensures rest { result ≡ false → HasLooked B.places desk.new }
 {
     for _ in 0..MOST_TURNS {
         match take_bounded(desk, worked, enough) {
@@ -284,7 +303,7 @@ pub(crate) fn work_on<R: Wait, B: ServerName>(
     enough: usize,
 ) -> Worked
     ensures works { Works desk.old desk.new }
-    ensures rest { result.is_busy ≡ false → IsIdle desk.new }
+    ensures rest { result.is_busy ≡ false → IsResting B.places desk.new }
 {
     let mut worked = Worked {
         news: News::none(),

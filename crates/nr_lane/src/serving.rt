@@ -122,7 +122,7 @@ impl<'a, R: Wait, B: ServerName, K: Rings> Answers for ServingDesk<'a, R, B, K> 
 
     ghost is_past = { HasLedTo };
 
-    ghost is_settled = { IsAtRest };
+    ghost is_settled = { IsAtRest B.places };
 
     ghost is_left = { HasLedTo };
 

@@ -57,6 +57,10 @@ pub record IsBehind (queue : Queue) (emitted : Bytes) : Type 0 where
   pub handed : queue.handed ≤ length emitted
   pub begins : IsBeginningOf queue.waiting (drop queue.handed emitted)
 
+-- which worker serves it
+abbrev pub worker_at : ℕ → List Member → ℕ
+worker_at serial members = (slice_index_or members serial (fresh_member (connection_at 0 0) 0 0)).worker
+
 -- what a record emits for a connection of the node
 abbrev pub emitted_to : Standing → ℕ → Bytes
 emitted_to s serial = emitted_for (connection_at s.node serial) (record_of s.history)

@@ -10,7 +10,7 @@ ghost use Rattle.nr_log_end.specs.Standings.{opened_of, passed_of};
 ghost use Rattle.nr_log_end.specs.Tries.{IsFull, IsLost};
 ghost use Rattle.nr_oplog.specs.Rule.{opening_view};
 ghost use Rattle.nr_replica.specs.Members.{next_ready};
-ghost use Rattle.nr_node.specs.Level.{connection_at, queue_at, is_closed_at, workers_of, IsLevel};
+ghost use Rattle.nr_node.specs.Level.{connection_at, queue_at, is_closed_at, worker_at, workers_of, IsLevel};
 ghost use Rattle.nr_node.specs.Advanced.{HasStopped};
 ghost use Rattle.nr_node.specs.Batches.{AreSame, refusal, is_cut_at, IsOpened, IsPiece};
 ghost use Rattle.nr_node.specs.Collected.{IsHanded};
@@ -157,6 +157,17 @@ impl<B: LogName> Core<B> {
                 Err(OpenError::Memory(memory))
             }
         }
+    }
+
+    /// Which worker serves a connection of the node, whether it was closed or not; `None` of one that wasn't opened here. Constant.
+    pub fn worker_of(&self, conn: ConnId) -> Option<usize>
+        ensures some { IfSome result (λ worker. IsOpened self.now (connection_of conn) × (worker ≡ worker_at conn.serial self.now.replica.members)) }
+        ensures none { IfNone result (IsOpened self.now (connection_of conn) → ⊥) }
+    {
+        if !self.has(conn) {
+            return None;
+        }
+        Some(self.replica.worker(conn.serial as usize))
     }
 
     /// Whether a connection is the node's, was opened, and isn't closed. Logarithmic.

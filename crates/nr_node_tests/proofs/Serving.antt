@@ -18,7 +18,7 @@ use Rattle.nr_entry.specs.declared.batch.Batch.{Batch}
 use Rattle.nr_entry.specs.declared.job.Job.{Job}
 use Rattle.nr_log_end.specs.declared.standing.Standing.{Standing}
 use Rattle.nr_oplog.specs.declared.view.LogView.{LogView}
-use Rattle.nr_slots.specs.Seats.{with_posted}
+use Rattle.nr_slots.specs.Seats.{WorkerView, with_posted}
 use Rattle.nr_session.specs.SessionState.{SessionState, asked}
 use Rattle.nr_node.specs.Sound.{IsSound}
 use Rattle.nr_node.specs.declared.collecting.Handed.{Handed}
@@ -200,10 +200,10 @@ module _ (law : HoldsOfDesks) (w : WorkerState) (c : Connection) (sent : Bytes) 
       subst (λ (x : WorkerState). HasGotFirst x c m n got → IsAnsweredBy x.seat.lane.posted n got) (sym p.posted)
       (answered_at m n p.batch got o (ap items_of p.holds ∙ is)) g
 
-  -- where opening left the worker as it was, and the turn too
-  pub answered_by : (opened posted last : WorkerState) (jobs : List Job) (m n : Option Standing) (got : Bytes) → opened ≡ w → last ≡ posted
+  -- where opening left the worker as it was, and the turn its seat
+  pub answered_by : (opened posted last : WorkerState) (jobs : List Job) (m n : Option Standing) (got : Bytes) → opened ≡ w → last.seat ≡ posted.seat
       → HasOpened w c m → items_of jobs ≡ asked_of (served_one c sent []) → HasPosted jobs opened posted → HasGotFirst posted c m n got
       → AreAnswered (desk_of_one w.node w.seat.worker last.seat.lane.posted n c sent got ∷ [])
   answered_by opened posted last jobs m n got same kept o is p g =
-      subst (λ (x : WorkerState). IsAnsweredBy x.seat.lane.posted n got) (sym kept)
+      subst (λ (x : WorkerView). IsAnsweredBy x.lane.posted n got) (sym kept)
       (answered_one posted jobs m n got o is (subst (λ (x : WorkerState). HasPosted jobs x posted) same p) g)

@@ -3,9 +3,10 @@ ghost use Rattle.std.specs.Prelude.{◌<◌};
 
 use crate::asserted::{holds, same};
 use nr_blob::Memory;
-use nr_combiner::{OpenError, ServerName};
+use nr_combiner::{AskError, Lifts, OpenError, ServerName};
 use nr_held::{Client, Offered, Station};
 use nr_node::Round;
+use nr_replica::Spares;
 use std::process::Abort;
 use std::sync::Wait;
 
@@ -40,6 +41,8 @@ pub(crate) enum Act {
     IsTold(bool),
     /// The worker is told that its node is down.
     IsLost,
+    /// A worker that counts another generation than its node gets no turn, no pieces and no connection, and isn't told which queues are cut.
+    IsAnother,
     /// The next entry that the worker's node applies is refused, as where memory runs out.
     Refuses,
     /// Just these bytes wait for the client, and are written.
@@ -86,6 +89,7 @@ impl<B: ServerName> Desk<B> {
             Act::IsHeldUp(turns) => self.is_held_up(rt, turns),
             Act::IsTold(told) => self.is_told(rt, told),
             Act::IsLost => self.is_lost(rt),
+            Act::IsAnother => self.is_another(rt),
             Act::Refuses => self.station.refuse(rt),
             Act::Gets(wanted) => self.gets(rt, wanted),
             Act::GetsEach(wanted) => self.gets_each(rt, wanted),
@@ -167,7 +171,7 @@ impl<B: ServerName> Desk<B> {
         requires { 0 < most }
     {
         let conn = self.client.conn();
-        self.client.offer(rt, &self.station, conn, most)
+        self.client.offer(rt, &mut self.station, conn, most)
     }
 
     /// Lets its tap take in at most so many of the bytes that wait for it. Whether there were any.
@@ -181,6 +185,23 @@ impl<B: ServerName> Desk<B> {
             offered == Ok(Offered::Accepted) || offered == Ok(Offered::Nothing),
         );
         offered == Ok(Offered::Accepted)
+    }
+
+    fn is_another<R: Wait + Abort>(&mut self, rt: &R) {
+        let alloc = *self.station.jobs.allocator();
+        let conn = self.client.conn();
+        let node = self.station.worker.shared();
+        let (mut spares, mut pieces) = (Spares::new(alloc), Vec::new(alloc));
+        let turned = node.turn(rt, 0, 77, Lifts::All, 8, &mut spares, &mut pieces);
+        holds(rt, "no turn is taken", turned.is_none());
+        let got = node.collect_pieces(rt, 0, 77, 8, &mut spares, &mut pieces);
+        holds(rt, "nothing is handed out", got.is_none());
+        holds(rt, "no piece came", pieces.is_empty());
+        let why = node.open(rt, 0, 77).err();
+        holds(rt, "none is opened", why == Some(OpenError::Down));
+        let mut cut = Vec::new(alloc);
+        let asked = node.cut_among(rt, 0, 77, &[conn], &mut cut);
+        holds(rt, "it isn't told", asked == Err(AskError::Elsewhere));
     }
 
     /// Just these bytes wait for the client, and are written.

@@ -5,8 +5,8 @@ ghost use Rattle.nr_combiner.specs.Opened.{AreNamed, AreOfWorkers};
 
 use crate::asserted::{holds, same};
 use crate::desk::Act::{
-    Asks, Closes, Combines, Counts, Gets, GetsEach, GetsLength, HandsIn, IsHeldUp, IsLost, IsTold,
-    Opens, OpensNone, Refuses, Reopens, Sends, SendsEach, SendsMany,
+    Asks, Closes, Combines, Counts, Gets, GetsEach, GetsLength, HandsIn, IsAnother, IsHeldUp,
+    IsLost, IsTold, Opens, OpensNone, Refuses, Reopens, Sends, SendsEach, SendsMany,
 };
 use crate::desk::{Act, Desk};
 use nr_blob::int_text;
@@ -268,7 +268,7 @@ fn refuse_pieces<B: ServerName, R: Wait + Abort>(rt: &R, desks: Vec<Desk<B>>) {
     let (mut first, mut second) = both(rt, desks);
     first.does(rt, Sends(b"PING\r\nPING\r\nPING\r\n"));
     let conn = first.client.conn();
-    let stranger = second.client.offer(rt, &first.station, conn, 7);
+    let stranger = second.client.offer(rt, &mut first.station, conn, 7);
     let wanted = Offered::Refused(0, Refused::OtherConnection);
     holds(
         rt,
@@ -423,7 +423,6 @@ fn tell_cuts<B: ServerName, R: Wait + Abort>(rt: &R, alloc: Global, desks: Vec<D
     first
         .station
         .worker
-        .shared()
         .cut_among(rt, &[closed, open, long], &mut cut)
         .expect(rt, "memory");
     holds(rt, "two are told", cut.len() == 2);
@@ -517,7 +516,7 @@ fn read_back(rt: HostRuntime) {
     );
 }
 
-// A PING is answered by the node alone, and a message reaches the other node's subscriber once that node has applied it.
+// A PING is answered by the node alone, and a message reaches the other node's subscriber once that node has applied it. Who counts another generation changes nothing.
 #[test]
 fn messages_go_to_other_nodes(rt: HostRuntime) {
     play_at(
@@ -526,6 +525,7 @@ fn messages_go_to_other_nodes(rt: HostRuntime) {
         TWO_NODES,
         Play::InTurn(&[
             (1, Asks(b"*1\r\n$4\r\nPING\r\n", b"+PONG\r\n")),
+            (1, IsAnother),
             (
                 0,
                 Asks(

@@ -82,7 +82,7 @@ fn take_first<B: ServerName, R: Wait + Abort>(
 ) -> Vec<u8>
     requires { IfSome mark.old.standing (λ s. s.node ≡ worker.old.node) }
     ensures got { HasGotFirst worker.old (connection_of conn) mark.old.standing mark.new.standing result.items }
-    ensures same { worker.new ≡ worker.old }
+    ensures seat { worker.new.seat ≡ worker.old.seat }
 {
     let mut pieces = Vec::new(alloc);
     let mut spares = Spares::new(alloc);

@@ -166,7 +166,7 @@ fn waits_for_it<B: ServerName>(
 
 // What waits for the connection is what was asked for.
 fn gets<B: ServerName>(rt: &impl Abort, combiner: &mut Combiner<B>, conn: ConnId) {
-    let taken = combiner.take_piece(conn, MANY).expect(rt, "memory");
+    let taken = combiner.take_piece(0, conn, MANY).expect(rt, "memory");
     let (piece, _) = taken.expect(rt, "something waits");
     same(
         rt,

@@ -3,14 +3,15 @@ use Rattle.std.proofs.Common.{◌≡◌, ℕ, [], ◌++◌, sym, ap, ◌∙◌, 
 use Rattle.std.specs.Prelude.{Option, Some, None, IfSome}
 use Rattle.nr_model.specs.Bytes.{Bytes, IsBeginningOf}
 use Rattle.nr_model.specs.Sequential.{emitted_for}
-use Rattle.nr_model.specs.Connections.{Setup, fed_to, handed_to}
+use Rattle.nr_model.specs.Connections.{Setup, Feeding, fed_to, handed_to}
 use Rattle.nr_model.specs.Nodes.{World, sequence_of}
 use Rattle.nr_model.specs.Nodes.Pasts.{Event, IsPast, handed_in}
 use Rattle.nr_model.specs.Nodes.Explained.{waiting_for}
 use Rattle.nr_service.specs.declared.client.Client.{Client}
 use Rattle.nr_service.specs.Serving.{connection, IsLeft}
 use Rattle.nr_service.specs.Readings.{AreFedByClock}
-use Rattle.nr_service.specs.Stories.{Story, fed_in, closed_in, bytes_fed, bytes_handed}
+use Rattle.nr_service.specs.Stories.{Story, fed_in, closings_in, closed_in, bytes_fed, bytes_handed}
+use Rattle.nr_service.proofs.Occurrences.{no_closings}
 use Rattle.nr_answering.specs.Led.{IsOf}
 use Rattle.nr_server.specs.Runs.{alone, IsBegun}
 use Rattle.nr_server.proofs.Pasts.{past_explained, feedings_in, bytes_fed_in, bytes_handed_in, none_closed}
@@ -31,7 +32,7 @@ fed_as known fed other e is = subst (λ (b : Bytes). IfSome known (λ bytes. IsB
 -- what was handed out in a past is a beginning of what is emitted along its sequence
 pub begins : {S M : Type 0} (was_received was_sent : S → Option Bytes) (gives : M → M → Option ℕ → Type 0) (first last : M) (now : ℕ) (story : Story)
     (events : List Event) (world : World) (client : Client S) → story.setup ≡ alone → closed_in story.occurrences ≡ [] → IsOf story events world
-    → AreFedByClock gives first last now (fed_in story.occurrences) → IsLeft was_received was_sent story client
+    → AreFedByClock gives first last now (fed_in story.occurrences) (closings_in story.occurrences) → IsLeft was_received was_sent story client
     → IsBegun was_received was_sent gives first (connection client) events world (sequence_of world) client.stream
 begins was_received was_sent gives first last now story events world client sized calm is timed left =
     let c = connection client in
@@ -48,7 +49,8 @@ begins was_received was_sent gives first last now story events world client size
       in_time = record {
         last = last;
         now = now;
-        by_clock = subst (AreFedByClock gives first last now) (sym (feedings_in story events world is)) timed;
+        by_clock = subst (λ (fed : List Feeding). AreFedByClock gives first last now fed []) (sym (feedings_in story events world is))
+            (subst (AreFedByClock gives first last now (fed_in story.occurrences)) (no_closings story.occurrences calm) timed);
       };
       fed = fed_as (was_received client.stream) (bytes_fed c story) (fed_to c world.fed) (bytes_fed_in story events world c is) left.received;
       sent =

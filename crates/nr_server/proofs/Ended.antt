@@ -10,8 +10,8 @@ use Rattle.nr_service.specs.declared.client.Client.{Client}
 use Rattle.nr_service.specs.Readings.{AreFedByClock, IsNeverFed}
 use Rattle.nr_service.specs.Serving.{connection, AreServed, IsLeft, IsServed as IsServedSo}
 use Rattle.nr_service.proofs.Left.{still_left}
-use Rattle.nr_service.specs.Stories.{Occurrence, Story, beginning, fed_in, closed_in, going_on}
-use Rattle.nr_service.proofs.Occurrences.{closed_both, fed_on}
+use Rattle.nr_service.specs.Stories.{Occurrence, Story, beginning, fed_in, closings_in, closed_in, going_on}
+use Rattle.nr_service.proofs.Occurrences.{closed_both, closings_still, fed_on}
 use Rattle.nr_service.proofs.Timed.{fed_unread, none_fed, none_timed}
 use Rattle.nr_answering.specs.Kept.{kept_at}
 use Rattle.nr_answering.specs.Led.{HasLedTo, HasOnceLed, IsAtRest}
@@ -45,12 +45,13 @@ pub calm_on : (story next : Story) (more : List Occurrence) → next ≡ going_o
 calm_on story next more is none calm =
     ap (λ (s : Story). closed_in s.occurrences) is ∙ closed_both story.occurrences more ∙ (λ i. calm i ++ none i)
 
--- nothing was fed yet, and the clock wasn't read
+-- nothing was fed or closed yet, and the clock wasn't read
 pub begun_fed : {M : Type 0} (gives : M → M → Option ℕ → Type 0) (clock made admitted : M) (made_at admitted_at : ℕ) (next : Story)
-    (more : List Occurrence) → next ≡ going_on (beginning alone) more → All IsNeverFed (fed_in more) → made ≡ clock → made_at ≡ 0 → admitted ≡ made
-    → admitted_at ≡ made_at → AreFedByClock gives clock admitted admitted_at (fed_in next.occurrences)
-begun_fed gives clock made admitted made_at admitted_at next more is none made_is made_zero admitted_is admitted_same =
-    fed_unread gives clock clock admitted 0 admitted_at [] (fed_in next.occurrences) (fed_on (beginning alone) next more is ∙ none_fed (fed_in more) none)
+    (more : List Occurrence) → next ≡ going_on (beginning alone) more → All IsNeverFed (fed_in more) → closed_in more ≡ [] → made ≡ clock
+    → made_at ≡ 0 → admitted ≡ made → admitted_at ≡ made_at → AreFedByClock gives clock admitted admitted_at (fed_in next.occurrences) (closings_in next.occurrences)
+begun_fed gives clock made admitted made_at admitted_at next more is none calm made_is made_zero admitted_is admitted_same =
+    fed_unread gives clock clock admitted 0 admitted_at [] (fed_in next.occurrences) [] (closings_in next.occurrences)
+    (fed_on (beginning alone) next more is ∙ none_fed (fed_in more) none) (closings_still (beginning alone) next more is calm)
     (record { clock_is = admitted_is ∙ made_is; moment_is = admitted_same ∙ made_zero }) (none_timed gives clock)
 
 -- the first one was served so

@@ -9,9 +9,9 @@ use Rattle.nr_service.specs.Readings.{AreFedByClock, IsFedAmong, IsFedAt, IsFedA
 use Rattle.nr_service.specs.Serving.{connection, AreServed, IsLeft, IsServed}
 use Rattle.nr_service.specs.Steps.{Exchanges, Leaves}
 use Rattle.nr_service.proofs.Left.{still_left}
-use Rattle.nr_service.proofs.Timed.{fed_then}
-use Rattle.nr_service.specs.Stories.{Occurrence, Story, Past, Kept, IsLeftOf, opened_in, fed_in, closed_in, going_on}
-use Rattle.nr_service.proofs.Occurrences.{opened_both, closed_both, fed_on, going_none, going_both}
+use Rattle.nr_service.proofs.Timed.{fed_alone}
+use Rattle.nr_service.specs.Stories.{Occurrence, Story, Past, Kept, IsLeftOf, opened_in, fed_in, closings_in, closed_in, going_on}
+use Rattle.nr_service.proofs.Occurrences.{opened_both, closed_both, closings_still, fed_on, going_none, going_both}
 use Rattle.nr_service.specs.declared.answers.Standing.{Standing}
 use Rattle.nr_server.specs.Going.{AreCutOff, HasEnded, HasFirstFailed, InTime, IsDone}
 use Rattle.nr_service.proofs.Known.{course_failed}
@@ -27,13 +27,13 @@ pub record Goes {A S : Type 0} (was_received was_sent : S → Option Bytes) (cou
   pub is : next ≡ going_on story more
   pub opens : opened_in more ≡ []
   pub closed : closed_in more ≡ []
-  pub timed : in_time (fed_in next.occurrences)
+  pub timed : in_time (fed_in next.occurrences) (closings_in next.occurrences)
   pub served : AreServed was_received was_sent course (is_past answers) (keeps answers) next clients
 
 -- nothing was done yet
 pub starts : {A S : Type 0} (was_received was_sent : S → Option Bytes) (course : S → Option Course) (is_past : A → Past) (keeps : A → Kept)
     (in_time : InTime) (story : Story) (answers : A) (clients : List (Client S))
-    → AreServed was_received was_sent course (is_past answers) (keeps answers) story clients → in_time (fed_in story.occurrences)
+    → AreServed was_received was_sent course (is_past answers) (keeps answers) story clients → in_time (fed_in story.occurrences) (closings_in story.occurrences)
     → Goes was_received was_sent course is_past keeps in_time story answers clients
 starts was_received was_sent course is_past keeps in_time story answers clients served timed =
     record { next = story; more = []; is = sym (going_none story); opens = refl; closed = refl; timed = timed; served = served }
@@ -61,8 +61,9 @@ exchanged was_received was_sent course is_past is_settled keeps busy gives first
         is = s.has.is ∙ ap (λ (at : Story). going_on at s.has.more) goes.is ∙ going_both story goes.more s.has.more;
         opens = opened_both goes.more s.has.more ∙ (λ i. goes.opens i ++ s.has.opens i);
         closed = closed_both goes.more s.has.more ∙ (λ i. goes.closed i ++ s.has.closed i);
-        timed = fed_then gives first clock read before now (fed_in goes.next.occurrences) (fed_in s.has.more) (fed_in s.has.next.occurrences)
-            (fed_on goes.next s.has.next s.has.more s.has.is) reads
+        timed = fed_alone gives first clock read before now (fed_in goes.next.occurrences) (fed_in s.has.more) (fed_in s.has.next.occurrences)
+            (closings_in goes.next.occurrences) (closings_in s.has.next.occurrences) (fed_on goes.next s.has.next s.has.more s.has.is)
+            (closings_still goes.next s.has.next s.has.more s.has.is s.has.closed) reads
             (All-weaker (IsFedAtRest (busy exchanges.ready) now (map connection old)) (IsFedAt now) (λ feeding is. is.1.0) (fed_in s.has.more) s.has.feeds)
             goes.timed;
         served = s.has.served;
@@ -84,8 +85,9 @@ failed was_received was_sent course is_past is_left keeps gives first clock read
       more = goes.more ++ l.more;
       is = l.is ∙ ap (λ (at : Story). going_on at l.more) goes.is ∙ going_both story goes.more l.more;
       closed = closed_both goes.more l.more ∙ (λ i. goes.closed i ++ l.closed i);
-      timed = fed_then gives first clock read before now (fed_in goes.next.occurrences) (fed_in l.more) (fed_in l.next.occurrences)
-          (fed_on goes.next l.next l.more l.is) reads
+      timed = fed_alone gives first clock read before now (fed_in goes.next.occurrences) (fed_in l.more) (fed_in l.next.occurrences)
+          (closings_in goes.next.occurrences) (closings_in l.next.occurrences) (fed_on goes.next l.next l.more l.is)
+          (closings_still goes.next l.next l.more l.is l.closed) reads
           (All-weaker (IsFedAmong now (map connection old)) (IsFedAt now) (λ feeding is. is.0) (fed_in l.more) l.feeds) goes.timed;
       left = l.left;
       each = l.each;

@@ -5,7 +5,7 @@ use Rattle.nr_model.specs.Items.{Connection}
 use Rattle.nr_model.specs.Connections.{Feeding}
 use Rattle.nr_service.specs.declared.client.Client.{Client}
 use Rattle.nr_service.specs.Serving.{connection, AreServed, IsLeft}
-use Rattle.nr_service.specs.Stories.{Occurrence, Story, Past, Kept, kept_bytes, opened_in, fed_in, closed_in, going_on}
+use Rattle.nr_service.specs.Stories.{Closing, Occurrence, Story, Past, Kept, kept_bytes, opened_in, fed_in, closings_in, closed_in, going_on}
 use Rattle.nr_service.specs.declared.answers.Standing.{Standing}
 use Rattle.nr_service.specs.declared.answers.Standing.TheVariants as standings
 use Rattle.nr_server.specs.declared.run.Done.{Done}
@@ -29,9 +29,9 @@ abbrev pub HasFirstFailed : {S : Type 0} → (S → Option Course) → List (Cli
 HasFirstFailed course [] = Unit {0}
 HasFirstFailed course (client ∷ clients) = IfSome (course client.stream) (λ at. at.failed ≡ true)
 
--- What all bytes that were fed are like: those of a story are, by the readings of a clock.
+-- What all bytes that were fed and all connections that were closed are like: those of a story are, by the readings of a clock.
 abbrev pub InTime : Type 1
-InTime = List Feeding → Type 0
+InTime = List Feeding → List Closing → Type 0
 
 -- nothing was opened or closed, nothing is left to be done, the clients are served, and the first one is over
 pub record AreOver {A S : Type 0} (was_received was_sent : S → Option Bytes) (course : S → Option Course) (is_past is_settled : A → Past) (keeps : A → Kept)
@@ -41,7 +41,7 @@ pub record AreOver {A S : Type 0} (was_received was_sent : S → Option Bytes) (
   pub is : next ≡ going_on story more
   pub opens : opened_in more ≡ []
   pub closed : closed_in more ≡ []
-  pub timed : in_time (fed_in next.occurrences)
+  pub timed : in_time (fed_in next.occurrences) (closings_in next.occurrences)
   pub served : AreServed was_received was_sent course (is_past answers) (keeps answers) next clients
   pub rest : is_settled answers next
   pub first : IsDone keeps stands answers clients dones.Whole
@@ -53,7 +53,7 @@ pub record AreCutOff {A S : Type 0} (was_received was_sent : S → Option Bytes)
   pub more : List Occurrence
   pub is : next ≡ going_on story more
   pub closed : closed_in more ≡ []
-  pub timed : in_time (fed_in next.occurrences)
+  pub timed : in_time (fed_in next.occurrences) (closings_in next.occurrences)
   pub left : is_left answers next
   pub each : All (IsLeft was_received was_sent next) clients
 
@@ -64,9 +64,9 @@ pub record HasEnded {A S : Type 0} (was_received was_sent : S → Option Bytes) 
   pub broken : done ≡ dones.Broken → HasFirstFailed course clients
   pub whole : done ≡ dones.Whole → AreOver was_received was_sent course is_past is_settled keeps stands in_time story answers clients
 
--- so it is by each story by which they were served, and whose bytes were fed in time
+-- so it is by each story by which they were served, and whose bytes were fed and connections closed in time
 abbrev pub Ends : {A S : Type 0} → (S → Option Bytes) → (S → Option Bytes) → (S → Option Course) → (A → Past) → (A → Past) → (A → Past) → (A → Kept)
     → (A → Connection → Standing → Type 0) → InTime → InTime → Story → A → List (Client S) → A → List (Client S) → Done → Type 0
 Ends was_received was_sent course is_past is_left is_settled keeps stands in_time_before in_time_after story before old after new done =
-    AreServed was_received was_sent course (is_past before) (keeps before) story old → in_time_before (fed_in story.occurrences)
+    AreServed was_received was_sent course (is_past before) (keeps before) story old → in_time_before (fed_in story.occurrences) (closings_in story.occurrences)
     → HasEnded was_received was_sent course is_past is_left is_settled keeps stands in_time_after story after new done

@@ -61,7 +61,7 @@ pub record HasRunOn {R W M : Type 0} (remaining : R → Option Bytes) (contents 
   pub past : IsPast alone events world
   pub explained : Explains items alone events world
   pub unclosed : world.closed ≡ []
-  pub in_time : AreFedFrom gives clock world.fed
+  pub in_time : AreFedFrom gives clock world.fed []
   pub fed : IsBeginningOf (fed_to c world.fed) ran.read.bytes
   pub sent : IsBeginningOf ran.written.bytes (emitted_for c items)
   pub told : IsTold ran.done

@@ -31,8 +31,8 @@ pub record IsBegun {S M : Type 0} (was_received was_sent : S → Option Bytes) (
   pub explained : Explains items alone events world
   -- no connection was closed
   pub unclosed : world.closed ≡ []
-  -- all that was fed was fed at the moments behind the readings of the clock, one for each exchange
-  pub in_time : AreFedFrom gives clock world.fed
+  -- all that was fed was fed at the moments behind the readings of the clock, one for each exchange, in which nothing was closed
+  pub in_time : AreFedFrom gives clock world.fed []
   -- the connection was fed a beginning of what the stream received
   pub fed : IfSome (was_received stream) (λ bytes. IsBeginningOf (fed_to c world.fed) bytes)
   -- the stream sent a beginning of what one sequential Redis emits for it

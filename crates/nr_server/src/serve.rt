@@ -4,6 +4,7 @@ ghost use Rattle.std.specs.Prelude.{◌≡◌, ◌<◌, ◌+◌, ◌*◌, List, 
 ghost use Rattle.std.specs.Vec.{vec_len};
 ghost use Rattle.nr_crew.specs.Dealing.{HasDealt};
 ghost use Rattle.nr_crew.specs.Ended.{HasEnded};
+ghost use Rattle.nr_crew.specs.Left.{AreServedWithin};
 ghost use Rattle.nr_crew.specs.Together.{AreServedTogether};
 ghost use Rattle.nr_replica.specs.Replicas.{ReplicaState};
 ghost use Rattle.nr_server.specs.Listening.{IsRefused, IsRefusedAt, IsUnheardOf, IsUnopened, TellsOf};
@@ -166,6 +167,7 @@ where
     ensures together { IfOk result (λ remains. (replicas : List ReplicaState) × AreServedTogether S.received S.sent M.gives D.parted remains.0.lefts.items replicas) }
     ensures dealt { IfOk result (λ remains. HasDealt settings.now.nodes settings.now.workers (L.dealt main) (L.dealt remains.1)) }
     ensures ended { IfOk result (λ remains. HasEnded (settings.now.nodes * settings.now.workers) remains.0.ended remains.0.lefts.items) }
+    ensures within { IfOk result (λ remains. AreServedWithin (record { limit = settings.now.queue_limit; timeout = settings.now.timeout * 1000 }) remains.0.lefts.items) }
 {
     let served = serve_nodes(
         rt,

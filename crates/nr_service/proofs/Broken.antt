@@ -18,11 +18,11 @@ use Rattle.nr_blob.specs.declared.memory.Memory.{Memory}
 use Rattle.nr_service.specs.declared.ended.Ended.{Ended}
 use Rattle.nr_service.specs.declared.ended.Ended.TheVariants as endings
 use Rattle.nr_service.specs.declared.service.Service.{Service}
-use Rattle.nr_service.specs.Stories.{IsLeftOf, Story, Past, Kept, fed_in, opened_in}
+use Rattle.nr_service.specs.Stories.{Closing, IsLeftOf, Story, Past, Kept, closings_in, fed_in, opened_in}
 use Rattle.nr_service.proofs.Left.{all_left, left_on}
-use Rattle.nr_service.proofs.Occurrences.{fed_on, opened_on, still_apart}
+use Rattle.nr_service.proofs.Occurrences.{closings_on, closings_still, fed_on, opened_on, still_apart}
 use Rattle.nr_service.proofs.Parted.{left_through, more_back, opened_gone, opened_same, others_back}
-use Rattle.nr_service.proofs.Timed.{fed_then, fed_unread, none_fed}
+use Rattle.nr_service.proofs.Timed.{fed_alone, fed_then, fed_unread, none_fed}
 use Rattle.nr_service.proofs.Turns.{goes_to, served_to, turned}
 use Rattle.nr_service.specs.Streams.{Course}
 use Rattle.nr_service.specs.Turns.{Turns}
@@ -53,9 +53,10 @@ ran_accepting was_received was_sent course gives is_past is_left keeps is_full i
       opened = goes.opened;
       apart = goes.apart;
       in_time = fed_unread gives first old.clock new.clock old.moment new.moment (fed_in s.story.occurrences) (fed_in done.next.occurrences)
+          (closings_in s.story.occurrences) (closings_in done.next.occurrences)
           (fed_on s.story done.next done.more done.is ∙ ap (λ (fed : List Feeding). fed_in s.story.occurrences ++ fed) (none_fed (fed_in done.more) done.feeds)
           ∙ append-nil (fed_in s.story.occurrences))
-          way.unread s.in_time;
+          (closings_still s.story done.next done.more done.is done.closed) way.unread s.in_time;
     }
 
 -- while bytes were exchanged
@@ -94,8 +95,9 @@ ran_exchanging was_received was_sent course gives is_past is_left keeps is_full 
           s.given_back;
       opened = opened_same (opened_in l.next.occurrences) s.gone way.taken new.clients.items opened way.same;
       apart = apart;
-      in_time = fed_then gives first old.clock new.clock old.moment new.moment (fed_in s.story.occurrences) (fed_in l.more)
-          (fed_in l.next.occurrences) fed way.reads
+      in_time = fed_alone gives first old.clock new.clock old.moment new.moment (fed_in s.story.occurrences) (fed_in l.more)
+          (fed_in l.next.occurrences) (closings_in s.story.occurrences) (closings_in l.next.occurrences) fed
+          (closings_still done.next l.next l.more l.is l.closed ∙ closings_still s.story done.next done.more done.is done.closed) way.reads
           (All-weaker (IsFedAmong new.moment (map connection way.taken)) (IsFedAt new.moment) (λ feeding is. is.0) (fed_in l.more) l.feeds) s.in_time;
     }
 
@@ -141,8 +143,11 @@ ran_letting_go {A} {S} {D} {M} was_received was_sent course gives is_past is_lef
           (opened_gone (opened_in done.next.occurrences) s.gone way.served lost.missing new.clients.items goes.opened lost.all);
       apart = subst (λ (story : Story). IsApart story) (sym l.is) (still_apart done.next l.more l.opens goes.apart);
       in_time = fed_then gives first old.clock new.clock old.moment new.moment (fed_in s.story.occurrences) (fed_in done.more)
-          (fed_in l.next.occurrences) fed way.reads
-          (All-weaker (IsFedAmong new.moment (map connection way.taken)) (IsFedAt new.moment) (λ feeding is. is.0) (fed_in done.more) done.feeds) s.in_time;
+          (fed_in l.next.occurrences) (closings_in s.story.occurrences) (closings_in l.more) (closings_in l.next.occurrences) fed
+          (closings_on done.next l.next l.more l.is
+          ∙ ap (λ (closed : List Closing). closed ++ closings_in l.more) (closings_still s.story done.next done.more done.is done.closed)) way.reads
+          (All-weaker (IsFedAmong new.moment (map connection way.taken)) (IsFedAt new.moment) (λ feeding is. is.0) (fed_in done.more) done.feeds) l.closes
+          s.in_time;
     }
 
 -- in any part of a turn

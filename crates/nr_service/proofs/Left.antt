@@ -13,7 +13,7 @@ use Rattle.nr_model.specs.Bytes.{Bytes, IsBeginningOf}
 use Rattle.nr_model.specs.Items.{Connection, same_connection}
 use Rattle.nr_model.specs.Connections.{Feeding, fed_to, handed_to}
 use Rattle.nr_model.proofs.Exchanged.{fed_to-append, other_bytes}
-use Rattle.nr_service.specs.Readings.{Feedings, IsFedAmong, IsFedAtRest}
+use Rattle.nr_service.specs.Readings.{Feedings, IsClosedAt, IsFedAmong, IsFedAtRest}
 use Rattle.nr_service.specs.Serving.{connection, streams_of, IsLeft, IsServed}
 use Rattle.nr_service.specs.Leaving.{Gone, LetsGo, Loses, client_of, parting, parting_of, shut_by}
 use Rattle.nr_service.specs.Steps.{Serves, ServesOne, Exchanges, AreLeft, Leaves, LeavesOne}
@@ -23,10 +23,10 @@ use Rattle.nr_service.specs.declared.client.Client.{Client}
 use Rattle.nr_service.specs.declared.client.Ending.{Ending}
 use Rattle.nr_service.specs.declared.client.Ending.TheVariants as endings
 use Rattle.nr_service.specs.declared.leaving.Bounds.{Bounds}
-use Rattle.nr_service.specs.Stories.{Occurrence, Story, Past, Kept, IsLeftOf, fed_in, handed_in, bytes_fed, bytes_handed, going_on}
+use Rattle.nr_service.specs.Stories.{Closing, Occurrence, Story, Past, Kept, IsLeftOf, closings_in, fed_in, handed_in, bytes_fed, bytes_handed, going_on}
 use Rattle.nr_service.proofs.Apart.{flips}
-use Rattle.nr_service.proofs.Closing.{closes_fed, closes_opened, parts_then}
-use Rattle.nr_service.proofs.Occurrences.{closed_both, fed_behind, fed_both, going_none, going_both, handed_behind, opened_both}
+use Rattle.nr_service.proofs.Closing.{closes_fed, closes_opened, closes_timed, parts_then}
+use Rattle.nr_service.proofs.Occurrences.{closed_both, closings_both, fed_behind, fed_both, going_none, going_both, handed_behind, opened_both}
 use Rattle.nr_service.proofs.Served.{has_weaker, served_moved}
 use Rattle.nr_service.proofs.Working.{get_or_within, set_moved}
 use Rattle.nr_service.specs.Streams.{Course}
@@ -269,12 +269,12 @@ stream_parting endings.Silent stream = refl
 stream_parting endings.Lost stream = refl
 
 pub loses_one : {A S D : Type 0} (was_received was_sent : S → Option Bytes) (course : S → Option Course) (is_past is_left : A → Past) (keeps : A → Kept)
-    (parted : D → Option (List (Parting S))) (before after : A) (device_before device_after : D) (ending : Ending) (client : Client S)
+    (parted : D → Option (List (Parting S))) (now : ℕ) (before after : A) (device_before device_after : D) (ending : Ending) (client : Client S)
     (clients others : List (Client S)) (index : ℕ) → index < length clients → client ≡ get_or clients index client
     → others ≡ swap_remove clients index client
     → PartsWith (parting ending client.stream ∷ []) (parted device_before) (parted device_after) → IsLeftOf (is_past before) (is_left after)
-    → Loses was_received was_sent course is_past is_left keeps parted before after device_before device_after clients others
-loses_one {A} {S} {D} was_received was_sent course is_past is_left keeps parted before after device_before device_after ending client clients others index
+    → Loses was_received was_sent course is_past is_left keeps parted now before after device_before device_after clients others
+loses_one {A} {S} {D} was_received was_sent course is_past is_left keeps parted now before after device_before device_after ending client clients others index
     within is rest parts left =
     let moved : IsPermutation clients (client ∷ others) =
     subst (λ (ys : List (Client S)). IsPermutation clients (client ∷ ys)) (sym rest) (IsPermutation-swap_remove clients index client within is) in
@@ -292,6 +292,7 @@ loses_one {A} {S} {D} was_received was_sent course is_past is_left keeps parted 
         is = sym (going_none story);
         opens = refl;
         fed = refl;
+        closes = All-nil (IsClosedAt now);
         left = left story s.past;
         each = All-permutation (IsLeft was_received was_sent story) clients (client ∷ others) moved
             (all_left was_received was_sent course (keeps before) story clients s.each);
@@ -308,8 +309,8 @@ pub loses_then : {A S D : Type 0} (was_received was_sent : S → Option Bytes) (
     (stands : A → Connection → Standing → Type 0) (busy : A → Bool) (is_gone : A → Connection → Type 0) (parted : D → Option (List (Parting S)))
     (bounds : Bounds) (a b c : A) (d e f : D) (xs ys zs : List (Client S))
     → LetsGo was_received was_sent course is_past keeps stands busy is_gone parted bounds a b d e xs ys
-    → Loses was_received was_sent course is_past is_left keeps parted b c e f ys zs
-    → Loses was_received was_sent course is_past is_left keeps parted a c d f xs zs
+    → Loses was_received was_sent course is_past is_left keeps parted bounds.now b c e f ys zs
+    → Loses was_received was_sent course is_past is_left keeps parted bounds.now a c d f xs zs
 loses_then {A} {S} {D} was_received was_sent course is_past is_left keeps stands busy is_gone parted bounds a b c d e f xs ys zs p q =
     let went = map client_of p.gone in
     let moved : IsPermutation xs ((went ++ q.missing) ++ zs) =
@@ -325,10 +326,10 @@ loses_then {A} {S} {D} was_received was_sent course is_past is_left keeps stands
         parts = parts_then (map parting_of p.gone) q.parts.more (parted d) (parted e) (parted f) p.parts q.parts.parts;
       };
       further = λ story s.
-          let shut = shut_by p.gone in
+          let shut = shut_by bounds.now p.gone in
           let middle = going_on story shut in
           let second = q.further middle (p.further story s) in
-          let were = left_on was_received was_sent story shut xs (closes_fed p.gone)
+          let were = left_on was_received was_sent story shut xs (closes_fed bounds.now p.gone)
           (all_left was_received was_sent course (keeps a) story xs s.each) in
           let gone = all_front (IsLeft was_received was_sent middle) went ys
           (All-permutation (IsLeft was_received was_sent middle) xs (went ++ ys) p.all were) in
@@ -336,8 +337,10 @@ loses_then {A} {S} {D} was_received was_sent course is_past is_left keeps stands
             next = second.next;
             more = shut ++ second.more;
             is = second.is ∙ going_both story shut second.more;
-            opens = opened_both shut second.more ∙ (λ i. closes_opened p.gone i ++ second.opens i);
-            fed = fed_both shut second.more ∙ (λ i. closes_fed p.gone i ++ second.fed i);
+            opens = opened_both shut second.more ∙ (λ i. closes_opened bounds.now p.gone i ++ second.opens i);
+            fed = fed_both shut second.more ∙ (λ i. closes_fed bounds.now p.gone i ++ second.fed i);
+            closes = subst (λ (closings : List Closing). All (IsClosedAt bounds.now) closings) (sym (closings_both shut second.more))
+                (All-append (IsClosedAt bounds.now) (closings_in shut) (closings_in second.more) (closes_timed bounds.now p.gone) second.closes);
             left = second.left;
             each = subst (λ (l : List (Client S)). All (IsLeft was_received was_sent second.next) l) (sym (append_assoc went q.missing zs))
                 (All-append (IsLeft was_received was_sent second.next) went (q.missing ++ zs)

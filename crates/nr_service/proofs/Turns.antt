@@ -19,10 +19,10 @@ use Rattle.nr_service.specs.Devices.{Abandoned, AreGivenBack, Parting, stream_of
 use Rattle.nr_service.specs.declared.answers.Standing.{Standing}
 use Rattle.nr_service.specs.declared.client.Client.{Client}
 use Rattle.nr_service.specs.declared.service.Service.{Service}
-use Rattle.nr_service.specs.Stories.{Story, Past, Kept, beginning, fed_in, going_on, opened_in}
-use Rattle.nr_service.proofs.Closing.{closes_fed, closes_opened}
+use Rattle.nr_service.specs.Stories.{Closing, Story, Past, Kept, beginning, closings_in, fed_in, going_on, opened_in}
+use Rattle.nr_service.proofs.Closing.{closes_fed, closes_opened, closes_timed}
 use Rattle.nr_service.proofs.Left.{all_front, all_left, exchange_serves, gone_streams, left_on}
-use Rattle.nr_service.proofs.Occurrences.{fed_both, fed_on, opened_both, opened_on, still_apart}
+use Rattle.nr_service.proofs.Occurrences.{closings_both, closings_still, fed_both, fed_on, opened_both, opened_on, still_apart}
 use Rattle.nr_service.proofs.Parted.{left_through, more_back, none_among, opened_gone, opened_more, opened_same, others_back}
 use Rattle.nr_service.proofs.Served.{has_then, has_weaker}
 use Rattle.nr_service.proofs.Timed.{fed_then, fed_unread, none_timed}
@@ -56,7 +56,7 @@ begun {A} {S} was_received was_sent course gives is_past keeps parted service an
   given_back = none_back (parted service.device);
   opened = subst (λ (clients : List (Client S)). AreOpened (beginning setup) [] clients) (sym none) (IsPermutation-refl []);
   apart = tt;
-  in_time = fed_unread gives clock clock service.clock 0 service.moment [] [] refl (record { clock_is = unread; moment_is = zero }) (none_timed gives clock);
+  in_time = fed_unread gives clock clock service.clock 0 service.moment [] [] [] [] refl refl (record { clock_is = unread; moment_is = zero }) (none_timed gives clock);
 }
 
 -- some were taken on, and bytes were exchanged
@@ -116,7 +116,7 @@ turned {A} {S} {D} {M} was_received was_sent course gives is_past is_settled kee
     let gone = turn.lets_go in
     let done = served_to was_received was_sent course is_past is_settled keeps busy new.moment old.answers turn.opened b old.clients.items xs ys s.story
     turn.accepts turn.exchanges s.served in
-    let shut = shut_by gone.gone in
+    let shut = shut_by new.moment gone.gone in
     let went = map client_of gone.gone in
     let next = going_on done.next shut in
     let goes = goes_to was_received was_sent course (IsFedAmong new.moment (map connection xs)) (map connection accepted ++ []) (is_past b) (keeps b)
@@ -124,12 +124,15 @@ turned {A} {S} {D} {M} was_received was_sent course gives is_past is_settled kee
     (record { left = s.left; opened = s.opened; apart = s.apart }) in
     let fed : fed_in (done.next.occurrences ++ shut) ≡ fed_in s.story.occurrences ++ fed_in done.more =
     fed_both done.next.occurrences shut
-    ∙ ap (λ (l : List Feeding). fed_in done.next.occurrences ++ l) (closes_fed gone.gone)
+    ∙ ap (λ (l : List Feeding). fed_in done.next.occurrences ++ l) (closes_fed new.moment gone.gone)
     ∙ append-nil (fed_in done.next.occurrences)
     ∙ fed_on s.story done.next done.more done.is in
+    let closed : closings_in (done.next.occurrences ++ shut) ≡ closings_in s.story.occurrences ++ closings_in shut =
+    closings_both done.next.occurrences shut
+    ∙ ap (λ (l : List Closing). l ++ closings_in shut) (closings_still s.story done.next done.more done.is done.closed) in
     let opened : opened_in next.occurrences ≡ opened_in done.next.occurrences =
     opened_both done.next.occurrences shut
-    ∙ ap (λ (l : List Connection). opened_in done.next.occurrences ++ l) (closes_opened gone.gone)
+    ∙ ap (λ (l : List Connection). opened_in done.next.occurrences ++ l) (closes_opened new.moment gone.gone)
     ∙ append-nil (opened_in done.next.occurrences) in
     record {
       story = next;
@@ -137,10 +140,10 @@ turned {A} {S} {D} {M} was_received was_sent course gives is_past is_settled kee
       sized = ap (λ (story : Story). story.setup) done.is ∙ s.sized;
       served = gone.further done.next done.served;
       left = All-append (IsLeft was_received was_sent next) s.gone went
-          (left_on was_received was_sent done.next shut s.gone (closes_fed gone.gone) goes.left)
+          (left_on was_received was_sent done.next shut s.gone (closes_fed new.moment gone.gone) goes.left)
           (all_front (IsLeft was_received was_sent next) went new.clients.items
           (All-permutation (IsLeft was_received was_sent next) ys (went ++ new.clients.items) gone.all
-          (left_on was_received was_sent done.next shut ys (closes_fed gone.gone)
+          (left_on was_received was_sent done.next shut ys (closes_fed new.moment gone.gone)
           (all_left was_received was_sent course (keeps b) done.next ys done.served.each))));
       given_back = subst (λ (known : Option (List (Parting S))). AreGivenBack (streams_of (s.gone ++ went)) known) (sym turn.parts_none)
           (subst (λ (streams : List S). AreGivenBack streams (parted turn.left_device))
@@ -151,10 +154,11 @@ turned {A} {S} {D} {M} was_received was_sent course gives is_past is_settled kee
           s.given_back)));
       opened = subst (λ (l : List Connection). IsPermutation l (map connection ((s.gone ++ went) ++ new.clients.items))) (sym opened)
           (opened_gone (opened_in done.next.occurrences) s.gone ys went new.clients.items goes.opened gone.all);
-      apart = still_apart done.next shut (closes_opened gone.gone) goes.apart;
+      apart = still_apart done.next shut (closes_opened new.moment gone.gone) goes.apart;
       in_time = fed_then gives first old.clock new.clock old.moment new.moment (fed_in s.story.occurrences) (fed_in done.more)
-          (fed_in (done.next.occurrences ++ shut)) fed turn.reads
-          (All-weaker (IsFedAmong new.moment (map connection xs)) (IsFedAt new.moment) (λ feeding is. is.0) (fed_in done.more) done.feeds) s.in_time;
+          (fed_in (done.next.occurrences ++ shut)) (closings_in s.story.occurrences) (closings_in shut) (closings_in (done.next.occurrences ++ shut)) fed closed
+          turn.reads (All-weaker (IsFedAmong new.moment (map connection xs)) (IsFedAt new.moment) (λ feeding is. is.0) (fed_in done.more) done.feeds)
+          (closes_timed new.moment gone.gone) s.in_time;
     }
 
 -- it is one by the answer of its wait

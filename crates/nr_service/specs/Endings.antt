@@ -16,7 +16,7 @@ use Rattle.nr_service.specs.declared.ended.Ended.{Ended}
 use Rattle.nr_service.specs.declared.ended.Ended.TheVariants.{Stopped, Memory, Down, Device}
 use Rattle.nr_service.specs.declared.service.Service.{Service}
 use Rattle.nr_service.specs.Turns.{IsSameWorker, most_accepted}
-use Rattle.nr_service.specs.Stories.{Story, Past, Kept, fed_in}
+use Rattle.nr_service.specs.Stories.{Story, Past, Kept, fed_in, closings_in}
 use Rattle.nr_service.specs.Streams.{Course}
 
 -- the first, or the second where memory ran out or every node is down
@@ -62,7 +62,7 @@ pub record BreaksOffLettingGo {A S D M : Type 0} (was_received was_sent : S → 
   pub reads : Reads gives old.clock new.clock old.moment new.moment
   pub exchanges : Exchanges was_received was_sent course is_past is_settled keeps busy new.moment opened worked taken served
   pub same : map connection served ≡ map connection taken
-  pub loses : Loses was_received was_sent course is_past is_left keeps parted worked new.answers device new.device served new.clients.items
+  pub loses : Loses was_received was_sent course is_past is_left keeps parted new.moment worked new.answers device new.device served new.clients.items
 
 -- A turn in which memory ran out, in one of its parts: who was there is left, whether still there or not.
 pub record BreaksOff {A S D M : Type 0} (was_received was_sent : S → Option Bytes) (course : S → Option Course)
@@ -121,8 +121,8 @@ pub record TakesTurns {T : Type 0} (says : ℕ → Go → Type 0) (goes : T → 
       (says (length whole) told.On × turns false last new)
 
 -- Memory ran out: the clients that left and those that are there are left, by a story of which is left what answers then, which is so large, and whose
--- bytes were fed at the moments behind the readings of the clock. The streams of those that left were given back in their order, and nobody else was ever
--- there.
+-- bytes were fed and connections closed at the moments behind the readings of the clock. The streams of those that left were given back in their order, and
+-- nobody else was ever there.
 pub record RanOut {A S D M : Type 0} (was_received was_sent : S → Option Bytes) (gives : M → M → Option ℕ → Type 0) (is_left : A → Past)
     (parted : D → Option (List (Parting S))) (first : M) (setup : Setup) (service : Service A S D M) : Type 0 where
   pub story : Story
@@ -133,4 +133,4 @@ pub record RanOut {A S D M : Type 0} (was_received was_sent : S → Option Bytes
   pub given_back : AreGivenBack (streams_of gone) (parted service.device)
   pub opened : AreOpened story gone service.clients.items
   pub apart : IsApart story
-  pub in_time : AreFedByClock gives first service.clock service.moment (fed_in story.occurrences)
+  pub in_time : AreFedByClock gives first service.clock service.moment (fed_in story.occurrences) (closings_in story.occurrences)

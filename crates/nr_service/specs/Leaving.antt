@@ -2,6 +2,7 @@
 use Rattle.std.specs.Prelude.{◌≡◌, ◌≢◌, ℕ, ◌<◌, Bool, true, false, cond, ◌⊎◌, List, [], ◌∷◌, ◌++◌, length, map, slice_index_or, Option, None, Some, All, IsPermutation}
 use Rattle.nr_model.specs.Bytes.{Bytes}
 use Rattle.nr_model.specs.Items.{Connection}
+use Rattle.nr_service.specs.Readings.{IsClosedAt}
 use Rattle.nr_service.specs.Serving.{connection, streams_of, IsLeft, IsWithin, AreServed}
 use Rattle.nr_service.specs.Silence.{IsSilent}
 use Rattle.nr_service.specs.declared.client.Client.{Client}
@@ -9,7 +10,7 @@ use Rattle.nr_service.specs.declared.client.Ending.{Ending}
 use Rattle.nr_service.specs.declared.client.Ending.TheVariants as endings
 use Rattle.nr_service.specs.declared.leaving.Bounds.{Bounds}
 use Rattle.nr_service.specs.Devices.{Parting, Finished, Abandoned, GivesBack, PartsWith}
-use Rattle.nr_service.specs.Stories.{Occurrence, Closed, Story, Past, Kept, IsShut, opened_in, fed_in, going_on, kept_bytes}
+use Rattle.nr_service.specs.Stories.{Occurrence, Story, Past, Kept, IsShut, closed_at, closings_in, opened_in, fed_in, going_on, kept_bytes}
 use Rattle.nr_service.specs.declared.answers.Standing.{Standing}
 use Rattle.nr_service.specs.declared.answers.Standing.TheVariants as standings
 use Rattle.nr_service.specs.Streams.{Course}
@@ -47,10 +48,10 @@ pub record Gone (A S : Type 0) : Type 0 where
   pub before : A
   pub after : A
 
--- the connections that were closed
-abbrev pub shut_by : {A S : Type 0} → List (Gone A S) → List Occurrence
-shut_by [] = []
-shut_by (one ∷ gone) = cond one.closed (Closed (connection one.client) ∷ shut_by gone) (shut_by gone)
+-- the connections that were closed, all at this moment
+abbrev pub shut_by : {A S : Type 0} → ℕ → List (Gone A S) → List Occurrence
+shut_by now [] = []
+shut_by now (one ∷ gone) = cond one.closed (closed_at (connection one.client) now ∷ shut_by now gone) (shut_by now gone)
 
 -- how a stream is given back to its device
 abbrev pub parting : {S : Type 0} → Ending → S → Parting S
@@ -64,11 +65,11 @@ parting_of one = parting one.ending one.client.stream
 abbrev pub client_of : {A S : Type 0} → Gone A S → Client S
 client_of one = one.client
 
--- It was over where it went, and was closed then, unless it took no room any more. It takes none behind that.
+-- It was over where it went, and was closed at the moment by which it was judged, unless it took no room any more. It takes none behind that.
 pub record HasGone {A S : Type 0} (keeps : A → Kept) (stands : A → Connection → Standing → Type 0) (busy : A → Bool)
     (is_gone : A → Connection → Type 0) (bounds : Bounds) (one : Gone A S) : Type 0 where
   pub over : IsEnding (keeps one.before) (stands one.before) (busy one.before) bounds one.client (Some one.ending)
-  pub shut : IsShut (connection one.client) (is_gone one.before (connection one.client)) (shut_by (one ∷ []))
+  pub shut : IsShut (connection one.client) bounds.now (is_gone one.before (connection one.client)) (shut_by bounds.now (one ∷ []))
   pub away : is_gone one.after (connection one.client)
 
 -- they went one behind the other, and what answers did nothing between
@@ -76,10 +77,10 @@ abbrev pub AreGone : {A S : Type 0} → A → List (Gone A S) → A → Type 0
 AreGone before [] after = after ≡ before
 AreGone before (one ∷ gone) after = (one.before ≡ before) × AreGone one.after gone after
 
--- The client at this place was let go so: the others are served by each story by which all were before, going on by the close of its connection alone,
--- unless that took no room before.
+-- The client at this place was let go so: the others are served by each story by which all were before, going on by the close of its connection at this
+-- moment alone, unless that took no room before.
 pub record LetsGoOne {A S D : Type 0} (was_received was_sent : S → Option Bytes) (course : S → Option Course) (is_past : A → Past) (keeps : A → Kept)
-    (is_gone : A → Connection → Type 0) (parted : D → Option (List (Parting S))) (ending : Ending) (index : ℕ) (before after : A)
+    (is_gone : A → Connection → Type 0) (parted : D → Option (List (Parting S))) (ending : Ending) (now index : ℕ) (before after : A)
     (device_before device_after : D)
     (old new : List (Client S)) : Type 0 where
   pub client : Client S
@@ -87,13 +88,13 @@ pub record LetsGoOne {A S D : Type 0} (was_received was_sent : S → Option Byte
   pub at : client ≡ slice_index_or old index client
   pub moved : IsPermutation old (client ∷ new)
   pub parts : PartsWith (parting ending client.stream ∷ []) (parted device_before) (parted device_after)
-  pub is : IsShut (connection client) (is_gone before (connection client)) shut
+  pub is : IsShut (connection client) now (is_gone before (connection client)) shut
   pub gone : is_gone after (connection client)
   pub further : (story : Story) → AreServed was_received was_sent course (is_past before) (keeps before) story old
       → AreServed was_received was_sent course (is_past after) (keeps after) (going_on story shut) new
 
 -- Some that were over were let go, each as it ended: the others are served by each story by which all were before, going on by the closes of the
--- connections of those that are gone, in order.
+-- connections of those that are gone, in order, at the moment by which they were judged.
 pub record LetsGo {A S D : Type 0} (was_received was_sent : S → Option Bytes) (course : S → Option Course) (is_past : A → Past) (keeps : A → Kept)
     (stands : A → Connection → Standing → Type 0) (busy : A → Bool) (is_gone : A → Connection → Type 0) (parted : D → Option (List (Parting S)))
     (bounds : Bounds) (before after : A) (device_before device_after : D) (old new : List (Client S)) : Type 0 where
@@ -103,26 +104,27 @@ pub record LetsGo {A S D : Type 0} (was_received was_sent : S → Option Bytes) 
   pub each : All (HasGone keeps stands busy is_gone bounds) gone
   pub parts : PartsWith (map parting_of gone) (parted device_before) (parted device_after)
   pub further : (story : Story) → AreServed was_received was_sent course (is_past before) (keeps before) story old
-      → AreServed was_received was_sent course (is_past after) (keeps after) (going_on story (shut_by gone)) new
+      → AreServed was_received was_sent course (is_past after) (keeps after) (going_on story (shut_by bounds.now gone)) new
 
--- What is left of clients where memory ran out, by a story of which is left what answers then: some connections may have been closed since this one,
--- none was opened, and nothing was fed.
-pub record AreLost {A S : Type 0} (was_received was_sent : S → Option Bytes) (is_left : A → Past) (story : Story) (after : A)
+-- What is left of clients where memory ran out, by a story of which is left what answers then: some connections may have been closed since this one, at
+-- this moment, none was opened, and nothing was fed.
+pub record AreLost {A S : Type 0} (was_received was_sent : S → Option Bytes) (is_left : A → Past) (now : ℕ) (story : Story) (after : A)
     (clients : List (Client S)) : Type 0 where
   pub next : Story
   pub more : List Occurrence
   pub is : next ≡ going_on story more
   pub opens : opened_in more ≡ []
   pub fed : fed_in more ≡ []
+  pub closes : All (IsClosedAt now) (closings_in more)
   pub left : is_left after next
   pub each : All (IsLeft was_received was_sent next) clients
 
 -- Some went, their streams were given back, and then memory ran out: they and the others are left, by each story by which all were served before, and
--- some connections may have been closed since.
+-- some connections may have been closed since, at this moment.
 pub record Loses {A S D : Type 0} (was_received was_sent : S → Option Bytes) (course : S → Option Course) (is_past is_left : A → Past) (keeps : A → Kept)
-    (parted : D → Option (List (Parting S))) (before after : A) (device_before device_after : D) (old new : List (Client S)) : Type 0 where
+    (parted : D → Option (List (Parting S))) (now : ℕ) (before after : A) (device_before device_after : D) (old new : List (Client S)) : Type 0 where
   pub missing : List (Client S)
   pub all : IsPermutation old (missing ++ new)
   pub parts : GivesBack (streams_of missing) (parted device_before) (parted device_after)
   pub further : (story : Story) → AreServed was_received was_sent course (is_past before) (keeps before) story old
-      → AreLost was_received was_sent is_left story after (missing ++ new)
+      → AreLost was_received was_sent is_left now story after (missing ++ new)

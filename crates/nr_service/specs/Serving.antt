@@ -9,7 +9,7 @@ use Rattle.nr_service.specs.Devices.{Parting, AreGivenBack}
 use Rattle.nr_service.specs.Readings.{AreFedByClock}
 use Rattle.nr_service.specs.declared.client.Client.{Client}
 use Rattle.nr_service.specs.declared.service.Service.{Service}
-use Rattle.nr_service.specs.Stories.{Story, Past, Kept, opened_in, fed_in, bytes_fed, bytes_handed, kept_bytes}
+use Rattle.nr_service.specs.Stories.{Story, Past, Kept, opened_in, fed_in, closings_in, bytes_fed, bytes_handed, kept_bytes}
 use Rattle.nr_service.specs.Streams.{Course, IsCourse}
 
 abbrev pub connection : {S : Type 0} → Client S → Connection
@@ -56,8 +56,8 @@ abbrev pub streams_of : {S : Type 0} → List (Client S) → List S
 streams_of clients = map (λ client. client.stream) clients
 
 -- There is a story by which all clients of a service are served, and what answers them is so large. By it those that left are left, their streams were
--- given back to the device in their order, and nobody else was ever there. From the first clock to that of the service bytes were fed at the moments behind
--- its readings, and the moment of the service is the last of these.
+-- given back to the device in their order, and nobody else was ever there. From the first clock to that of the service bytes were fed and connections closed
+-- at the moments behind its readings, and the moment of the service is the last of these.
 pub record IsServing {A S D M : Type 0} (was_received was_sent : S → Option Bytes) (course : S → Option Course) (gives : M → M → Option ℕ → Type 0)
     (is_past : A → Past) (keeps : A → Kept) (parted : D → Option (List (Parting S))) (first : M) (setup : Setup) (service : Service A S D M) : Type 0 where
   pub story : Story
@@ -68,4 +68,4 @@ pub record IsServing {A S D M : Type 0} (was_received was_sent : S → Option By
   pub given_back : AreGivenBack (streams_of gone) (parted service.device)
   pub opened : AreOpened story gone service.clients.items
   pub apart : IsApart story
-  pub in_time : AreFedByClock gives first service.clock service.moment (fed_in story.occurrences)
+  pub in_time : AreFedByClock gives first service.clock service.moment (fed_in story.occurrences) (closings_in story.occurrences)

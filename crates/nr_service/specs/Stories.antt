@@ -7,12 +7,17 @@ use Rattle.nr_model.specs.Items.{Connection, same_connection}
 use Rattle.nr_model.specs.Keyspace.{moment}
 use Rattle.nr_model.specs.Connections.{Setup, Feeding, Handed, fed_to, handed_to}
 
+-- a connection that was closed, and the moment of that
+pub record Closing : Type 0 where
+  pub connection : Connection
+  pub moment : ℕ
+
 -- a connection was opened, bytes were fed to one, bytes were handed out for one, or one was closed
 pub data Occurrence : Type 0 where
   Opened : Connection → Occurrence
   Fed : Feeding → Occurrence
   HandedOut : Handed → Occurrence
-  Closed : Connection → Occurrence
+  Closed : Closing → Occurrence
 
 -- how large what answers is, and what happened, in order
 pub record Story : Type 0 where
@@ -25,28 +30,32 @@ opened_in [] = []
 opened_in (Opened c ∷ more) = c ∷ opened_in more
 opened_in (Fed feeding ∷ more) = opened_in more
 opened_in (HandedOut handed ∷ more) = opened_in more
-opened_in (Closed c ∷ more) = opened_in more
+opened_in (Closed closing ∷ more) = opened_in more
 
 abbrev pub fed_in : List Occurrence → List Feeding
 fed_in [] = []
 fed_in (Opened c ∷ more) = fed_in more
 fed_in (Fed feeding ∷ more) = feeding ∷ fed_in more
 fed_in (HandedOut handed ∷ more) = fed_in more
-fed_in (Closed c ∷ more) = fed_in more
+fed_in (Closed closing ∷ more) = fed_in more
 
 abbrev pub handed_in : List Occurrence → List Handed
 handed_in [] = []
 handed_in (Opened c ∷ more) = handed_in more
 handed_in (Fed feeding ∷ more) = handed_in more
 handed_in (HandedOut handed ∷ more) = handed ∷ handed_in more
-handed_in (Closed c ∷ more) = handed_in more
+handed_in (Closed closing ∷ more) = handed_in more
 
+abbrev pub closings_in : List Occurrence → List Closing
+closings_in [] = []
+closings_in (Opened c ∷ more) = closings_in more
+closings_in (Fed feeding ∷ more) = closings_in more
+closings_in (HandedOut handed ∷ more) = closings_in more
+closings_in (Closed closing ∷ more) = closing ∷ closings_in more
+
+-- the connections of these closes
 abbrev pub closed_in : List Occurrence → List Connection
-closed_in [] = []
-closed_in (Opened c ∷ more) = closed_in more
-closed_in (Fed feeding ∷ more) = closed_in more
-closed_in (HandedOut handed ∷ more) = closed_in more
-closed_in (Closed c ∷ more) = c ∷ closed_in more
+closed_in occurrences = map (λ (closing : Closing). closing.connection) (closings_in occurrences)
 
 -- all bytes that were fed to a connection, and all that were handed out for it
 abbrev pub bytes_fed : Connection → Story → Bytes
@@ -120,14 +129,18 @@ pub record IsWritten (c : Connection) (count : ℕ) (before after settled_before
   pub kept : new c ≡ option_map (λ (bytes : Bytes). drop count bytes) (old c)
   pub others : KeepsOthers c old new
 
--- what a close adds: its connection was closed, or nothing where it took no room before
-abbrev pub IsShut : Connection → Type 0 → List Occurrence → Type 0
-IsShut c was_gone shut = ((shut ≡ Closed c ∷ []) × (was_gone → ⊥)) ⊎ ((shut ≡ []) × was_gone)
+-- a connection's close at a moment, or at the last one that is told apart where it is later
+abbrev pub closed_at : Connection → ℕ → Occurrence
+closed_at c time = Closed (record { connection = c; moment = moment time })
 
--- A connection was closed, and no other, unless it took no room before.
-pub record IsClosed (c : Connection) (was_gone : Type 0) (before after : Past) (old new : Kept) : Type 0 where
+-- what a close at a moment adds: its connection was closed then, or nothing where it took no room before
+abbrev pub IsShut : Connection → ℕ → Type 0 → List Occurrence → Type 0
+IsShut c time was_gone shut = ((shut ≡ closed_at c time ∷ []) × (was_gone → ⊥)) ⊎ ((shut ≡ []) × was_gone)
+
+-- A connection was closed at a moment, and no other, unless it took no room before.
+pub record IsClosed (c : Connection) (time : ℕ) (was_gone : Type 0) (before after : Past) (old new : Kept) : Type 0 where
   pub shut : List Occurrence
-  pub is : IsShut c was_gone shut
+  pub is : IsShut c time was_gone shut
   pub past : (story : Story) → before story → after (going_on story shut)
   pub kept : new c ≡ None
   pub others : KeepsOthers c old new

@@ -126,7 +126,7 @@ pub trait Answers {
     /// Closes a connection, at a moment in milliseconds: its room comes back. What it keeps for it is lost. Nothing happens where it took no
     /// room before.
     fn close(&mut self, conn: ConnId, moment: u64) -> Result<(), Memory>
-        ensures closed { OnOk result (IsClosed (connection_of conn) (is_gone self.old (connection_of conn)) (is_past self.old) (is_past self.new)
+        ensures closed { OnOk result (IsClosed (connection_of conn) moment (is_gone self.old (connection_of conn)) (is_past self.old) (is_past self.new)
             (kept self.old) (kept self.new)) }
         ensures gone { OnOk result (is_gone self.new (connection_of conn)) }
         ensures left { OnErr result (IsLeftOf (is_past self.old) (is_left self.new)) };

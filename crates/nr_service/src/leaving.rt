@@ -61,7 +61,7 @@ pub(crate) fn part<S: Stream, D: Device<S>>(device: &mut D, stream: S, ending: E
     }
 }
 
-// Takes one from the list, closes it, and lets go of its stream.
+// Takes one from the list, closes it at a moment in milliseconds, and lets go of its stream.
 fn let_go<A: Answers, S: Stream, D: Device<S>>(
     answers: &mut A,
     device: &mut D,
@@ -71,9 +71,9 @@ fn let_go<A: Answers, S: Stream, D: Device<S>>(
     ending: Ending,
 ) -> Result<(), Memory>
     requires { index < length clients.old.items }
-    ensures gone { OnOk result (LetsGoOne S.received S.sent S.course A.is_past A.kept A.is_gone D.parted ending index answers.old answers.new
+    ensures gone { OnOk result (LetsGoOne S.received S.sent S.course A.is_past A.kept A.is_gone D.parted ending moment index answers.old answers.new
         device.old device.new clients.old.items clients.new.items) }
-    ensures left { OnErr result (Loses S.received S.sent S.course A.is_past A.is_left A.kept D.parted answers.old answers.new device.old device.new
+    ensures left { OnErr result (Loses S.received S.sent S.course A.is_past A.is_left A.kept D.parted moment answers.old answers.new device.old device.new
         clients.old.items clients.new.items) }
 {
     let Client { conn, stream, .. } = clients.swap_remove(index);
@@ -94,7 +94,7 @@ fn let_go_at<A: Answers, S: Stream, D: Device<S>>(
 ) -> Result<(), Memory>
     ensures gone { OnOk result (LetsGo S.received S.sent S.course A.is_past A.kept A.stands A.busy A.is_gone D.parted bounds answers.old answers.new
         device.old device.new clients.old.items clients.new.items) }
-    ensures left { OnErr result (Loses S.received S.sent S.course A.is_past A.is_left A.kept D.parted answers.old answers.new device.old device.new
+    ensures left { OnErr result (Loses S.received S.sent S.course A.is_past A.is_left A.kept D.parted bounds.now answers.old answers.new device.old device.new
         clients.old.items clients.new.items) }
     ensures all { signs.new.is_all ≡ signs.old.is_all }
     ensures calm { OnOk result (signs.new.is_busy ≡ false → signs.old.is_busy ≡ false) }
@@ -126,7 +126,7 @@ pub(crate) fn let_go_listed<A: Answers, S: Stream, D: Device<S>>(
 ) -> Result<(), Memory>
     ensures gone { OnOk result (LetsGo S.received S.sent S.course A.is_past A.kept A.stands A.busy A.is_gone D.parted bounds answers.old answers.new
         device.old device.new clients.old.items clients.new.items) }
-    ensures left { OnErr result (Loses S.received S.sent S.course A.is_past A.is_left A.kept D.parted answers.old answers.new device.old device.new
+    ensures left { OnErr result (Loses S.received S.sent S.course A.is_past A.is_left A.kept D.parted bounds.now answers.old answers.new device.old device.new
         clients.old.items clients.new.items) }
     ensures all { signs.new.is_all ≡ signs.old.is_all }
     ensures calm { OnOk result (signs.new.is_busy ≡ false → signs.old.is_busy ≡ false) }

@@ -1,5 +1,5 @@
 // The door of a lane: the sockets of the connections that its thread serves, and which of them are ready.
-ghost use Rattle.std.specs.Prelude.{◌≡◌, ◌≤◌, ◌↔◌, true, false, [], None, Err, length, IfOk, IfSome, IsOk};
+ghost use Rattle.std.specs.Prelude.{◌≡◌, ◌≤◌, ◌↔◌, true, false, [], ◌∷◌, ◌++◌, None, Err, length, IfOk, IfSome, IsOk};
 ghost use Rattle.nr_service.specs.Streams.{fresh_course};
 
 use crate::entrance::{Entrance, Lane, Lookout, WAKER};
@@ -12,7 +12,7 @@ use mio::event::Event;
 use mio::{Events, Interest, Poll, Token};
 use nr_blob::Memory;
 use nr_service::{Device, Ready, Stream};
-use nr_transcript::Transcript;
+use nr_transcript::{Noted, Transcript};
 use slab::Slab;
 use std::alloc::Global;
 use std::rt::Clock;
@@ -37,6 +37,13 @@ pub enum DoorError {
     Memory(Memory),
 }
 
+// A socket that was given back, and whether all was sent that waited for it.
+#[derive(Drop)]
+struct Gone {
+    socket: Socket,
+    is_finished: bool,
+}
+
 /// The sockets of one lane, each with a place in the list of what is ready. They come through the lane's letter box, and the lane's bell ends a wait.
 #[derive(Drop)]
 pub struct Door<'a, R> {
@@ -57,6 +64,8 @@ pub struct Door<'a, R> {
     waits: u32,
     // Whether nothing more is taken or read.
     is_closed: bool,
+    // The sockets that it was given back.
+    parted: Noted<Gone>,
     pub ghost few_linger: { length lingering.items ≤ 1024 },
 }
 
@@ -72,7 +81,9 @@ impl<'a, R> Door<'a, R> {
         entrance: &'a Entrance,
         lookout: Lookout,
     ) -> Result<Door<'a, R>, DoorError>
-        ensures { (result ≡ Err DoorError.NoLane) ↔ (entrance.now ≤ lookout.lane) }
+        ensures no_lane { (result ≡ Err DoorError.NoLane) ↔ (entrance.now ≤ lookout.lane) }
+        ensures lane { IfOk result (λ door. door.lane.now.number ≡ lookout.lane) }
+        ensures parted { IfOk result (λ door. door.parted.items ≡ []) }
     {
         let Some(lane) = entrance.lane(lookout.lane) else {
             return Err(DoorError::NoLane);
@@ -94,17 +105,21 @@ impl<'a, R> Door<'a, R> {
             is_lingering_ready: false,
             waits: MOST_WAITS,
             is_closed: false,
+            parted: Noted::new(),
         })
     }
 
     /// How many of the connections that were dealt to this lane became none since this was last asked, since memory or the system refused it.
-    pub fn take_lost(&mut self) -> u64 {
+    pub fn take_lost(&mut self) -> u64
+        ensures { self.new.parted ≡ self.old.parted }
+    {
         self.lane.letters.take_lost()
     }
 
     // The socket of a connection, or `None` where memory or the system refuses it.
     fn socket(&mut self, mut stream: Peer) -> Option<Socket>
-        ensures { IfSome result (λ socket. (socket.received.bytes ≡ []) × (socket.sent.bytes ≡ [])) }
+        ensures fresh { IfSome result (λ socket. (socket.received.bytes ≡ []) × (socket.sent.bytes ≡ [])) }
+        ensures parted { self.new.parted ≡ self.old.parted }
     {
         let readiness = Arc::new(self.alloc, Readiness::new()).ok()?;
         let shared = Arc::try_clone(&readiness).ok()?;
@@ -140,7 +155,9 @@ impl<'a, R> Door<'a, R> {
     }
 
     // Notes what the system told of.
-    fn note(&mut self) {
+    fn note(&mut self)
+        ensures { self.new.parted ≡ self.old.parted }
+    {
         let ready = &self.ready;
         self.listed.retain(|place| has_more(ready, *place));
         for event in &self.events {
@@ -158,15 +175,26 @@ impl<'a, R> Door<'a, R> {
     }
 
     // Reads nothing more, where it is told so, but of those that linger.
-    fn heed(&mut self) {
+    fn heed(&mut self)
+        ensures { self.new.parted ≡ self.old.parted }
+    {
         if !self.is_closed && self.lane.is_closed() {
             self.is_closed = true;
             deafen(&self.ready);
         }
     }
 
+    // Closes a socket at once.
+    fn close(&mut self, socket: Socket)
+        ensures { self.new.parted ≡ self.old.parted }
+    {
+        self.ready.try_remove(socket.place);
+    }
+
     // Whether those that linger are to be looked at: one of them may be read, or it is time to.
-    fn has_to_linger(&mut self) -> bool {
+    fn has_to_linger(&mut self) -> bool
+        ensures { self.new.parted ≡ self.old.parted }
+    {
         self.waits = self.waits.saturating_sub(1);
         !self.lingering.is_empty() && (self.is_lingering_ready || self.waits == 0)
     }
@@ -177,6 +205,7 @@ impl<R: Wait> Door<'_, R> {
     fn next(&mut self) -> Option<Socket>
         ensures fresh { IfSome result (λ socket. (socket.received.bytes ≡ []) × (socket.sent.bytes ≡ [])) }
         ensures closed { self.old.is_closed ≡ true → result ≡ None }
+        ensures parted { self.new.parted ≡ self.old.parted }
     {
         if self.is_closed {
             return None;
@@ -194,7 +223,9 @@ impl<R: Wait> Door<'_, R> {
 
 impl<R: Clock> Door<'_, R> {
     // Drops what peers of lingering sockets still send, a piece of each, and lets go of those whose time is over. Where there is no clock they all go.
-    fn linger(&mut self) {
+    fn linger(&mut self)
+        ensures { self.new.parted ≡ self.old.parted }
+    {
         self.waits = MOST_WAITS;
         self.is_lingering_ready = false;
         let now = Instant::now(self.runtime).ok();
@@ -216,7 +247,9 @@ impl<R: Clock> Door<'_, R> {
     }
 
     // Lets a socket linger, where that can be.
-    fn keep(&mut self, socket: Socket) {
+    fn keep(&mut self, socket: Socket)
+        ensures { self.new.parted ≡ self.old.parted }
+    {
         let place = socket.place;
         socket.readiness.set_lingering();
         let is_kept = match Instant::now(self.runtime) {
@@ -245,6 +278,19 @@ fn has_more(ready: &Slab<Shared>, place: usize) -> bool {
         }
         None => false,
     }
+}
+
+// Notes that a socket was given back, and whether all was sent that waited for it.
+fn note_parting(parted: &mut Noted<Gone>, socket: Socket, is_finished: bool) -> Socket
+    ensures parted { parted.new.items ≡ parted.old.items ++ record { socket = socket; is_finished = is_finished } ∷ [] }
+    ensures socket { result ≡ socket }
+{
+    let gone = Gone {
+        socket,
+        is_finished,
+    };
+    parted.note(&gone);
+    gone.socket
 }
 
 // Nothing more is read of any, but of those that linger.
@@ -281,9 +327,15 @@ fn mark(ready: &Slab<Shared>, event: &Event) -> bool {
 }
 
 impl<R: Clock + Wait> Device<Socket> for Door<'_, R> {
+    ghost use Rattle.std.specs.Prelude.{Some, map, if◌then◌else◌};
+    ghost use Rattle.nr_service.specs.Devices.{Finished, Abandoned};
+
+    ghost parted = { λ door. Some (map (λ gone. if gone.is_finished then Finished gone.socket else Abandoned gone.socket) door.parted.items) };
+
     // Want of memory ends a connection, and never the server.
     fn accept(&mut self) -> Result<Option<Socket>, Memory>
         ensures goes_on { IsOk result }
+        ensures parted { ⟦<Self as Device<Socket>>⟧.parted self.new ≡ ⟦<Self as Device<Socket>>⟧.parted self.old }
         ensures received { IfOk result (λ accepted. IfSome accepted (λ socket. IfSome (⟦<Socket as Stream>⟧.received socket) (λ bytes. bytes ≡ []))) }
         ensures sent { IfOk result (λ accepted. IfSome accepted (λ socket. IfSome (⟦<Socket as Stream>⟧.sent socket) (λ bytes. bytes ≡ []))) }
         ensures course { IfOk result (λ accepted. IfSome accepted (λ socket. IfSome (⟦<Socket as Stream>⟧.course socket) (λ course. course ≡ fresh_course))) }
@@ -312,14 +364,16 @@ impl<R: Clock + Wait> Device<Socket> for Door<'_, R> {
     }
 
     fn finish(&mut self, socket: Socket) {
+        let socket = note_parting(&mut self.parted, socket, true);
         if socket.stream.end().is_ok() {
             self.keep(socket);
         } else {
-            self.abandon(socket);
+            self.close(socket);
         }
     }
 
     fn abandon(&mut self, socket: Socket) {
-        self.ready.try_remove(socket.place);
+        let socket = note_parting(&mut self.parted, socket, false);
+        self.close(socket);
     }
 }

@@ -1,11 +1,12 @@
 // The entrance of a server that is served in lanes, each by a thread: the bells and the letter boxes of all.
-ghost use Rattle.std.specs.Prelude.{ℕ, ◌≡◌, ◌≤◌, ◌↔◌, IfOk, None, Some, length, slice_get};
+ghost use Rattle.std.specs.Prelude.{ℕ, ◌≡◌, ◌≤◌, ◌↔◌, [], ◌∷◌, ◌++◌, IfOk, IfSome, None, Some, length, slice_get};
 
 use crate::bell::Bell;
 use crate::letters::LetterBox;
 use crate::peer::Peer;
 use mio::{Events, Poll, Token, Waker};
 use nr_service::Rings;
+use nr_transcript::Noted;
 use std::alloc::Global;
 use std::io;
 use std::marker::Model;
@@ -22,6 +23,8 @@ const MOST_EVENTS: usize = 1_024;
 /// What others reach a lane by.
 #[derive(Drop)]
 pub(crate) struct Lane {
+    // Its place among the lanes.
+    number: usize,
     pub(crate) bell: Bell,
     pub(crate) letters: LetterBox,
     // Whether it takes and reads nothing more.
@@ -37,6 +40,19 @@ impl Lane {
     fn close(&self) {
         self.is_closed.store(true, Ordering::SeqCst);
         self.bell.ring();
+    }
+
+    // Puts a connection, where there is one, into its letter box, rings, and notes that it was dealt to this lane.
+    fn take_in<R: Wait>(&self, runtime: &R, held: Option<Peer>, dealt: &mut Noted<Option<usize>>)
+        ensures { dealt.new.items ≡ dealt.old.items ++ Some self.now.number ∷ [] }
+    {
+        dealt.note(&Some(self.number));
+        let Some(peer) = held else {
+            return;
+        };
+        if self.letters.put(runtime, peer) {
+            self.bell.ring();
+        }
     }
 }
 
@@ -55,7 +71,7 @@ pub struct Lookout {
 }
 
 impl Model for Entrance {
-    ghost use Rattle.std.specs.Prelude.{ℕ, length};
+    ghost use Rattle.std.specs.Prelude.{◌≡◌, ℕ, Some, length, slice_get};
     ghost use Rattle.std.specs.Coded.{coded_ℕ};
 
     ghost Value = { ℕ };
@@ -63,22 +79,33 @@ impl Model for Entrance {
     ghost coded = { coded_ℕ };
 
     ghost view = { λ e. length e.lanes.items };
+
+    // Each lane has the number of its place.
+    ghost invariant = { λ e. (number : ℕ) (lane : _) → slice_get e.lanes.items number ≡ Some lane → lane.number ≡ number };
 }
 
 impl Entrance {
     pub(crate) fn lane(&self, lane: usize) -> Option<&Lane>
-        ensures { (result ≡ None) ↔ (self.now ≤ lane) }
+        ensures none { (result ≡ None) ↔ (self.now ≤ lane) }
+        ensures number { IfSome result (λ found. found.now.number ≡ lane) }
     {
         self.lanes.get(lane)
     }
 
-    /// Puts a connection into the letter box of a lane, and rings there. It is closed where memory is refused, or there is no such lane.
-    pub(crate) fn hand_in<R: Wait>(&self, runtime: &R, lane: usize, peer: Peer) {
-        let Some(lane) = self.lanes.get(lane) else {
-            return;
-        };
-        if lane.letters.put(runtime, peer) {
-            lane.bell.ring();
+    /// Puts the connection that is held, where one is, into the letter box of a lane, rings there, and notes that it was dealt to that lane. It is closed
+    /// where memory is refused, or there is no such lane.
+    pub(crate) fn hand_in<R: Wait>(
+        &self,
+        runtime: &R,
+        lane: usize,
+        held: Option<Peer>,
+        dealt: &mut Noted<Option<usize>>,
+    )
+        ensures { dealt.new.items ≡ dealt.old.items ++ Some lane ∷ [] }
+    {
+        match self.lane(lane) {
+            Some(found) => found.take_in(runtime, held, dealt),
+            None => dealt.note(&Some(lane)),
         }
     }
 
@@ -107,15 +134,17 @@ impl Rings for Entrance {
     }
 }
 
-// What others reach one lane by, and what its thread waits at.
+// What others reach the lane of a number by, and what its thread waits at.
 fn open_lane<N: Net>(alloc: Global, net: &N, lane: usize) -> io::Result<(Lane, Lookout)>
-    ensures { IfOk result (λ opened. opened.1.lane ≡ lane) }
+    ensures number { IfOk result (λ opened. opened.0.number ≡ lane) }
+    ensures lookout { IfOk result (λ opened. opened.1.lane ≡ lane) }
 {
     let poll = Poll::new(net)?;
     let waker = Waker::new(poll.registry(), WAKER)?;
     let events = Events::with_capacity(alloc, MOST_EVENTS)?;
     Ok((
         Lane {
+            number: lane,
             bell: Bell::new(waker),
             letters: LetterBox::new(alloc),
             is_closed: AtomicBool::new(false),

@@ -9,6 +9,7 @@ use crate::keepalive::{Keepalive, keepalive_of};
 use crate::listening::Listening;
 use crate::peer::Peer;
 use nr_service::{Accepts, Ends};
+use nr_transcript::Noted;
 use std::alloc::Global;
 use std::os::fd::RawFd;
 use std::rt::Clock;
@@ -40,6 +41,8 @@ pub struct Listener<'a, R> {
     shutdown_seconds: u32,
     // The connection that was taken, until it is dealt or turned away.
     held: Option<Peer>,
+    // To which lane each was dealt, or none where it was turned away.
+    dealt: Noted<Option<usize>>,
     farewells: Farewells,
     input: Option<Input>,
     course: Course,
@@ -59,6 +62,7 @@ impl<'a, R: Clock> Listener<'a, R> {
         ensures listening { result.listening ≡ listening }
         ensures turned_away { result.turned_away ≡ 0 }
         ensures short { result.short ≡ 0 }
+        ensures dealt { result.dealt.items ≡ [] }
     {
         let input = match terms.input {
             Some(descriptor) => Input::watch(listening.registry(), descriptor),
@@ -73,6 +77,7 @@ impl<'a, R: Clock> Listener<'a, R> {
             keepalive: keepalive_of(terms.tcp_keepalive),
             shutdown_seconds: terms.shutdown_seconds,
             held: None,
+            dealt: Noted::new(),
             farewells: Farewells::new(alloc),
             input,
             course: Course::Open,
@@ -89,6 +94,7 @@ impl<'a, R: Clock> Listener<'a, R> {
         ensures listening { self.new.listening ≡ self.old.listening }
         ensures turned_away { self.new.turned_away ≡ self.old.turned_away }
         ensures short { self.new.short ≡ self.old.short }
+        ensures dealt { self.new.dealt ≡ self.old.dealt }
     {
         self.input = None;
         self.course = Course::Ended(Instant::now(self.runtime).ok());
@@ -97,7 +103,8 @@ impl<'a, R: Clock> Listener<'a, R> {
 
     // Takes the next connection that waits, and none once the input has ended.
     fn next(&mut self) -> Option<Peer>
-        ensures { self.old.course ≢ Course.Open → result ≡ None }
+        ensures over { self.old.course ≢ Course.Open → result ≡ None }
+        ensures dealt { self.new.dealt ≡ self.old.dealt }
     {
         if !self.course.is_open() {
             return None;
@@ -106,7 +113,9 @@ impl<'a, R: Clock> Listener<'a, R> {
     }
 
     // Reads the input, of which the system told.
-    fn read_input(&mut self) {
+    fn read_input(&mut self)
+        ensures { self.new.dealt ≡ self.old.dealt }
+    {
         let goes_on = match &self.input {
             Some(input) => input.goes_on(self.listening.registry()),
             None => true,
@@ -118,6 +127,10 @@ impl<'a, R: Clock> Listener<'a, R> {
 }
 
 impl<R: Clock + Wait> Accepts for Listener<'_, R> {
+    ghost use Rattle.std.specs.Prelude.{Some};
+
+    ghost dealt = { λ listener. Some listener.dealt.items };
+
     fn accept(&mut self) -> bool {
         self.held = self.next();
         self.may_follow = self.held.is_some();
@@ -125,13 +138,12 @@ impl<R: Clock + Wait> Accepts for Listener<'_, R> {
     }
 
     fn deal(&mut self, lane: usize) {
-        let Some(peer) = self.held.take() else {
-            return;
-        };
-        if let (Peer::Tcp(stream), Some(keepalive)) = (&peer, self.keepalive) {
+        let held = self.held.take();
+        if let (Some(Peer::Tcp(stream)), Some(keepalive)) = (&held, self.keepalive) {
             keepalive.set_on(stream);
         }
-        self.entrance.hand_in(self.runtime, lane, peer);
+        self.entrance
+            .hand_in(self.runtime, lane, held, &mut self.dealt);
     }
 
     fn turn_away(&mut self)
@@ -139,6 +151,7 @@ impl<R: Clock + Wait> Accepts for Listener<'_, R> {
         ensures counted { self.new.turned_away ≡ min (self.old.turned_away + 1) u64.MAX }
     {
         self.turned_away = self.turned_away.saturating_add(1);
+        self.dealt.note(&None);
         if let Some(peer) = self.held.take() {
             self.farewells.bid(self.runtime, peer);
         }

@@ -1,6 +1,6 @@
 -- A desk stands for a worker of the law once a batch was handed in.
-use Rattle.std.proofs.Common.{◌<◌, ◌≡◌, ℕ, Bool, true, List, [], ◌∷◌, ◌++◌, length, take, drop, Contains, refl, ap, sym, ◌∙◌, subst, append-nil}
-use Rattle.std.specs.Prelude.{suc, Result, Ok, Err, IsOk, OnOk}
+use Rattle.std.proofs.Common.{◌<◌, ◌≡◌, ℕ, Bool, true, List, [], ◌∷◌, ◌++◌, length, take, drop, Contains, inl, inr, refl, ap, sym, ◌∙◌, subst, append-nil}
+use Rattle.std.specs.Prelude.{suc, Result, Ok, Err, IsOk, OnOk, OnErr}
 use Rattle.std.specs.List.{AllByRecursion}
 use Rattle.std.proofs.lemmas.List.{map-append, take-append-drop}
 use Rattle.nr_model.specs.Items.{Connection, Item}
@@ -10,11 +10,13 @@ use Rattle.nr_entry.specs.declared.batch.Batch.{Batch}
 use Rattle.nr_entry.specs.declared.job.Job.{Job}
 use Rattle.nr_node.proofs.Owed.{all_back, all_front}
 use Rattle.nr_slots.specs.Seats.{with_posted}
-use Rattle.nr_combiner.specs.Workers.{HasPosted, WorkerState}
+use Rattle.nr_combiner.specs.Counts.{next_generation}
+use Rattle.nr_combiner.specs.Workers.{HasPosted, WorkerState, with_more}
+use Rattle.nr_combiner.specs.Workers as workers
 use Rattle.nr_worker.specs.Desk.{DeskState, IsLed, Served, asked_of}
 use Rattle.nr_worker.specs.Law.{GoesTo}
 use Rattle.nr_worker.specs.Moves.{Posts}
-use Rattle.nr_worker.specs.Working.{Goes, IsBelow, IsToPost, LeadsTo, Reflects, WorkState, unchanged}
+use Rattle.nr_worker.specs.Working.{Goes, IsBelow, IsToPost, LeadsTo, MayHaveClosed, Reflects, WorkState, unchanged}
 use Rattle.nr_worker.proofs.Desks.{posted_led}
 use Rattle.nr_worker.proofs.Lists.{all_weaker}
 
@@ -33,9 +35,10 @@ stays v w same = record {
   };
 }
 
--- how many of the jobs are late is nothing to the law
-pub late_too : (change : List Served → List Served) (v w : WorkState) (late : ℕ) → Goes change v w → Goes change v (record w { late = late })
-late_too change v w late g = record {
+-- how many of the jobs are late is nothing to the law, nor is the worker's generation
+numbered_too : (change : List Served → List Served) (v w : WorkState) (late generation : ℕ) → Goes change v w
+    → Goes change v (record w { late = late; worker = record w.worker { generation = generation } })
+numbered_too change v w late generation g = record {
   leads = λ d led r.
       let l = g.leads d led r in
       let now = l.reflects in
@@ -57,6 +60,23 @@ late_too change v w late g = record {
         served = l.served;
       };
 }
+
+pub late_too : (change : List Served → List Served) (v w : WorkState) (late : ℕ) → Goes change v w → Goes change v (record w { late = late })
+late_too change v w late g = numbered_too change v w late w.worker.generation g
+
+more_too : (change : List Served → List Served) (v w : WorkState) → Goes change v w → Goes change v (record w { worker = with_more w.worker })
+more_too change v w g = numbered_too change v w w.late (next_generation w.worker.generation) g
+
+pub closed_too : (change : List Served → List Served) (v w : WorkState) (worker : WorkerState) → workers.MayHaveClosed w.worker worker → Goes change v w
+    → Goes change v (record w { worker = worker })
+closed_too change v w worker (inl more) g = subst (λ (x : WorkerState). Goes change v (record w { worker = x })) (sym more) (more_too change v w g)
+closed_too change v w worker (inr same) g = subst (λ (x : WorkerState). Goes change v (record w { worker = x })) (sym same) g
+
+-- where a connection wasn't opened its node may have closed it again
+pub unopened : {T E : Type 0} (r : Result T E) (v w : WorkState) → OnErr r (MayHaveClosed v w) → OnErr r (Goes unchanged v w)
+unopened (Ok opened) v w closed = tt
+unopened (Err why) v w closed =
+    subst (Goes unchanged v) (sym closed.changed) (closed_too unchanged v v w.worker closed.worker (stays v v refl))
 
 -- ---- a batch is handed in
 -- what holds of each of these with each of those

@@ -13,6 +13,8 @@ use Rattle.nr_model.proofs.NodesExecutedLists.{first_in, in_cases, in_middle, la
 use Rattle.nr_entry.specs.Jobs.{items_of}
 use Rattle.nr_entry.specs.declared.batch.Batch.{Batch}
 use Rattle.nr_entry.specs.declared.job.Job.{Job}
+use Rattle.nr_combiner.specs.Workers.{WorkerState}
+use Rattle.nr_combiner.specs.Workers as workers
 use Rattle.nr_seats.specs.Seated.{SeatState, last_job}
 use Rattle.nr_seats.specs.Placed.{IsPut, SeatsState, closed_seen, seat_at}
 use Rattle.nr_seats.specs.Portions.{EachSeat, seat_of}
@@ -21,7 +23,7 @@ use Rattle.nr_seats.proofs.Putting.{each_put, named, seat_here, seat_others}
 use Rattle.nr_worker.specs.Desk.{AllPosted, CountsFrom, DeskState, IsLed, IsServedAt, Served, asked_of}
 use Rattle.nr_worker.specs.Moves.{Asks}
 use Rattle.nr_worker.specs.Working.{AreApart, Closes, Goes, IsBelow, IsSeatOf, IsSeated, IsToPost, LeadsTo, Reflects, WorkState, all_closed, closed_with, connections_of, last_here, last_seen}
-use Rattle.nr_worker.proofs.Batched.{goes_nowhere, late_too}
+use Rattle.nr_worker.proofs.Batched.{closed_too, goes_nowhere, late_too}
 use Rattle.nr_worker.proofs.Desks.{asked_led}
 use Rattle.nr_worker.proofs.Lists.{above, all_at, all_both, all_weaker, posted_both, posted_weaker}
 use Rattle.nr_worker.proofs.Nourished.{behind, counts_both, differ_false, false_differs, one_changes, parts_of}
@@ -278,14 +280,16 @@ seen_here : (moment : ℕ) (o : Option SeatState) → last_seen (option_map (las
 seen_here moment None = refl
 seen_here moment (Some s) = refl
 
-pub closed_by : (v u : WorkState) (seats : SeatsState) (r a b : List Job) (late serial moment : ℕ) (closed : Closed) → u ≡ v → u.jobs ≡ r ++ a
+pub closed_by : (v u : WorkState) (worker : WorkerState) (seats : SeatsState) (r a b : List Job) (late serial moment : ℕ) (closed : Closed) → u ≡ v
+    → workers.MayHaveClosed u.worker worker → u.jobs ≡ r ++ a
     → closed_seen closed ≡ option_map (last_job moment) (seat_at serial u.seats) → IsPut serial None u.seats seats
     → items_of b ≡ items_of a ++ last_seen (closed_seen closed) → late ≡ u.late + length (last_seen (closed_seen closed))
-    → let w : WorkState = record u { seats = seats; jobs = r ++ b; late = late } in
+    → let w : WorkState = record u { worker = worker; seats = seats; jobs = r ++ b; late = late } in
     Closes serial moment v w × Goes (all_closed (last_here moment (seat_at serial v.seats))) v w
-closed_by v u seats r a b late serial moment closed same are seen put added late_is =
+closed_by v u worker seats r a b late serial moment closed same may are seen put added late_is =
     let w : WorkState = record u { seats = seats; jobs = r ++ b } in
-    let now : WorkState = record w { late = late } in
+    let later : WorkState = record w { late = late } in
+    let now : WorkState = record later { worker = worker } in
     let o = seat_at serial u.seats in
     let put_behind : items_of b ≡ items_of a ++ option_to_list (last_here moment o) =
     added ∙ (λ i. items_of a ++ last_seen (seen i)) ∙ ap (λ (js : Jobs). items_of a ++ js) (seen_here moment o) in
@@ -294,6 +298,7 @@ closed_by v u seats r a b late serial moment closed same are seen put added late
     let last : items_of (r ++ b) ≡ items_of u.jobs ++ option_to_list (last_here moment o) =
     behind r a b (option_to_list (last_here moment o)) put_behind ∙ ap (λ (js : List Job). items_of js ++ option_to_list (last_here moment o)) (sym are) in
     subst (λ (x : WorkState). Closes serial moment x now × Goes (all_closed (last_here moment (seat_at serial x.seats))) x now) same (
-      record { gone = put; last = last; late = late_now; changed = refl },
-      late_too (all_closed (last_here moment o)) u w late (closes_at u seats (r ++ b) serial moment o refl put last),
+      record { gone = put; last = last; late = late_now; worker = may; changed = refl },
+      closed_too (all_closed (last_here moment o)) u later worker may
+          (late_too (all_closed (last_here moment o)) u w late (closes_at u seats (r ++ b) serial moment o refl put last)),
     )

@@ -21,7 +21,7 @@ use Rattle.nr_combiner.specs.declared.answering.Lifts.{Lifts}
 use Rattle.nr_combiner.specs.declared.answering.Turned.{Turned}
 use Rattle.nr_combiner.specs.Heard.{HasHeard}
 use Rattle.nr_combiner.specs.Pieces.{AreRising, IsHandedOf}
-use Rattle.nr_combiner.specs.Workers.{WorkerState}
+use Rattle.nr_combiner.specs.Workers.{WorkerState, with_more}
 use Rattle.nr_taps.specs.Marks.{Adopts}
 use Rattle.nr_taps.specs.Taps.{HaveMet}
 use Rattle.nr_seats.specs.Seated.{SeatState}
@@ -283,7 +283,7 @@ module _ (v : WorkState) (seats : SeatsState) (mark : Option Standing) (most : �
   change = handed_more handed
 
   abbrev now : WorkState
-  now = record v { seats = seats; mark = mark }
+  now = record v { worker = with_more v.worker; seats = seats; mark = mark }
 
   abbrev then_of : DeskState → DeskState
   then_of d = record d { mark = mark; served = map change d.served }
@@ -362,7 +362,7 @@ module _ (v : WorkState) (seats : SeatsState) (mark : Option Standing) (most : �
   }
 
 pub turned_by : (v u : WorkState) (worker : WorkerState) (seats : SeatsState) (mark : Option Standing) (most : ℕ) (down : Bool) (s : Standing)
-    (old pieces : List Handed) → u ≡ v → old ≡ [] → worker ≡ u.worker
+    (old pieces : List Handed) → u ≡ v → old ≡ [] → worker ≡ with_more u.worker
     → HasHeard u.worker.seat.worker most down s u.worker.seat.lane old pieces → IsSound s × (s.node ≡ u.worker.node) → Adopts u.mark s mark
     → HaveMet u.mark (Some s) → Accepts u.limit (map portion_of pieces) u.seats seats
     → HandsOn v (record u { worker = worker; seats = seats; mark = mark })
@@ -373,8 +373,8 @@ turned_by v u worker seats mark most down s old pieces same none still heard sou
     (subst (λ (hs : List Handed). HasHeard u.worker.seat.worker most down s u.worker.seat.lane hs pieces) none heard) adopted met))
 
 pub took_by : (places : ℕ) (lifts : Lifts) (turned : Turned) (v u : WorkState) (worker : WorkerState) (seats : SeatsState) (mark : Option Standing) (most : ℕ)
-    (s : Standing) (note : NoteView) (old pieces : List Handed) → u ≡ v → old ≡ [] → worker ≡ u.worker
-    → TurnsBehind places u.worker.node u.worker.seat.worker lifts most old pieces turned s note → Adopts u.mark s mark
+    (s : Standing) (note : NoteView) (old pieces : List Handed) → u ≡ v → old ≡ [] → worker ≡ with_more u.worker
+    → TurnsBehind places u.worker.node u.worker.seat.worker u.worker.generation lifts most old pieces turned s note → Adopts u.mark s mark
     → Accepts u.limit (map portion_of pieces) u.seats seats
     → TakesTurn places lifts most turned v (record u { worker = worker; seats = seats; mark = mark })
 took_by places lifts turned v u worker seats mark most s note old pieces same none still behind adopted a =
@@ -382,14 +382,14 @@ took_by places lifts turned v u worker seats mark most s note old pieces same no
       standing = s;
       note = note;
       pieces = pieces;
-      behind = subst (λ (hs : List Handed). TurnsBehind places u.worker.node u.worker.seat.worker lifts most hs pieces turned s note) none behind;
+      behind = subst (λ (hs : List Handed). TurnsBehind places u.worker.node u.worker.seat.worker u.worker.generation lifts most hs pieces turned s note) none behind;
       adopted = adopted;
       accepted = a;
     })
 
 pub got_by : (collected : Collected) (v u : WorkState) (worker : WorkerState) (seats : SeatsState) (mark : Option Standing) (most : ℕ)
-    (s : Standing) (note : NoteView) (old pieces : List Handed) → u ≡ v → old ≡ [] → worker ≡ u.worker
-    → CollectsBehind u.worker.node u.worker.seat.worker most old pieces collected s note → Adopts u.mark s mark
+    (s : Standing) (note : NoteView) (old pieces : List Handed) → u ≡ v → old ≡ [] → worker ≡ with_more u.worker
+    → CollectsBehind u.worker.node u.worker.seat.worker u.worker.generation most old pieces collected s note → Adopts u.mark s mark
     → Accepts u.limit (map portion_of pieces) u.seats seats
     → TakesPieces most collected v (record u { worker = worker; seats = seats; mark = mark })
 got_by collected v u worker seats mark most s note old pieces same none still behind adopted a =
@@ -397,7 +397,7 @@ got_by collected v u worker seats mark most s note old pieces same none still be
       standing = s;
       note = note;
       pieces = pieces;
-      behind = subst (λ (hs : List Handed). CollectsBehind u.worker.node u.worker.seat.worker most hs pieces collected s note) none behind;
+      behind = subst (λ (hs : List Handed). CollectsBehind u.worker.node u.worker.seat.worker u.worker.generation most hs pieces collected s note) none behind;
       adopted = adopted;
       accepted = a;
     })

@@ -24,7 +24,8 @@ use Rattle.nr_combiner.specs.declared.answering.Collected.{Collected}
 use Rattle.nr_combiner.specs.declared.answering.Lifts.{Lifts}
 use Rattle.nr_combiner.specs.declared.answering.Turned.{Turned}
 use Rattle.nr_combiner.specs.declared.worker.TheConstants.{MOST_JOBS}
-use Rattle.nr_combiner.specs.Workers.{WorkerState, coded_worker, HasPosted}
+use Rattle.nr_combiner.specs.Workers.{WorkerState, coded_worker, with_more, HasPosted}
+use Rattle.nr_combiner.specs.Workers as workers
 use Rattle.nr_seats.specs.Seated.{SeatState, cut_off, fresh_seat, last_job, with_written}
 use Rattle.nr_seats.specs.Placed.{FeedsSeat, IsPut, SeatsState, StopsSeat, coded_seats, listens_here, seat_at, takes_here}
 use Rattle.nr_seats.specs.Portions.{Accepts, EachSeat, HandsOut, portion_of}
@@ -190,6 +191,11 @@ pub record OpensAt (c : Connection) (v w : WorkState) : Type 0 where
   pub put : IsPut c.serial (Some (fresh_seat c)) v.seats w.seats
   pub changed : w ≡ record v { seats = w.seats; next = c.serial + 1; mark = w.mark }
 
+-- A connection that was opened may have been closed again, and nothing else changed.
+pub record MayHaveClosed (v w : WorkState) : Type 0 where
+  pub worker : workers.MayHaveClosed v.worker w.worker
+  pub changed : w ≡ record v { worker = w.worker }
+
 -- it was closed with this last job, where it is the job's
 abbrev pub closed_with : Item → Served → Served
 closed_with job x = record x { closing = cond (same_connection job.connection x.connection) (Some job) x.closing }
@@ -209,12 +215,13 @@ abbrev pub last_seen : Option (Option Item) → List Item
 last_seen None = []
 last_seen (Some job) = option_to_list job
 
--- A seat was closed, if there was one: its last job stands behind the others, late as it is, and nothing else changed.
+-- A seat was closed, if there was one, and so was the node's queue: its last job stands behind the others, late as it is, and nothing else changed.
 pub record Closes (serial moment : ℕ) (v w : WorkState) : Type 0 where
   pub gone : IsPut serial None v.seats w.seats
   pub last : items_of w.jobs ≡ items_of v.jobs ++ option_to_list (last_here moment (seat_at serial v.seats))
   pub late : w.late ≡ v.late + length (option_to_list (last_here moment (seat_at serial v.seats)))
-  pub changed : w ≡ record v { seats = w.seats; jobs = w.jobs; late = w.late }
+  pub worker : workers.MayHaveClosed v.worker w.worker
+  pub changed : w ≡ record v { worker = w.worker; seats = w.seats; jobs = w.jobs; late = w.late }
 
 -- So many of the bytes that wait for a connection were written, and nothing else changed.
 pub record Writes (serial count : ℕ) (v w : WorkState) : Type 0 where
@@ -256,19 +263,19 @@ pub record HandsIn (most : ℕ) (v w : WorkState) : Type 0 where
   pub posted : HasPosted (take (due most v.returned) v.jobs) v.worker w.worker
   pub changed : w ≡ record v { worker = w.worker; jobs = drop (due most v.returned) v.jobs; returned = 0; waiting = true; late = w.late }
 
--- A turn handed these bytes out: they wait at the seats of their connections, and nothing else changed but the mark.
+-- A turn handed these bytes out: they wait at the seats of their connections, the worker's generation went up once, and nothing else changed but the mark.
 pub record HandsOn (v w : WorkState) : Type 0 where
   pub handed : List connections.Handed
   pub waiting : HandsOut v.worker.node handed v.seats w.seats
   pub goes : Goes (all_handed handed) v w
-  pub changed : w ≡ record v { seats = w.seats; mark = w.mark }
+  pub changed : w ≡ record v { worker = with_more v.worker; seats = w.seats; mark = w.mark }
 
 -- So it came from the turn that tells this, whose token the mark adopted, and whose pieces came to the seats.
 pub record TakesTurn (places : ℕ) (lifts : Lifts) (most : ℕ) (turned : Turned) (v w : WorkState) : Type 0 where
   pub standing : Standing
   pub note : NoteView
   pub pieces : List Handed
-  pub behind : TurnsBehind places v.worker.node v.worker.seat.worker lifts most [] pieces turned standing note
+  pub behind : TurnsBehind places v.worker.node v.worker.seat.worker v.worker.generation lifts most [] pieces turned standing note
   pub adopted : Adopts v.mark standing w.mark
   pub accepted : Accepts v.limit (map portion_of pieces) v.seats w.seats
 
@@ -277,6 +284,6 @@ pub record TakesPieces (most : ℕ) (collected : Collected) (v w : WorkState) : 
   pub standing : Standing
   pub note : NoteView
   pub pieces : List Handed
-  pub behind : CollectsBehind v.worker.node v.worker.seat.worker most [] pieces collected standing note
+  pub behind : CollectsBehind v.worker.node v.worker.seat.worker v.worker.generation most [] pieces collected standing note
   pub adopted : Adopts v.mark standing w.mark
   pub accepted : Accepts v.limit (map portion_of pieces) v.seats w.seats

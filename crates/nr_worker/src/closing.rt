@@ -30,7 +30,7 @@ fn put_last(due: &mut DueJobs, closed: Closed)
 impl<'a, R: Wait, B: ServerName> Desk<'a, R, B> {
     /// Closes the connection of its node with this serial, at a moment in milliseconds, at most 2^53: its seat goes, with the bytes that wait for it, and its last job,
     /// which ends it, waits behind the others, unless its bytes asked for their end before. It takes no memory. Its node, whose lock is taken once, lets go of its
-    /// queue: its room comes back. Logarithmic.
+    /// queue: its room comes back, as what this hands on says. Logarithmic.
     pub fn close(&mut self, serial: u64, moment: u64) -> ClosedQueue
         requires in_time { moment ≤ last_moment }
         ensures node { result ≡ record { node = self.old.worker.node; serial = serial } }
@@ -40,6 +40,6 @@ impl<'a, R: Wait, B: ServerName> Desk<'a, R, B> {
         let closed = self.seats.close(serial, moment);
         put_last(&mut self.due, closed);
         let node = self.worker.shared().node();
-        self.worker.shared().close(self.rt, ConnId { node, serial })
+        self.worker.close(self.rt, ConnId { node, serial })
     }
 }

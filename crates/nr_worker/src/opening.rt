@@ -4,7 +4,7 @@ ghost use Rattle.nr_entry.specs.Jobs.{connection_of};
 ghost use Rattle.nr_seats.specs.Seated.{fresh_seat};
 ghost use Rattle.nr_seats.specs.Placed.{IsPut};
 ghost use Rattle.nr_worker.specs.Due.{with_room};
-ghost use Rattle.nr_worker.specs.Working.{one_opened, Goes, OpensAt};
+ghost use Rattle.nr_worker.specs.Working.{one_opened, Goes, MayHaveClosed, OpensAt};
 
 use crate::desk::Desk;
 use crate::due::DueJobs;
@@ -44,26 +44,26 @@ fn seat(seats: &mut Seats, due: &mut DueJobs, conn: ConnId) -> Result<(), Memory
 
 impl<'a, R: Wait, B: ServerName> Desk<'a, R, B> {
     /// Opens a connection of its node, which this worker serves, with a seat here, and room for its last job: [`Worker::open`](nr_combiner::Worker::open), three
-    /// loads and an entry by serial. Where it isn't opened nothing changes here. Logarithmic.
+    /// loads and an entry by serial. Where it isn't opened nothing changes here, but that its node may have closed it again. Logarithmic.
     pub fn open(&mut self) -> Result<ConnId, SeatError>
         ensures opened { IfOk result (λ conn. OpensAt (connection_of conn) self.old self.new) }
         ensures goes { IfOk result (λ conn. Goes (one_opened (connection_of conn)) self.old self.new) }
-        ensures same { OnErr result (self.new ≡ self.old) }
+        ensures unopened { OnErr result (MayHaveClosed self.old self.new) }
     {
         let (conn, token) = match self.worker.open(self.rt) {
             Ok(opened) => opened,
             Err(why) => return Err(SeatError::Unopened(why)),
         };
         if conn.serial < self.next || self.seats.is_open(conn.serial) {
-            self.worker.shared().close(self.rt, conn);
+            self.worker.close(self.rt, conn);
             return Err(SeatError::Again);
         }
         if let Some(memory) = Memory::at_last(conn.serial) {
-            self.worker.shared().close(self.rt, conn);
+            self.worker.close(self.rt, conn);
             return Err(SeatError::Memory(memory));
         }
         if let Err(memory) = seat(&mut self.seats, &mut self.due, conn) {
-            self.worker.shared().close(self.rt, conn);
+            self.worker.close(self.rt, conn);
             return Err(SeatError::Memory(memory));
         }
         self.mark.adopt(self.worker.shared().log(), token);

@@ -19,13 +19,13 @@ impl<'a, R: Wait, B: ServerName> Desk<'a, R, B> {
     ///
     /// `Memory` where there is no room for them; `Elsewhere` where another node stands behind the lock, which there never is.
     pub fn cut_ones(&self) -> Result<Vec<ConnId>, AskError>
-        ensures { IfOk result (λ cut. CutsBehind self.now.worker.node (open_ones self.now.worker.node self.now.seats) [] cut.items) }
+        ensures { IfOk result (λ cut. CutsBehind self.now.worker.node self.now.worker.seat.worker self.now.worker.generation (open_ones self.now.worker.node self.now.seats) [] cut.items) }
     {
         let conns = self
             .seats
             .open_ones(self.alloc, self.worker.shared().node())?;
         let mut cut = Vec::new(self.alloc);
-        self.worker.shared().cut_among(self.rt, &conns, &mut cut)?;
+        self.worker.cut_among(self.rt, &conns, &mut cut)?;
         Ok(cut)
     }
 

@@ -1,5 +1,7 @@
 use Rattle.std.specs.Prelude.{◌≡◌, ◌+◌, ◌≤◌, length}
 use Rattle.std.specs.Vec.{vec_capacity, vec_len}
+use Rattle.std.specs.List.{AllByRecursion}
+use Rattle.nr_crew.specs.Left.{AreServedWithin}
 use Rattle.nr_crew.specs.Together.{AreLeft}
 use Rattle.nr_crew.proofs.running.join_all.Given as goal
 
@@ -8,4 +10,6 @@ invariant-loop-handle g l =
     (vec_len l.marks + length l.handle-iterator.rest.items ≤ vec_capacity l.marks)
     × (vec_len l.lefts + length l.handle-iterator.rest.items ≤ vec_capacity l.lefts)
     × AreLeft g.S.Stream.received g.S.Stream.sent g.M.Moments.gives g.D.Device.parted l.marks.items l.lefts.items
+    × AreServedWithin l.fn.limits l.lefts.items
+    × AllByRecursion (λ handle. handle.promise.limits ≡ l.fn.limits) l.handle-iterator.rest.items
     × (vec_len l.lefts + length l.handle-iterator.rest.items ≡ vec_len l.fn.handles)

@@ -1,4 +1,5 @@
 use Rattle.std.specs.Prelude.{◌≡◌, ◌+◌, ◌≤◌, IsTrue, length}
+use Rattle.std.specs.List.{AllByRecursion}
 use Rattle.std.specs.Vec.{vec_capacity, vec_len}
 use Rattle.nr_crew.proofs.running.start_all.Given as goal
 
@@ -7,5 +8,6 @@ invariant-loop-lane g l =
     (goal.iterator-loop-lane g).can_next l.lane-iterator
     × (goal.iterator-loop-lane g).is_finite l.lane-iterator
     × (vec_len l.handles + length l.lane-iterator.rest.items ≤ vec_len l.fn.lanes)
+    × AllByRecursion (λ handle. handle.promise.limits ≡ l.fn.shared.limits) l.handles.items
     × (vec_len l.fn.lanes ≤ vec_capacity l.handles)
     × (IsTrue l.has_all → vec_len l.handles + length l.lane-iterator.rest.items ≡ vec_len l.fn.lanes)

@@ -1,12 +1,13 @@
-use Rattle.std.proofs.Common.{sym, subst}
+use Rattle.std.proofs.Common.{sym, ◌∙◌, subst}
 use Rattle.nr_model.specs.Connections.{Setup}
 use Rattle.nr_lane.specs.Serving.{kept_at}
 use Rattle.nr_crew.specs.Left.{IsAnswered}
+use Rattle.nr_crew.proofs.Limits.{same_worker}
 use Rattle.nr_crew.proofs.Remains.{is_answered, is_left}
 use Rattle.nr_crew.proofs.serving.serve_lane.Goals as goal
 
-pub returns : goal.returns
-returns g c =
+pub returns-clause-answered : goal.returns-clause-answered
+returns-clause-answered g c =
     let received = g.S.Stream.received in
     let sent = g.S.Stream.sent in
     let gives = g.M.Moments.gives in
@@ -20,3 +21,12 @@ returns g c =
     let known = c.take_mark-mark.ensures.mark in
     let answered = is_answered received sent gives parted c.args.lane.clock setup service mark known left in
     subst (λ t. IsAnswered received sent gives (parted t.0) mark t.2.items) (sym c.rest_of-device.ensures) answered
+
+pub returns-clause-limits : goal.returns-clause-limits
+returns-clause-limits g c =
+    let over = c.over-service.ensures in
+    let same = same_worker _ _ _ _ _ (λ waits a b turn. turn.worker) (λ a b broken. broken.worker) c.serve-ended.result c.over-service.result c.serve-ended.new.self
+    c.serve-ended.ensures.turns in
+    let limit = same.limit_is ∙ over.limit in
+    let timeout = same.timeout_is ∙ over.timeout in
+    λ i. record { limit = limit i; timeout = timeout i }

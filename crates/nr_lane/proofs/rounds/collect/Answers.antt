@@ -1,8 +1,11 @@
-use Rattle.nr_lane.proofs.Working.{works_collected}
+use Rattle.nr_lane.proofs.Working.{mark_collected, works_collected}
 use Rattle.nr_lane.proofs.rounds.collect.Goals as goal
 
 pub collect-requires : goal.collect-requires
 collect-requires g c κs within = within
 
-pub returns : goal.returns
-returns g c = works_collected c.collect.result c.args.desk.now _ c.collect.ensures.settled c.collect.ensures.same c.collect.ensures.goes
+pub returns-clause-works : goal.returns-clause-works
+returns-clause-works g c = works_collected c.collect.result c.args.desk.now _ c.collect.ensures.settled c.collect.ensures.same c.collect.ensures.goes
+
+pub returns-clause-mark : goal.returns-clause-mark
+returns-clause-mark g c = mark_collected c.collect.result c.args.desk.now _ c.collect.ensures.settled c.collect.ensures.same

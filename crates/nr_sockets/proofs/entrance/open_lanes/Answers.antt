@@ -1,16 +1,21 @@
 use Rattle.std.proofs.Common.{◌≡◌, refl, sym, ◌∙◌}
 use Rattle.nr_sockets.proofs.Numbered.{one_added, one_longer}
+use Rattle.nr_sockets.specs.declared.entrance.Lane.{Lane}
 use Rattle.nr_sockets.specs.declared.entrance.Lookout.{Lookout}
 use Rattle.nr_sockets.proofs.entrance.open_lanes.Goals as goal
 
 pub loop-number-preserved : goal.loop-number-preserved
 loop-number-preserved g c =
+    let lanes = c.loop-number.lanes.items in
+    let more_lanes = c.push.new.self.items in
+    let lane_is = c.in_ok-push.ensures.items in
     let lookouts = c.loop-number.lookouts.items in
-    let next = c.push-in-loop-number.new.self.items in
-    let one = c.in_ok-lane.lookout in
-    let more = c.in_ok-push-2.ensures.items in record {
-      lanes = one_longer c.loop-number.lanes.items _ _ _ _ c.in_ok-push.ensures.items refl c.loop-number.invariant.lanes;
-      count = one_longer lookouts next one _ _ more refl c.loop-number.invariant.count;
-      numbers = one_added lookouts next one (λ lane (lookout : Lookout). lookout.lane ≡ lane) more (c.in_ok-lane.ensures ∙ sym c.loop-number.invariant.count)
-          c.loop-number.invariant.numbers;
+    let more_lookouts = c.push-in-loop-number.new.self.items in
+    let lookout_is = c.in_ok-push-2.ensures.items in record {
+      lanes = one_longer lanes more_lanes c.in_ok-lane.lane _ _ lane_is refl c.loop-number.invariant.lanes;
+      count = one_longer lookouts more_lookouts c.in_ok-lane.lookout _ _ lookout_is refl c.loop-number.invariant.count;
+      places = one_added lanes more_lanes c.in_ok-lane.lane (λ number (lane : Lane). lane.number ≡ number) lane_is
+          (c.in_ok-lane.ensures.number ∙ sym c.loop-number.invariant.lanes) c.loop-number.invariant.places;
+      numbers = one_added lookouts more_lookouts c.in_ok-lane.lookout (λ lane (lookout : Lookout). lookout.lane ≡ lane) lookout_is
+          (c.in_ok-lane.ensures.lookout ∙ sym c.loop-number.invariant.count) c.loop-number.invariant.numbers;
     }

@@ -20,12 +20,12 @@ returns-in-Ok-clause-closed c =
     let conn = connection_of c.args.conn in
     let old : AnsweringState = record { world = c.self.inside.world; taps = c.self.inside.taps.by_conn.entries; failed = is_some c.self.inside.failed } in
     let new : AnsweringState = record { world = c.close.new.world; taps = c.close-in-Ok.new.self.by_conn.entries; failed = is_some c.self.inside.failed } in
-    subst (λ (a : AnsweringState). IsClosed conn (IsGone a.world conn) (HasLedTo a) (HasLedTo new) (Kept a) (Kept new)) c.self.view_is
-    (is_closed old new c.args.conn (c.self.invariant (ap is_some c.in_default.is)) c.in-Ok.ensures c.close-in-Ok.ensures)
+    subst (λ (a : AnsweringState). IsClosed conn c.args.moment (IsGone a.world conn) (HasLedTo a) (HasLedTo new) (Kept a) (Kept new)) c.self.view_is
+    (is_closed old new c.args.conn c.args.moment (c.self.invariant (ap is_some c.in_default.is)) c.in-Ok.ensures c.close-in-Ok.ensures)
 
 pub returns-in-Ok-clause-gone : goal.returns-in-Ok-clause-gone
 returns-in-Ok-clause-gone c =
-    gone_told c.self.inside.world c.close.new.world c.self.inside.taps.by_conn.entries (connection_of c.args.conn) (c.self.invariant (ap is_some c.in_default.is))
+    gone_told c.self.inside.world c.close.new.world c.self.inside.taps.by_conn.entries (connection_of c.args.conn) c.args.moment (c.self.invariant (ap is_some c.in_default.is))
     c.in-Ok.ensures
 
 pub returns-in-Some-clause-left : goal.returns-in-Some-clause-left

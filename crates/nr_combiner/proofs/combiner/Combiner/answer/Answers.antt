@@ -44,8 +44,8 @@ returns g c =
     let known : answer_of inside.core c.args.worker ≡ Some c.in-Some.outcome = sym c.answer.ensures.outcome ∙ c.in-Some.is in
     let last = is_held inside.core inside.seat inside.numbers.items c.args.worker answer near known c.self.invariant.2 refl
     (number_at inside.core inside.seat inside.numbers.items c.args.worker c.index.result.now near c.index.ensures c.self.invariant.0) c.self.invariant.0 in
-    let new : CombinerState = record { node = c.answer.new.self; seat = c.answer-2.new.self; taken = inside.taken } in
+    let new : CombinerState = record { node = c.answer.new.self; seat = c.answer-2.new.self; counts = inside.counts } in
     record {
       answered = subst (λ (x : CombinerState). HasAnswered c.args.worker x new) c.self.view_is
-          (inr (answer, record { last = last; outcome = known; node = c.in-Some.ensures.answered; seat = c.answer-2.ensures; taken = refl }));
+          (inr (answer, record { last = last; outcome = known; node = c.in-Some.ensures.answered; seat = c.answer-2.ensures; counts = refl }));
     }

@@ -13,8 +13,9 @@ invariant_of-self g c =
 pub returns : goal.returns
 returns g c =
     let inside = c.self.inside in
-    let old : CombinerState = record { node = inside.core; seat = inside.seat; taken = inside.taken } in
-    let new : CombinerState = record { node = c.close.new.self; seat = inside.seat; taken = c.left_open-self-inside.result } in
-    let both = closed_room old c.close.new.self c.args.conn c.is_open.result c.left_open-self-inside.result c.is_open.ensures c.left_open-self-inside.ensures c.close.ensures.closed c.close.ensures.other in
+    let old : CombinerState = record { node = inside.core; seat = inside.seat; counts = inside.counts } in
+    let new : CombinerState = record { node = c.close.new.self; seat = inside.seat; counts = c.close-2.new.self } in
+    let both = closed_room old c.close.new.self c.close-2.new.self c.args.conn c.open_worker-worker.result c.open_worker-worker.ensures.some c.open_worker-worker.ensures.none
+    c.close-2.ensures c.close.ensures.closed c.close.ensures.other in
     let there = subst (λ (x : CombinerState). HasClosed c.args.conn x new) c.self.view_is both in
     record { told = refl; closed = there.closed; other = there.other }

@@ -48,7 +48,7 @@ returns-clause-combined g c =
     let count : c.len-workers.result ≡ length inside.numbers.items = omega (arith, c.len-workers.ensures, inside.numbers.ok.0) in
     let before : c.len-workers.result ≡ length c.args.self.now.seat.desks =
     count ∙ served.numbered ∙ sym served.workers ∙ ap (λ (x : CombinerState). length x.seat.desks) c.self.view_is in
-    let lifted : CombinerState = record { node = c.self-2.inside.core; seat = c.self-2.inside.seat; taken = c.self-2.inside.taken } in
+    let lifted : CombinerState = record { node = c.self-2.inside.core; seat = c.self-2.inside.seat; counts = c.self-2.inside.counts } in
     let goes = c.look-looked.ensures.goes in
     record {
       lifted = lifted;
@@ -65,13 +65,13 @@ returns-clause-combined g c =
           c.look-looked.ensures.waiting
           c.look-looked.ensures.again c.look-looked.ensures.never_full c.look-looked.ensures.down;
       round_is = c.outcome.ensures;
-      has_answered = subst (λ (k : ℕ). HasAnsweredAll k (record { node = c.look-looked.new.self; seat = lifted.seat; taken = lifted.taken }) c.answer_all-answered.new.combiner) before
+      has_answered = subst (λ (k : ℕ). HasAnsweredAll k (record { node = c.look-looked.new.self; seat = lifted.seat; counts = lifted.counts }) c.answer_all-answered.new.combiner) before
           c.answer_all-answered.ensures;
     }
 
 pub returns-clause-down : goal.returns-clause-down
 returns-clause-down g c =
-    let looked : CombinerState = record { node = c.look-looked.new.self; seat = c.self-2.inside.seat; taken = c.self-2.inside.taken } in
+    let looked : CombinerState = record { node = c.look-looked.new.self; seat = c.self-2.inside.seat; counts = c.self-2.inside.counts } in
     let same = answered_all_down c.len-workers.result looked c.answer_all-answered.new.combiner c.answer_all-answered.ensures in (
       λ e. same ∙ c.look-looked.ensures.down.0 (down_looked c.try_to_reserve-tried.result c.look-looked.result.round (sym c.outcome.ensures ∙ e)),
       λ e. c.outcome.ensures ∙ ap (outcome_of c.try_to_reserve-tried.result) (c.look-looked.ensures.down.1 (sym same ∙ e)),

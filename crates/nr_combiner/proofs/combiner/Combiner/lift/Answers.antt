@@ -44,10 +44,10 @@ invariant_of-self-in_default-take_in g c =
 pub returns-in_default-take_in : goal.returns-in_default-take_in
 returns-in_default-take_in g c =
     let inside = c.self.inside in
-    let new : CombinerState = record { node = c.take_in.new.core; seat = c.lift.new.self; taken = inside.taken } in
+    let new : CombinerState = record { node = c.take_in.new.core; seat = c.lift.new.self; counts = inside.counts } in
     record {
       lifted = subst (λ (x : CombinerState). HasLifted c.args.worker x new) c.self.view_is
-          (inr (inl (c.in-Some.batch, record { due = c.in_default-take_in.ensures.due; node = c.in_default-take_in.ensures.taken; seat = c.in-Some.ensures.lifted; taken = refl })));
+          (inr (inl (c.in-Some.batch, record { due = c.in_default-take_in.ensures.due; node = c.in_default-take_in.ensures.taken; seat = c.in-Some.ensures.lifted; counts = refl })));
     }
 
 pub invariant_of-self-2 : goal.invariant_of-self-2
@@ -69,8 +69,8 @@ pub returns : goal.returns
 returns g c =
     let inside = c.self.inside in
     let told = c.hand_back.ensures in
-    let old : CombinerState = record { node = inside.core; seat = inside.seat; taken = inside.taken } in
-    let new : CombinerState = record { node = c.take_in.new.core; seat = c.hand_back.new.seat; taken = inside.taken } in
+    let old : CombinerState = record { node = inside.core; seat = inside.seat; counts = inside.counts } in
+    let new : CombinerState = record { node = c.take_in.new.core; seat = c.hand_back.new.seat; counts = inside.counts } in
     record {
       lifted = subst (λ (x : CombinerState). HasLifted c.args.worker x new) c.self.view_is
           (inr (inr (

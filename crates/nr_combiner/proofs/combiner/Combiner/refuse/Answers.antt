@@ -14,6 +14,6 @@ invariant_of-self g c =
 pub returns : goal.returns
 returns g c =
     let inside = c.self.inside in
-    let with_node : NodeState → CombinerState = λ n. record { node = n; seat = inside.seat; taken = inside.taken } in
+    let with_node : NodeState → CombinerState = λ n. record { node = n; seat = inside.seat; counts = inside.counts } in
     ap with_node c.refuse.ensures
     ∙ ap (λ (x : CombinerState). record x { node = refusing_node x.node }) c.self.view_is

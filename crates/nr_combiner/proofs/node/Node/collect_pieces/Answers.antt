@@ -7,14 +7,15 @@ pub returns-clause-handed : goal.returns-clause-handed
 returns-clause-handed g c =
     let before : c.deref-2.result.now ≡ c.deref_mut.result.now = search rules in
     let after : c.deref-3.result.now ≡ c.collect_pieces-told.new.self = search rules in
-    collects_behind _ _ _ _ _ _ _ _ _ _ c.collect_pieces-told.ensures.handed (search rules) c.collect_pieces-told.ensures.node c.collect_pieces-told.ensures.down
+    collects_behind _ _ _ _ _ _ _ _ _ _ _ c.collect_pieces-told.ensures.handed (search rules) c.collect_pieces-told.ensures.node c.collect_pieces-told.ensures.down
     c.collect_pieces-told.ensures.served (subst StandsLevel before c.level.ensures.level) (subst StandsLevel after c.level-2.ensures.level)
+    (search rules)
 
 pub returns-clause-added : goal.returns-clause-added
-returns-clause-added g c = collects_added _ _ _ _ _ _ _ _ (returns-clause-handed g c)
+returns-clause-added g c = collects_added _ _ _ _ _ _ _ _ _ (returns-clause-handed g c)
 
 pub returns-clause-executed : goal.returns-clause-executed
-returns-clause-executed g c = collects_executed _ _ _ _ _ _ _ _ (returns-clause-handed g c)
+returns-clause-executed g c = collects_executed _ _ _ _ _ _ _ _ _ (returns-clause-handed g c)
 
 pub returns-clause-sound : goal.returns-clause-sound
 returns-clause-sound g c = (c.collect_pieces-told.ensures.sound, (returns-clause-handed g c).standing)
@@ -25,4 +26,4 @@ returns-clause-named g c =
     c.collect_pieces-told.ensures.named ∙ ap g.B.ServerName.slots is
 
 pub returns-clause-own : goal.returns-clause-own
-returns-clause-own g c = collects_own _ _ _ _ _ _ _ _ (returns-clause-handed g c)
+returns-clause-own g c = collects_own _ _ _ _ _ _ _ _ _ (returns-clause-handed g c)

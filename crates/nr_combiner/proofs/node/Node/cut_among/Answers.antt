@@ -14,7 +14,7 @@ pub returns-clause-all : goal.returns-clause-all
 returns-clause-all g c =
     let is : c.deref-3.result.now.node.book.node ≡ c.args.self.now.node = search rules in
     let same : c.deref.result.now ≡ c.deref-3.result.now = search rules in
-    cuts_behind _ c.deref-3.result.now.node _ _ _ is c.in_ok-cut_among.ensures.all (subst StandsLevel same c.level.ensures.level)
+    cuts_behind _ _ _ c.deref-3.result.now _ _ _ is (search rules) c.in_ok-cut_among.ensures.all (subst StandsLevel same c.level.ensures.level)
 
 pub returns-in_err-cut_among-clause-front : goal.returns-in_err-cut_among-clause-front
 returns-in_err-cut_among-clause-front g c =

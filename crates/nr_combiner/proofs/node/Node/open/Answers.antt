@@ -39,6 +39,7 @@ returns-clause-opened g c =
       has_opened = subst (λ (limit : ℕ). OpensFor limit c.args.worker c.deref_mut.result.now c.open.new.self) (ap (λ (v : NodeView). v.limit) c.self.view_is) opened.opened;
       room = subst (λ (most : ℕ). HasRoom c.args.worker most c.deref_mut.result.now) (ap (λ (v : NodeView). v.connections) c.self.view_is) opened.room.0;
       up = opened.room.1;
+      met = search rules;
       node_is = search rules;
       conn_is = opened.conn;
       token = k.ensures.token.0 ∙ ap (λ (x : CombinerState). x.node.seat.standing) same;

@@ -9,7 +9,7 @@ returns-clause-collected g c =
     let inside = c.self.inside in
     let shared = arc_value inside.shared in
     let with_seat : WorkerView → WorkerState =
-    λ seat. record { node = shared.node; workers = shared.slots.workers; connections = shared.connections; limit = shared.limit; seat = seat; next = inside.next } in
+    λ seat. record { node = shared.node; workers = shared.slots.workers; connections = shared.connections; limit = shared.limit; seat = seat; next = inside.next; generation = inside.generation } in
     subst (λ (w : WorkerState). HasCollected c.in_ok-answer.answer.outcome w (with_seat c.collect.new.self)) c.self.view_is record {
       answer = c.in_ok-answer.answer;
       last = c.in_ok-answer.ensures.own;

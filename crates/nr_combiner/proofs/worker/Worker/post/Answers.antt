@@ -12,7 +12,7 @@ returns-in-Ok-clause-posted g c =
     let shared = arc_value inside.shared in
     let batch : Batch = record { node = c.node.result; worker = inside.worker; number = inside.next; jobs = c.args.jobs } in
     let with_seat : WorkerView → ℕ → WorkerState =
-    λ seat next. record { node = shared.node; workers = shared.slots.workers; connections = shared.connections; limit = shared.limit; seat = seat; next = next } in
+    λ seat next. record { node = shared.node; workers = shared.slots.workers; connections = shared.connections; limit = shared.limit; seat = seat; next = next; generation = inside.generation } in
     let one : inside.next + 1 ≡ suc inside.next = omega arith in
     subst (λ (w : WorkerState). HasPosted c.args.jobs.items w (with_seat c.post.new.self (inside.next + 1))) c.self.view_is record {
       batch = batch;

@@ -13,5 +13,5 @@ returns-clause-worked g c =
     let worked = c.work_on-worked in
     let old : ServingState = record { desk = c.self.inside.desk; busy = c.self.inside.is_busy; down = c.self.inside.is_down } in
     let new : ServingState = record { desk = worked.new.desk; busy = worked.result.is_busy; down = c.self.inside.is_down || worked.result.is_down } in
-    subst (λ (v : ServingState). HasWorked (HasLedTo v) (HasLedTo new) (IsAtRest new) (kept_at v) (kept_at new)) c.self.view_is
-    (has_worked old new (subst (λ (d : WorkState). Works d worked.new.desk) c.forget_told.ensures worked.ensures.works) worked.ensures.rest)
+    subst (λ (v : ServingState). HasWorked (HasLedTo v) (HasLedTo new) (IsAtRest g.B.LogName.places new) (kept_at v) (kept_at new)) c.self.view_is
+    (has_worked g.B.LogName.places old new (subst (λ (d : WorkState). Works d worked.new.desk) c.forget_told.ensures worked.ensures.works) worked.ensures.rest)

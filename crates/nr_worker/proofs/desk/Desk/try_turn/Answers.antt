@@ -5,12 +5,12 @@ use Rattle.nr_worker.proofs.desk.Desk.try_turn.Goals as goal
 pub returns-clause-turned : goal.returns-clause-turned
 returns-clause-turned g c =
     turned_by c.args.self.now _ c.try_turn.new.self c.take_in.new.seats c.take_in.new.mark.standing c.args.most (tells_down c.in-Some.turned.combined)
-    c.in-Some.token.standing c.self.inside.pieces.items c.try_turn.new.taken.items c.self.view_is c.self.invariant.1 c.try_turn.ensures.same
+    c.in-Some.token.standing c.self.inside.pieces.items c.try_turn.new.taken.items c.self.view_is c.self.invariant.1 c.in-Some.ensures.more
     c.in-Some.ensures.heard c.in-Some.ensures.sound c.take_in.ensures.adopted c.take_in.ensures.met c.take_in.ensures.accepts
 
 pub returns-clause-took : goal.returns-clause-took
 returns-clause-took g c =
     let behind = c.in-Some.ensures.turned in
     took_by _ c.args.lifts c.in-Some.turned c.args.self.now _ c.try_turn.new.self c.take_in.new.seats c.take_in.new.mark.standing c.args.most
-    c.in-Some.token.standing behind.0 c.self.inside.pieces.items c.try_turn.new.taken.items c.self.view_is c.self.invariant.1 c.try_turn.ensures.same behind.1
+    c.in-Some.token.standing behind.0 c.self.inside.pieces.items c.try_turn.new.taken.items c.self.view_is c.self.invariant.1 c.in-Some.ensures.more behind.1
     c.take_in.ensures.adopted c.take_in.ensures.accepts
