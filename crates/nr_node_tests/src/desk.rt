@@ -41,7 +41,7 @@ pub(crate) enum Act {
     IsTold(bool),
     /// The worker is told that its node is down.
     IsLost,
-    /// A worker that counts another generation than its node gets no turn, no pieces and no connection, and isn't told which queues are cut.
+    /// A worker that counts another generation than its node gets no turn and no pieces, and isn't told which queues are cut.
     IsAnother,
     /// The next entry that the worker's node applies is refused, as where memory runs out.
     Refuses,
@@ -197,8 +197,6 @@ impl<B: ServerName> Desk<B> {
         let got = node.collect_pieces(rt, 0, 77, 8, &mut spares, &mut pieces);
         holds(rt, "nothing is handed out", got.is_none());
         holds(rt, "no piece came", pieces.is_empty());
-        let why = node.open(rt, 0, 77).err();
-        holds(rt, "none is opened", why == Some(OpenError::Down));
         let mut cut = Vec::new(alloc);
         let asked = node.cut_among(rt, 0, 77, &[conn], &mut cut);
         holds(rt, "it isn't told", asked == Err(AskError::Elsewhere));
