@@ -1,6 +1,6 @@
 // What a key holds. A kind of value is a variant, and what is asked of a kind stands here: no command matches on a value.
 ghost use Rattle.std.specs.Prelude.{◌≡◌, Ok, IfOk, IfErr};
-ghost use Rattle.nr_model.specs.Keyspace.{Items, Fields, Members, Scores};
+ghost use Rattle.nr_model.specs.Keyspace.{Scores};
 ghost use Rattle.nr_model.specs.Commands.Held.{items_of, fields_of, members_of, scores_of};
 ghost use Rattle.nr_model.specs.Commands.Keys.{kind_of};
 ghost use Rattle.nr_model.specs.Commands.Reading.{fault};
@@ -23,7 +23,7 @@ pub enum Value {
     /// A string of bytes.
     String(Str),
     /// Items in order.
-    List(Box<List>),
+    List(List),
     /// Fields with their values.
     Hash(Hash),
     /// Members, each once.
@@ -41,6 +41,18 @@ impl From<Str> for Value {
 
     fn from(bytes: Str) -> Self {
         Value::String(bytes)
+    }
+}
+
+impl From<List> for Value {
+    ghost use Rattle.std.specs.Prelude.{◌≡◌};
+    ghost use Rattle.nr_model.specs.Keyspace.{Items};
+    ghost use Rattle.nr_keyspace.specs.Values.{value_of};
+
+    ghost from_gives = { λ list value. value_of value ≡ Items list };
+
+    fn from(list: List) -> Self {
+        Value::List(list)
     }
 }
 
@@ -69,13 +81,6 @@ impl From<Set> for Value {
 }
 
 impl Value {
-    /// A list as a value.
-    pub fn list(alloc: Global, list: List) -> Result<Value, Memory>
-        ensures { IfOk result (λ value. value_of value ≡ Items list) }
-    {
-        Ok(Value::List(Box::new(alloc, list)?))
-    }
-
     /// A sorted set as a value.
     pub fn sorted_set(alloc: Global, zset: Zset) -> Result<Value, Memory>
         ensures { IfOk result (λ value. value_of value ≡ Scores zset) }
@@ -89,7 +94,7 @@ impl Value {
     {
         match self {
             Value::String(text) => Ok(Value::String(text.copy()?)),
-            Value::List(list) => Value::list(alloc, list.copy()?),
+            Value::List(list) => Ok(Value::List(list.copy()?)),
             Value::Hash(hash) => Ok(Value::Hash(hash.copy()?)),
             Value::Set(set) => Ok(Value::Set(set.copy()?)),
             Value::SortedSet(zset) => Value::sorted_set(alloc, zset.copy()?),

@@ -13,7 +13,6 @@ use nr_keyspace::{Db, Keyspace, ListEdit, Value};
 use nr_lists::List;
 use nr_model::refused::Refused;
 use nr_resp::Failure;
-use std::alloc::Global;
 
 /// The list that a key holds. A key of another kind is refused.
 pub(crate) fn items_at<'k>(
@@ -88,7 +87,6 @@ pub(crate) fn edit_items<E: Relisting>(
 /// A key that is missing holds a list from now on. Its name is copied.
 #[tactic(auto, using(crate::proofs::Relisted::kept_new))]
 pub(crate) fn put_items(
-    alloc: Global,
     keyspace: &mut Keyspace,
     database: Db,
     name: &Blob,
@@ -98,7 +96,6 @@ pub(crate) fn put_items(
     requires some { 0 < length list }
     ensures { OnOk result (keyspace.new ≡ held.kept_under keyspace.old (key_of database name.now) (list_of list)) }
 {
-    let value = Value::list(alloc, list)?;
-    keyspace.put(database, name.copy()?, value, None)?;
+    keyspace.put(database, name.copy()?, Value::from(list), None)?;
     Ok(())
 }

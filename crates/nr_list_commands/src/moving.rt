@@ -263,7 +263,7 @@ fn put_alone(
 {
     let mut list = List::new(alloc);
     list.push(End::Left, item.copy()?)?;
-    put_items(alloc, keyspace, database, name, list)?;
+    put_items(keyspace, database, name, list)?;
     Ok(())
 }
 

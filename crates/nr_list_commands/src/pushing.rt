@@ -123,6 +123,6 @@ fn put_pushed(
     let mut list = List::new(alloc);
     push_each(&mut list, end, items)?;
     let len = list.len() as i64;
-    put_items(alloc, keyspace, database, name, list)?;
+    put_items(keyspace, database, name, list)?;
     Ok(len)
 }

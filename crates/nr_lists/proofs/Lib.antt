@@ -6,3 +6,4 @@ mod Buffers
 mod Packed
 mod Around
 mod Listed
+mod Laid

@@ -35,7 +35,7 @@ pub record Holds (lens : List ℕ) (bytes : Bytes) (xs : List Bytes) : Type 0 wh
   pub stored : bytes ≡ joined xs
 
 -- whole bytes hold what is read
-holds_cut : (lens : List ℕ) (bytes : Bytes) → total lens ≡ length bytes → Holds lens bytes (cut lens bytes)
+pub holds_cut : (lens : List ℕ) (bytes : Bytes) → total lens ≡ length bytes → Holds lens bytes (cut lens bytes)
 holds_cut [] [] whole = record { lengths = refl; stored = refl }
 holds_cut [] (b ∷ bytes) whole = absurd (omega (arith, whole))
 holds_cut (n ∷ lens) bytes whole =
@@ -47,7 +47,7 @@ holds_cut (n ∷ lens) bytes whole =
       stored = sym (take-append-drop n bytes) ∙ ap (λ ys. take n bytes ++ ys) others.stored;
     }
 
-total_of : (lens : List ℕ) (bytes : Bytes) (xs : List Bytes) → Holds lens bytes xs → total lens ≡ length bytes
+pub total_of : (lens : List ℕ) (bytes : Bytes) (xs : List Bytes) → Holds lens bytes xs → total lens ≡ length bytes
 total_of lens bytes xs holds = ap total holds.lengths ∙ total_is xs ∙ ap length (sym holds.stored)
 
 pub read_cut : (lens : List ℕ) (bytes : Bytes) (xs : List Bytes) → Holds lens bytes xs → cut lens bytes ≡ xs
@@ -172,7 +172,7 @@ front_left [] n i front back is are fewer whole =
     absurd (omega (arith, none, fewer))
 front_left (m ∷ lens) n i front back is are fewer whole = omega (arith, ap total are, total_split i (m ∷ lens), whole)
 
-length_cut : (lens : List ℕ) (bytes : Bytes) → length (cut lens bytes) ≡ length lens
+pub length_cut : (lens : List ℕ) (bytes : Bytes) → length (cut lens bytes) ≡ length lens
 length_cut [] bytes = refl
 length_cut (n ∷ lens) bytes = ap suc (length_cut lens (drop n bytes))
 

@@ -134,6 +134,11 @@ module _ (end : End) (most taken seen place : ℕ) (bytes : Bytes) (all now : Li
         few = omega (arith, fewer);
       }
 
+pub one_fewer : (now new : List Bytes) (place taken all : ℕ) → place < length now → new ≡ take place now ++ drop (place + 1) now → taken + length now ≡ all
+    → taken + 1 + length new ≡ all
+one_fewer now new place taken all within are count =
+    omega (arith, within, count, ap length are, length-append (take place now) (drop (place + 1) now), length-take place now, length-drop (place + 1) now)
+
 some_there : (xs : List Bytes) → 0 < length xs → some_of xs ≡ xs ∷ []
 some_there [] some = absurd (omega (arith, some))
 some_there (x ∷ xs) some = refl

@@ -1,3 +1,6 @@
 pub mod Matches
 pub mod Packed
 pub mod Blocks
+pub mod Small
+pub mod Forms
+pub mod Walks

@@ -1,5 +1,5 @@
-// The items of a list, lent one after another.
-ghost use Rattle.std.specs.Prelude.{◌≡◌, ℕ, ◌≤◌, ◌<◌, ◌+◌, ◌++◌, [], length, take, drop, slice_index_or, IfNone, IsTrue};
+// The items of blocks, lent one after another.
+ghost use Rattle.std.specs.Prelude.{◌≡◌, ℕ, ◌≤◌, ◌<◌, ◌+◌, ◌++◌, [], length, drop, slice_index_or, IfNone, IsTrue};
 ghost use Rattle.std.specs.Option.{option_map, option_to_list};
 ghost use Rattle.std.specs.VecDeque.Iter.{deque_iter_rest};
 ghost use Rattle.nr_model.specs.Bytes.{Bytes};
@@ -125,7 +125,7 @@ fn last_of<'a>(lens: &mut &'a [u16], bytes: &mut &'a [u8]) -> Option<&'a [u8]>
 
 /// The items of blocks that are left, taken off at either end.
 #[derive(Drop)]
-pub(crate) struct Walk<'a> {
+pub(crate) struct ChainWalk<'a> {
     // What is left of the block begun at the front.
     first: BlockItems<'a>,
     // The blocks that are not begun.
@@ -134,7 +134,7 @@ pub(crate) struct Walk<'a> {
     last: BlockItems<'a>,
 }
 
-impl<'a> Model for Walk<'a> {
+impl<'a> Model for ChainWalk<'a> {
     ghost use Rattle.std.specs.Prelude.{◌++◌, List};
     ghost use Rattle.std.specs.VecDeque.Iter.{deque_iter_rest};
     ghost use Rattle.nr_model.specs.Bytes.{Bytes};
@@ -145,12 +145,12 @@ impl<'a> Model for Walk<'a> {
     ghost view = { λ walk. walk.first ++ (joined (deque_iter_rest walk.blocks) ++ walk.last) };
 }
 
-impl<'a> Walk<'a> {
+impl<'a> ChainWalk<'a> {
     /// The items of all blocks.
-    pub(crate) fn new(blocks: &'a VecDeque<Block>) -> Walk<'a>
+    pub(crate) fn new(blocks: &'a VecDeque<Block>) -> ChainWalk<'a>
         ensures { result ≡ joined blocks.now.items }
     {
-        Walk {
+        ChainWalk {
             first: BlockItems::none(),
             blocks: blocks.iter(),
             last: BlockItems::none(),
@@ -158,12 +158,12 @@ impl<'a> Walk<'a> {
     }
 
     /// The items from a place in a block on.
-    pub(crate) fn new_from(blocks: &'a VecDeque<Block>, block: usize, place: usize) -> Walk<'a>
+    pub(crate) fn new_from(blocks: &'a VecDeque<Block>, block: usize, place: usize) -> ChainWalk<'a>
         requires block { block < length blocks.now.items }
         requires place { place < length (slice_index_or blocks.now.items block []) }
         ensures { result ≡ drop place (slice_index_or blocks.now.items block []) ++ joined (drop (block + 1) blocks.now.items) }
     {
-        Walk {
+        ChainWalk {
             first: blocks[block].items_from(place),
             blocks: blocks.range(block + 1..),
             last: BlockItems::none(),
@@ -220,48 +220,4 @@ fn take_last<'a>(
     };
     *last = block.items();
     last.take_last()
-}
-
-/// Items of a list, lent, in order. It is seen as those that are left.
-#[derive(Drop)]
-pub struct Items<'a> {
-    walk: Walk<'a>,
-    // How many of the walk's.
-    left: usize,
-}
-
-impl<'a> Model for Items<'a> {
-    ghost use Rattle.std.specs.Prelude.{List, take};
-    ghost use Rattle.nr_model.specs.Bytes.{Bytes};
-
-    ghost Value = { List Bytes };
-
-    ghost view = { λ items. take items.left items.walk };
-}
-
-impl<'a> Items<'a> {
-    /// The first so many of a walk.
-    pub(crate) fn new(walk: Walk<'a>, left: usize) -> Items<'a>
-        ensures { result ≡ take left walk.entry }
-    {
-        Items { walk, left }
-    }
-}
-
-impl<'a> Iterator for Items<'a> {
-    ghost use Rattle.std.specs.Iterator.{YieldsFirstBy, item_count};
-
-    type Item = &'a [u8];
-
-    ghost next_gives = { YieldsFirstBy (λ item. item.now) (λ items. items) };
-
-    ghost remaining = { item_count (λ items. items) };
-
-    fn next(&mut self) -> Option<&'a [u8]> {
-        if self.left == 0 {
-            return None;
-        }
-        self.left -= 1;
-        self.walk.take(End::Left)
-    }
 }

@@ -2,37 +2,32 @@
 ghost use Rattle.std.specs.Prelude.{◌≡◌, ◌↔◌, ◌+◌, ◌++◌, ◌^◌, ◌<◌, List as Items, [], length, All, IsTrue, IfNone, IfOk, OnOk, OnErr, is_some};
 ghost use Rattle.std.specs.Option.{option_map, option_to_list};
 ghost use Rattle.nr_model.specs.Strings.{range};
-ghost use Rattle.nr_model.specs.Lists.{pushed, popped, item_at, index_of, place_of, with_item_at, pivot_of, beside, inserted, seen_from, removed, places_of};
+ghost use Rattle.nr_model.specs.Lists.{pushed, popped, item_at, index_of, place_of, with_item_at, pivot_of, inserted, seen_from, removed, places_of};
 
-use crate::block::Block;
-use crate::items::{Items, Walk};
+use crate::form::Form;
 use crate::places::place;
-use crate::{blocks, matches};
-use nr_blob::{Blob, Memory, end_of, start_of};
+use crate::walk::Items;
+use nr_blob::{Blob, Memory};
 use nr_model::command::{End, Side};
 use std::alloc::Global;
-use std::collections::VecDeque;
 use std::marker::Model;
 
-/// A list, as a key holds it, in blocks of a few items each. It is seen as a list of byte lists. To drop it is linear in its blocks.
+/// A list, as a key holds it. It is seen as a list of byte lists. At most 128 items, none of them longer than 64 bytes, stand in one block, whose
+/// bytes most changes write anew; more or longer ones make a chain of blocks of a few items each, to which a call that puts one in copies those
+/// that are there, and a chain stays one. To drop it is linear in its blocks.
 #[derive(Debug, Drop)]
 pub struct List {
-    blocks: VecDeque<Block>,
-    // How many items.
-    len: usize,
+    form: Form,
 }
 
 impl Model for List {
     ghost use Rattle.std.specs.Prelude.{List as Items};
     ghost use Rattle.nr_model.specs.Bytes.{Bytes};
-    ghost use Rattle.nr_lists.specs.Packed.{joined};
-    ghost use Rattle.nr_lists.specs.Blocks.{IsCounted};
+    ghost use Rattle.nr_lists.specs.Forms.{items_of};
 
     ghost Value = { Items Bytes };
 
-    ghost view = { λ list. joined list.blocks.items };
-
-    ghost invariant = { λ list. IsCounted list.len list.blocks.items };
+    ghost view = { λ list. items_of list.form };
 }
 
 impl List {
@@ -41,8 +36,7 @@ impl List {
         ensures { result ≡ [] }
     {
         List {
-            blocks: VecDeque::new(alloc),
-            len: 0,
+            form: Form::new(alloc),
         }
     }
 
@@ -51,27 +45,26 @@ impl List {
         ensures len { result ≡ length self.now }
         ensures small { result < 2 ^ 63 }
     {
-        self.len
+        self.form.len()
     }
 
     pub fn is_empty(&self) -> bool
         ensures { IsTrue result ↔ (self.now ≡ []) }
     {
-        self.len == 0
+        self.form.len() == 0
     }
 
-    /// Puts an item at an end. Linear in it, but for growth. Where memory runs out nothing is changed.
+    /// Puts an item at an end. Linear in it, but for growth, and in the bytes of a list of one block. Where memory runs out nothing is changed.
     pub fn push(&mut self, end: End, item: Blob) -> Result<(), Memory>
         ensures ok { OnOk result (self.new ≡ pushed end item self.old) }
         ensures err { OnErr result (self.new ≡ self.old) }
     {
-        let len = one_more(self.len)?;
-        blocks::push(&mut self.blocks, end, item)?;
-        self.len = len;
+        self.form.push(end, item)?;
         Ok(())
     }
 
-    /// Takes the item at an end out, if there is one. Linear in it, and a long one is not copied. Where memory runs out nothing is changed.
+    /// Takes the item at an end out, if there is one. Linear in it, and in the bytes of a list of one block; a long one is not copied. Where memory
+    /// runs out nothing is changed.
     pub fn pop(&mut self, end: End) -> Result<Option<Blob>, Memory>
         ensures item { IfOk result (λ item. item ≡ item_at (index_of end) self.old) }
         ensures left { OnOk result (self.new ≡ popped end self.old) }
@@ -79,27 +72,23 @@ impl List {
         ensures none { IfOk result (λ item. IfNone item (length self.old ≡ 0)) }
         ensures err { OnErr result (self.new ≡ self.old) }
     {
-        let Some(item) = blocks::pop(&mut self.blocks, end)? else {
-            return Ok(None);
-        };
-        self.len -= 1;
-        Ok(Some(item))
+        let item = self.form.pop(end)?;
+        Ok(item)
     }
 
-    /// The item at an index; an index below 0 counts from the end. Linear in the blocks between it and the nearer end.
+    /// The item at an index; an index below 0 counts from the end. Linear in the blocks between it and the nearer end, and in the items of a list of
+    /// one block.
     pub fn get(&self, index: i64) -> Option<&[u8]>
         ensures { option_map (λ item. item.now) result ≡ item_at index self.now }
     {
-        let place = place(self.len, index)?;
-        let (block, place) = blocks::find(&self.blocks, self.len, place);
-        self.blocks[block].get(place)
+        self.form.get(index)
     }
 
     /// Whether there is an item at an index; an index below 0 counts from the end. Constant.
     pub fn has(&self, index: i64) -> bool
         ensures { result ≡ is_some (item_at index self.now) }
     {
-        place(self.len, index).is_some()
+        place(self.form.len(), index).is_some()
     }
 
     /// Puts an item in the place of the one at an index, and says whether there is one; an index below 0 counts from the end. Linear in the
@@ -109,44 +98,24 @@ impl List {
         ensures items { OnOk result (self.new ≡ with_item_at index item self.old) }
         ensures err { OnErr result (self.new ≡ self.old) }
     {
-        match place(self.len, index) {
-            Some(place) => {
-                let (block, place) = blocks::find(&self.blocks, self.len, place);
-                blocks::replace(&mut self.blocks, block, place, item)?;
-                Ok(true)
-            }
-            None => Ok(false),
-        }
+        let found = self.form.set(index, item)?;
+        Ok(found)
     }
 
     /// The items from one index to another, both counted, in order; an index below 0 counts from the end. Linear in the blocks between the
-    /// first and the nearer end; what is read is lent.
+    /// first and the nearer end, and in the items of a list of one block; what is read is lent.
     pub fn range(&self, first: i64, last: i64) -> Items<'_>
         ensures { result ≡ range first last self.now }
     {
-        let start = start_of(self.len, first);
-        let end = end_of(self.len, last);
-        if end <= start {
-            return Items::new(Walk::new(&self.blocks), 0);
-        }
-        let (block, place) = blocks::find(&self.blocks, self.len, start);
-        Items::new(Walk::new_from(&self.blocks, block, place), end - start)
+        self.form.range(first, last)
     }
 
-    /// Keeps the items from one index to another, both counted; an index below 0 counts from the end. Linear in what is taken out.
+    /// Keeps the items from one index to another, both counted; an index below 0 counts from the end. Linear in what is taken out,
+    /// and in the bytes of a list of one block.
     pub fn trim(&mut self, first: i64, last: i64)
         ensures { self.new ≡ range first last self.old }
     {
-        let start = start_of(self.len, first);
-        let end = end_of(self.len, last);
-        if end <= start {
-            self.blocks.clear();
-            self.len = 0;
-            return;
-        }
-        blocks::truncate(&mut self.blocks, self.len, end);
-        blocks::skip(&mut self.blocks, end, start);
-        self.len = end - start;
+        self.form.trim(first, last);
     }
 
     /// Puts an item beside the first pivot, and says whether there is one. Linear in what is looked at, in the bytes of the pivot's block and
@@ -156,33 +125,23 @@ impl List {
         ensures ok { OnOk result (self.new ≡ inserted side pivot.now item self.old) }
         ensures err { OnErr result (self.new ≡ self.old) }
     {
-        let Some(place) = matches::pivot(&self.blocks, self.len, pivot) else {
-            return Ok(false);
-        };
-        let len = one_more(self.len)?;
-        let (block, place) = blocks::find(&self.blocks, self.len, place);
-        blocks::insert(&mut self.blocks, block, beside(side, place), item)?;
-        self.len = len;
-        Ok(true)
+        let found = self.form.insert(side, pivot, item)?;
+        Ok(found)
     }
 
     /// Takes out as many items with these bytes as a count says, and says how many there were: above 0 from the front, below 0 from the end,
-    /// and 0 takes all. Linear in the items and the bytes of the blocks.
+    /// and 0 takes all. Linear in the items and the bytes of the blocks; in a list of one block, in its bytes for each that is taken out.
     pub fn remove(&mut self, count: i64, bytes: &[u8]) -> usize
         ensures items { self.new ≡ removed count bytes.now self.old }
         ensures count { result + length self.new ≡ length self.old }
         ensures small { result < 2 ^ 63 }
     {
-        let most = matches::how_many(count, self.len);
-        let taken = matches::take_out(&mut self.blocks, matches::end_of(count), most, bytes);
-        self.len -= taken;
-        taken
+        self.form.remove(count, bytes)
     }
 
     /// The places of the items with these bytes, counted from the front, in the order found: from the end for a rank below 0, beginning with
     /// the rank's match, among so many items looked at, and at most so many places. For the last two 0 is no limit. A rank of 0 is as 1.
     /// Linear in what is looked at.
-    #[tactic(auto, using(crate::proofs::Within::places_small))]
     pub fn positions(
         &self,
         bytes: &[u8],
@@ -193,7 +152,8 @@ impl List {
         ensures places { IfOk result (λ places. places.items ≡ places_of rank count most bytes.now self.now) }
         ensures small { IfOk result (λ places. All (λ place. place < 2 ^ 63) places.items) }
     {
-        matches::places(&self.blocks, self.len, bytes, rank, count, most)
+        let places = self.form.positions(bytes, rank, count, most)?;
+        Ok(places)
     }
 
     /// The same items once more. Linear in them and their bytes.
@@ -201,31 +161,7 @@ impl List {
         ensures { IfOk result (λ copied. copied ≡ self.now) }
     {
         Ok(List {
-            blocks: blocks::copy_each(&self.blocks)?,
-            len: self.len,
+            form: self.form.copy()?,
         })
-    }
-}
-
-// The place at a side of another.
-fn beside(side: Side, place: usize) -> usize
-    requires { place < 2 ^ 63 }
-    ensures { result ≡ beside side place }
-{
-    match side {
-        Side::Before => place,
-        Side::After => place + 1,
-    }
-}
-
-// How many items there are with one more, refused from 2^63 on.
-fn one_more(len: usize) -> Result<usize, Memory>
-    requires { len < 2 ^ 63 }
-    ensures { IfOk result (λ more. (more ≡ len + 1) × (more < 2 ^ 63)) }
-{
-    let more = len + 1;
-    match Memory::at_last((more as u64).saturating_mul(2)) {
-        Some(refused) => Err(refused),
-        None => Ok(more),
     }
 }

@@ -7,9 +7,11 @@ ghost use Rattle.nr_lists.specs.Packed.{joined};
 ghost use Rattle.nr_lists.specs.Matches.{limit_of, place_from, thin, some_of};
 
 use crate::block::Block;
-use crate::items::Walk;
+use crate::small::Small;
+use crate::walk::Walk;
 use nr_blob::Memory;
 use nr_model::command::End;
+use std::alloc::Global;
 use std::collections::VecDeque;
 
 // Whether an item has these bytes.
@@ -21,12 +23,11 @@ fn is(item: &[u8], bytes: &[u8]) -> bool
 
 /// Where the first pivot stands, among so many items. Linear in what stands before it.
 #[tactic(auto, using(crate::proofs::Listed::looks_found, crate::proofs::Listed::looks_none, crate::proofs::Listed::looks_all))]
-pub(crate) fn pivot(blocks: &VecDeque<Block>, len: usize, pivot: &[u8]) -> Option<usize>
-    requires { len ≡ length (joined blocks.now.items) }
-    ensures place { result ≡ pivot_of pivot.now (joined blocks.now.items) }
+pub(crate) fn pivot(mut walk: Walk<'_>, len: usize, pivot: &[u8]) -> Option<usize>
+    requires { len ≡ length walk }
+    ensures place { result ≡ pivot_of pivot.now walk.entry }
     ensures bound { IfSome result (λ place. place < len) }
 {
-    let mut walk = Walk::new(blocks);
     for place in 0..len {
         let Some(item) = walk.take(End::Left) else {
             return None;
@@ -154,6 +155,37 @@ pub(crate) fn take_out(blocks: &mut VecDeque<Block>, end: End, most: usize, byte
     taken
 }
 
+/// Takes the first so many items with these bytes out of a small list, looked at from an end, and says how many there were. Linear in the bytes
+/// of the block for each that is taken out.
+pub(crate) fn take_out_of(items: &mut Small, end: End, most: usize, bytes: &[u8]) -> usize
+    ensures items { items.new ≡ thin end most bytes.now items.old }
+    ensures count { result + length items.new ≡ length items.old }
+{
+    let mut taken = 0;
+    let mut seen = 0;
+    while seen < items.len() {
+        let place = place_from(end, items.len(), seen);
+        if taken < most && is_there(items, place, bytes) {
+            items.cut(place, place + 1);
+            taken += 1;
+        } else {
+            seen += 1;
+        }
+    }
+    taken
+}
+
+// Whether the item at a place has these bytes.
+fn is_there(items: &Small, place: usize, bytes: &[u8]) -> bool
+    requires { place < length items.now }
+    ensures { result ≡ bytes_eq (slice_index_or items.now place []) bytes.now }
+{
+    match items.get(place) {
+        Some(item) => is(item, bytes),
+        None => false,
+    }
+}
+
 // The limit, or all where it is 0 or greater.
 fn limit(most: usize, all: usize) -> usize
     ensures limit { result ≡ limit_of most all }
@@ -162,8 +194,8 @@ fn limit(most: usize, all: usize) -> usize
     if most == 0 || most > all { all } else { most }
 }
 
-// The place of what is looked at after so many from an end.
-fn place_from(end: End, len: usize, seen: usize) -> usize
+/// The place of what is looked at after so many from an end.
+pub(crate) fn place_from(end: End, len: usize, seen: usize) -> usize
     requires { seen < len }
     ensures place { result ≡ place_from end len seen }
     ensures bound { result < len }
@@ -176,22 +208,22 @@ fn place_from(end: End, len: usize, seen: usize) -> usize
 
 /// The places of the items with these bytes, among so many, in the order found. Linear in what is looked at.
 pub(crate) fn places(
-    blocks: &VecDeque<Block>,
+    alloc: Global,
+    mut walk: Walk<'_>,
     len: usize,
     bytes: &[u8],
     rank: i64,
     count: usize,
     most: usize,
 ) -> Result<Vec<usize>, Memory>
-    requires { len ≡ length (joined blocks.now.items) }
-    ensures { IfOk result (λ places. places.items ≡ places_of rank count most bytes.now (joined blocks.now.items)) }
+    requires { len ≡ length walk }
+    ensures { IfOk result (λ places. places.items ≡ places_of rank count most bytes.now walk.entry) }
 {
     let end = end_of(rank);
     let mut to_pass = passed_over(rank);
     let count = limit(count, len);
     let looked_at = limit(most, len);
-    let mut walk = Walk::new(blocks);
-    let mut places = Vec::new(*blocks.allocator());
+    let mut places = Vec::new(alloc);
     for seen in 0..looked_at {
         if places.len() == count {
             return Ok(places);

@@ -20,7 +20,16 @@ use Rattle.nr_model.specs.declared.command.Direction.TheVariants.{Ascending}
 use Rattle.nr_model.proofs.Ordered.{has, ordered-in_order, has-in_order, equal_from}
 use Rattle.nr_zsets.specs.Lists.{part}
 use Rattle.nr_zsets.proofs.Ranked.{is_score_of, has-ranked, length-ranked}
-use Rattle.nr_ranked.specs.Storing.{IsOnce, IsListing}
+
+-- no member stands twice
+abbrev pub IsOnce : List Scored → Type 0
+IsOnce [] = Unit {0}
+IsOnce (x ∷ xs) = (finmap.find byte_cmp x.0 xs ≡ None) × IsOnce xs
+
+-- all members with their scores, each once, in whatever order
+pub record IsListing (listed : List Scored) (scores : Scores) : Type 0 where
+  pub all : finmap.from_entries listed ≡ scores
+  pub once : IsOnce listed
 
 first_holds : (a b : Bool) → T (a && b) → T a
 first_holds true b h = tt

@@ -21,7 +21,7 @@ use Rattle.nr_model.specs.declared.command.Joining.{Joining}
 use Rattle.nr_model.specs.declared.command.Joining.TheVariants.{Union, Intersection}
 use Rattle.nr_model.proofs.Ordered.{equal_from}
 use Rattle.nr_zsets.specs.Lists.{shown}
-use Rattle.nr_ranked.specs.Storing.{IsOnce}
+use Rattle.nr_ranked.proofs.StoringListings.{IsOnce}
 use Rattle.nr_ranked.specs.Sums.{kept_by, kept_in, built_one, is_right}
 use Rattle.nr_ranked.proofs.StoringListings.{found_in, once_sorted}
 use denote.Ref.{Bor}

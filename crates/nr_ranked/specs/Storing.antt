@@ -1,8 +1,8 @@
 -- Several keys as one sorted set: what is read, and what the keys hold.
-use Rattle.std.specs.Prelude.{◌≡◌, ℕ, if◌then◌else◌, None, Ok, List, [], ◌∷◌}
+use Rattle.std.specs.Prelude.{ℕ, if◌then◌else◌, Ok}
 use Rattle.std.specs.FinMap as finmap
-use Rattle.nr_model.specs.Keyspace.{byte_cmp, Keyspace}
-use Rattle.nr_model.specs.SortedSets.{Scored, Scores, of_members, weighted, joined, are_scores}
+use Rattle.nr_model.specs.Keyspace.{Keyspace}
+use Rattle.nr_model.specs.SortedSets.{Scores, of_members, weighted, joined, are_scores}
 use Rattle.nr_model.specs.Commands.Reading.{Read, fault, read_then}
 use Rattle.nr_model.specs.declared.refused.Refused.TheVariants.{ScoreRange}
 use Rattle.nr_model.specs.declared.command.Joining.{Joining}
@@ -23,16 +23,6 @@ abbrev pub scores_in : Held → Scores
 scores_in Missing = finmap.empty
 scores_in (Set set) = of_members set.now
 scores_in (SortedSet zset) = zset.now
-
--- no member stands twice
-abbrev pub IsOnce : List Scored → Type 0
-IsOnce [] = Unit {0}
-IsOnce (x ∷ xs) = (finmap.find byte_cmp x.0 xs ≡ None) × IsOnce xs
-
--- all members with their scores, each once, in whatever order
-pub record IsListing (listed : List Scored) (scores : Scores) : Type 0 where
-  pub all : finmap.from_entries listed ≡ scores
-  pub once : IsOnce listed
 
 -- a sorted set of these scores, if each of them is one
 abbrev pub judged : Scores → Read Scores

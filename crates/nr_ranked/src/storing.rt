@@ -24,7 +24,8 @@ mod reading;
 mod sources;
 
 /// `ZUNIONSTORE destination numkeys key [key ..] [WEIGHTS weight [weight ..]] [AGGREGATE SUM | MIN | MAX]`, and ZINTERSTORE with the same words.
-/// O(n log n) in the members of all keys; ZINTERSTORE looks each of them up in each key, too. Members are copied only where they are stored.
+/// O(n log n) in the members of all keys; ZINTERSTORE looks each of them up in each key, too. The members of all are lent; each that is
+/// looked up or stored is copied.
 pub fn join_store<T: Touched>(
     joining: Joining,
     alloc: Global,
@@ -60,7 +61,13 @@ fn joined(
     let options = request.options;
     let held = sources_at(alloc, keyspace, now, database, request.names)?;
     let sums = gathered(alloc, options.aggregate, &held, &options.weights)?;
-    built(joining, &held, &sums, keyspace.empty_sorted_set(alloc))
+    built(
+        joining,
+        alloc,
+        &held,
+        &sums,
+        keyspace.empty_sorted_set(alloc),
+    )
 }
 
 // The key holds the sorted set, whatever it held, and has no deadline. One without members is no key.

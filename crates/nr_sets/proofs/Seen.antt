@@ -1,20 +1,24 @@
 -- Keys in byte order, as the finite set that they are seen as.
-use Rattle.std.proofs.Common.{◌≡◌, ◌+◌, Bool, true, false, cond, not, ◌||◌, ◌&&◌, T, List, [], ◌∷◌, ◌++◌, length, append_assoc, refl, ap, sym, ◌∙◌, subst, arith, map}
-use Rattle.std.specs.declared.cmp.Ordering.TheVariants.{Less, Greater}
-use Rattle.std.specs.Ordering.{eq_by_cmp, is_eq, is_lt, match_ordering, ordering_reverse}
-use Rattle.std.specs.Cmp.{eq_by_cmp_equiv}
+use Rattle.std.proofs.Common.{◌≡◌, ◌+◌, Bool, true, false, cond, not, ◌||◌, ◌&&◌, T, Option, Some, None, is_some, is_none, List, [], ◌∷◌, length, refl, ap, sym, ◌∙◌, subst, arith, map}
+use Rattle.std.specs.declared.cmp.Ordering.TheVariants.{Less}
+use Rattle.std.specs.Ordering.{eq_by_cmp, is_eq, is_lt}
 use Rattle.std.specs.Cmp.Lexicographic.{nat_list_cmp_total}
 use Rattle.std.specs.List.{AllByRecursion, list_any}
 use Rattle.std.specs.List.Sorted.{IsStrictlySortedBy}
-use Rattle.std.specs.BTreeMap.{is_at}
-use Rattle.std.specs.BTreeSet.{insert_key}
+use Rattle.std.specs.Map.{keys_of, remove_entry}
+use Rattle.std.specs.BTreeMap.{insert_entry, is_at}
 use Rattle.std.specs.FinSet as set
 use Rattle.std.specs.FinMap.Entries as entries
+use Rattle.std.proofs.lemmas.List.{length-map}
 use Rattle.std.proofs.lemmas.Map.Lookups.{exact_bytes}
 use Rattle.nr_model.specs.Bytes.{Bytes}
 use Rattle.nr_model.specs.Keyspace.{byte_cmp}
 use Rattle.nr_model.specs.Sets.{Members, listed}
 use Rattle.nr_model.proofs.Ordered.{has, IsOrdered, ordered-in_order, has-in_order, same_ordered}
+use Rattle.nr_packs.specs.Packed.{Entries}
+use Rattle.nr_packs.specs.Orders.{AreInOrder}
+use Rattle.nr_packs.specs.Tables.{held}
+use Rattle.nr_packs.proofs.Looked.{is_same, held-insert, held-remove}
 
 abbrev pub seen : List Bytes → Members
 seen ks = set.from_list ks
@@ -69,50 +73,40 @@ len_seen (k ∷ ks) rises =
 pub none_seen : (ks : List Bytes) → ks ≡ [] → seen ks ≡ set.empty
 none_seen ks none = ap seen none
 
-pub seen_none : (ks : List Bytes) → IsStrictlySortedBy byte_cmp ks → seen ks ≡ set.empty → length ks ≡ 0
-seen_none ks rises none = sym (len_seen ks rises) ∙ ap set.len none ∙ set.len-empty byte_cmp
+-- there are as many as entries
+pub counted_seen : (es : Entries) → AreInOrder es → set.len (seen (keys_of es)) ≡ length es
+counted_seen es rises = len_seen (keys_of es) rises ∙ length-map es (λ (e : Bytes × Bytes). e.0)
 
-cond_or : (b x : Bool) → cond b true x ≡ (b || x)
-cond_or true x = refl
-cond_or false x = refl
+some_by : {A : Type 0} (b : Bool) (x : A) (o : Option A) → is_some (cond b (Some x) o) ≡ (b || is_some o)
+some_by true x o = refl
+some_by false x o = refl
 
-cond_and : (b x : Bool) → cond b false x ≡ (not b && x)
-cond_and true x = refl
-cond_and false x = refl
+none_by : {A : Type 0} (b : Bool) (o : Option A) → is_some (cond b None o) ≡ (not b && is_some o)
+none_by true o = refl
+none_by false o = refl
+
+found_in : (es : Entries) (q : Bytes) → list_any (is_at (byte_cmp q)) (keys_of es) ≡ is_some (held q es)
+found_in [] q = refl
+found_in (e ∷ es) q = ap (λ b. is_at (byte_cmp q) e.0 || b) (found_in es q) ∙ sym (some_by (is_at (byte_cmp q) e.0) e.1 (held q es))
+
+-- a member is what something is found at
+pub contains_found : (es : Entries) (q : Bytes) → set.contains (seen (keys_of es)) q ≡ is_some (held q es)
+contains_found es q = contains_seen (keys_of es) q ∙ found_in es q
 
 -- one put in, and one taken out
-pub inserted_seen : (old new : List Bytes) (k : Bytes)
-    → ((q : Bytes) → list_any (is_at (byte_cmp q)) new ≡ cond (is_at (byte_cmp k) q) true (list_any (is_at (byte_cmp q)) old)) → seen new ≡ set.insert (seen old) k
-inserted_seen old new k at = set.same_set nat_list_cmp_total exact_bytes _ _ (λ q.
-    contains_seen new q ∙ at q ∙ cond_or (is_at (byte_cmp k) q) (list_any (is_at (byte_cmp q)) old)
-    ∙ ap (λ b. b || list_any (is_at (byte_cmp q)) old) ((eq_by_cmp_equiv nat_list_cmp_total).symm k q)
-    ∙ ap (λ x. eq_by_cmp byte_cmp q k || x) (sym (contains_seen old q))
-    ∙ sym (set.contains-insert nat_list_cmp_total (seen old) k q))
+pub inserted_seen : (old new : Entries) (k v : Bytes) → new ≡ insert_entry byte_cmp old k v → seen (keys_of new) ≡ set.insert (seen (keys_of old)) k
+inserted_seen old new k v is = set.same_set nat_list_cmp_total exact_bytes _ _ (λ q.
+    contains_found new q ∙ ap (λ es. is_some (held q es)) is ∙ ap is_some (held-insert k v q old) ∙ some_by (is_same q k) v (held q old)
+    ∙ ap (λ b. is_same q k || b) (sym (contains_found old q))
+    ∙ sym (set.contains-insert nat_list_cmp_total (seen (keys_of old)) k q))
 
-pub removed_seen : (old new : List Bytes) (k : Bytes)
-    → ((q : Bytes) → list_any (is_at (byte_cmp q)) new ≡ cond (is_at (byte_cmp k) q) false (list_any (is_at (byte_cmp q)) old)) → seen new ≡ set.remove (seen old) k
-removed_seen old new k at = set.same_set nat_list_cmp_total exact_bytes _ _ (λ q.
-    contains_seen new q ∙ at q ∙ cond_and (is_at (byte_cmp k) q) (list_any (is_at (byte_cmp q)) old)
-    ∙ ap (λ b. not b && list_any (is_at (byte_cmp q)) old) ((eq_by_cmp_equiv nat_list_cmp_total).symm k q)
-    ∙ ap (λ x. not (eq_by_cmp byte_cmp q k) && x) (sym (contains_seen old q))
-    ∙ sym (set.contains-remove nat_list_cmp_total (seen old) k q))
+pub removed_seen : (old new : Entries) (k : Bytes) → AreInOrder old → new ≡ remove_entry (is_at (byte_cmp k)) old → seen (keys_of new) ≡ set.remove (seen (keys_of old)) k
+removed_seen old new k rises is = set.same_set nat_list_cmp_total exact_bytes _ _ (λ q.
+    contains_found new q ∙ ap (λ es. is_some (held q es)) is ∙ ap is_some (held-remove k q old rises) ∙ none_by (is_same q k) (held q old)
+    ∙ ap (λ b. not (is_same q k) && b) (sym (contains_found old q))
+    ∙ sym (set.contains-remove nat_list_cmp_total (seen (keys_of old)) k q))
 
-last_of : (x k : Bytes) (ks left : List Bytes) → AllByRecursion (λ y. byte_cmp x y ≡ Less) (ks ++ k ∷ left) → byte_cmp x k ≡ Less
-last_of x k [] left all = all.0
-last_of x k (y ∷ ks) left all = last_of x k ks left all.1
-
--- the greatest goes to the end
-inserted_last : (ks : List Bytes) (k : Bytes) (left : List Bytes) → IsStrictlySortedBy byte_cmp (ks ++ k ∷ left) → insert_key byte_cmp ks k ≡ ks ++ k ∷ []
-unfolding IsStrictlySortedBy
-inserted_last [] k left rises = refl
-inserted_last (x ∷ ks) k left rises =
-    let above : byte_cmp k x ≡ Greater = nat_list_cmp_total.antisymm k x ∙ ap ordering_reverse (last_of x k ks left rises.0) in
-    ap (λ r. match_ordering r (k ∷ x ∷ ks) (x ∷ ks) (x ∷ insert_key byte_cmp ks k)) above ∙ ap (λ ys. x ∷ ys) (inserted_last ks k left rises.1)
-
--- one more is copied
-pub copied_more : (all copied new left : List Bytes) (member k : Bytes) → IsStrictlySortedBy byte_cmp all → copied ++ member ∷ left ≡ all → k ≡ member
-    → new ≡ insert_key byte_cmp copied k → new ++ left ≡ all
-copied_more all copied new left member k rises so_far same is =
-    let place : copied ++ k ∷ left ≡ all = ap (λ x. copied ++ x ∷ left) same ∙ so_far in
-    let last : new ≡ copied ++ k ∷ [] = is ∙ inserted_last copied k left (subst (IsStrictlySortedBy byte_cmp) (sym place) rises) in
-    ap (λ ks. ks ++ left) last ∙ append_assoc copied (k ∷ []) left ∙ place
+-- a member is new where nothing is found
+pub is_new : {A : Type 0} (o : Option A) → is_none o ≡ not (is_some o)
+is_new None = refl
+is_new (Some x) = refl

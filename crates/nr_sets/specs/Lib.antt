@@ -1,1 +1,3 @@
+pub mod Forms
+pub mod Listed
 pub mod Lent

@@ -15,30 +15,8 @@ use nr_blob::{Blob, Memory};
 use std::alloc::Global;
 use std::collections::BTreeSet;
 
-// Both sets, where they are two and neither is missing.
-fn two<'a>(sets: &[Option<&'a Set>]) -> Option<(&'a Set, &'a Set)>
-    ensures { IfSome result (λ both. map lent sets.now ≡ both.0.now ∷ both.1.now ∷ []) }
-{
-    let [first, second] = sets else {
-        return None;
-    };
-    match (*first, *second) {
-        (Some(first), Some(second)) => Some((first, second)),
-        _ => None,
-    }
-}
-
-/// The members that one of the sets has, in byte order. O(n log n) in the members of all, and linear for two sets.
-pub fn union<'a>(alloc: Global, sets: &[Option<&'a Set>]) -> Result<Vec<&'a Blob>, Memory>
-    ensures { IfOk result (λ members. map deref members.items ≡ listed (union_of (map lent sets.now))) }
-{
-    if let Some((first, second)) = two(sets) {
-        return Ok(first.union(second).collect(alloc)?);
-    }
-    union_of_several(alloc, sets)
-}
-
-fn union_of_several<'a>(alloc: Global, sets: &[Option<&'a Set>]) -> Result<Vec<&'a Blob>, Memory>
+/// The members that one of the sets has, in byte order. O(n log n) in the members of all.
+pub fn union<'a>(alloc: Global, sets: &[Option<&'a Set>]) -> Result<Vec<&'a [u8]>, Memory>
     ensures { IfOk result (λ members. map deref members.items ≡ listed (union_of (map lent sets.now))) }
 {
     let mut joined = BTreeSet::new(alloc);
@@ -49,62 +27,43 @@ fn union_of_several<'a>(alloc: Global, sets: &[Option<&'a Set>]) -> Result<Vec<&
 }
 
 // Puts the members of a set in, each at its place.
-fn join<'a>(joined: &mut BTreeSet<&'a Blob>, set: Option<&'a Set>) -> Result<(), Memory>
+fn join<'a>(joined: &mut BTreeSet<&'a [u8]>, set: Option<&'a Set>) -> Result<(), Memory>
     ensures { OnOk result
         (map deref joined.new.keys ≡ fold (λ members member. put byte_cmp member members) (map deref joined.old.keys) (listed (lent set.entry))) }
 {
     let Some(set) = set else {
         return Ok(());
     };
-    for member in set.members() {
+    for member in set.members()? {
         joined.insert(member)?;
     }
     Ok(())
 }
 
-fn in_order<'a>(alloc: Global, joined: BTreeSet<&'a Blob>) -> Result<Vec<&'a Blob>, Memory>
+fn in_order<'a>(alloc: Global, joined: BTreeSet<&'a [u8]>) -> Result<Vec<&'a [u8]>, Memory>
     ensures { IfOk result (λ members. members.items ≡ joined.entry.keys) }
 {
     Ok(joined.into_iter().collect(alloc)?)
 }
 
-/// The members that all of the sets have, in byte order, and at most so many of them, 0 being no limit. It walks the smallest set beside another of
-/// like size, or looks its members up in that one, and looks what both have up in the others.
+/// The members that all of the sets have, in byte order, and at most so many of them, 0 being no limit. It walks the smallest set, in O(n log n)
+/// where that is a table, and looks its members up in the others, each linear in the bytes of a block.
 pub fn intersection<'a>(
     alloc: Global,
     sets: &[Option<&'a Set>],
     most: usize,
-) -> Result<Vec<&'a Blob>, Memory>
+) -> Result<Vec<&'a [u8]>, Memory>
     ensures { IfOk result (λ members. map deref members.items ≡ limited most (listed (intersection_of (map lent sets.now)))) }
 {
     let Some((place, walked)) = smallest(sets) else {
         return Ok(Vec::new(alloc));
     };
-    let (before, behind) = (&sets[..place], &sets[place + 1..]);
-    if let Some((beside, behind)) = first_held(behind) {
-        return common(alloc, walked, beside, before, behind, most);
-    }
-    if let Some((beside, before)) = first_held(before) {
-        return common(alloc, walked, beside, before, behind, most);
-    }
-    common(alloc, walked, walked, before, behind, most)
+    common(alloc, walked, &sets[..place], &sets[place + 1..], most)
 }
 
-/// The members that the first set has and none of the others, in byte order. Of two sets of like size it walks both side by side; else it walks
-/// the first, and looks its members up in the others.
-pub fn difference<'a>(alloc: Global, sets: &[Option<&'a Set>]) -> Result<Vec<&'a Blob>, Memory>
-    ensures { IfOk result (λ members. map deref members.items ≡ listed (difference_of (map lent sets.now))) }
-{
-    if let Some((first, second)) = two(sets) {
-        return Ok(first.difference(second).collect(alloc)?);
-    }
-    difference_of_several(alloc, sets)
-}
-
-fn difference_of_several<'a>(
-    alloc: Global,
-    sets: &[Option<&'a Set>],
-) -> Result<Vec<&'a Blob>, Memory>
+/// The members that the first set has and none of the others, in byte order. It walks the first, in O(n log n) where that is a table, and looks its
+/// members up in the others, each linear in the bytes of a block.
+pub fn difference<'a>(alloc: Global, sets: &[Option<&'a Set>]) -> Result<Vec<&'a [u8]>, Memory>
     ensures { IfOk result (λ members. map deref members.items ≡ listed (difference_of (map lent sets.now))) }
 {
     let Some((first, others)) = sets.split_first() else {
@@ -114,20 +73,6 @@ fn difference_of_several<'a>(
         Some(first) => left_over(alloc, first, others),
         None => Ok(Vec::new(alloc)),
     }
-}
-
-// The first set, if there is one and it isn't missing, and the others.
-fn first_held<'s, 'a>(sets: &'s [Option<&'a Set>]) -> Option<(&'a Set, &'s [Option<&'a Set>])>
-    ensures { IfSome result (λ held. (m : Bytes) → list_all (λ s. set.contains (lent s) m) sets.now
-        ≡ (set.contains held.0.now m && list_all (λ s. set.contains (lent s) m) held.1.now)) }
-{
-    let Some((first, others)) = sets.split_first() else {
-        return None;
-    };
-    let Some(first) = *first else {
-        return None;
-    };
-    Some((first, others))
 }
 
 // The place of a set that has the fewest members, and the set, unless one is missing.
@@ -165,7 +110,7 @@ fn smaller<'a>(first: (usize, &'a Set), second: (usize, &'a Set)) -> (usize, &'a
     }
 }
 
-/// Whether a set has a member. Logarithmic.
+/// Whether a set has a member. Linear in the bytes of a block.
 pub fn has(held: Option<&Set>, member: &Blob) -> bool
     ensures { result ≡ set.contains (lent held.entry) member.now }
 {
@@ -181,16 +126,32 @@ fn all_have(sets: &[Option<&Set>], member: &Blob) -> bool
     sets.iter().all(|set| has(*set, member))
 }
 
-fn both_have(before: &[Option<&Set>], behind: &[Option<&Set>], member: &Blob) -> bool
-    ensures { result ≡ (list_all (λ s. set.contains (lent s) member.now) before.now && list_all (λ s. set.contains (lent s) member.now) behind.now) }
+// Whether those before a set and those behind it have a member.
+fn both_have(
+    alloc: Global,
+    before: &[Option<&Set>],
+    behind: &[Option<&Set>],
+    member: &[u8],
+) -> Result<bool, Memory>
+    ensures { IfOk result (λ have. have
+        ≡ (list_all (λ s. set.contains (lent s) member.now) before.now && list_all (λ s. set.contains (lent s) member.now) behind.now)) }
 {
-    all_have(before, member) && all_have(behind, member)
+    let member = Blob::from_slice(alloc, member)?;
+    Ok(all_have(before, &member) && all_have(behind, &member))
 }
 
 fn any_has(sets: &[Option<&Set>], member: &Blob) -> bool
     ensures { result ≡ list_any (λ s. set.contains (lent s) member.now) sets.now }
 {
     sets.iter().any(|set| has(*set, member))
+}
+
+// Whether one of the sets has a member.
+fn one_has(alloc: Global, sets: &[Option<&Set>], member: &[u8]) -> Result<bool, Memory>
+    ensures { IfOk result (λ has. has ≡ list_any (λ s. set.contains (lent s) member.now) sets.now) }
+{
+    let member = Blob::from_slice(alloc, member)?;
+    Ok(any_has(sets, &member))
 }
 
 // How many of at most so many are taken, 0 being no limit.
@@ -200,27 +161,26 @@ fn limit(most: usize, all: usize) -> usize
     if most == 0 { all } else { most }
 }
 
-// The members of one set that another has, those before it and those behind it, at most so many.
+// The members of one set that those before it and those behind it have, at most so many.
 fn common<'a>(
     alloc: Global,
     walked: &'a Set,
-    beside: &'a Set,
     before: &[Option<&'a Set>],
     behind: &[Option<&'a Set>],
     most: usize,
-) -> Result<Vec<&'a Blob>, Memory>
+) -> Result<Vec<&'a [u8]>, Memory>
     ensures { IfOk result (λ members.
         map deref members.items ≡ limited most (filter
         (λ m. list_all (λ s. set.contains (lent s) m) before.now && list_all (λ s. set.contains (lent s) m) behind.now)
-        (listed (set.intersection walked.now beside.now)))) }
+        (listed walked.now))) }
 {
     let limit = limit(most, walked.len());
     let mut members = Vec::new(alloc);
-    for member in walked.intersection(beside) {
+    for member in walked.members()? {
         if members.len() == limit {
             return Ok(members);
         }
-        if !both_have(before, behind, member) {
+        if !both_have(alloc, before, behind, member)? {
             continue;
         }
         members.push(member)?;
@@ -233,13 +193,13 @@ fn left_over<'a>(
     alloc: Global,
     walked: &'a Set,
     others: &[Option<&'a Set>],
-) -> Result<Vec<&'a Blob>, Memory>
+) -> Result<Vec<&'a [u8]>, Memory>
     ensures { IfOk result (λ members.
         map deref members.items ≡ filter (λ m. not (list_any (λ s. set.contains (lent s) m) others.now)) (listed walked.now)) }
 {
     let mut members = Vec::new(alloc);
-    for member in walked.members() {
-        if any_has(others, member) {
+    for member in walked.members()? {
+        if one_has(alloc, others, member)? {
             continue;
         }
         members.push(member)?;

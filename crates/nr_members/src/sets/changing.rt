@@ -17,8 +17,9 @@ use nr_model::refused::Refused;
 use nr_resp::{Failure, Reply};
 use nr_sets::Set;
 use std::alloc::Global;
+use std::hash::RandomState;
 
-/// `SADD key member [member ..]`. Logarithmic for each.
+/// `SADD key member [member ..]`. For each it looks at one block of the set.
 pub fn add<T: Touched>(
     alloc: Global,
     keyspace: &mut Keyspace,
@@ -38,7 +39,7 @@ pub fn add<T: Touched>(
     Ok(tell(database, name, count, touched)?)
 }
 
-/// `SREM key member [member ..]`. Logarithmic for each.
+/// `SREM key member [member ..]`. For each it looks at one block of the set.
 pub fn remove<T: Touched>(
     keyspace: &mut Keyspace,
     now: u64,
@@ -90,7 +91,9 @@ pub(super) fn insert(
     ensures refused { IfErr result (λ failure. IfRefused failure
         (λ error. (sets.add keyspace.old database (name.now ∷ members.now) ≡ unchanged keyspace.old error) × (keyspace.new ≡ keyspace.old))) }
 {
-    match keyspace.edit_set(now, database, name, Insertion { members })? {
+    let keys = keyspace.keys();
+    let insertion = Insertion { keys, members };
+    match keyspace.edit_set(now, database, name, insertion)? {
         Some(count) => Ok(count?),
         None => Ok(put(alloc, keyspace, database, name, members)?),
     }
@@ -99,6 +102,7 @@ pub(super) fn insert(
 // Puts members into a set.
 #[derive(Drop)]
 struct Insertion<'k> {
+    keys: RandomState,
     members: &'k [Blob],
 }
 
@@ -112,7 +116,7 @@ impl<'k> SetEdit for Insertion<'k> {
     ghost edits = { λ insertion old new given. (new ≡ with_each old insertion.members.now) × (given ≡ Ok (finset.len new - finset.len old)) × IfOk given (λ n. n < 2 ^ 63) };
 
     fn edit(self, set: &mut Set) -> Result<Result<usize, Refused>, Memory> {
-        Ok(Ok(set.insert_each(self.members)?))
+        Ok(Ok(set.insert_each(self.keys, self.members)?))
     }
 }
 
@@ -127,8 +131,9 @@ fn put(
     ensures { let key = key_of database name.now in map.get keyspace.old key ≡ None → IfOk result
         (λ count. IsChanged (sets.added keyspace.old key members.now None) keyspace.new key count) }
 {
+    let keys = keyspace.keys();
     let mut set = Set::new(alloc);
-    let count = set.insert_each(members)?;
+    let count = set.insert_each(keys, members)?;
     if count == 0 {
         return Ok(0);
     }

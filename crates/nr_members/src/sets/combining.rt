@@ -2,11 +2,13 @@
 ghost use Rattle.std.specs.Prelude.{◌≡◌, ◌++◌, ◌∷◌, [], Ok, Err, IfOk, IfErr, OnOk, map};
 ghost use Rattle.std.specs.Map.Iter.{deref};
 ghost use Rattle.nr_model.specs.Keyspace.{live, key_of};
+ghost use Rattle.nr_model.specs.Replies as replies;
 ghost use Rattle.nr_model.specs.Sets.{listed};
 ghost use Rattle.nr_model.specs.Commands.Reading.{read_then};
 ghost use Rattle.nr_model.specs.Commands.Shape.{staying};
 ghost use Rattle.nr_model.specs.Commands.Sets as sets;
 ghost use Rattle.nr_resp.specs.Seen.{reply_of};
+ghost use Rattle.nr_resp.specs.Shown.{item_reply, shown_reply};
 ghost use Rattle.nr_resp.specs.Done.{Answers, IsDone, Performs};
 ghost use Rattle.nr_resp.specs.Failures.{IfRefused};
 ghost use Rattle.nr_sets.specs.Lent.{lent};
@@ -16,13 +18,12 @@ use nr_blob::{Blob, Memory};
 use nr_keyspace::{Db, Keyspace, Touched, Value};
 use nr_model::command::Combination;
 use nr_model::refused::Refused;
-use nr_resp::{Failure, Reply, Shown};
+use nr_resp::{Failure, Item, Reply, Shown};
 use nr_sets::{Set, difference, intersection, union};
 use std::alloc::Global;
 
-/// `SINTER key [key ..]`, `SUNION key [key ..]`, `SDIFF key [key ..]`. SINTER walks the smallest set and SDIFF the first, and they look its
-/// members up in the others, or walk two of like size side by side; SUNION is linear for two sets, and O(n log n) in the members of all for
-/// more. The members are lent.
+/// `SINTER key [key ..]`, `SUNION key [key ..]`, `SDIFF key [key ..]`. SINTER walks the smallest set and SDIFF the first, in O(n log n) where that is
+/// a table, and for each member they look at one block of the others; SUNION is O(n log n) in the members of all. The members are lent.
 pub fn combine<'k>(
     alloc: Global,
     combination: Combination,
@@ -34,7 +35,18 @@ pub fn combine<'k>(
     ensures { Answers result (sets.combine combination (live keyspace.now now) database names.now) }
 {
     let members = combined(alloc, combination, keyspace, now, database, names)?;
-    Ok(Shown::bulks(alloc, &members)?)
+    Ok(bulks(alloc, &members)?)
+}
+
+// An array of bulks, each lent.
+fn bulks<'k>(alloc: Global, members: &[&'k [u8]]) -> Result<Shown<'k>, Memory>
+    ensures { IfOk result (λ shown. shown_reply shown ≡ replies.array (map replies.Bulk (map deref members.now))) }
+{
+    let mut items = Vec::with_capacity(alloc, members.len())?;
+    for member in members {
+        items.push(Item::Bulk(*member))?;
+    }
+    Ok(Shown::Items(items))
 }
 
 // What keys hold as sets, made one, in byte order.
@@ -45,7 +57,7 @@ fn combined<'k>(
     now: u64,
     database: Db,
     names: &[Blob],
-) -> Result<Vec<&'k Blob>, Failure>
+) -> Result<Vec<&'k [u8]>, Failure>
     ensures members { IfOk result (λ members. read_then (sets.sets_at (live keyspace.now now) database names.now)
         (λ held. Ok (listed (sets.combined combination held))) ≡ Ok (map deref members.items)) }
     ensures refused { IfErr result
@@ -85,7 +97,7 @@ fn joined<'k>(
     alloc: Global,
     combination: Combination,
     held: &[Option<&'k Set>],
-) -> Result<Vec<&'k Blob>, Memory>
+) -> Result<Vec<&'k [u8]>, Memory>
     ensures { IfOk result (λ members. map deref members.items ≡ listed (sets.combined combination (map lent held.now))) }
 {
     match combination {
@@ -96,7 +108,7 @@ fn joined<'k>(
 }
 
 /// `SINTERSTORE destination key [key ..]`, `SUNIONSTORE destination key [key ..]`, `SDIFFSTORE destination key [key ..]`. Beside what the
-/// commands without STORE cost, each member is copied and put in, logarithmic for each.
+/// commands without STORE cost, each member is copied and put in, for which it looks at one block of the new set.
 pub fn combine_store<T: Touched>(
     alloc: Global,
     combination: Combination,
@@ -133,7 +145,7 @@ fn combined_set(
 {
     let held = sets_at(alloc, keyspace, now, database, names)?;
     let members = joined(alloc, combination, &held)?;
-    Ok(Set::collect(alloc, &members)?)
+    Ok(Set::collect(alloc, keyspace.keys(), &members)?)
 }
 
 // The key holds the set, whatever it held, and has no deadline. An empty set is no key.

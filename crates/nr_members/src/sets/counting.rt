@@ -19,7 +19,8 @@ use nr_resp::{Failure, Reply, Shown};
 use nr_sets::{Set, intersection};
 use std::alloc::Global;
 
-/// `SINTERCARD numkeys key [key ..] [LIMIT limit]`. It walks the smallest set, and looks its members up in the others.
+/// `SINTERCARD numkeys key [key ..] [LIMIT limit]`. It walks the smallest set up to the limit, in O(n log n) where that is a table, and for each member
+/// it looks at one block of the others.
 pub fn inter_card<'k>(
     alloc: Global,
     keyspace: &'k Keyspace,

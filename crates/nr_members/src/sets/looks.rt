@@ -19,7 +19,7 @@ use nr_resp::{Failure, Item, Reply, Shown};
 use nr_sets::{Set, has};
 use std::alloc::Global;
 
-/// `SISMEMBER key member`. Logarithmic.
+/// `SISMEMBER key member`. It looks at one block of the set.
 pub fn is_member<'k>(
     keyspace: &'k Keyspace,
     now: u64,
@@ -33,7 +33,7 @@ pub fn is_member<'k>(
     Ok(Shown::Owned(membership(has(held, member))))
 }
 
-/// `SMISMEMBER key member [member ..]`. Logarithmic for each.
+/// `SMISMEMBER key member [member ..]`. For each it looks at one block of the set.
 pub fn are_members<'k>(
     alloc: Global,
     keyspace: &'k Keyspace,
@@ -75,7 +75,7 @@ pub fn card<'k>(
     Ok(Shown::Owned(Reply::Int(len_of(held) as i64)))
 }
 
-/// `SMEMBERS key`. Linear in the members, which are lent.
+/// `SMEMBERS key`. Linear in the members, which are lent, and O(n log n) in those of a table, which are sorted.
 pub fn members<'k>(
     alloc: Global,
     keyspace: &'k Keyspace,
@@ -104,8 +104,8 @@ fn items_of<'k>(alloc: Global, held: &'k Set) -> Result<Vec<Item<'k>>, Memory>
     ensures { IfOk result (λ items. map item_reply items.items ≡ map Bulk (listed held.now)) }
 {
     let mut items = Vec::with_capacity(alloc, held.len())?;
-    for member in held.members() {
-        items.push(Item::Bulk(member.bytes()))?;
+    for member in held.members()? {
+        items.push(Item::Bulk(member))?;
     }
     Ok(items)
 }

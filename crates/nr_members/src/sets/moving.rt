@@ -16,7 +16,7 @@ use nr_resp::{Failure, Reply};
 use std::alloc::Global;
 use std::slice;
 
-/// `SMOVE source destination member`. Logarithmic.
+/// `SMOVE source destination member`. It looks at one block of each set.
 pub fn move_member<T: Touched>(
     alloc: Global,
     keyspace: &mut Keyspace,

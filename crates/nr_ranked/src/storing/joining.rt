@@ -3,7 +3,7 @@ ghost use Rattle.std.specs.Prelude.{◌≡◌, ◌+ℤ◌, ◌*ℤ◌, ◌∷◌
 ghost use Rattle.std.specs.List.{list_all};
 ghost use Rattle.std.specs.FinMap as finmap;
 ghost use Rattle.nr_model.specs.SortedSets as model;
-ghost use Rattle.nr_model.specs.SortedSets.{Scores, gathered_one, weighted, are_scores, as_score};
+ghost use Rattle.nr_model.specs.SortedSets.{Scores, gathered_one, of_members, weighted, are_scores, as_score};
 ghost use Rattle.nr_model.specs.Commands.Shape.{refusal};
 ghost use Rattle.nr_model.specs.declared.refused.Refused.TheVariants.{ScoreRange};
 ghost use Rattle.nr_resp.specs.Failures.{IfRefused};
@@ -11,18 +11,20 @@ ghost use Rattle.nr_zsets.specs.Lists.{shown};
 ghost use Rattle.nr_ranked.specs.Storing.{scores_in};
 ghost use Rattle.nr_ranked.specs.Sums.{sums_of, kept_by, kept_in, built_one, is_right};
 
-use crate::storing::sources::{Held, has, members_of};
+use crate::storing::sources::{Held, has};
 use nr_blob::{Blob, Memory};
-use nr_model::command::{Aggregate, Joining};
+use nr_model::command::{Aggregate, Direction, Joining};
 use nr_model::refused::Refused;
 use nr_resp::Failure;
 use nr_resp::words::narrowed;
+use nr_sets::Set;
 use nr_zbounds::as_score;
 use nr_zsets::Zset;
 use std::alloc::Global;
 use std::collections::BTreeMap;
 
-/// The sums of the scores in all sources, each with the weight of its place, or 1 where there is none. O(n log n) in the members of all.
+/// The sums of the scores in all sources, each with the weight of its place, or 1 where there is none. The members are lent. O(n log n) in those of
+/// all.
 /// A sum of 2^127 - 2^63 or more, above 0 or below, counts as want of memory: no product is above 2^106, so that takes more keys than a request
 /// has words.
 pub(super) fn gathered<'k>(
@@ -30,7 +32,7 @@ pub(super) fn gathered<'k>(
     aggregate: Aggregate,
     held: &[Held<'k>],
     weights: &[i64],
-) -> Result<BTreeMap<&'k Blob, i128>, Memory>
+) -> Result<BTreeMap<&'k [u8], i128>, Memory>
     ensures { IfOk result
         (λ sums. sums_of sums ≡ fold (model.gathered aggregate) finmap.empty (weighted (map scores_in held.now) weights.now)) }
 {
@@ -38,7 +40,7 @@ pub(super) fn gathered<'k>(
     let mut left = weights;
     for source in held {
         let (weight, behind) = first_weight(left);
-        gather(alloc, &mut sums, aggregate, weight, *source)?;
+        gather(&mut sums, aggregate, weight, *source)?;
         left = behind;
     }
     Ok(sums)
@@ -57,8 +59,7 @@ fn first_weight(weights: &[i64]) -> (i64, &[i64])
 
 // What each member has with one source more.
 fn gather<'k>(
-    alloc: Global,
-    sums: &mut BTreeMap<&'k Blob, i128>,
+    sums: &mut BTreeMap<&'k [u8], i128>,
     aggregate: Aggregate,
     weight: i64,
     source: Held<'k>,
@@ -66,13 +67,45 @@ fn gather<'k>(
     ensures { OnOk result
         (sums_of sums.new ≡ model.gathered aggregate (sums_of sums.old) (record { scores = scores_in source.entry; weight = weight })) }
 {
-    let members = members_of(alloc, source)?;
+    match source {
+        Held::Missing => Ok(()),
+        Held::Set(set) => gather_set(sums, aggregate, weight, set),
+        Held::SortedSet(zset) => gather_sorted_set(sums, aggregate, weight, zset),
+    }
+}
+
+// Each member of a set has score 1.
+fn gather_set<'k>(
+    sums: &mut BTreeMap<&'k [u8], i128>,
+    aggregate: Aggregate,
+    weight: i64,
+    set: &'k Set,
+) -> Result<(), Memory>
+    ensures { OnOk result
+        (sums_of sums.new ≡ model.gathered aggregate (sums_of sums.old) (record { scores = of_members set.now; weight = weight })) }
+{
+    for member in set.members()? {
+        gather_one(sums, aggregate, weight, member, 1)?;
+    }
+    Ok(())
+}
+
+fn gather_sorted_set<'k>(
+    sums: &mut BTreeMap<&'k [u8], i128>,
+    aggregate: Aggregate,
+    weight: i64,
+    zset: &'k Zset,
+) -> Result<(), Memory>
+    ensures { OnOk result
+        (sums_of sums.new ≡ model.gathered aggregate (sums_of sums.old) (record { scores = zset.now; weight = weight })) }
+{
+    let members = zset.by_place(Direction::Ascending, 0, zset.len())?;
     gather_all(sums, aggregate, weight, &members)?;
     Ok(())
 }
 
 fn gather_all<'k>(
-    sums: &mut BTreeMap<&'k Blob, i128>,
+    sums: &mut BTreeMap<&'k [u8], i128>,
     aggregate: Aggregate,
     weight: i64,
     members: &[(&'k Blob, i64)],
@@ -80,16 +113,16 @@ fn gather_all<'k>(
     ensures { OnOk result (sums_of sums.new ≡ fold (gathered_one aggregate weight) (sums_of sums.old) (map shown members.now)) }
 {
     for (member, score) in members {
-        gather_one(sums, aggregate, weight, *member, *score)?;
+        gather_one(sums, aggregate, weight, member.bytes(), *score)?;
     }
     Ok(())
 }
 
 fn gather_one<'k>(
-    sums: &mut BTreeMap<&'k Blob, i128>,
+    sums: &mut BTreeMap<&'k [u8], i128>,
     aggregate: Aggregate,
     weight: i64,
-    member: &'k Blob,
+    member: &'k [u8],
     score: i64,
 ) -> Result<(), Memory>
     ensures { OnOk result (sums_of sums.new ≡ gathered_one aggregate weight (sums_of sums.old) (member.now, score)) }
@@ -100,7 +133,7 @@ fn gather_one<'k>(
     Ok(())
 }
 
-fn sum_at<'k>(sums: &BTreeMap<&'k Blob, i128>, member: &'k Blob) -> Option<i128>
+fn sum_at<'k>(sums: &BTreeMap<&'k [u8], i128>, member: &'k [u8]) -> Option<i128>
     ensures { result ≡ finmap.get (sums_of sums.now) member.now }
 {
     sums.get(&member).copied()
@@ -137,12 +170,13 @@ fn added(before: i128, score: i128) -> Result<i128, Memory>
     }
 }
 
-/// The members that stay, each with its sum, as a sorted set: a sum that is no score is refused. Logarithmic for each member, beside a look-up
-/// in each source where only the members of all stay.
+/// The members that stay, each with its sum, as a sorted set: a sum that is no score is refused. Logarithmic for each member, which is copied, beside
+/// a look-up in each source where only the members of all stay.
 pub(super) fn built(
     joining: Joining,
+    alloc: Global,
     held: &[Held<'_>],
-    sums: &BTreeMap<&Blob, i128>,
+    sums: &BTreeMap<&[u8], i128>,
     empty: Zset,
 ) -> Result<Zset, Failure>
     requires { empty ≡ finmap.empty }
@@ -153,16 +187,17 @@ pub(super) fn built(
 {
     let mut zset = empty;
     for (member, sum) in sums {
-        build_one(joining, held, &mut zset, *member, *sum)?;
+        build_one(joining, alloc, held, &mut zset, *member, *sum)?;
     }
     Ok(zset)
 }
 
 fn build_one(
     joining: Joining,
+    alloc: Global,
     held: &[Held<'_>],
     zset: &mut Zset,
-    member: &Blob,
+    member: &[u8],
     sum: i128,
 ) -> Result<(), Failure>
     ensures built { OnOk result (zset.new ≡ built_one (kept_by joining (map scores_in held.now)) zset.old (member.now, sum)) }
@@ -170,11 +205,12 @@ fn build_one(
     ensures refused { IfErr result (λ failure. IfRefused failure (λ error.
         (error ≡ refusal ScoreRange) × (is_right (kept_by joining (map scores_in held.now)) (member.now, sum) ≡ false))) }
 {
-    if !stays(joining, held, member) {
+    let member = Blob::from_slice(alloc, member)?;
+    if !stays(joining, held, &member) {
         return Ok(());
     }
     let score = score_of(sum)?;
-    zset.insert(member.copy()?, score)?;
+    zset.insert(member, score)?;
     Ok(())
 }
 

@@ -1,19 +1,15 @@
 // What keys hold that become one sorted set.
-ghost use Rattle.std.specs.Prelude.{◌≡◌, ◌++◌, ◌∷◌, [], Ok, Err, IfOk, IfErr, OnOk, map, pos};
+ghost use Rattle.std.specs.Prelude.{◌≡◌, ◌++◌, ◌∷◌, [], Ok, Err, IfOk, IfErr, OnOk, map};
 ghost use Rattle.std.specs.FinMap as finmap;
 ghost use Rattle.nr_model.specs.Keyspace.{live};
-ghost use Rattle.nr_model.specs.Sets.{listed};
-ghost use Rattle.nr_model.specs.SortedSets.{ranked};
 ghost use Rattle.nr_model.specs.Commands.Reading.{fault};
 ghost use Rattle.nr_model.specs.Commands.SortedSets as sorted_sets;
 ghost use Rattle.nr_resp.specs.Failures.{IfRefused};
 ghost use Rattle.nr_keyspace.specs.Values.{value_of};
-ghost use Rattle.nr_zsets.specs.Lists.{shown};
-ghost use Rattle.nr_ranked.specs.Storing.{IsListing, scores_in};
+ghost use Rattle.nr_ranked.specs.Storing.{scores_in};
 
 use nr_blob::{Blob, Memory};
 use nr_keyspace::{Db, Keyspace, Value};
-use nr_model::command::Direction;
 use nr_model::refused::Refused;
 use nr_resp::Failure;
 use nr_sets::Set;
@@ -82,7 +78,7 @@ fn source_of(value: &Value) -> Result<Held<'_>, Refused>
     Ok(Held::SortedSet(value.as_sorted_set()?))
 }
 
-/// Whether this is a member. Logarithmic at most.
+/// Whether this is a member. It looks at one block of a set, and is a look-up by hash in a sorted set.
 pub(super) fn has(held: Held<'_>, member: &Blob) -> bool
     ensures { result ≡ finmap.contains_key (scores_in held.entry) member.now }
 {
@@ -91,25 +87,4 @@ pub(super) fn has(held: Held<'_>, member: &Blob) -> bool
         Held::Set(set) => set.contains(member),
         Held::SortedSet(zset) => zset.score(member).is_some(),
     }
-}
-
-/// Lends the members, each once, with their scores. Linear in them.
-pub(super) fn members_of<'k>(alloc: Global, held: Held<'k>) -> Result<Vec<(&'k Blob, i64)>, Memory>
-    ensures { IfOk result (λ members. IsListing (map shown members.items) (scores_in held.entry)) }
-{
-    match held {
-        Held::Missing => Ok(Vec::new(alloc)),
-        Held::Set(set) => with_score_1(alloc, set),
-        Held::SortedSet(zset) => zset.by_place(Direction::Ascending, 0, zset.len()),
-    }
-}
-
-fn with_score_1<'k>(alloc: Global, set: &'k Set) -> Result<Vec<(&'k Blob, i64)>, Memory>
-    ensures { IfOk result (λ members. map shown members.items ≡ map (λ member. (member, pos 1)) (listed set.now)) }
-{
-    let mut members = Vec::with_capacity(alloc, set.len())?;
-    for member in set.members() {
-        members.push((member, 1))?;
-    }
-    Ok(members)
 }

@@ -1,7 +1,6 @@
-use Rattle.nr_lists.specs.Packed.{joined}
 use Rattle.nr_lists.proofs.Listed.{Looks}
 use Rattle.nr_lists.proofs.matches.pivot.Given as goal
 
 -- what is left to look at
 abbrev pub invariant-loop-place : goal.invariant-loop-place
-invariant-loop-place l = Looks l.fn.pivot l.place (joined l.fn.blocks.items) l.walk
+invariant-loop-place l = Looks l.fn.pivot l.place l.fn.walk l.walk

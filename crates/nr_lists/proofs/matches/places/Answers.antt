@@ -1,7 +1,6 @@
 use Rattle.std.proofs.Common.{◌≡◌, ◌<◌, ◌+◌, length, take, ap, sym, ◌∙◌, rules, arith}
 use Rattle.std.specs.List.{enumerate_from}
 use Rattle.nr_model.specs.Lists.{seen_from, end_of, passed_over}
-use Rattle.nr_lists.specs.Packed.{joined}
 use Rattle.nr_lists.specs.Matches.{limit_of, place_from}
 use Rattle.nr_lists.proofs.Placed.{Finds, found_in, enough_found, all_found, other_found, one_passed, one_found, next_looked_at, all_places, looked_at_all, item_seen, seen_less, none_seen}
 use Rattle.nr_lists.proofs.matches.places.Goals as goal
@@ -9,7 +8,7 @@ use Rattle.nr_lists.proofs.matches.places.Goals.{then-is+then-to_pass-gt0, then-
 
 pub returns-then-len-count : goal.returns-then-len-count
 returns-then-len-count c =
-    let items = joined c.args.blocks.now.items in
+    let items = c.args.walk in
     let long : c.args.len ≡ length items = c.requires in
     let end = c.end_of-end.result in
     let end_is : end ≡ end_of c.args.rank = search rules in
@@ -23,7 +22,7 @@ returns-then-len-count c =
 
 pub returns : goal.returns
 returns c =
-    let items = joined c.args.blocks.now.items in
+    let items = c.args.walk in
     let long : c.args.len ≡ length items = c.requires in
     let end = c.end_of-end.result in
     let end_is : end ≡ end_of c.args.rank = search rules in
@@ -37,7 +36,7 @@ returns c =
 
 pub loop-seen-preserved : goal.loop-seen-preserved
 loop-seen-preserved c =
-    let items = joined c.args.blocks.now.items in
+    let items = c.args.walk in
     let bytes = c.args.bytes.now in
     let end = c.end_of-end.result in
     let looked_at = c.limit-looked_at.result in
@@ -68,6 +67,6 @@ loop-seen-preserved c =
 
 pub returns-in_default : goal.returns-in_default
 returns-in_default c =
-    let items = joined c.args.blocks.now.items in
+    let items = c.args.walk in
     let ended = none_seen c.end_of-end.result items c.loop-seen.walk c.loop-seen.seen c.in_default.ensures.none c.loop-seen.invariant.left in
     absurd (omega (arith, ended, c.loop-seen-test.true, c.limit-looked_at.ensures.bound, c.requires))

@@ -13,4 +13,4 @@ use Rattle.nr_sets.proofs.several.common.Given as goal
 abbrev pub invariant-loop-member : goal.invariant-loop-member
 invariant-loop-member l =
     let wanted : Bytes → Bool = λ m. list_all (λ s. set.contains (lent s) m) l.fn.before && list_all (λ s. set.contains (lent s) m) l.fn.behind in
-    Chooses wanted l.limit (map deref l.members.items) l.member-iterator (take l.limit (filter wanted (listed (set.intersection l.fn.walked l.fn.beside))))
+    Chooses wanted l.limit (map deref l.members.items) l.member-iterator (take l.limit (filter wanted (listed l.fn.walked)))

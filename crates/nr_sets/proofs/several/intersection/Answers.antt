@@ -11,7 +11,6 @@ use Rattle.nr_model.specs.Bytes.{Bytes}
 use Rattle.nr_model.specs.Sets.{Members, listed, intersection_of}
 use Rattle.nr_sets.specs.Lent.{lent}
 use Rattle.nr_sets.proofs.Common.{common_is, none_limited, none_listed}
-use Rattle.nr_sets.proofs.Paired.{beside_behind, beside_before, beside_itself}
 use Rattle.nr_sets.proofs.several.intersection.Goals as goal
 
 pub returns-in_default : goal.returns-in_default
@@ -30,34 +29,8 @@ whole sets place walked within at =
     let next : place + 1 ≡ suc place = omega arith in
     common_is lent sets place (take (length sets - (place + 1)) (drop (place + 1) sets)) walked within (take_rest sets (place + 1) ∙ ap (λ (n : ℕ). drop n sets) next) at
 
-pub returns-in-Some-first_held : goal.returns-in-Some-first_held
-returns-in-Some-first_held c =
-    let sets = c.args.sets.now in
-    let place = c.in-Some.place in
-    let walked = c.in-Some.walked.now in
-    let beside = c.in-Some-first_held.beside.now in
-    IfOk-weaker c.common.result _ _
-    (λ members are. are ∙ ap (limited c.args.most)
-    (beside_behind walked beside (all (take place sets)) (all (take (length sets - (place + 1)) (drop (place + 1) sets))) (all c.in-Some-first_held.behind.now) c.in-Some-first_held.ensures
-    ∙ whole sets place walked c.in-Some.ensures.within c.in-Some.ensures.at)) c.common.ensures
-
-pub returns-in-Some-first_held-2 : goal.returns-in-Some-first_held-2
-returns-in-Some-first_held-2 c =
-    let sets = c.args.sets.now in
-    let place = c.in-Some.place in
-    let walked = c.in-Some.walked.now in
-    let beside = c.in-Some-first_held-2.beside.now in
-    IfOk-weaker c.common-in-Some-first_held-2.result _ _
-    (λ members are. are ∙ ap (limited c.args.most)
-    (beside_before walked beside (all (take place sets)) (all (take (length sets - (place + 1)) (drop (place + 1) sets))) (all c.in-Some-first_held-2.before.now) c.in-Some-first_held-2.ensures
-    ∙ whole sets place walked c.in-Some.ensures.within c.in-Some.ensures.at)) c.common-in-Some-first_held-2.ensures
-
 pub returns : goal.returns
 returns c =
-    let sets = c.args.sets.now in
-    let place = c.in-Some.place in
-    let walked = c.in-Some.walked.now in
-    IfOk-weaker c.common-2.result _ _
-    (λ members are. are ∙ ap (limited c.args.most)
-    (beside_itself walked (λ m. all (take place sets) m && all (take (length sets - (place + 1)) (drop (place + 1) sets)) m)
-    ∙ whole sets place walked c.in-Some.ensures.within c.in-Some.ensures.at)) c.common-2.ensures
+    IfOk-weaker c.common.result _ _
+    (λ members are. are ∙ ap (limited c.args.most) (whole c.args.sets.now c.in-Some.place c.in-Some.walked.now c.in-Some.ensures.within c.in-Some.ensures.at))
+    c.common.ensures

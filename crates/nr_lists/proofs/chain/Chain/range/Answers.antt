@@ -1,0 +1,13 @@
+use Rattle.std.proofs.Common.{◌≡◌, rules, ◌∙◌, ◌-◌, ap, take}
+use Rattle.nr_model.specs.Strings.{range_start, range_end}
+use Rattle.nr_lists.proofs.Listed.{ranged}
+use Rattle.nr_lists.proofs.chain.Chain.range.Goals as goal
+
+pub returns : goal.returns
+returns c =
+    let begins : c.start_of-start.result ≡ range_start c.self.inside.len c.args.first = search (rules, c.start_of-start.ensures.start) in
+    let ends : c.end_of-end.result ≡ range_end c.self.inside.len c.args.last = search (rules, c.end_of-end.ensures.end) in
+    ranged c.self.inside.blocks.items c.args.self.now c.new-2.result c.self.inside.len c.find-block.result.0 c.find-block.result.1 c.start_of-start.result
+    c.end_of-end.result c.args.first c.args.last c.self.invariant.counted c.self.view_is begins ends
+    c.find-block.ensures.block c.find-block.ensures.place c.find-block.ensures.whole
+    (c.new-2.ensures ∙ ap (take (c.end_of-end.result - c.start_of-start.result)) (c.large.ensures ∙ c.new_from-walk.ensures))
