@@ -29,4 +29,4 @@ pub record AreMembers (es : Entries) : Type 0 where
 
 -- whether so many members are few, and a member is short
 abbrev pub fits : ℕ → Bytes → Bool
-fits members member = nat_le (length member) 64 && nat_le members 128
+fits members member = nat_le (length member) 64 && nat_le members 32

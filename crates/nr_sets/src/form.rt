@@ -19,7 +19,7 @@ const MOST_LEN: usize = 64;
 
 /// The most members in one block. A call searches the block from its front, where Redis hashes the words of a set of any size: in a longer block it
 /// would cost more than to hash the member and to search one of a table's short blocks.
-const MOST_MEMBERS: usize = 128;
+const MOST_MEMBERS: usize = 32;
 
 /// The members of a set, with nothing at each of them. A block that would get too many or too long ones becomes a table, and a table stays one.
 #[derive(Debug, Drop)]
@@ -135,7 +135,7 @@ fn stands_in(members: &Packed, member: &[u8]) -> bool
 // Whether there are few members with this one.
 fn stay_few(members: &Packed, member: &[u8]) -> bool
     requires { AreInOrder members.now }
-    ensures { result ≡ nat_le (length (insert_entry byte_cmp members.now member.now [])) 128 }
+    ensures { result ≡ nat_le (length (insert_entry byte_cmp members.now member.now [])) 32 }
 {
     let count = members.len();
     if count == MOST_MEMBERS {
@@ -152,7 +152,7 @@ fn has_room(members: &Packed, member: &[u8]) -> bool
     member.len() <= MOST_LEN && stay_few(members, member)
 }
 
-// Puts a member into a block, and says whether it is new; `None` where there would be more than 128 members, or this one has more than 64 bytes.
+// Puts a member into a block, and says whether it is new; `None` where there would be more than 32 members, or this one has more than 64 bytes.
 fn put_packed(alloc: Global, members: &mut Packed, member: &[u8]) -> Result<Option<bool>, Memory>
     requires { AreInOrder members.old }
     ensures new { IfOk result (λ done. IfSome done (λ is_new. is_new ≡ is_none (lookup (is_at (byte_cmp member.now)) members.old))) }

@@ -10,7 +10,7 @@ use std::alloc::Global;
 use std::hash::RandomState;
 use std::marker::Model;
 
-/// A set, as a key holds it. It is seen as a finite set of byte lists. At most 128 members, none of them longer than 64 bytes, stand in one block;
+/// A set, as a key holds it. It is seen as a finite set of byte lists. At most 32 members, none of them longer than 64 bytes, stand in one block;
 /// more or longer ones make a table of such blocks, and a table stays one. To drop it is linear in its members.
 #[derive(Debug, Drop)]
 pub struct Set {
