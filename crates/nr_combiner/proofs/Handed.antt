@@ -1,6 +1,6 @@
 -- What is handed out, as it stands once the lock is free again.
 use Rattle.std.proofs.Common.{◌≡◌, ℕ, zero, suc, ◌+◌, ◌<◌, Bool, inl, inr, List, [], ◌∷◌, ◌++◌, Option, Some, None, length, drop, get_or, arith, refl, ap, sym, subst, ◌∙◌, append-nil, append_assoc}
-use Rattle.std.specs.Prelude.{◌↔◌, ◌==◌, true, false, Result, Ok, Err, IfOk, IfSome}
+use Rattle.std.specs.Prelude.{◌↔◌, ◌==◌, ◌-◌, ◌^◌, ◌≤◌, min, true, false, Result, Ok, Err, IfOk, IfSome}
 use Rattle.std.specs.List.{AllByRecursion}
 use Rattle.std.proofs.lemmas.Bool.{cases_lt, and_parts, eqb-true}
 use Rattle.std.proofs.lemmas.List.{get_or_default, get_or_past, length-take}
@@ -21,11 +21,11 @@ use Rattle.nr_slots.specs.declared.view.Desk.{Desk}
 use Rattle.nr_slots.specs.declared.view.Lane.{Lane}
 use Rattle.nr_slots.specs.Names.{IsTold}
 use Rattle.nr_slots.specs.Rule.{no_desk}
-use Rattle.nr_slots.specs.Seats.{CombinerView, NoteView}
+use Rattle.nr_slots.specs.Seats.{CombinerView, NoteView, desk_of}
 use Rattle.nr_node.specs.Batches.{IsPiece}
 use Rattle.nr_node.specs.Collected.{IsHanded, AreHanded, Collects}
 use Rattle.nr_node.specs.Level.{NodeState, connection_at, queue_at, workers_of}
-use Rattle.nr_node.specs.Sound.{IsSound, Serves}
+use Rattle.nr_node.specs.Sound.{IsSound}
 use Rattle.nr_node.specs.Steps.{nobody}
 use Rattle.nr_node.specs.declared.answers.Round.{Round}
 use Rattle.nr_node.specs.declared.answers.Round.TheVariants as rounds
@@ -355,15 +355,17 @@ collects_own node worker generation most old new told s note b =
 -- a turn was one of this node
 pub turns_behind : (places node worker generation : ℕ) (which : Lifts) (most : ℕ) (old new : List Handed) (turned : Turned) (s : Standing) (note : NoteView) (c d : CombinerState)
     → HasTurned places worker which most old new turned s note c d → c.node.book.node ≡ node → s.node ≡ c.node.book.node
-    → (turned.combined ≡ Ok rounds.Down) ↔ (d.node.replica.down ≡ true) → (numbers : List ℕ) × IsServed d.node d.seat numbers → StandsLevel c → StandsLevel d
+    → (turned.combined ≡ Ok rounds.Down) ↔ (d.node.replica.down ≡ true) → turned.answered ≡ min (length (desk_of d.seat worker).answered) (2 ^ 64 - 1)
+    → (numbers : List ℕ) × IsServed d.node d.seat numbers → StandsLevel c → StandsLevel d
     → generation_of worker c.counts ≡ generation → TurnsBehind places node worker generation which most old new turned s note
-turns_behind places node worker generation which most old new turned s note c d t is standing down served was_level is_level met = record {
+turns_behind places node worker generation which most old new turned s note c d t is standing down answered served was_level is_level met = record {
   before = c;
   after = d;
   has_turned = t;
   node_is = is;
   standing = standing ∙ is;
   down = down;
+  answered = answered;
   met = met;
   numbers = served.0;
   served = served.1;
@@ -373,15 +375,16 @@ turns_behind places node worker generation which most old new turned s note c d 
 
 pub collects_behind : (node worker generation most : ℕ) (old new : List Handed) (told : Collected) (s : Standing) (note : NoteView) (c d : CombinerState)
     → HandsOutTo worker most old new told.result s note c d → c.node.book.node ≡ node → s.node ≡ c.node.book.node → told.is_down ≡ d.node.replica.down
-    → (numbers : List ℕ) × IsServed d.node d.seat numbers → StandsLevel c → StandsLevel d → generation_of worker c.counts ≡ generation
+    → told.answered ≡ min (length (desk_of d.seat worker).answered) (2 ^ 64 - 1) → (numbers : List ℕ) × IsServed d.node d.seat numbers → StandsLevel c → StandsLevel d → generation_of worker c.counts ≡ generation
     → CollectsBehind node worker generation most old new told s note
-collects_behind node worker generation most old new told s note c d h is standing down served was_level is_level met = record {
+collects_behind node worker generation most old new told s note c d h is standing down answered served was_level is_level met = record {
   before = c;
   after = d;
   handed = h;
   node_is = is;
   standing = standing ∙ is;
   down = down;
+  answered = answered;
   met = met;
   numbers = served.0;
   served = served.1;
@@ -412,39 +415,61 @@ posted_by desk posted c (job ∷ done) front all = (
 )
 
 -- what a worker knows, told of a note, at whose desk for it this was done
-pub knows_by : (s : Standing) (lane : Lane) (desks : List Desk) (worker seat : ℕ) → worker ≡ seat → IsTold (get_or desks seat no_desk) lane
-    → HasExecuted (get_or desks worker no_desk) s → HasOwn worker (get_or desks worker no_desk) s → Knows seat s lane
-knows_by s lane desks worker seat is told executed own =
-    let desk = get_or desks worker no_desk in
-    let here : IsTold desk lane = subst (λ (k : ℕ). IsTold (get_or desks k no_desk) lane) (sym is) told in
+knows_at : (s : Standing) (lane : Lane) (desks : List Desk) (seat : ℕ) → IsTold (get_or desks seat no_desk) lane → HasExecuted (get_or desks seat no_desk) s
+    → HasOwn seat (get_or desks seat no_desk) s → Knows seat (get_or desks seat no_desk) s lane
+knows_at s lane desks seat told executed own = record {
+  told = told;
+  executed = executed;
+  own = λ c serves. posted_by (get_or desks seat no_desk) lane.posted c (record_of s.history) told.0 (own c serves);
+}
+
+pub knows_by : (s : Standing) (lane : Lane) (desks : List Desk) (worker seat : ℕ) (desk : Desk) → worker ≡ seat → desk ≡ get_or desks seat no_desk
+    → IsTold (get_or desks seat no_desk) lane → HasExecuted (get_or desks worker no_desk) s → HasOwn worker (get_or desks worker no_desk) s → Knows seat desk s lane
+knows_by s lane desks worker seat desk is kept told executed own =
+    subst (λ (d : Desk). Knows seat d s lane) (sym kept) (knows_at s lane desks seat told
+    (subst (λ (k : ℕ). HasExecuted (get_or desks k no_desk) s) is executed) (subst (λ (k : ℕ). HasOwn k (get_or desks k no_desk) s) is own))
+
+pub heard_by : (most : ℕ) (down : Bool) (s : Standing) (lane : Lane) (desks : List Desk) (worker seat : ℕ) (desk : Desk) (old new : List Handed) → worker ≡ seat
+    → desk ≡ get_or desks seat no_desk → IsTold (get_or desks seat no_desk) lane → HasExecuted (get_or desks worker no_desk) s
+    → HasOwn worker (get_or desks worker no_desk) s → HasAdded most down s (AreHandedIn (get_or desks worker no_desk) (record_of s.history)) old new
+    → HasHeard seat most down desk s lane old new
+heard_by most down s lane desks worker seat desk old new is kept told executed own added =
+    let at = get_or desks seat no_desk in
+    let here = subst (λ (k : ℕ). HasAdded most down s (AreHandedIn (get_or desks k no_desk) (record_of s.history)) old new) is added in
     record {
-      desk = desk;
-      told = here;
-      executed = executed;
-      own = λ c serves. posted_by desk lane.posted c (record_of s.history) here.0 (own c (subst (λ (k : ℕ). Serves s k c) (sym is) serves));
+      knows = knows_by s lane desks worker seat desk is kept told executed own;
+      added = subst (λ (d : Desk). HasAdded most down s (AreHandedIn (with_posted lane d) (record_of s.history)) old new) (sym kept) record {
+        pieces = here.pieces;
+        behind = here.behind;
+        all = here.all;
+        own = each_weaker (λ (one : Handed). AreHandedIn at (record_of s.history) (connection_of one.piece.conn))
+            (λ (one : Handed). AreHandedIn (with_posted lane at) (record_of s.history) (connection_of one.piece.conn))
+            (λ one. posted_by at lane.posted (connection_of one.piece.conn) (record_of s.history) told.0) here.pieces here.own;
+        rising = here.rising;
+      };
     }
 
-pub heard_by : (most : ℕ) (down : Bool) (s : Standing) (lane : Lane) (desks : List Desk) (worker seat : ℕ) (old new : List Handed) → worker ≡ seat
-    → IsTold (get_or desks seat no_desk) lane → HasExecuted (get_or desks worker no_desk) s → HasOwn worker (get_or desks worker no_desk) s
-    → HasAdded most down s (AreHandedIn (get_or desks worker no_desk) (record_of s.history)) old new → HasHeard seat most down s lane old new
-heard_by most down s lane desks worker seat old new is told executed own added =
-    let desk = get_or desks worker no_desk in
-    let here : IsTold desk lane = subst (λ (k : ℕ). IsTold (get_or desks k no_desk) lane) (sym is) told in
-    let all : Desk = with_posted lane desk in
-    record {
-      knows = record {
-        desk = desk;
-        told = here;
-        executed = executed;
-        own = λ c serves. posted_by desk lane.posted c (record_of s.history) here.0 (own c (subst (λ (k : ℕ). Serves s k c) (sym is) serves));
-      };
-      added = record {
-        pieces = added.pieces;
-        behind = added.behind;
-        all = added.all;
-        own = each_weaker (λ (one : Handed). AreHandedIn desk (record_of s.history) (connection_of one.piece.conn))
-            (λ (one : Handed). AreHandedIn all (record_of s.history) (connection_of one.piece.conn))
-            (λ one. posted_by desk lane.posted (connection_of one.piece.conn) (record_of s.history) here.0) added.pieces added.own;
-        rising = added.rising;
-      };
-    }
+-- ---- how many batches were answered
+fewer : (answered count most : ℕ) → answered ≡ min count most → answered ≤ count
+fewer answered count most is = omega arith
+
+counted_at : (answered most worker seat : ℕ) (desks : List Desk) (desk : Desk) → answered ≡ min (length (get_or desks worker no_desk).answered) most → worker ≡ seat
+    → desk ≡ get_or desks seat no_desk → answered ≤ length desk.answered
+counted_at answered most worker seat desks desk is same kept =
+    subst (λ (d : Desk). answered ≤ length d.answered) (sym kept)
+    (subst (λ (k : ℕ). answered ≤ length (get_or desks k no_desk).answered) same (fewer answered (length (get_or desks worker no_desk).answered) most is))
+
+-- as a turn ended, and as pieces were handed out without one
+pub turned_counted : (places node worker generation : ℕ) (which : Lifts) (most : ℕ) (old new : List Handed) (turned : Turned) (s : Standing) (note : NoteView) (seat : ℕ) (desk : Desk)
+    → TurnsBehind places node worker generation which most old new turned s note → worker ≡ seat → desk ≡ get_or note.desks seat no_desk
+    → turned.answered ≤ length desk.answered
+turned_counted places node worker generation which most old new turned s note seat desk b same kept =
+    counted_at turned.answered (2 ^ 64 - 1) worker seat b.after.seat.desks desk b.answered same
+    (kept ∙ ap (λ (v : NoteView). get_or v.desks seat no_desk) b.has_turned.handed.note_is)
+
+pub collects_counted : (node worker generation most : ℕ) (old new : List Handed) (told : Collected) (s : Standing) (note : NoteView) (seat : ℕ) (desk : Desk)
+    → CollectsBehind node worker generation most old new told s note → worker ≡ seat → desk ≡ get_or note.desks seat no_desk
+    → told.answered ≤ length desk.answered
+collects_counted node worker generation most old new told s note seat desk b same kept =
+    counted_at told.answered (2 ^ 64 - 1) worker seat b.after.seat.desks desk b.answered same
+    (kept ∙ ap (λ (v : NoteView). get_or v.desks seat no_desk) b.handed.note_is)

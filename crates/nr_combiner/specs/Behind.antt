@@ -1,10 +1,10 @@
 -- What a node did behind its lock, between two states of a combiner that nobody else sees, and that are level with the log.
-use Rattle.std.specs.Prelude.{◌≡◌, ◌↔◌, ℕ, Bool, false, true, filter, List, ◌++◌, length, Result, Ok}
+use Rattle.std.specs.Prelude.{◌≡◌, ◌↔◌, ℕ, ◌-◌, ◌^◌, min, Bool, false, true, filter, List, ◌++◌, length, Result, Ok}
 use Rattle.nr_blob.specs.declared.memory.Memory.{Memory}
 use Rattle.nr_entry.specs.Jobs.{connection_of}
 use Rattle.nr_entry.specs.declared.conn.ConnId.{ConnId}
 use Rattle.nr_log_end.specs.declared.standing.Standing.{Standing}
-use Rattle.nr_slots.specs.Seats.{NoteView, note_of}
+use Rattle.nr_slots.specs.Seats.{NoteView, desk_of, note_of}
 use Rattle.nr_node.specs.Batches.{is_cut_at}
 use Rattle.nr_node.specs.Level.{NodeState, connection_at, IsLevel}
 use Rattle.nr_node.specs.Steps.{refusing_node}
@@ -23,7 +23,7 @@ use Rattle.nr_combiner.specs.Steps.{HasCombined, HasRoom, OpensFor}
 use Rattle.nr_combiner.specs.Turned.{HandsOutTo, HasTurned}
 
 -- A turn of this node: it is down exactly where it says so, and keeps what a combiner keeps. As it began the worker had this generation: nothing was handed out for its
--- connections, and none of them was closed, since it was told of that.
+-- connections, and none of them was closed, since it was told of that. As it ended so many batches of the worker were answered as it says, as far as a u64 counts.
 pub record TurnsBehind (places node worker generation : ℕ) (which : Lifts) (most : ℕ) (old new : List Handed) (turned : Turned) (s : Standing) (note : NoteView) : Type 0 where
   pub before : CombinerState
   pub after : CombinerState
@@ -31,13 +31,15 @@ pub record TurnsBehind (places node worker generation : ℕ) (which : Lifts) (mo
   pub node_is : before.node.book.node ≡ node
   pub standing : s.node ≡ node
   pub down : (turned.combined ≡ Ok rounds.Down) ↔ (after.node.replica.down ≡ true)
+  pub answered : turned.answered ≡ min (length (desk_of after.seat worker).answered) (2 ^ 64 - 1)
   pub met : generation_of worker before.counts ≡ generation
   pub numbers : List ℕ
   pub served : IsServed after.node after.seat numbers
   pub was_level : StandsLevel before
   pub is_level : StandsLevel after
 
--- It handed out alone, without a turn: no batch is lifted or answered, nothing is put into the log, and no entry is passed.
+-- It handed out alone, without a turn: no batch is lifted or answered, nothing is put into the log, and no entry is passed. So many batches of the worker were answered
+-- before.
 pub record CollectsBehind (node worker generation most : ℕ) (old new : List Handed) (told : Collected) (s : Standing) (note : NoteView) : Type 0 where
   pub before : CombinerState
   pub after : CombinerState
@@ -45,6 +47,7 @@ pub record CollectsBehind (node worker generation most : ℕ) (old new : List Ha
   pub node_is : before.node.book.node ≡ node
   pub standing : s.node ≡ node
   pub down : told.is_down ≡ after.node.replica.down
+  pub answered : told.answered ≡ min (length (desk_of after.seat worker).answered) (2 ^ 64 - 1)
   pub met : generation_of worker before.counts ≡ generation
   pub numbers : List ℕ
   pub served : IsServed after.node after.seat numbers

@@ -15,20 +15,19 @@ use Rattle.nr_combiner.specs.Pieces.{AreHandedIn, HasAdded, HasExecuted, HasOwn}
 abbrev pub with_posted : Lane → Desk → Desk
 with_posted lane desk = record { lifted = lane.posted; answered = desk.answered; grip = desk.grip }
 
--- The combiner had lifted the first batches that the worker posted, and answered as many of them or more than it collected, or fewer. Each batch that was answered as
+-- At this desk the combiner had lifted the first batches that the worker posted, and answered as many of them or more than it collected, or fewer. Each batch that was answered as
 -- executed is in the record; and each job there of a connection that was opened for this worker is one that it handed in, in a batch that it didn't get back.
-pub record Knows (worker : ℕ) (s : Standing) (lane : Lane) : Type 0 where
-  pub desk : Desk
+pub record Knows (worker : ℕ) (desk : Desk) (s : Standing) (lane : Lane) : Type 0 where
   pub told : IsTold desk lane
   pub executed : HasExecuted desk s
   pub own : HasOwn worker (with_posted lane desk) s
 
 -- So it knows of the record of which these pieces are, each for a connection of its own.
-pub record HasHeard (worker most : ℕ) (down : Bool) (s : Standing) (lane : Lane) (old new : List Handed) : Type 0 where
-  pub knows : Knows worker s lane
-  pub added : HasAdded most down s (AreHandedIn (with_posted lane knows.desk) (record_of s.history)) old new
+pub record HasHeard (worker most : ℕ) (down : Bool) (desk : Desk) (s : Standing) (lane : Lane) (old new : List Handed) : Type 0 where
+  pub knows : Knows worker desk s lane
+  pub added : HasAdded most down s (AreHandedIn (with_posted lane desk) (record_of s.history)) old new
 
 -- So it knows of the record of a node at which this connection was opened for it.
-pub record KnowsOpened (worker : ℕ) (conn : ConnId) (s : Standing) (lane : Lane) : Type 0 where
-  pub knows : Knows worker s lane
+pub record KnowsOpened (worker : ℕ) (conn : ConnId) (desk : Desk) (s : Standing) (lane : Lane) : Type 0 where
+  pub knows : Knows worker desk s lane
   pub serves : Serves s worker (connection_of conn)

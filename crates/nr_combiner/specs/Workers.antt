@@ -6,7 +6,8 @@ use Rattle.nr_entry.specs.declared.batch.Answer.{Answer}
 use Rattle.nr_entry.specs.declared.batch.Outcome.{Outcome}
 use Rattle.nr_entry.specs.declared.job.Job.{Job}
 use Rattle.nr_slots.specs.Names.{IsForLast}
-use Rattle.nr_slots.specs.Seats.{WorkerView, new_worker, with_posted, with_collected}
+use Rattle.nr_slots.specs.declared.view.Desk.{Desk}
+use Rattle.nr_slots.specs.Seats.{WorkerView, new_worker, with_posted, with_collected, with_heard}
 use Rattle.nr_slots.specs.Codes.{worker_code}
 use Rattle.nr_combiner.specs.Counts.{next_generation}
 use Rattle.nr_combiner.specs.Shared.{NodeView}
@@ -61,6 +62,10 @@ pub record IsNode (workers connections limit node : ℕ) (list : List WorkerStat
 -- something was handed out for its connections
 abbrev pub with_more : WorkerState → WorkerState
 with_more w = record w { generation = next_generation w.generation }
+
+-- it heard of its node's combiner, which had done this at its desk
+abbrev pub told_of : Desk → WorkerState → WorkerState
+told_of desk w = record w { seat = with_heard desk w.seat }
 
 -- a connection was closed, which was one of its own, or none of its own that was open
 abbrev pub MayHaveClosed : WorkerState → WorkerState → Type 0

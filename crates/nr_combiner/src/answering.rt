@@ -60,14 +60,14 @@ pub struct Turned {
     /// Whether an entry that was reserved before isn't passed yet, since it isn't filled, or since too much waits for some connection: else the node has passed all
     /// that there were, also where it is down.
     pub is_behind: bool,
+    /// How many batches of the worker itself were answered, also by their coming back, as the turn ended: then what is emitted for them was handed out behind that.
+    pub answered: u64,
     /// Whether an entry was put into the log.
     pub has_put: bool,
     /// The other workers of the node that were answered, also by their batch coming back, or for which bytes wait: a bit for each, worker 0's the lowest.
     pub others: u16,
     /// Whether an entry is due still: updates lead.
     pub leads_update: bool,
-    /// Whether the batch of the worker itself was answered, also by its coming back: then what is emitted for it was handed out behind that.
-    pub is_answered: bool,
     /// Whether a queue of the worker's connections was cut since it was told last.
     pub has_cut: bool,
 }
@@ -78,6 +78,8 @@ pub struct Collected {
     /// A piece for each of the worker's connections for which bytes waited, or fewer, since memory ran out.
     pub result: Result<(), Memory>,
     pub is_down: bool,
+    /// How many batches of the worker were answered until then, also by their coming back: then what is emitted for them was handed out behind that.
+    pub answered: u64,
     /// Whether a queue of the worker's connections was cut since it was told last. Nothing rests on it.
     pub has_cut: bool,
 }

@@ -1,9 +1,9 @@
 // What stands behind a node's lock: the node, and its combiner's seat at the slots.
-ghost use Rattle.std.specs.Prelude.{Bool, cond, ◌∷◌, filter, ◌≡◌, ◌≢◌, ◌↔◌, ◌⊎◌, ◌<◌, ◌≤◌, ◌++◌, [], ℕ, length, replicate, true, false, Ok, Err, None, IfOk, IfErr, IfSome, IfNone, OnOk, OnErr, List};
+ghost use Rattle.std.specs.Prelude.{Bool, cond, ◌∷◌, filter, ◌≡◌, ◌≢◌, ◌↔◌, ◌⊎◌, ◌-◌, ◌^◌, ◌<◌, ◌≤◌, min, ◌++◌, [], ℕ, length, replicate, true, false, Ok, Err, None, IfOk, IfErr, IfSome, IfNone, OnOk, OnErr, List};
 ghost use Rattle.std.specs.Arc.{arc_value};
 ghost use Rattle.std.specs.List.{AllByRecursion};
 ghost use Rattle.nr_entry.specs.Jobs.{connection_of, items_of};
-ghost use Rattle.nr_slots.specs.Seats.{new_combiner, note_of};
+ghost use Rattle.nr_slots.specs.Seats.{desk_of, new_combiner, note_of};
 ghost use Rattle.nr_log_end.specs.Standings.{opened_of, passed_of};
 ghost use Rattle.nr_node.specs.Level.{connection_at, is_closed_at, queue_at, worker_at, workers_of};
 ghost use Rattle.nr_node.specs.Batches.{AreSame, is_cut_at, IsOpened, IsPiece};
@@ -251,6 +251,7 @@ impl<B: ServerName> Combiner<B> {
         requires { 0 < most }
         ensures handed { HandsOutTo worker most taken.old.items taken.new.items result.collected.result result.token.standing result.note self.old self.new }
         ensures down { result.collected.is_down ≡ self.new.node.replica.down }
+        ensures answered { result.collected.answered ≡ min (length (desk_of self.new.seat worker).answered) (2 ^ 64 - 1) }
         ensures served { (numbers : List ℕ) × IsServed self.new.node self.new.seat numbers }
         ensures sound { IsSound result.token.standing }
         ensures node { result.token.standing.node ≡ self.old.node.book.node }
@@ -260,10 +261,12 @@ impl<B: ServerName> Combiner<B> {
         let (token, note) = self.keep();
         let is_down = self.is_down();
         let has_cut = self.take_cut(worker);
+        let answered = self.answered(worker);
         ToldPieces {
             collected: Collected {
                 result,
                 is_down,
+                answered,
                 has_cut,
             },
             token,
@@ -283,6 +286,7 @@ impl<B: ServerName> Combiner<B> {
         requires { 0 < most }
         ensures turned { HasTurned B.places worker lifts most taken.old.items taken.new.items result.turned result.token.standing result.note self.old self.new }
         ensures down { (result.turned.combined ≡ Ok Round.Down) ↔ (self.new.node.replica.down ≡ true) }
+        ensures answered { result.turned.answered ≡ min (length (desk_of self.new.seat worker).answered) (2 ^ 64 - 1) }
         ensures served { (numbers : List ℕ) × IsServed self.new.node self.new.seat numbers }
         ensures sound { IsSound result.token.standing }
         ensures node { result.token.standing.node ≡ self.old.node.book.node }
@@ -296,10 +300,10 @@ impl<B: ServerName> Combiner<B> {
             combined: combined.round,
             collected: told.collected.result,
             is_behind: combined.is_behind,
+            answered: told.collected.answered,
             has_put: combined.has_put,
             others,
             leads_update,
-            is_answered: is_marked(combined.answered, worker),
             has_cut: told.collected.has_cut,
         };
         Told {
@@ -330,6 +334,13 @@ impl<B: ServerName> Combiner<B> {
         ensures { self.new ≡ self.old }
     {
         self.core.take_cut(worker)
+    }
+
+    // How many batches of a worker were answered, as far as a u64 counts.
+    fn answered(&self, worker: usize) -> u64
+        ensures { result ≡ min (length (desk_of self.now.seat worker).answered) (2 ^ 64 - 1) }
+    {
+        self.seat.answered(worker)
     }
 
     // Whether an entry is due.
@@ -511,11 +522,6 @@ fn marked(bits: u16, worker: usize, is_set: bool) -> u16 {
     } else {
         bits
     }
-}
-
-// Whether the bit of a worker is set.
-fn is_marked(bits: u16, worker: usize) -> bool {
-    worker < 16 && bits & (1 << worker) != 0
 }
 
 // Whether an entry was put into the log, by whether one was due.

@@ -9,7 +9,8 @@ ghost use Rattle.nr_combiner.specs.Behind.{CollectsBehind, CutsBehind, CutsFront
 ghost use Rattle.nr_combiner.specs.Pieces.{IsPieceOf};
 ghost use Rattle.nr_combiner.specs.Heard.{HasHeard, KnowsOpened};
 ghost use Rattle.nr_combiner.specs.Turned.{tells_down};
-ghost use Rattle.nr_combiner.specs.Workers.{fresh_worker, shared_of, with_more, HasPosted, HasCollected, MayHaveClosed};
+ghost use Rattle.nr_slots.specs.Names.{IsTold};
+ghost use Rattle.nr_combiner.specs.Workers.{fresh_worker, shared_of, told_of, with_more, HasPosted, HasCollected, MayHaveClosed};
 
 use crate::answering::{AskError, Collected, Lifts, OpenError, Turned};
 use crate::combiner::ClosedQueue;
@@ -94,9 +95,10 @@ impl<B: ServerName> Worker<B> {
     /// which each job of a connection that was opened for this worker, as this one was, was handed in by it.
     pub fn open<R: Wait>(&mut self, rt: &R) -> Result<(ConnId, Token<B>), OpenError>
         ensures behind { IfOk result (λ opened. (note : NoteView) × OpensBehind (shared_of self.old) self.old.seat.worker self.old.generation opened.0 opened.1.standing note) }
-        ensures opened { IfOk result (λ opened. KnowsOpened self.old.seat.worker opened.0 opened.1.standing self.old.seat.lane) }
+        ensures opened { IfOk result (λ opened. KnowsOpened self.old.seat.worker opened.0 self.new.seat.noted opened.1.standing self.old.seat.lane) }
         ensures sound { IfOk result (λ opened. IsSound opened.1.standing × (opened.1.standing.node ≡ self.old.node)) }
-        ensures same { self.new ≡ self.old }
+        ensures heard { OnOk result (self.new ≡ told_of self.new.seat.noted self.old) }
+        ensures same { OnErr result (self.new ≡ self.old) }
     {
         let ToldOpened { conn, token, note } = self
             .shared
@@ -119,9 +121,10 @@ impl<B: ServerName> Worker<B> {
     ) -> Option<(Turned, Token<B>)>
         requires { 0 < most }
         ensures turned { IfSome result (λ told. (note : NoteView) × TurnsBehind B.places self.old.node self.old.seat.worker self.old.generation lifts most taken.old.items taken.new.items told.0 told.1.standing note) }
-        ensures heard { IfSome result (λ told. HasHeard self.old.seat.worker most (tells_down told.0.combined) told.1.standing self.old.seat.lane taken.old.items taken.new.items) }
+        ensures heard { IfSome result (λ told. HasHeard self.old.seat.worker most (tells_down told.0.combined) self.new.seat.noted told.1.standing self.old.seat.lane taken.old.items taken.new.items) }
         ensures sound { IfSome result (λ told. IsSound told.1.standing × (told.1.standing.node ≡ self.old.node)) }
-        ensures more { IfSome result (λ _. self.new ≡ with_more self.old) }
+        ensures more { IfSome result (λ _. self.new ≡ with_more (told_of self.new.seat.noted self.old)) }
+        ensures counted { IfSome result (λ told. told.0.answered ≤ length self.new.seat.noted.answered) }
         ensures none { IfNone result ((taken.new.items ≡ taken.old.items) × (self.new ≡ self.old)) }
     {
         let shared = &self.shared;
@@ -145,9 +148,10 @@ impl<B: ServerName> Worker<B> {
     ) -> Option<(Turned, Token<B>)>
         requires { 0 < most }
         ensures turned { IfSome result (λ told. (note : NoteView) × TurnsBehind B.places self.old.node self.old.seat.worker self.old.generation lifts most taken.old.items taken.new.items told.0 told.1.standing note) }
-        ensures heard { IfSome result (λ told. HasHeard self.old.seat.worker most (tells_down told.0.combined) told.1.standing self.old.seat.lane taken.old.items taken.new.items) }
+        ensures heard { IfSome result (λ told. HasHeard self.old.seat.worker most (tells_down told.0.combined) self.new.seat.noted told.1.standing self.old.seat.lane taken.old.items taken.new.items) }
         ensures sound { IfSome result (λ told. IsSound told.1.standing × (told.1.standing.node ≡ self.old.node)) }
-        ensures more { IfSome result (λ _. self.new ≡ with_more self.old) }
+        ensures more { IfSome result (λ _. self.new ≡ with_more (told_of self.new.seat.noted self.old)) }
+        ensures counted { IfSome result (λ told. told.0.answered ≤ length self.new.seat.noted.answered) }
         ensures none { IfNone result ((taken.new.items ≡ taken.old.items) × (self.new ≡ self.old)) }
     {
         let shared = &self.shared;
@@ -173,9 +177,10 @@ impl<B: ServerName> Worker<B> {
     ) -> Option<(Collected, Token<B>)>
         requires { 0 < most }
         ensures handed { IfSome result (λ told. (note : NoteView) × CollectsBehind self.old.node self.old.seat.worker self.old.generation most taken.old.items taken.new.items told.0 told.1.standing note) }
-        ensures heard { IfSome result (λ told. HasHeard self.old.seat.worker most told.0.is_down told.1.standing self.old.seat.lane taken.old.items taken.new.items) }
+        ensures heard { IfSome result (λ told. HasHeard self.old.seat.worker most told.0.is_down self.new.seat.noted told.1.standing self.old.seat.lane taken.old.items taken.new.items) }
         ensures sound { IfSome result (λ told. IsSound told.1.standing × (told.1.standing.node ≡ self.old.node)) }
-        ensures more { IfSome result (λ _. self.new ≡ with_more self.old) }
+        ensures more { IfSome result (λ _. self.new ≡ with_more (told_of self.new.seat.noted self.old)) }
+        ensures counted { IfSome result (λ told. told.0.answered ≤ length self.new.seat.noted.answered) }
         ensures none { IfNone result ((taken.new.items ≡ taken.old.items) × (self.new ≡ self.old)) }
     {
         let shared = &self.shared;
@@ -238,6 +243,14 @@ impl<B: ServerName> Worker<B> {
     {
         self.shared
             .cut_among(rt, self.worker, self.generation, conns, cut)
+    }
+
+    /// A law: what it heard last of its node's combiner goes on to hold as it posts and collects, [`WorkerSeat::told`].
+    pub fn told(&self)
+        ensures told { IsTold self.now.seat.noted self.now.seat.lane }
+        ensures lifted { length self.now.seat.noted.answered ≤ length self.now.seat.noted.lifted }
+    {
+        self.seat.told();
     }
 
     /// The next entry that its node applies is refused, as where memory runs out: then the node's replica falls. It is for tests.

@@ -28,13 +28,13 @@ AllPairs R (x ∷ xs) (y ∷ ys) = R x y × AllPairs R xs ys
 abbrev pub AreLeft : {S D M : Type 0} → (S → Option Bytes) → (S → Option Bytes) → (M → M → Option ℕ → Type 0) → (D → Option (List (Parting S)))
     → List MarkState → List (Left S D M) → Type 0
 AreLeft {S} {D} {M} was_received was_sent gives parted marks lefts =
-    AllPairs (λ (mark : MarkState) (left : Left S D M). IsAnswered was_received was_sent gives (parted left.device) mark.standing left.clients.items) marks lefts
+    AllPairs (λ (mark : MarkState) (left : Left S D M). IsAnswered was_received was_sent gives (parted left.device) left.ended mark.standing left.clients.items) marks lefts
 
 -- this is what a worker left
 pub record IsLeftBy {S D M : Type 0} (was_received was_sent : S → Option Bytes) (gives : M → M → Option ℕ → Type 0)
     (parted : D → Option (List (Parting S))) (worker : DeskState) (left : Left S D M) : Type 0 where
   pub led : IsLed worker
-  pub served : HasServed was_received was_sent gives (parted left.device) left.clients.items worker
+  pub served : HasServed was_received was_sent gives (parted left.device) left.ended left.clients.items worker
 
 -- whatever a worker's mark knew earlier stands in front of all that it knows now, and of all that was fed behind that
 abbrev pub IsInOrder : DeskState → Type 0

@@ -81,6 +81,6 @@ impl<B: ServerName, S: Stream, D: Device<S>, M: Moments> Promise<Leaving<B, S, D
     ghost use Rattle.std.specs.Prelude.{◌≡◌};
     ghost use Rattle.nr_crew.specs.Left.{IsAnswered};
 
-    ghost kept_by = { λ promise leaving. IsAnswered S.received S.sent M.gives (D.parted leaving.left.device) leaving.mark.standing leaving.left.clients.items
+    ghost kept_by = { λ promise leaving. IsAnswered S.received S.sent M.gives (D.parted leaving.left.device) leaving.left.ended leaving.mark.standing leaving.left.clients.items
         × (leaving.left.limits ≡ promise.limits) };
 }

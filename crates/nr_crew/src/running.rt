@@ -253,7 +253,7 @@ where
     M: Moments + Drop,
     K: Rings,
     G: Gate,
-    ensures answered { IsAnswered S.received S.sent M.gives (D.parted result.left.device) result.mark.standing result.left.clients.items }
+    ensures answered { IsAnswered S.received S.sent M.gives (D.parted result.left.device) result.left.ended result.mark.standing result.left.clients.items }
     ensures limits { result.left.limits ≡ shared.entry.limits }
 {
     let Shared {

@@ -5,6 +5,7 @@ use Rattle.std.specs.Prelude.{IfSome}
 use Rattle.nr_entry.specs.Jobs.{connection_of}
 use Rattle.nr_log_end.specs.declared.standing.Standing.{Standing}
 use Rattle.nr_oplog.specs.declared.view.LogView.{LogView}
+use Rattle.nr_slots.specs.declared.view.Desk.{Desk}
 use Rattle.nr_slots.specs.declared.view.Lane.{Lane}
 use Rattle.nr_node.specs.declared.collecting.Handed.{Handed}
 use Rattle.nr_slots.specs.Seats.{NoteView}
@@ -41,18 +42,19 @@ each_of : (most : ℕ) (down : Bool) (s : Standing) (pieces : List Handed) → A
 each_of most down s [] all = tt
 each_of most down s (one ∷ pieces) all = (all.0.piece, each_of most down s pieces all.1)
 
-pub all_of : (worker most : ℕ) (down : Bool) (s : Standing) (lane : Lane) (old new : List Handed) → old ≡ [] → HasHeard worker most down s lane old new → AreOfRecord new s
-all_of worker most down s lane old new none heard = (
+pub all_of : (worker most : ℕ) (down : Bool) (desk : Desk) (s : Standing) (lane : Lane) (old new : List Handed) → old ≡ [] → HasHeard worker most down desk s lane old new
+    → AreOfRecord new s
+all_of worker most down desk s lane old new none heard = (
   most,
   subst (λ l. AllByRecursion (λ (one : Handed). IsPieceOf (connection_of one.piece.conn) most one.piece s) l)
       (sym (heard.added.behind ∙ ap (λ l. l ++ heard.added.pieces) none)) (each_of most down s heard.added.pieces heard.added.all),
 )
 
-pub all_heard : (worker most : ℕ) (lane : Lane) (old new : List Handed) (told : Option (Turned × LogView)) (turned : Turned) (token : LogView) → told ≡ Some (turned, token)
-    → old ≡ [] → IfSome told (λ (t : Turned × LogView). HasHeard worker most (tells_down t.0.combined) t.1.standing lane old new) → AreOfRecord new token.standing
-all_heard worker most lane old new told turned token is none heard =
-    all_of worker most (tells_down turned.combined) token.standing lane old new none
-    (subst (λ (o : Option (Turned × LogView)). IfSome o (λ (t : Turned × LogView). HasHeard worker most (tells_down t.0.combined) t.1.standing lane old new)) is heard)
+pub all_heard : (worker most : ℕ) (desk : Desk) (lane : Lane) (old new : List Handed) (told : Option (Turned × LogView)) (turned : Turned) (token : LogView) → told ≡ Some (turned, token)
+    → old ≡ [] → IfSome told (λ (t : Turned × LogView). HasHeard worker most (tells_down t.0.combined) desk t.1.standing lane old new) → AreOfRecord new token.standing
+all_heard worker most desk lane old new told turned token is none heard =
+    all_of worker most (tells_down turned.combined) desk token.standing lane old new none
+    (subst (λ (o : Option (Turned × LogView)). IfSome o (λ (t : Turned × LogView). HasHeard worker most (tells_down t.0.combined) desk t.1.standing lane old new)) is heard)
 
 -- so did the turn, where nothing was there before
 pub turned_at : (places : ℕ) (worker : WorkerState) (which : Lifts) (most : ℕ) (old new : List Handed) (told : Option (Turned × LogView)) (turned : Turned) (token : LogView)

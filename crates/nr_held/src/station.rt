@@ -5,7 +5,7 @@ ghost use Rattle.nr_taps.specs.Taps.{fresh_tap};
 ghost use Rattle.nr_combiner.specs.Opened.{AreNamed, AreOfWorkers};
 ghost use Rattle.nr_entry.specs.Jobs.{connection_of};
 ghost use Rattle.nr_combiner.specs.Pieces.{IsPieceOf};
-ghost use Rattle.nr_combiner.specs.Workers.{with_more, HasPosted, MayHaveClosed};
+ghost use Rattle.nr_combiner.specs.Workers.{told_of, with_more, HasPosted, MayHaveClosed};
 ghost use Rattle.nr_held.specs.Clients.{HasTold, fresh_session};
 ghost use Rattle.nr_held.specs.Pieces.{AreHandedOut};
 ghost use Rattle.nr_held.specs.Stations.{AreOfNodes, HasTurnedAt};
@@ -112,7 +112,8 @@ impl<B: ServerName> Station<B> {
         ensures session { IfOk result (λ client. client.session ≡ fresh_session client.tap.connection) }
         ensures tap { IfOk result (λ client. client.tap ≡ fresh_tap client.tap.connection) }
         ensures node { IfOk result (λ client. client.tap.connection.node ≡ self.old.worker.node) }
-        ensures worker { self.new.worker ≡ self.old.worker }
+        ensures worker { OnOk result (self.new.worker ≡ told_of self.new.worker.seat.noted self.old.worker) }
+        ensures same { OnErr result (self.new.worker ≡ self.old.worker) }
         ensures jobs { self.new.jobs ≡ self.old.jobs }
     {
         let (conn, _token) = self.worker.open(rt)?;
@@ -184,7 +185,7 @@ impl<B: ServerName> Station<B> {
         requires { 0 < most }
         ensures turned { IfOk result (λ turn. HasTurnedAt B.places self.old.worker lifts most turn.pieces.items turn.turned turn.token) }
         ensures handed { IfOk result (λ turn. AreHandedOut turn.pieces.items turn.token) }
-        ensures worker { OnOk result (self.new.worker ≡ with_more self.old.worker) }
+        ensures worker { OnOk result (self.new.worker ≡ with_more (told_of self.new.worker.seat.noted self.old.worker)) }
         ensures same { OnErr result (self.new.worker ≡ self.old.worker) }
         ensures jobs { self.new.jobs ≡ self.old.jobs }
     {

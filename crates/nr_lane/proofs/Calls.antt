@@ -1,5 +1,5 @@
 -- What each call of a desk says in the words of what answers a service.
-use Rattle.std.proofs.Common.{◌≡◌, ℕ, inl, inr, Bool, true, false, cond, [], ◌∷◌, drop, Option, Some, None, refl, ap, sym, ◌∙◌, subst, eq-eqb, true≢false}
+use Rattle.std.proofs.Common.{◌≡◌, ◌≤◌, ℕ, inl, inr, Bool, true, false, cond, [], ◌∷◌, drop, length, Option, Some, None, refl, ap, sym, ◌∙◌, subst, eq-eqb, true≢false}
 use Rattle.std.specs.Prelude.{◌==◌, ◌&&◌, ◌≢◌, is_some, Result, Ok, Err, OnOk, OnErr}
 use Rattle.std.specs.Option.{option_map}
 use Rattle.std.proofs.lemmas.Bool.{eqb-true, ne_eqb}
@@ -8,23 +8,27 @@ use Rattle.nr_model.specs.Keyspace.{moment}
 use Rattle.nr_model.specs.Items.{Connection, Item, same_connection}
 use Rattle.nr_model.specs.Connections.{Feeding}
 use Rattle.nr_model.proofs.JobLists.{same_is}
-use Rattle.nr_service.specs.Stories.{Closing, Fed, HasWorked, IsClosed, IsFed, IsOpened, IsWritten, KeepsOthers, Story, closed_at, fed_in, going_on, kept_bytes}
+use Rattle.nr_service.specs.Stories.{Closing, Fed, HasWorked, IsClosed, IsFed, IsOpened, IsWritten, Keeps, KeepsOthers, Story, closed_at, fed_in, going_on, kept_bytes}
 use Rattle.nr_service.specs.declared.answers.Standing.TheVariants as standings
 use Rattle.nr_service.proofs.Occurrences.{going_none}
+use Rattle.nr_slots.specs.Names.{IsTold}
+use Rattle.nr_slots.specs.Seats.{WorkerView}
 use Rattle.nr_combiner.specs.Workers.{WorkerState}
 use Rattle.nr_seats.specs.Seated.{SeatState, fresh_seat, last_job, with_written}
 use Rattle.nr_seats.specs.Placed.{IsPut, SeatsState, pending_here, seat_at, takes_here}
 use Rattle.nr_seats.specs.Portions.{seat_of, waiting_of}
 use Rattle.nr_seats.proofs.Putting.{named, seat_here, seat_others}
 use Rattle.nr_worker.specs.Desk.{DeskState, Served}
-use Rattle.nr_worker.specs.Working.{Closes, Feeds, Goes, IsSeatOf, OpensAt, Reflects, Stops, WorkState, Writes, all_closed, all_fed, last_here, one_opened, takes_from, unchanged}
+use Rattle.nr_worker.specs.Resting.{AreAllExecuted}
+use Rattle.nr_worker.specs.Working.{Closes, Feeds, Goes, IsSeatOf, MayHaveClosed, OpensAt, Reflects, Stops, WorkState, Writes, all_closed, all_fed, last_here, one_opened, takes_from, unchanged}
+use Rattle.nr_worker.proofs.Rested.{rested}
 use Rattle.nr_lane.specs.Serving.{ServingState, kept_at, standing_of}
 use Rattle.nr_lane.specs.Led.{HasLedTo, IsAtRest}
 use Rattle.nr_lane.specs.Works.{IsResting, Works}
 use Rattle.nr_lane.specs.Told.{close_by}
 use Rattle.nr_lane.proofs.Lists.{at_one}
 use Rattle.nr_lane.proofs.Telling.{nothing_fed}
-use Rattle.nr_lane.proofs.Working.{looked_still}
+use Rattle.nr_lane.proofs.Working.{all_answered, looked_still}
 use Rattle.nr_lane.proofs.Leading.{IsPutBy, absent_new, led_closed, led_fed, led_handed, led_opened, led_still}
 
 -- ---- seats of a node
@@ -82,6 +86,18 @@ is_opened v w c o g =
       others = put_others v.desk w.desk c (Some (fresh_seat c)) o.node node o.put;
     }
 
+-- none was: its node may have closed it again
+unopened_node : (v w : WorkState) → MayHaveClosed v w → w.worker.node ≡ v.worker.node
+unopened_node v w m = elim m.worker [ inl more ↦ ap (λ (x : WorkerState). x.node) more | inr same ↦ ap (λ (x : WorkerState). x.node) same ]
+
+pub keeps_unopened : (v w : ServingState) → MayHaveClosed v.desk w.desk → Goes unchanged v.desk w.desk → Keeps (HasLedTo v) (HasLedTo w) (kept_at v) (kept_at w)
+keeps_unopened v w m g = record {
+  past = λ story h. led_still v w story g h;
+  kept = λ c.
+      ap (λ n. waiting_of n w.desk.seats c) (unopened_node v.desk w.desk m)
+      ∙ ap (λ (x : WorkState). waiting_of v.desk.worker.node x.seats c) m.changed;
+}
+
 -- ---- bytes are fed
 takes_there : (o : Option SeatState) → takes_here o ≡ true → (s : SeatState) × (o ≡ Some s)
 takes_there None is = absurd (true≢false (sym is))
@@ -125,12 +141,19 @@ is_fed is_whole v w c time capped bytes takes_it is feeds stops g =
     }
 
 -- ---- work
+-- where nothing is left all that was asked for was executed
+at_rest : (places : ℕ) (v : ServingState) (story : Story) (h : HasLedTo v story) → IsResting places v.desk → v.desk.down ≡ false
+    → AreAllExecuted v.desk h.worker.served
+at_rest places v story h i up = rested v.desk h.worker h.led h.reflects i.idle.none i.idle.each i.idle.told i.idle.lifted (all_answered places v.desk i.looked) up
+
 pub has_worked : (places : ℕ) (v w : ServingState) → Works v.desk w.desk → (w.busy ≡ false → IsResting places w.desk)
     → HasWorked (HasLedTo v) (HasLedTo w) (IsAtRest places w) (kept_at v) (kept_at w)
 has_worked places v w k rest = record {
   handed = k.handed;
   past = λ story h. led_handed v w k.handed story k.goes k.waiting h;
-  rest = λ story h. record { led = led_handed v w k.handed story k.goes k.waiting h; rest = rest };
+  rest = λ story h.
+      let led = led_handed v w k.handed story k.goes k.waiting h in
+      record { led = led; rest = rest; executed = λ calm up. at_rest places w _ led (rest calm) up };
   kept = λ c. ap (λ n. waiting_of n w.desk.seats c) k.node ∙ k.waiting.waiting c;
 }
 
@@ -150,16 +173,23 @@ written_waits count None = refl
 written_waits count (Some s) = refl
 
 rest_still : (places : ℕ) (v w : ServingState) → Goes unchanged v.desk w.desk → w.busy ≡ v.busy → w.desk.jobs ≡ v.desk.jobs → w.desk.waiting ≡ v.desk.waiting
-    → w.desk.worker.node ≡ v.desk.worker.node → w.desk.mark ≡ v.desk.mark → (story : Story) → IsAtRest places v story → IsAtRest places w story
-rest_still places v w g busy jobs waiting node mark story r = record {
-  led = led_still v w story g r.led;
-  rest = λ calm.
-      let i = r.rest (sym busy ∙ calm) in
-      record {
-        idle = record { none = jobs ∙ i.idle.none; answered = waiting ∙ i.idle.answered };
-        looked = looked_still places v.desk w.desk node mark i.looked;
+    → w.desk.worker.node ≡ v.desk.worker.node → w.desk.mark ≡ v.desk.mark → w.desk.worker.seat ≡ v.desk.worker.seat
+    → (story : Story) → IsAtRest places v story → IsAtRest places w story
+rest_still places v w g busy jobs waiting node mark seat story r =
+    let led = led_still v w story g r.led in
+    let rest : w.busy ≡ false → IsResting places w.desk = λ calm.
+    let i = r.rest (sym busy ∙ calm) in
+    record {
+      idle = record {
+        none = jobs ∙ i.idle.none;
+        answered = waiting ∙ i.idle.answered;
+        each = subst (λ (s : WorkerView). length s.lane.posted ≡ length s.lane.collected) (sym seat) i.idle.each;
+        told = subst (λ (s : WorkerView). IsTold s.noted s.lane) (sym seat) i.idle.told;
+        lifted = subst (λ (s : WorkerView). length s.noted.answered ≤ length s.noted.lifted) (sym seat) i.idle.lifted;
       };
-}
+      looked = looked_still places v.desk w.desk node mark seat i.looked;
+    } in
+    record { led = led; rest = rest; executed = λ calm up. at_rest places w story led (rest calm) up }
 
 pub is_written : (places : ℕ) (v w : ServingState) (c : Connection) (count : ℕ) → c.node ≡ v.desk.worker.node → Writes c.serial count v.desk w.desk
     → Goes unchanged v.desk w.desk → w.busy ≡ v.busy
@@ -169,7 +199,8 @@ is_written places v w c count here k g busy =
     let seat = option_map (with_written count) (seat_at c.serial v.desk.seats) in
     record {
       past = λ story h. led_still v w story g h;
-      rest = rest_still places v w g busy (ap (λ (x : WorkState). x.jobs) k.changed) (ap (λ (x : WorkState). x.waiting) k.changed) node (ap (λ (x : WorkState). x.mark) k.changed);
+      rest = rest_still places v w g busy (ap (λ (x : WorkState). x.jobs) k.changed) (ap (λ (x : WorkState). x.waiting) k.changed) node (ap (λ (x : WorkState). x.mark) k.changed)
+          (ap (λ (x : WorkState). x.worker.seat) k.changed);
       kept = put_here v.desk w.desk c seat here node k.put ∙ written_waits count (seat_at c.serial v.desk.seats)
           ∙ sym (ap (λ (o : Option SeatState). option_map (λ (bytes : Bytes). drop count bytes) (option_map (λ (s : SeatState). s.pending) o))
           (own_seat v.desk.worker.node v.desk.seats c here));

@@ -33,4 +33,4 @@ goes_further d e f one two = record {
 }
 
 pub fresh_is_led : (node worker : ℕ) → IsLed (fresh_desk node worker)
-fresh_is_led node worker = record { sound = tt; own = tt; known = tt; each = tt }
+fresh_is_led node worker = record { sound = tt; own = tt; executed = tt; known = tt; each = tt }

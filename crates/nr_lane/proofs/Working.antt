@@ -1,11 +1,13 @@
 -- What is done one behind the other is a work of the desk.
-use Rattle.std.proofs.Common.{◌≡◌, ℕ, inl, inr, Bool, true, false, cond, List, [], ◌∷◌, ◌++◌, Option, Some, None, refl, ap, sym, ◌∙◌, subst, append-nil, append_assoc}
+use Rattle.std.proofs.Common.{◌≡◌, ◌≤◌, ℕ, arith, length, inl, inr, Bool, true, false, cond, List, [], ◌∷◌, ◌++◌, Option, Some, None, refl, ap, sym, ◌∙◌, subst, append-nil, append_assoc}
 use Rattle.std.specs.Prelude.{IfSome, IfNone, Result, Ok, Err, IfOk, OnErr}
 use Rattle.std.specs.Bool.{OnTrue, OnFalse}
 use Rattle.std.specs.Option.{option_map}
 use Rattle.nr_model.specs.Bytes.{Bytes}
 use Rattle.nr_model.specs.Connections.{Handed, handed_to}
 use Rattle.nr_model.proofs.Exchanged.{handed_to-append}
+use Rattle.nr_slots.specs.Seats.{WorkerView}
+use Rattle.nr_slots.specs.declared.view.Desk.{Desk}
 use Rattle.nr_combiner.specs.Workers.{WorkerState}
 use Rattle.nr_combiner.specs.declared.worker.TheConstants.{MOST_JOBS}
 use Rattle.nr_combiner.specs.declared.answering.Collected.{Collected}
@@ -22,7 +24,7 @@ use Rattle.nr_worker.specs.Settling.{HasSettled}
 use Rattle.nr_worker.specs.declared.collecting.Settled.{Settled}
 use Rattle.nr_worker.specs.Working.{CutsOff, Goes, HandsIn, HandsOn, TakesPieces, TakesTurn, WorkState, all_handed, unchanged}
 use Rattle.nr_lane.specs.declared.rounds.TheConstants.{EVERY}
-use Rattle.nr_lane.specs.Works.{HasLooked, IsBehindPieces, IsBehindTurn, LeftNothing, Works}
+use Rattle.nr_lane.specs.Works.{GaveAll, HasLooked, IsBehindPieces, IsBehindTurn, LeftNothing, Works}
 use Rattle.nr_lane.proofs.Lists.{goes_further, goes_nowhere}
 
 -- ---- what was handed out in two parts
@@ -137,12 +139,12 @@ works_same v = works_turned {A = Turned} None v v tt refl
 -- ---- behind a turn
 pub behind_turned : (places : ℕ) (turned : Option Turned) (v w : WorkState) → IfSome turned (λ t. TakesTurn places All EVERY t v w)
     → IfSome turned (λ t. IsBehindTurn places t w)
-behind_turned places (Some turned) v w took = record { before = v; after = w; took = took; node = refl; mark = refl }
+behind_turned places (Some turned) v w took = record { before = v; after = w; took = took; node = refl; mark = refl; heard = refl }
 behind_turned places None v w took = tt
 
 pub behind_pieces : (collected : Option Collected) (v w : WorkState) → IfSome collected (λ c. TakesPieces EVERY c v w)
     → IfSome collected (λ c. IsBehindPieces c w)
-behind_pieces (Some collected) v w took = record { before = v; after = w; took = took; node = refl; mark = refl }
+behind_pieces (Some collected) v w took = record { before = v; after = w; took = took; node = refl; mark = refl; heard = refl }
 behind_pieces None v w took = tt
 
 pub mark_collected : {E : Type 0} (settled : Result Settled E) (v w : WorkState) → IfOk settled (λ told. HasSettled told v w) → OnErr settled (w ≡ v)
@@ -150,24 +152,55 @@ pub mark_collected : {E : Type 0} (settled : Result Settled E) (v w : WorkState)
 mark_collected (Ok told) v w s same = ap (λ (x : WorkState). x.mark) s.changed
 mark_collected (Err why) v w s same = ap (λ (x : WorkState). x.mark) same
 
-turn_still : (places : ℕ) (turned : Turned) (v w : WorkState) → w.worker.node ≡ v.worker.node → w.mark ≡ v.mark → IsBehindTurn places turned v
-    → IsBehindTurn places turned w
-turn_still places turned v w node mark b = record { before = b.before; after = b.after; took = b.took; node = node ∙ b.node; mark = mark ∙ b.mark }
+pub heard_collected : {E : Type 0} (settled : Result Settled E) (v w : WorkState) → IfOk settled (λ told. HasSettled told v w) → OnErr settled (w ≡ v)
+    → w.worker.seat.noted ≡ v.worker.seat.noted
+heard_collected (Ok told) v w s same = ap (λ (x : WorkState). x.worker.seat.noted) s.changed ∙ ap (λ (x : WorkerState). x.seat.noted) s.collected.collected
+heard_collected (Err why) v w s same = ap (λ (x : WorkState). x.worker.seat.noted) same
 
-pieces_still : (collected : Collected) (v w : WorkState) → w.worker.node ≡ v.worker.node → w.mark ≡ v.mark → IsBehindPieces collected v
-    → IsBehindPieces collected w
-pieces_still collected v w node mark b = record { before = b.before; after = b.after; took = b.took; node = node ∙ b.node; mark = mark ∙ b.mark }
+turn_still : (places : ℕ) (turned : Turned) (v w : WorkState) → w.worker.node ≡ v.worker.node → w.mark ≡ v.mark → w.worker.seat.noted ≡ v.worker.seat.noted
+    → IsBehindTurn places turned v → IsBehindTurn places turned w
+turn_still places turned v w node mark heard b =
+    record { before = b.before; after = b.after; took = b.took; node = node ∙ b.node; mark = mark ∙ b.mark; heard = heard ∙ b.heard }
 
-pub looked_still : (places : ℕ) (v w : WorkState) → w.worker.node ≡ v.worker.node → w.mark ≡ v.mark → HasLooked places v → HasLooked places w
-looked_still places v w node mark (inl (turned, behind, nothing)) = inl (turned, turn_still places turned v w node mark behind, nothing)
-looked_still places v w node mark (inr (collected, behind, all)) = inr (collected, pieces_still collected v w node mark behind, all)
+pieces_still : (collected : Collected) (v w : WorkState) → w.worker.node ≡ v.worker.node → w.mark ≡ v.mark → w.worker.seat.noted ≡ v.worker.seat.noted
+    → IsBehindPieces collected v → IsBehindPieces collected w
+pieces_still collected v w node mark heard b =
+    record { before = b.before; after = b.after; took = b.took; node = node ∙ b.node; mark = mark ∙ b.mark; heard = heard ∙ b.heard }
 
-pub looked_turned : (places : ℕ) (turned : Turned) (v w : WorkState) → Works v w → w.mark ≡ v.mark → IsBehindTurn places turned v → LeftNothing turned
+pub looked_still : (places : ℕ) (v w : WorkState) → w.worker.node ≡ v.worker.node → w.mark ≡ v.mark → w.worker.seat ≡ v.worker.seat → HasLooked places v
     → HasLooked places w
-looked_turned places turned v w k mark behind nothing = inl (turned, turn_still places turned v w k.node mark behind, nothing)
+looked_still places v w node mark seat (inl (turned, behind, nothing)) = inl (
+  turned,
+  turn_still places turned v w node mark (ap (λ (s : WorkerView). s.noted) seat) behind,
+  subst (λ (s : WorkerView). LeftNothing (length s.lane.posted) turned) (sym seat) nothing,
+)
+looked_still places v w node mark seat (inr (collected, behind, all)) = inr (
+  collected,
+  pieces_still collected v w node mark (ap (λ (s : WorkerView). s.noted) seat) behind,
+  subst (λ (s : WorkerView). GaveAll (length s.lane.posted) collected) (sym seat) all,
+)
 
-pub looked_got : (places : ℕ) (collected : Collected) (w : WorkState) → IsBehindPieces collected w → collected.result ≡ Ok tt → HasLooked places w
-looked_got places collected w behind all = inr (collected, behind, all)
+pub looked_turned : (places : ℕ) (turned : Turned) (v w : WorkState) (batches : ℕ) → Works v w → w.mark ≡ v.mark → w.worker.seat.noted ≡ v.worker.seat.noted
+    → batches ≡ length w.worker.seat.lane.posted → IsBehindTurn places turned v → LeftNothing batches turned → HasLooked places w
+looked_turned places turned v w batches k mark heard count behind nothing =
+    inl (turned, turn_still places turned v w k.node mark heard behind, subst (λ n. LeftNothing n turned) count nothing)
+
+pub looked_got : (places : ℕ) (collected : Collected) (w : WorkState) (batches : ℕ) → batches ≡ length w.worker.seat.lane.posted → IsBehindPieces collected w
+    → GaveAll batches collected → HasLooked places w
+looked_got places collected w batches count behind all = inr (collected, behind, subst (λ n. GaveAll n collected) count all)
+
+-- so each of its batches had been answered as it heard last
+pub all_answered : (places : ℕ) (w : WorkState) → HasLooked places w → length w.worker.seat.lane.posted ≤ length w.worker.seat.noted.answered
+all_answered places w (inl (turned, behind, nothing)) =
+    let few = nothing.answered in
+    let counted = behind.took.counted in
+    let same = ap (λ (d : Desk). length d.answered) behind.heard in
+    omega (arith, few, counted, same)
+all_answered places w (inr (collected, behind, all)) =
+    let few = all.answered in
+    let counted = behind.took.counted in
+    let same = ap (λ (d : Desk). length d.answered) behind.heard in
+    omega (arith, few, counted, same)
 
 -- ---- no more bytes are taken from one
 abbrev pending_of : Option SeatState → Option Bytes

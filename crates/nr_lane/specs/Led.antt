@@ -2,6 +2,7 @@
 use Rattle.std.specs.Prelude.{◌≡◌, ℕ, false}
 use Rattle.nr_service.specs.Stories.{Story}
 use Rattle.nr_worker.specs.Desk.{DeskState, IsLed}
+use Rattle.nr_worker.specs.Resting.{AreAllExecuted}
 use Rattle.nr_worker.specs.Working.{Reflects}
 use Rattle.nr_lane.specs.Serving.{ServingState}
 use Rattle.nr_lane.specs.Told.{Tells, WasAtFeeds}
@@ -16,6 +17,8 @@ pub record HasLedTo (d : ServingState) (story : Story) : Type 0 where
   pub earlier : WasAtFeeds story.occurrences worker
 
 -- And nothing is left to be done, unless it is busy: each job that was asked for was handed in, what became of it is known, and the last turn of its work left nothing.
+-- Where its node isn't known to be down, each job that was asked for by a connection that is open and not cut was told as executed, and stands in the record that its mark keeps.
 pub record IsAtRest (places : ℕ) (d : ServingState) (story : Story) : Type 0 where
   pub led : HasLedTo d story
   pub rest : d.busy ≡ false → IsResting places d.desk
+  pub executed : d.busy ≡ false → d.desk.down ≡ false → AreAllExecuted d.desk led.worker.served

@@ -1,7 +1,7 @@
 // The work of a desk: its jobs are handed in, its node takes turns, and what becomes of its batches is taken in.
-ghost use Rattle.std.specs.Prelude.{◌≡◌, false, Ok, IfSome};
+ghost use Rattle.std.specs.Prelude.{◌≡◌, ◌≤◌, false, Ok, IfSome};
 ghost use Rattle.std.specs.Bool.{OnFalse};
-ghost use Rattle.nr_lane.specs.Works.{HasLooked, HasWaited, IsBehindPieces, IsBehindTurn, IsIdle, IsResting, LeftNothing, Works};
+ghost use Rattle.nr_lane.specs.Works.{GaveAll, HasLooked, HasWaited, IsBehindPieces, IsBehindTurn, IsIdle, IsResting, LeftNothing, Works};
 
 use crate::news::News;
 use nr_combiner::{Collected, Lifts, ServerName, Turned};
@@ -90,6 +90,7 @@ fn collect_pieces<R: Wait, B: ServerName>(desk: &mut Desk<'_, R, B>) -> Option<C
 fn collect<R: Wait, B: ServerName>(desk: &mut Desk<'_, R, B>) -> Option<Settled>
     ensures works { Works desk.old desk.new }
     ensures mark { desk.new.mark ≡ desk.old.mark }
+    ensures heard { desk.new.worker.seat.noted ≡ desk.old.worker.seat.noted }
 {
     desk.collect().ok()
 }
@@ -102,23 +103,29 @@ fn came_back(settled: Option<Settled>) -> bool {
     )
 }
 
-// What is done behind a turn that was done. A batch that was executed in another worker's turn, behind this one: what is emitted for it waits yet.
+// Whether a desk that handed in so many batches goes on, of which so many were answered: something is left at it, or a batch was answered in another worker's turn, behind
+// that, and what is emitted for it waits yet.
+fn goes_on(is_at_work: bool, batches: u64, answered: u64) -> bool
+    ensures { result ≡ false → batches ≤ answered }
+{
+    is_at_work || answered < batches
+}
+
+// What is done behind a turn that was done.
 fn next_done(turned: Turned, settled: Option<Settled>, is_at_work: bool) -> Next
-    ensures { result ≡ Next.Rest → turned.collected ≡ Ok tt }
+    ensures { result ≡ Next.Rest → (is_at_work ≡ false) × (turned.collected ≡ Ok tt) }
 {
     if turned.collected.is_err() || came_back(settled) {
         return Next::Later;
     }
-    if is_at_work || (settled == Some(Settled::Executed) && !turned.is_answered) {
-        return Next::Turn;
-    }
-    Next::Rest
+    if is_at_work { Next::Turn } else { Next::Rest }
 }
 
-// What is done behind a turn: where entries are left that can't be passed yet, what was handed out is written first.
-fn next_of(turned: Turned, settled: Option<Settled>, is_at_work: bool) -> Next
-    ensures { result ≡ Next.Rest → LeftNothing turned }
+// What is done behind a turn of a desk that handed in so many batches: where entries are left that can't be passed yet, what was handed out is written first.
+fn next_of(turned: Turned, settled: Option<Settled>, is_at_work: bool, batches: u64) -> Next
+    ensures { result ≡ Next.Rest → LeftNothing batches turned }
 {
+    let is_at_work = goes_on(is_at_work, batches, turned.answered);
     match turned.combined {
         Ok(Round::Down) if is_at_work => Next::Turn,
         Ok(Round::Down) => Next::Rest,
@@ -129,14 +136,17 @@ fn next_of(turned: Turned, settled: Option<Settled>, is_at_work: bool) -> Next
     }
 }
 
-// What is done once what waited was handed out without a turn, since the batch was answered.
-fn next_collected(collected: Collected, settled: Settled, is_at_work: bool) -> Next
-    ensures { result ≡ Next.Rest → collected.result ≡ Ok tt }
+// What is done once what waited was handed out without a turn to a desk that handed in so many batches, since the last was answered.
+fn next_collected(collected: Collected, settled: Settled, is_at_work: bool, batches: u64) -> Next
+    ensures { result ≡ Next.Rest → GaveAll batches collected }
 {
     if collected.result.is_err() || came_back(Some(settled)) {
         return Next::Later;
     }
-    if is_at_work { Next::Turn } else { Next::Rest }
+    if goes_on(is_at_work, batches, collected.answered) {
+        return Next::Turn;
+    }
+    Next::Rest
 }
 
 // Tries to take a turn for a while, and looks whether the batch was answered meanwhile. `None` where neither was.
@@ -198,7 +208,7 @@ fn go_on_behind<R: Wait, B: ServerName>(
     worked.news.add(turned);
     worked.is_down |= turned.combined == Ok(Round::Down) || settled == Some(Settled::Down);
     worked.has_cut |= turned.has_cut;
-    next_of(turned, settled, desk.is_at_work())
+    next_of(turned, settled, desk.is_at_work(), desk.batches())
 }
 
 // Takes in what waits for its connections, once the batch was answered in another's turn.
@@ -215,7 +225,7 @@ fn go_on_answered<R: Wait, B: ServerName>(
     };
     worked.is_down |= collected.is_down || settled == Settled::Down;
     worked.has_cut |= collected.has_cut;
-    next_collected(collected, settled, desk.is_at_work())
+    next_collected(collected, settled, desk.is_at_work(), desk.batches())
 }
 
 // Hands jobs in, waits for a turn, and takes in what became of the batch.

@@ -18,13 +18,14 @@ use Rattle.nr_entry.specs.declared.batch.Batch.{Batch}
 use Rattle.nr_entry.specs.declared.job.Job.{Job}
 use Rattle.nr_log_end.specs.declared.standing.Standing.{Standing}
 use Rattle.nr_oplog.specs.declared.view.LogView.{LogView}
-use Rattle.nr_slots.specs.Seats.{WorkerView, with_posted}
+use Rattle.nr_slots.specs.declared.view.Desk.{Desk}
+use Rattle.nr_slots.specs.Seats.{WorkerView, with_heard, with_posted}
 use Rattle.nr_session.specs.SessionState.{SessionState, asked}
 use Rattle.nr_node.specs.Sound.{IsSound}
 use Rattle.nr_node.specs.declared.collecting.Handed.{Handed}
 use Rattle.nr_combiner.specs.Heard.{HasHeard}
 use Rattle.nr_combiner.specs.Turned.{tells_down}
-use Rattle.nr_combiner.specs.Workers.{HasPosted, WorkerState}
+use Rattle.nr_combiner.specs.Workers.{HasPosted, WorkerState, told_of}
 use Rattle.nr_combiner.specs.declared.answering.Turned.{Turned}
 use Rattle.nr_taps.specs.Marks.{Adopts}
 use Rattle.nr_taps.specs.Sequence.{AreAllOfOneLog}
@@ -81,9 +82,9 @@ each_known one (job ∷ jobs) all = ((one, first_in one [], sym all.0), each_kno
 
 -- ---- a turn
 -- what it told
-abbrev AreHeard : WorkerState → ℕ → List Handed → List Handed → Option (Turned × LogView) → Type 0
-AreHeard w most before pieces told =
-    IfSome told (λ (t : Turned × LogView). HasHeard w.seat.worker most (tells_down t.0.combined) t.1.standing w.seat.lane before pieces)
+abbrev AreHeard : WorkerState → ℕ → Desk → List Handed → List Handed → Option (Turned × LogView) → Type 0
+AreHeard w most desk before pieces told =
+    IfSome told (λ (t : Turned × LogView). HasHeard w.seat.worker most (tells_down t.0.combined) desk t.1.standing w.seat.lane before pieces)
 
 abbrev AreSound : WorkerState → Option (Turned × LogView) → Type 0
 AreSound w told = IfSome told (λ (t : Turned × LogView). IsSound t.1.standing × (t.1.standing.node ≡ w.node))
@@ -93,17 +94,17 @@ last_in pieces left o one is some =
     let whole = is ∙ ap (λ (p : Option Handed). left ++ option_to_list p) some in
     subst (λ (l : List Handed). Contains l one) (sym whole) (in_middle one left [])
 
-pub got_first : (w : WorkerState) (c : Connection) (old new : Option Standing) (most : ℕ) (before pieces left : List Handed)
+pub got_first : (w : WorkerState) (c : Connection) (old new : Option Standing) (most : ℕ) (desk : Desk) (before pieces left : List Handed)
     (told : Option (Turned × LogView)) (turned : Turned) (token : LogView) (o : Option Handed) (one : Handed) (got : Bytes)
-    → told ≡ Some (turned, token) → before ≡ [] → AreHeard w most before pieces told → AreSound w told
+    → told ≡ Some (turned, token) → before ≡ [] → AreHeard w most desk before pieces told → AreSound w told
     → Adopts old token.standing new → HaveMet old (Some token.standing) → pieces ≡ left ++ option_to_list o → o ≡ Some one
-    → connection_of one.piece.conn ≡ c → one.piece.from ≡ 0 → got ≡ one.piece.bytes.items → HasGotFirst w c old new got
-got_first w c old new most before pieces left told turned token o one got is none heard sound adopted met behind some named from bytes = record {
+    → connection_of one.piece.conn ≡ c → one.piece.from ≡ 0 → got ≡ one.piece.bytes.items → HasGotFirst w c old new desk got
+got_first w c old new most desk before pieces left told turned token o one got is none heard sound adopted met behind some named from bytes = record {
   most = most;
   down = tells_down turned.combined;
   standing = token.standing;
   pieces = pieces;
-  heard = subst (λ (l : List Handed). AreHeard w most l pieces (Some (turned, token))) none (subst (AreHeard w most before pieces) is heard);
+  heard = subst (λ (l : List Handed). AreHeard w most desk l pieces (Some (turned, token))) none (subst (AreHeard w most desk before pieces) is heard);
   sound = subst (AreSound w) is sound;
   adopted = adopted;
   met = met;
@@ -120,8 +121,8 @@ alone None = tt
 alone (Some s) = (tt, tt)
 
 module _ (law : HoldsOfDesks) (w : WorkerState) (c : Connection) (sent : Bytes) (none : w.seat.lane.posted ≡ []) where
-  abbrev at : List Batch → Option Standing → Served → DeskState
-  at posted mark one = record { node = w.node; worker = w.seat.worker; posted = posted; mark = mark; served = one ∷ [] }
+  abbrev at : List Batch → Desk → Option Standing → Served → DeskState
+  at posted heard mark one = record { node = w.node; worker = w.seat.worker; posted = posted; heard = heard; mark = mark; served = one ∷ [] }
 
   abbrev new_one : Served
   new_one = record { connection = c; fed = []; closing = None; handed = [] }
@@ -132,13 +133,13 @@ module _ (law : HoldsOfDesks) (w : WorkerState) (c : Connection) (sent : Bytes) 
   abbrev behind : Batch → WorkerState
   behind batch = record w { seat = with_posted batch w.seat; next = suc w.next }
 
-  abbrev IsAnsweredBy : List Batch → Option Standing → Bytes → Type 0
-  IsAnsweredBy posted mark got = AreAnswered (desk_of_one w.node w.seat.worker posted mark c sent got ∷ [])
+  abbrev IsAnsweredBy : List Batch → Desk → Option Standing → Bytes → Type 0
+  IsAnsweredBy posted heard mark got = AreAnswered (desk_of_one w.node w.seat.worker posted heard mark c sent got ∷ [])
 
-  opens : (m : Option Standing) → HasOpened w c m → IsLed (at [] m new_one)
+  opens : (m : Option Standing) (o : HasOpened w c m) → IsLed (at [] o.desk m new_one)
   opens m o =
       let fresh = fresh_desk w.node w.seat.worker in
-      (law.opened c o.standing w.seat.lane fresh (at [] m new_one) (law.fresh w.node w.seat.worker) record {
+      (law.opened c o.standing w.seat.lane fresh (at [] o.desk m new_one) (law.fresh w.node w.seat.worker) record {
         new = tt;
         knows = o.knows;
         serves = o.serves;
@@ -149,8 +150,8 @@ module _ (law : HoldsOfDesks) (w : WorkerState) (c : Connection) (sent : Bytes) 
         opened = refl;
       }).0
 
-  is_fed : (m : Option Standing) → IsLed (at [] m new_one) → IsLed (at [] m asks)
-  is_fed m led = (law.asked asks.fed None (at [] m new_one) (at [] m asks) led record {
+  is_fed : (h : Desk) (m : Option Standing) → IsLed (at [] h m new_one) → IsLed (at [] h m asks)
+  is_fed h m led = (law.asked asks.fed None (at [] h m new_one) (at [] h m asks) led record {
     front = [];
     one = new_one;
     back = [];
@@ -160,23 +161,23 @@ module _ (law : HoldsOfDesks) (w : WorkerState) (c : Connection) (sent : Bytes) 
     changed = refl;
   }).0
 
-  posts : (m : Option Standing) (batch : Batch) → items_of batch.jobs.items ≡ asked_of asks → IsLed (at [] m asks) → IsLed (at (batch ∷ []) m asks)
-  posts m batch is led =
+  posts : (h : Desk) (m : Option Standing) (batch : Batch) → items_of batch.jobs.items ≡ asked_of asks → IsLed (at [] h m asks) → IsLed (at (batch ∷ []) h m asks)
+  posts h m batch is led =
       let items = items_of batch.jobs.items in
       let mine = subst (λ (jobs : Jobs). AllByRecursion (λ (job : Item). job.connection ≡ c) jobs) (sym (is ∙ asked_once c sent []))
       (own c 0 0 (deeds_by served sent)) in
-      (law.posted batch (at [] m asks) (at (batch ∷ []) m asks) led record {
+      (law.posted batch (at [] h m asks) (at (batch ∷ []) h m asks) led record {
         asked = (subst (AreAmong c (asked_of asks)) (sym is) (each_there c [] (asked_of asks)), tt);
         known = each_known asks items mine;
         posted = refl;
       }).0
 
-  gets : (m n : Option Standing) (batch : Batch) (got : Bytes) → HasGotFirst (behind batch) c m n got → IsLed (at (batch ∷ []) m asks)
-      → IsLed (at (batch ∷ []) n (served_one c sent got))
-  gets m n batch got g led =
+  gets : (h desk : Desk) (m n : Option Standing) (batch : Batch) (got : Bytes) → HasGotFirst (behind batch) c m n desk got → IsLed (at (batch ∷ []) h m asks)
+      → IsLed (at (batch ∷ []) desk n (served_one c sent got))
+  gets h desk m n batch got g led =
       let there = subst (λ (l : List Handed). Contains l g.one) g.heard.added.behind g.there in
-      let before = at (batch ∷ []) m asks in
-      let after = at (batch ∷ []) n (served_one c sent got) in
+      let before = at (batch ∷ []) h m asks in
+      let after = at (batch ∷ []) desk n (served_one c sent got) in
       (law.turned g.most g.down g.standing (behind batch).seat.lane [] g.pieces before after led record {
         heard = g.heard;
         posted = ap (λ (l : List Batch). l ++ batch ∷ []) none;
@@ -187,23 +188,26 @@ module _ (law : HoldsOfDesks) (w : WorkerState) (c : Connection) (sent : Bytes) 
         same = refl;
       }).0
 
-  answered_at : (m n : Option Standing) (batch : Batch) (got : Bytes) → HasOpened w c m → items_of batch.jobs.items ≡ asked_of asks
-      → HasGotFirst (behind batch) c m n got → IsAnsweredBy (w.seat.lane.posted ++ batch ∷ []) n got
-  answered_at m n batch got o is g =
-      let led = gets m n batch got g (posts m batch is (is_fed m (opens m o))) in
-      subst (λ (l : List Batch). IsAnsweredBy (l ++ batch ∷ []) n got) (sym none)
-      (law.answered [] (at (batch ∷ []) n (served_one c sent got) ∷ []) tt (led, tt) (alone n))
+  answered_at : (desk : Desk) (m n : Option Standing) (batch : Batch) (got : Bytes) → HasOpened w c m → items_of batch.jobs.items ≡ asked_of asks
+      → HasGotFirst (behind batch) c m n desk got → IsAnsweredBy (w.seat.lane.posted ++ batch ∷ []) desk n got
+  answered_at desk m n batch got o is g =
+      let led = gets o.desk desk m n batch got g (posts o.desk m batch is (is_fed o.desk m (opens m o))) in
+      subst (λ (l : List Batch). IsAnsweredBy (l ++ batch ∷ []) desk n got) (sym none)
+      (law.answered [] (at (batch ∷ []) desk n (served_one c sent got) ∷ []) tt (led, tt) (alone n))
 
-  answered_one : (v : WorkerState) (jobs : List Job) (m n : Option Standing) (got : Bytes) → HasOpened w c m → items_of jobs ≡ asked_of asks
-      → HasPosted jobs w v → HasGotFirst v c m n got → IsAnsweredBy v.seat.lane.posted n got
-  answered_one v jobs m n got o is p g =
-      subst (λ (x : WorkerState). HasGotFirst x c m n got → IsAnsweredBy x.seat.lane.posted n got) (sym p.posted)
-      (answered_at m n p.batch got o (ap items_of p.holds ∙ is)) g
+  answered_one : (v : WorkerState) (desk : Desk) (jobs : List Job) (m n : Option Standing) (got : Bytes) → HasOpened w c m → items_of jobs ≡ asked_of asks
+      → HasPosted jobs w v → HasGotFirst v c m n desk got → IsAnsweredBy v.seat.lane.posted desk n got
+  answered_one v desk jobs m n got o is p g =
+      subst (λ (x : WorkerState). HasGotFirst x c m n desk got → IsAnsweredBy x.seat.lane.posted desk n got) (sym p.posted)
+      (answered_at desk m n p.batch got o (ap items_of p.holds ∙ is)) g
 
-  -- where opening left the worker as it was, and the turn its seat
-  pub answered_by : (opened posted last : WorkerState) (jobs : List Job) (m n : Option Standing) (got : Bytes) → opened ≡ w → last.seat ≡ posted.seat
-      → HasOpened w c m → items_of jobs ≡ asked_of (served_one c sent []) → HasPosted jobs opened posted → HasGotFirst posted c m n got
-      → AreAnswered (desk_of_one w.node w.seat.worker last.seat.lane.posted n c sent got ∷ [])
-  answered_by opened posted last jobs m n got same kept o is p g =
-      subst (λ (x : WorkerView). IsAnsweredBy x.lane.posted n got) (sym kept)
-      (answered_one posted jobs m n got o is (subst (λ (x : WorkerState). HasPosted jobs x posted) same p) g)
+-- where opening left the worker as it was, and the turn its seat, but for what they heard
+pub answered_by : (law : HoldsOfDesks) (first : WorkerState) (c : Connection) (sent : Bytes) → first.seat.lane.posted ≡ [] → (opened posted last : WorkerState) (jobs : List Job) (m n : Option Standing)
+    (got : Bytes) → opened ≡ told_of opened.seat.noted first → last.seat ≡ with_heard last.seat.noted posted.seat
+    → HasOpened first c m → items_of jobs ≡ asked_of (served_one c sent []) → HasPosted jobs opened posted → HasGotFirst posted c m n last.seat.noted got
+    → AreAnswered (desk_of_one first.node first.seat.worker last.seat.lane.posted last.seat.noted n c sent got ∷ [])
+answered_by law first c sent none opened posted last jobs m n got same kept o is p g =
+    let w : WorkerState = told_of opened.seat.noted first in
+    let at : HasOpened w c m = record { standing = o.standing; desk = o.desk; knows = o.knows; serves = o.serves; sound = o.sound; adopted = o.adopted } in
+    subst (λ (x : WorkerView). AreAnswered (desk_of_one first.node first.seat.worker x.lane.posted last.seat.noted n c sent got ∷ [])) (sym kept)
+    (answered_one law w c sent none posted last.seat.noted jobs m n got at is (subst (λ (x : WorkerState). HasPosted jobs x posted) same p) g)

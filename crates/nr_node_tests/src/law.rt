@@ -2,7 +2,9 @@
 ghost use Rattle.std.specs.Prelude.{◌≡◌, ◌≤◌, [], ◌∷◌, length, IfSome};
 ghost use Rattle.nr_oplog.specs.Opening.{name_of, nodes_of, places_of};
 ghost use Rattle.nr_entry.specs.Jobs.{connection_of, items_of};
+ghost use Rattle.nr_slots.specs.Seats.{with_heard};
 ghost use Rattle.nr_combiner.specs.Opened.{AreNamed, AreOfWorkers};
+ghost use Rattle.nr_combiner.specs.Workers.{told_of};
 ghost use Rattle.nr_worker.specs.Desk.{asked_of};
 ghost use Rattle.nr_worker.specs.Law.{AreAnswered};
 ghost use Rattle.nr_node_tests.specs.Answered.{HasGotFirst, HasOpened, desk_of_one, served_one};
@@ -36,7 +38,7 @@ struct Answered<B: ServerName> {
 // Opens a connection, and keeps what its node had done by then.
 fn open_one<B: ServerName, R: Wait + Abort>(rt: &R, worker: &mut Worker<B>) -> (ConnId, Mark<B>)
     ensures opened { HasOpened worker.old (connection_of result.0) result.1.standing }
-    ensures same { worker.new ≡ worker.old }
+    ensures heard { worker.new ≡ told_of worker.new.seat.noted worker.old }
 {
     let Ok((conn, token)) = worker.open(rt) else {
         panic!(rt; "a connection is opened");
@@ -81,8 +83,8 @@ fn take_first<B: ServerName, R: Wait + Abort>(
     conn: ConnId,
 ) -> Vec<u8>
     requires { IfSome mark.old.standing (λ s. s.node ≡ worker.old.node) }
-    ensures got { HasGotFirst worker.old (connection_of conn) mark.old.standing mark.new.standing result.items }
-    ensures seat { worker.new.seat ≡ worker.old.seat }
+    ensures got { HasGotFirst worker.old (connection_of conn) mark.old.standing mark.new.standing worker.new.seat.noted result.items }
+    ensures seat { worker.new.seat ≡ with_heard worker.new.seat.noted worker.old.seat }
 {
     let mut pieces = Vec::new(alloc);
     let mut spares = Spares::new(alloc);
@@ -104,7 +106,7 @@ fn answer<B: ServerName, R: Wait + Abort>(
     sent: &[u8],
 ) -> Answered<B>
     requires { worker.old.seat.lane.posted ≡ [] }
-    ensures { AreAnswered (desk_of_one worker.old.node worker.old.seat.worker worker.new.seat.lane.posted result.mark.standing
+    ensures { AreAnswered (desk_of_one worker.old.node worker.old.seat.worker worker.new.seat.lane.posted worker.new.seat.noted result.mark.standing
         (connection_of result.conn) sent.now result.bytes.items ∷ []) }
 {
     let (conn, mut mark) = open_one(rt, worker);

@@ -34,4 +34,4 @@ pub worker_send : IsSend WorkerSeat.the_row
 worker_send = view_send WorkerSeat.TheInside.the_row _ _ _ _ (declared_send WorkerSeat.TheInside.the_type (seat.the_send (Option.the_row Parcel.the_row) View.the_row parcel_send, (search sent, (search sent, tt))))
 
 pub combiner_send : IsSend CombinerSeat.the_row
-combiner_send = view_send CombinerSeat.TheInside.the_row _ _ _ _ (declared_send CombinerSeat.TheInside.the_type (seat.the_send (Option.the_row Parcel.the_row) View.the_row parcel_send, (search sent, tt)))
+combiner_send = view_send CombinerSeat.TheInside.the_row _ _ _ _ (declared_send CombinerSeat.TheInside.the_type (seat.the_send (Option.the_row Parcel.the_row) View.the_row parcel_send, (search sent, (search sent, tt))))

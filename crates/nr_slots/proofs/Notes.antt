@@ -1,19 +1,23 @@
 -- Notes of what the combiner did, and workers that are told of them, keep the rule.
-use Rattle.std.proofs.Common.{◌≡◌, ◌≢◌, ℕ, suc, ◌<◌, ◌≤◌, List, [], ◌∷◌, ◌++◌, set, Option, refl, sym, ap, subst, ⊎_elim, arith, append-nil}
+use Rattle.std.proofs.Common.{◌≡◌, ◌≢◌, ℕ, suc, ◌<◌, ◌≤◌, Bool, true, false, ◌+◌, length, length-append, List, [], ◌∷◌, ◌++◌, set, Option, refl, sym, ap, subst, ⊎_elim, arith, append-nil}
 use mathlib.Core.Option.{some}
 use mathlib.Core.Path.{Path}
 use lib.ListN.{get_elem?}
 use Rattle.atomic_table.specs.Table.{State, Me, keeps, Allows, Splits, Joins}
 use Rattle.atomic_table.proofs.Lists.{at_set}
 use Rattle.nr_model.specs.Bytes.{IsBeginningOf}
+use Rattle.nr_entry.specs.declared.batch.Batch.{Batch}
 use Rattle.nr_slots.specs.declared.view.Parcel.{Parcel}
 use Rattle.nr_slots.specs.declared.view.Desk.{Desk}
+use Rattle.nr_slots.specs.declared.view.Lane.{Lane}
 use Rattle.nr_slots.specs.declared.view.SlotView.{SlotView}
 use Rattle.nr_slots.specs.Layout.{word_of}
 use Rattle.nr_slots.specs.Names.{IsTold}
-use Rattle.nr_slots.specs.Rule.{Round, Stage, vacant, placing, offered, lifting, held, answering, ready, fetching, posted_at, lifted_at, answered_at, batches, answers, Tale, lane_of, desk_of, Owns, Combines, IsFrontOf, SeatOk, SlotRule, worker_view, note_view}
+use Rattle.nr_slots.specs.Rule.{Round, Stage, vacant, placing, offered, lifting, held, answering, ready, fetching, posted_at, lifted_at, answered_at, batches, answers, Tale, lane_of, desk_of, Owns, Combines, IsFrontOf, SeatOk, SlotRule, worker_view, note_view, no_lane, no_desk}
 use Rattle.nr_slots.specs.Plays.{noted_now, with_noted, nobody, compared, desk_at}
-use Rattle.nr_slots.proofs.Heads.{begins_all, begins_then, begins_both, front_all, front_none}
+use Rattle.nr_slots.specs.Steps.{with_batch}
+use Rattle.nr_slots.specs.Seats.{IsWaiting, one_if}
+use Rattle.nr_slots.proofs.Heads.{begins_all, begins_none, begins_then, begins_both, front_all, front_none}
 use Rattle.nr_slots.proofs.Moves.{each_set, only_set, reviewed, unmoved}
 use Rattle.nr_slots.proofs.Openings.{each_more, only_more}
 
@@ -34,6 +38,22 @@ told_of t d f = let own : IsBeginningOf (answers t.rounds) (answers t.rounds ++ 
   begins_both d.answered (answers t.rounds) (desk_of t).answered f.1 own,
   begins_both (answers t.rounds) d.answered (desk_of t).answered own f.1,
 )
+
+-- a worker that was told of nothing
+pub told_none : IsTold no_desk no_lane
+told_none = (begins_none [], (λ _. begins_none []), (λ _. begins_none []))
+
+-- what was told goes on to hold as the worker posts
+pub told_posted : (d : Desk) (lane : Lane) (b : Batch) → IsTold d lane → IsTold d (with_batch b lane)
+told_posted d lane b h = (begins_then d.lifted lane.posted (lane.posted ++ b ∷ []) h.0 (b ∷ [], refl), h.1, h.2)
+
+-- it waits for an answer then
+pub waits_posted : (waiting : Bool) (lane : Lane) (b : Batch) → waiting ≡ false → IsWaiting waiting lane → IsWaiting true (with_batch b lane)
+waits_posted waiting lane b still h =
+    let none = ap one_if still in
+    let long = length-append lane.posted (b ∷ []) in
+    let was = h.1 in
+    (refl, omega (arith, none, long, was))
 
 module _ (workers : ℕ) where
   abbrev St : Type 0

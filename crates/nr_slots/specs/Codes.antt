@@ -11,8 +11,8 @@ use Rattle.nr_slots.specs.contracts.view.Found as of_found
 use Rattle.nr_slots.specs.Seats.{WorkerView, CombinerView, NoteView}
 
 abbrev pub worker_code : Coded WorkerView
-worker_code = code_by (TableId × (ℕ × Lane)) (coded× table_id_coded (coded× coded_ℕ of_lane.the_row.coded)) (λ v. (v.slots, (v.worker, v.lane)))
-    (λ p. record { slots = p.0; worker = p.1.0; lane = p.1.1 }) (λ _. refl)
+worker_code = code_by (TableId × (ℕ × (Lane × Desk))) (coded× table_id_coded (coded× coded_ℕ (coded× of_lane.the_row.coded of_desk.the_row.coded))) (λ v. (v.slots, (v.worker, (v.lane, v.noted))))
+    (λ p. record { slots = p.0; worker = p.1.0; lane = p.1.1.0; noted = p.1.1.1 }) (λ _. refl)
 
 abbrev pub combiner_code : Coded CombinerView
 combiner_code = code_by (TableId × (List Desk × List Found)) (coded× table_id_coded (coded× (coded_list of_desk.the_row.coded) (coded_list of_found.the_row.coded))) (λ v. (v.slots, (v.desks, v.looks)))

@@ -1,5 +1,5 @@
 -- What contracts see of the slots and their seats, and what calls do to it.
-use Rattle.std.specs.Prelude.{◌≡◌, ◌⊎◌, ℕ, ◌+◌, ◌<◌, Bool, false, List, [], ◌∷◌, ◌++◌, length, replicate, slice_set, slice_index_or, if◌then◌else◌}
+use Rattle.std.specs.Prelude.{◌≡◌, ◌⊎◌, ℕ, ◌+◌, ◌-◌, ◌^◌, ◌<◌, ◌≤◌, min, Bool, false, List, [], ◌∷◌, ◌++◌, length, replicate, slice_set, slice_index_or, if◌then◌else◌}
 use Rattle.atomic_table.specs.Seated.{TableId}
 use Rattle.nr_entry.specs.declared.batch.Batch.{Batch}
 use Rattle.nr_entry.specs.declared.batch.Answer.{Answer}
@@ -17,11 +17,12 @@ pub record SlotsView : Type 0 where
   pub id : TableId
   pub workers : ℕ
 
--- the slots of a worker's seat, which worker it is, and what it did
+-- the slots of a worker's seat, which worker it is, what it did, and what it heard last of the combiner's desk for it
 pub record WorkerView : Type 0 where
   pub slots : TableId
   pub worker : ℕ
   pub lane : Lane
+  pub noted : Desk
 
 -- the slots of a combiner's seat, what it did at each worker's, and what its looks met
 pub record CombinerView : Type 0 where
@@ -40,7 +41,7 @@ desk_of v worker = slice_index_or v.desks worker no_desk
 
 -- a worker and a combiner that did nothing yet
 abbrev pub new_worker : TableId → ℕ → WorkerView
-new_worker id worker = record { slots = id; worker = worker; lane = no_lane }
+new_worker id worker = record { slots = id; worker = worker; lane = no_lane; noted = no_desk }
 
 abbrev pub new_combiner : TableId → ℕ → CombinerView
 new_combiner id workers = record { slots = id; desks = replicate workers no_desk; looks = [] }
@@ -52,6 +53,10 @@ with_posted batch v = record v { lane = record { posted = v.lane.posted ++ batch
 -- one more answer was collected
 abbrev pub with_collected : Answer → WorkerView → WorkerView
 with_collected answer v = record v { lane = record { posted = v.lane.posted; collected = v.lane.collected ++ answer ∷ []; hand = v.lane.hand } }
+
+-- a note was heard, which says this of the combiner's desk
+abbrev pub with_heard : Desk → WorkerView → WorkerView
+with_heard desk v = record v { noted = desk }
 
 -- one more batch was found in the worker's slot and lifted, and nothing else was done
 abbrev pub with_lifted : ℕ → Batch → CombinerView → CombinerView
@@ -93,3 +98,11 @@ IsHolding holds desk = (desk.grip ≡ Loose) × (length desk.lifted ≡ length d
 
 abbrev pub AreHolding : List Bool → List Desk → Type 0
 AreHolding holds desks = (worker : ℕ) → worker < length desks → IsHolding (slice_index_or holds worker false) (slice_index_or desks worker no_desk)
+
+-- of each worker no more batches were answered than were lifted
+abbrev pub AreLifted : List Desk → Type 0
+AreLifted desks = (worker : ℕ) → length (slice_index_or desks worker no_desk).answered ≤ length (slice_index_or desks worker no_desk).lifted
+
+-- so many batches of each worker were answered, as far as a u64 counts, and none of a worker that there isn't
+abbrev pub AreCounted : List ℕ → List Desk → Type 0
+AreCounted counts desks = (worker : ℕ) → slice_index_or counts worker 0 ≡ min (length (slice_index_or desks worker no_desk).answered) (2 ^ 64 - 1)

@@ -1,5 +1,5 @@
 // The combiner's seat at the slots.
-ghost use Rattle.std.specs.Prelude.{◌≡◌, ◌<◌, ◌≤◌, [], length, MatchOption, IfSome};
+ghost use Rattle.std.specs.Prelude.{◌≡◌, ◌-◌, ◌^◌, ◌<◌, ◌≤◌, min, [], length, MatchOption, IfSome};
 ghost use Rattle.nr_slots.specs.Names.{IsForLast, IsUnanswered};
 ghost use Rattle.nr_slots.specs.Seats.{new_combiner, with_lifted, with_answered, desk_of, note_of, FoundNone, IsOfWorkers};
 ghost use Rattle.nr_slots.specs.Rule.{opening_view};
@@ -18,11 +18,13 @@ pub struct CombinerSeat {
     seat: SlotSeat,
     // For each worker whether the batch lifted last wasn't answered.
     holds: [bool; 16],
+    // For each worker how many of its batches were answered, as far as a u64 counts.
+    counts: [u64; 16],
 }
 
 impl Model for CombinerSeat {
     ghost use Rattle.std.specs.Prelude.{◌≡◌, ◌≤◌, [], length};
-    ghost use Rattle.nr_slots.specs.Seats.{CombinerView, AreHolding, IsOfWorkers};
+    ghost use Rattle.nr_slots.specs.Seats.{CombinerView, AreCounted, AreHolding, IsOfWorkers};
     ghost use Rattle.nr_slots.specs.Rule.{combiner_view};
 
     ghost Value = { CombinerView };
@@ -33,7 +35,7 @@ impl Model for CombinerSeat {
 
     ghost view = { λ s. record { slots = s.seat.table_id; desks = s.seat.me.0.desks; looks = s.seat.me.0.looks } };
 
-    ghost invariant = { λ s. (s.seat.me ≡ (combiner_view (length s.seat.me.0.desks) s.seat.me.0.desks s.seat.me.0.looks, [])) × (length s.seat.me.0.desks ≤ 16) × IsOfWorkers s.seat.table_id (length s.seat.me.0.desks) × AreHolding s.holds s.seat.me.0.desks };
+    ghost invariant = { λ s. (s.seat.me ≡ (combiner_view (length s.seat.me.0.desks) s.seat.me.0.desks s.seat.me.0.looks, [])) × (length s.seat.me.0.desks ≤ 16) × IsOfWorkers s.seat.table_id (length s.seat.me.0.desks) × AreHolding s.holds s.seat.me.0.desks × AreCounted s.counts s.seat.me.0.desks };
 }
 
 impl CombinerSeat {
@@ -45,6 +47,7 @@ impl CombinerSeat {
         CombinerSeat {
             seat,
             holds: [false; 16],
+            counts: [0; 16],
         }
     }
 
@@ -73,7 +76,16 @@ impl CombinerSeat {
     {
         put_answer(&slots.table.shared, &mut self.seat, worker, answer);
         self.holds[worker] = false;
+        self.counts[worker] = self.counts[worker].saturating_add(1);
     }
+
+    /// How many batches of a worker were answered, as far as a u64 counts: 0 of a worker that there isn't. It takes no step.
+    pub fn answered(&self, worker: usize) -> u64
+        ensures { result ≡ min (length (desk_of self.now worker).answered) (2 ^ 64 - 1) }
+    {
+        self.counts.get(worker).copied().unwrap_or(0)
+    }
+
     /// A note that keeps what this combiner has done until now: one load.
     pub fn note(&mut self, slots: &Slots) -> Note
         requires { self.old.slots ≡ slots.now.id }

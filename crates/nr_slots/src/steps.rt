@@ -137,6 +137,17 @@ pub(crate) fn compare(words: &SlotWords, seat: &mut SlotSeat, worker: usize, not
     words.load::<Compare>(seat, 16 * worker + 16);
 }
 
+// Looks at the worker's slot once more: what the seat was told last is still the first of what the worker knows.
+pub(crate) fn recall(words: &SlotWords, seat: &mut SlotSeat, worker: usize)
+    requires seat { IsAt words.now.table_id words.now.key seat.old }
+    requires worker { (worker < 16) × (worker < words.now.key) × (seat.old.me.0 ≡ worker_view worker seat.old.me.0.lane seat.old.me.0.noted) }
+    ensures seat { IsSameSeat seat.old seat.new }
+    ensures view { seat.new.me ≡ seat.old.me }
+    ensures told { IsTold (desk_at seat.old.me.0.noted worker) seat.old.me.0.lane }
+{
+    words.load::<Compare>(seat, 16 * worker + 16);
+}
+
 // The seat of the first of some workers, cut from that of all of them and the combiner.
 pub(crate) fn cut(words: &SlotWords, seat: &mut SlotSeat, worker: usize) -> SlotSeat
     requires seat { IsAt words.now.table_id words.now.key seat.old }

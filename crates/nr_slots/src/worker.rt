@@ -1,13 +1,13 @@
 // A worker's seat at the slots.
-ghost use Rattle.std.specs.Prelude.{◌≡◌, ◌↔◌, ◌*◌, ◌<◌, [], length, slice_index_or, MatchResult, IsOk, IfOk, IfErr, OnErr};
+ghost use Rattle.std.specs.Prelude.{◌≡◌, ◌↔◌, ◌*◌, ◌<◌, ◌≤◌, [], length, slice_index_or, MatchResult, IsOk, IfOk, IfErr, OnErr};
 ghost use Rattle.nr_slots.specs.Names.{IsForLast, IsTold};
-ghost use Rattle.nr_slots.specs.Seats.{new_worker, with_posted, with_collected, IsOfWorkers};
+ghost use Rattle.nr_slots.specs.Seats.{new_worker, with_posted, with_collected, with_heard, IsOfWorkers};
 ghost use Rattle.nr_slots.specs.Rule.{worker_view, no_lane, no_desk};
 ghost use Rattle.nr_slots.specs.declared.worker.Uncollected.TheVariants as Uncollected;
 
 use crate::note::Note;
 use crate::slots::Slots;
-use crate::steps::{Unanswered, compare, put_batch, take_answer};
+use crate::steps::{Unanswered, compare, put_batch, recall, take_answer};
 use crate::view::SlotSeat;
 use nr_entry::{Answer, Batch};
 use std::marker::Model;
@@ -21,7 +21,8 @@ pub enum Uncollected {
     Unanswered(Unanswered),
 }
 
-/// A worker's seat at the slots of its node. Contracts see whose it is, the batches that it posted, and the answers that it collected.
+/// A worker's seat at the slots of its node. Contracts see whose it is, the batches that it posted, the answers that it collected, and what it heard last of what the
+/// combiner had done at its slot.
 #[derive(Drop)]
 pub struct WorkerSeat {
     seat: SlotSeat,
@@ -31,9 +32,10 @@ pub struct WorkerSeat {
 }
 
 impl Model for WorkerSeat {
-    ghost use Rattle.std.specs.Prelude.{◌≡◌, ◌*◌, ◌<◌, []};
+    ghost use Rattle.std.specs.Prelude.{◌≡◌, ◌*◌, ◌<◌, ◌≤◌, [], length, slice_index_or};
+    ghost use Rattle.nr_slots.specs.Names.{IsTold};
     ghost use Rattle.nr_slots.specs.Seats.{WorkerView, IsWaiting};
-    ghost use Rattle.nr_slots.specs.Rule.{worker_view};
+    ghost use Rattle.nr_slots.specs.Rule.{worker_view, no_desk};
 
     ghost Value = { WorkerView };
 
@@ -41,9 +43,9 @@ impl Model for WorkerSeat {
 
     ghost coded = { worker_code };
 
-    ghost view = { λ s. record { slots = s.seat.table_id; worker = s.worker; lane = s.seat.me.0.lane } };
+    ghost view = { λ s. record { slots = s.seat.table_id; worker = s.worker; lane = s.seat.me.0.lane; noted = slice_index_or s.seat.me.0.noted s.worker no_desk } };
 
-    ghost invariant = { λ s. (s.seat.me ≡ (worker_view s.worker s.seat.me.0.lane s.seat.me.0.noted, [])) × (s.worker < 16) × (2 * s.worker < s.seat.table_id.slots) × IsWaiting s.waiting s.seat.me.0.lane };
+    ghost invariant = { λ s. (s.seat.me ≡ (worker_view s.worker s.seat.me.0.lane s.seat.me.0.noted, [])) × (s.worker < 16) × (2 * s.worker < s.seat.table_id.slots) × IsWaiting s.waiting s.seat.me.0.lane × IsTold (slice_index_or s.seat.me.0.noted s.worker no_desk) s.seat.me.0.lane × (length (slice_index_or s.seat.me.0.noted s.worker no_desk).answered ≤ length (slice_index_or s.seat.me.0.noted s.worker no_desk).lifted) };
 }
 
 impl WorkerSeat {
@@ -73,7 +75,8 @@ impl WorkerSeat {
         Ok(())
     }
 
-    /// Takes the answer to the batch that was posted last, if it is there: one load, and one store where it is.
+    /// Takes the answer to the batch that was posted last, if it is there: one load; two loads and one store where it is, since it looks at the slot once more
+    /// behind that, for what it heard last of the combiner.
     ///
     /// # Errors
     ///
@@ -90,6 +93,7 @@ impl WorkerSeat {
         }
         match take_answer(&slots.table.shared, &mut self.seat, self.worker) {
             Ok(answer) => {
+                recall(&slots.table.shared, &mut self.seat, self.worker);
                 self.waiting = false;
                 Ok(answer)
             }
@@ -98,12 +102,13 @@ impl WorkerSeat {
     }
 
     /// Looks at the slot, told of a note that the combiner made: the batches that it had lifted are a beginning of those that this worker
-    /// posted, and of the answers that it had given and those that this worker collected one is a beginning of the other. It takes two loads.
+    /// posted, and of the answers that it had given and those that this worker collected one is a beginning of the other. The seat keeps what it heard. It takes two
+    /// loads.
     pub fn hear(&mut self, slots: &Slots, note: Note)
         requires slots { self.old.slots ≡ slots.now.id }
         requires note { note.slots ≡ slots.now.id }
         ensures told { IsTold (slice_index_or note.desks self.old.worker no_desk) self.old.lane }
-        ensures same { self.new ≡ self.old }
+        ensures heard { self.new ≡ with_heard (slice_index_or note.desks self.old.worker no_desk) self.old }
     {
         compare(
             &slots.table.shared,
@@ -111,5 +116,15 @@ impl WorkerSeat {
             self.worker,
             note.into_seat(),
         );
+    }
+
+    /// A law: what the seat heard last goes on to hold while the worker posts and collects. The batches that the combiner had lifted then are a beginning of those
+    /// that the worker has posted until now, and of the answers given then and those collected until now one is a beginning of the other. No more were answered than
+    /// lifted.
+    pub fn told(&self)
+        ensures told { IsTold self.now.noted self.now.lane }
+        ensures lifted { length self.now.noted.answered ≤ length self.now.noted.lifted }
+    {
+        let _seat = &self.seat;
     }
 }

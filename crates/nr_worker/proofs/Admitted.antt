@@ -1,5 +1,5 @@
 -- A desk stands for a worker of the law once a connection was opened.
-use Rattle.std.proofs.Common.{◌≡◌, ℕ, ◌+◌, ◌<◌, ◌≤◌, true, false, List, [], ◌∷◌, ◌++◌, Contains, Option, Some, None, refl, ap, sym, ◌∙◌, subst, arith}
+use Rattle.std.proofs.Common.{◌≡◌, ℕ, ◌+◌, ◌<◌, ◌≤◌, inl, inr, true, false, List, [], ◌∷◌, ◌++◌, Contains, Option, Some, None, refl, ap, sym, ◌∙◌, subst, arith}
 use Rattle.std.specs.Prelude.{◌≢◌, is_some}
 use Rattle.std.specs.List.{AllByRecursion}
 use Rattle.std.proofs.lemmas.List.Elements.{Contains-append_left}
@@ -14,7 +14,9 @@ use Rattle.nr_entry.specs.declared.job.Job.{Job}
 use Rattle.nr_log_end.specs.declared.standing.Standing.{Standing}
 use Rattle.nr_node.specs.Sound.{IsSound, Serves}
 use Rattle.nr_combiner.specs.Heard.{Knows, KnowsOpened}
-use Rattle.nr_combiner.specs.Workers.{WorkerState}
+use Rattle.nr_slots.specs.declared.view.Desk.{Desk}
+use Rattle.nr_combiner.specs.Workers.{WorkerState, told_of}
+use Rattle.nr_combiner.specs.Workers as workers
 use Rattle.nr_taps.specs.Marks.{Adopts}
 use Rattle.nr_taps.specs.Taps.{HaveMet}
 use Rattle.nr_seats.specs.Seated.{SeatState, fresh_seat}
@@ -22,9 +24,10 @@ use Rattle.nr_seats.specs.Placed.{IsPut, SeatsState, seat_at}
 use Rattle.nr_seats.specs.Portions.{EachSeat, seat_of}
 use Rattle.nr_seats.proofs.Putting.{each_put, named, seat_here, seat_others}
 use Rattle.nr_worker.specs.Desk.{AllPosted, DeskState, IsAskedBy, IsLed, Served, asked_of}
-use Rattle.nr_worker.specs.Moves.{Opens}
-use Rattle.nr_worker.specs.Working.{AreApart, Goes, IsBelow, IsSeatOf, IsSeated, IsServed, IsToPost, LeadsTo, OpensAt, Reflects, WorkState, connections_of, one_opened}
-use Rattle.nr_worker.proofs.Desks.{opened_led}
+use Rattle.nr_worker.specs.Moves.{HaveGot, Opens, Turns}
+use Rattle.nr_worker.specs.Working.{AreAccountedFor, AreApart, Goes, IsBelow, IsSeatOf, IsSeated, IsServed, IsToPost, LeadsTo, MayHaveClosed, OpensAt, Reflects, WorkState, connections_of, one_opened, unchanged}
+use Rattle.nr_worker.proofs.Batched.{closed_too, stays}
+use Rattle.nr_worker.proofs.Desks.{opened_led, turned_led}
 use Rattle.nr_worker.proofs.Lists.{all_at, all_weaker, posted_weaker}
 use Rattle.nr_worker.proofs.Nourished.{false_differs}
 
@@ -59,21 +62,21 @@ apart_more (x ∷ xs) y apart new =
 known_still : (served : List Served) (y : Served) (c : Connection) → IsServed served c → IsServed (served ++ y ∷ []) c
 known_still served y c k = record { one = k.one; there = Contains-append_left served (y ∷ []) k.one k.there; connection = k.connection }
 
-module _ (v : WorkState) (seats : SeatsState) (mark : Option Standing) (serial : ℕ) (s : Standing) (later : v.next ≤ serial)
+module _ (v : WorkState) (desk : Desk) (seats : SeatsState) (mark : Option Standing) (serial : ℕ) (s : Standing) (later : v.next ≤ serial)
     (sound : IsSound s × (s.node ≡ v.worker.node)) (put : IsPut serial (Some (fresh_seat (named v.worker.node serial))) v.seats seats)
-    (d : DeskState) (led : IsLed d) (r : Reflects v d) (knows : Knows d.worker s v.worker.seat.lane) (serves : Serves s d.worker (named v.worker.node serial))
+    (d : DeskState) (led : IsLed d) (r : Reflects v d) (knows : Knows d.worker desk s v.worker.seat.lane) (serves : Serves s d.worker (named v.worker.node serial))
     (adopted : Adopts d.mark s mark) (met : HaveMet d.mark (Some s)) where
   abbrev c : Connection
   c = named v.worker.node serial
 
   abbrev now : WorkState
-  now = record v { seats = seats; next = serial + 1; mark = mark }
+  now = record v { worker = told_of desk v.worker; seats = seats; next = serial + 1; mark = mark }
 
   abbrev served : List Served
   served = d.served ++ new_one c ∷ []
 
   abbrev after : DeskState
-  after = record d { mark = mark; served = served }
+  after = record d { heard = desk; mark = mark; served = served }
 
   new : AllByRecursion (λ (x : Served). x.connection ≢ c) d.served
   new = all_weaker (λ (x : Served). x.connection.serial < v.next) (λ (x : Served). x.connection ≢ c)
@@ -135,6 +138,12 @@ module _ (v : WorkState) (seats : SeatsState) (mark : Option Standing) (serial :
         waits = all_weaker (IsToPost d.served) (λ (job : Item). job.connection ≡ c → job.number < 0) (λ job t. none_of job t.known) (items_of v.jobs) r.jobs;
       })) r.numbers
 
+  accounted_now : EachSeat (AreAccountedFor v.down (items_of v.jobs) v.worker.seat.lane) v.worker.node seats
+  accounted_now = each_put (AreAccountedFor v.down (items_of v.jobs) v.worker.seat.lane) v.worker.node serial (Some (fresh_seat c)) v.seats seats put
+      (λ t is.
+      subst (AreAccountedFor v.down (items_of v.jobs) v.worker.seat.lane c) (ap (λ (o : Option SeatState). elim o [ None ↦ fresh_seat c | Some z ↦ z ]) is)
+      (λ uncut number below. absurd (omega (arith, below)))) r.accounted
+
   leads : LeadsTo (one_opened c) now d
   leads =
       let on = opened_led c s v.worker.seat.lane d after led opens in
@@ -146,6 +155,7 @@ module _ (v : WorkState) (seats : SeatsState) (mark : Option Standing) (serial :
           node = r.node;
           worker = r.worker;
           posted = r.posted;
+          heard = refl;
           mark = refl;
           below = All-append (λ (x : Served). x.connection.serial < serial + 1) d.served (new_one c ∷ [])
               (all_weaker (λ (x : Served). x.connection.serial < v.next) (λ (x : Served). x.connection.serial < serial + 1)
@@ -155,21 +165,22 @@ module _ (v : WorkState) (seats : SeatsState) (mark : Option Standing) (serial :
           jobs = all_weaker (IsToPost d.served) (IsToPost served) to_post_still (items_of v.jobs) r.jobs;
           seats = seated_now;
           numbers = numbers_now;
+          accounted = accounted_now;
         };
         served = refl;
       }
 
-opened_goes : (v : WorkState) (seats : SeatsState) (mark : Option Standing) (conn : ConnId) (s : Standing) → connection_of conn ≡ named v.worker.node conn.serial
-    → v.next ≤ conn.serial → KnowsOpened v.worker.seat.worker conn s v.worker.seat.lane → IsSound s × (s.node ≡ v.worker.node) → Adopts v.mark s mark
+opened_goes : (v : WorkState) (desk : Desk) (seats : SeatsState) (mark : Option Standing) (conn : ConnId) (s : Standing) → connection_of conn ≡ named v.worker.node conn.serial
+    → v.next ≤ conn.serial → KnowsOpened v.worker.seat.worker conn desk s v.worker.seat.lane → IsSound s × (s.node ≡ v.worker.node) → Adopts v.mark s mark
     → HaveMet v.mark (Some s) → IsPut conn.serial (Some (fresh_seat (connection_of conn))) v.seats seats
-    → Goes (one_opened (connection_of conn)) v (record v { seats = seats; next = conn.serial + 1; mark = mark })
-opened_goes v seats mark conn s is later knows sound adopted met put =
-    let w : WorkState = record v { seats = seats; next = conn.serial + 1; mark = mark } in
+    → Goes (one_opened (connection_of conn)) v (record v { worker = told_of desk v.worker; seats = seats; next = conn.serial + 1; mark = mark })
+opened_goes v desk seats mark conn s is later knows sound adopted met put =
+    let w : WorkState = record v { worker = told_of desk v.worker; seats = seats; next = conn.serial + 1; mark = mark } in
     subst (λ (c : Connection). Goes (one_opened c) v w) (sym is) (record {
       leads = λ d led r.
-          leads v seats mark conn.serial s later sound
+          leads v desk seats mark conn.serial s later sound
           (subst (λ (c : Connection). IsPut conn.serial (Some (fresh_seat c)) v.seats seats) is put) d led r
-          (subst (λ (n : ℕ). Knows n s v.worker.seat.lane) (sym r.worker) knows.knows)
+          (subst (λ (n : ℕ). Knows n desk s v.worker.seat.lane) (sym r.worker) knows.knows)
           (subst (λ (n : ℕ). Serves s n (named v.worker.node conn.serial)) (sym r.worker)
           (subst (λ (c : Connection). Serves s v.worker.seat.worker c) is knows.serves))
           (subst (λ (m : Option Standing). Adopts m s mark) (sym r.mark) adopted) (subst (λ (m : Option Standing). HaveMet m (Some s)) (sym r.mark) met);
@@ -180,19 +191,90 @@ none_there None absent = refl
 none_there (Some s) absent = absurd (cc absent)
 
 -- of the worker as opening left it
-pub opened_by : (v u : WorkState) (worker : WorkerState) (seats : SeatsState) (mark : Option Standing) (conn : ConnId) (s : Standing) (next : ℕ) (jobs : List Job)
-    (late : ℕ) → u ≡ v → worker ≡ u.worker → jobs ≡ u.jobs → late ≡ u.late → u.next ≤ conn.serial → is_some (seat_at conn.serial u.seats) ≡ false → next ≡ conn.serial + 1 → KnowsOpened u.worker.seat.worker conn s u.worker.seat.lane
+pub opened_by : (v u : WorkState) (desk : Desk) (worker : WorkerState) (seats : SeatsState) (mark : Option Standing) (conn : ConnId) (s : Standing) (next : ℕ) (jobs : List Job)
+    (late : ℕ) → u ≡ v → worker ≡ told_of desk u.worker → jobs ≡ u.jobs → late ≡ u.late → u.next ≤ conn.serial → is_some (seat_at conn.serial u.seats) ≡ false → next ≡ conn.serial + 1 → KnowsOpened u.worker.seat.worker conn desk s u.worker.seat.lane
     → IsSound s × (s.node ≡ u.worker.node) → Adopts u.mark s mark → HaveMet u.mark (Some s)
     → IsPut conn.serial (Some (fresh_seat (connection_of conn))) u.seats seats
     → let w : WorkState = record u { worker = worker; seats = seats; next = next; mark = mark; jobs = jobs; late = late } in
     OpensAt (connection_of conn) v w × Goes (one_opened (connection_of conn)) v w
-opened_by v u worker seats mark conn s next jobs late same still waits lates later absent next_is knows sound adopted met put =
+opened_by v u desk worker seats mark conn s next jobs late same still waits lates later absent next_is knows sound adopted met put =
     let w : WorkState = record u { worker = worker; seats = seats; next = next; mark = mark; jobs = jobs; late = late } in
-    let w_is : w ≡ record u { seats = seats; next = conn.serial + 1; mark = mark } =
+    let w_is : w ≡ record u { worker = told_of desk u.worker; seats = seats; next = conn.serial + 1; mark = mark } =
     λ i. record u { worker = still i; seats = seats; next = next_is i; mark = mark; jobs = waits i; late = lates i } in
+    let noted : desk ≡ worker.seat.noted = sym (ap (λ (x : WorkerState). x.seat.noted) still) in
+    let heard_so : record u { worker = told_of desk u.worker; seats = seats; next = conn.serial + 1; mark = mark }
+    ≡ record u { worker = told_of worker.seat.noted u.worker; seats = seats; next = conn.serial + 1; mark = mark } =
+    λ i. record u { worker = told_of (noted i) u.worker; seats = seats; next = conn.serial + 1; mark = mark } in
     let node : conn.node ≡ u.worker.node = knows.serves.node ∙ sound.1 in
     let is : connection_of conn ≡ named u.worker.node conn.serial = λ i. record { node = node i; serial = conn.serial } in
     subst (λ (x : WorkState). OpensAt (connection_of conn) x w × Goes (one_opened (connection_of conn)) x w) same (
-      record { node = node; later = later; absent = none_there (seat_at conn.serial u.seats) absent; put = put; changed = w_is },
-      subst (Goes (one_opened (connection_of conn)) u) (sym w_is) (opened_goes u seats mark conn s is later knows sound adopted met put),
+      record { node = node; later = later; absent = none_there (seat_at conn.serial u.seats) absent; put = put; changed = w_is ∙ heard_so },
+      subst (Goes (one_opened (connection_of conn)) u) (sym w_is) (opened_goes u desk seats mark conn s is later knows sound adopted met put),
     )
+
+-- ---- none was opened
+got_none : (xs : List Served) → HaveGot [] xs xs
+got_none [] = tt
+got_none (x ∷ xs) = (inl refl, got_none xs)
+
+-- what was heard, and the mark that adopted the token, stand for the same worker of the law
+heard_goes : (v : WorkState) (desk : Desk) (mark : Option Standing) (s : Standing) → Knows v.worker.seat.worker desk s v.worker.seat.lane
+    → IsSound s × (s.node ≡ v.worker.node) → Adopts v.mark s mark → HaveMet v.mark (Some s)
+    → Goes unchanged v (record v { worker = told_of desk v.worker; mark = mark })
+heard_goes v desk mark s knows sound adopted met = record {
+  leads = λ d led r.
+      let e : DeskState = record d { heard = desk; mark = mark } in
+      let turns : Turns 1 false s v.worker.seat.lane [] [] d e = record {
+        heard = record {
+          knows = subst (λ (n : ℕ). Knows n desk s v.worker.seat.lane) (sym r.worker) knows;
+          added = record { pieces = []; behind = refl; all = tt; own = tt; rising = tt };
+        };
+        posted = sym r.posted;
+        sound = (sound.0, sound.1 ∙ sym r.node);
+        adopted = subst (λ (m : Option Standing). Adopts m s mark) (sym r.mark) adopted;
+        met = subst (λ (m : Option Standing). HaveMet m (Some s)) (sym r.mark) met;
+        got = got_none d.served;
+        same = refl;
+      } in
+      let on = turned_led 1 false s v.worker.seat.lane [] [] d e led turns in
+      record {
+        then = e;
+        led = on.0;
+        goes = on.1;
+        reflects = record {
+          node = r.node;
+          worker = r.worker;
+          posted = r.posted;
+          heard = refl;
+          mark = refl;
+          below = r.below;
+          apart = r.apart;
+          jobs = r.jobs;
+          seats = r.seats;
+          numbers = r.numbers;
+          accounted = r.accounted;
+        };
+        served = refl;
+      };
+}
+
+-- its node may have closed it again
+pub unopened_by : (v u : WorkState) (desk : Desk) (heard worker : WorkerState) (seats : SeatsState) (mark : Option Standing) (s : Standing) (jobs : List Job) (late : ℕ)
+    → u ≡ v → heard ≡ told_of desk u.worker → workers.MayHaveClosed heard worker → seats ≡ u.seats → jobs ≡ u.jobs → late ≡ u.late
+    → Knows u.worker.seat.worker desk s u.worker.seat.lane → IsSound s × (s.node ≡ u.worker.node) → Adopts u.mark s mark → HaveMet u.mark (Some s)
+    → let w : WorkState = record u { worker = worker; seats = seats; mark = mark; jobs = jobs; late = late } in
+    MayHaveClosed v w × Goes unchanged v w
+unopened_by v u desk heard worker seats mark s jobs late same is closed still waits lates knows sound adopted met =
+    let told : WorkState = record u { worker = told_of desk u.worker; mark = mark } in
+    let w : WorkState = record u { worker = worker; mark = mark } in
+    let now : WorkState = record u { worker = worker; seats = seats; mark = mark; jobs = jobs; late = late } in
+    let now_is : now ≡ w = λ i. record u { worker = worker; seats = still i; mark = mark; jobs = waits i; late = lates i } in
+    let may : workers.MayHaveClosed (told_of desk u.worker) worker = subst (λ (x : WorkerState). workers.MayHaveClosed x worker) is closed in
+    let noted : desk ≡ worker.seat.noted = elim may [
+      | inl more ↦ sym (ap (λ (x : WorkerState). x.seat.noted) more)
+      | inr stays ↦ sym (ap (λ (x : WorkerState). x.seat.noted) stays)
+    ] in
+    subst (λ (x : WorkState). MayHaveClosed x now × Goes unchanged x now) same (subst (λ (x : WorkState). MayHaveClosed u x × Goes unchanged u x) (sym now_is) (
+      record { worker = subst (λ (b : Desk). workers.MayHaveClosed (told_of b u.worker) worker) noted may; changed = refl },
+      closed_too unchanged u told worker may (heard_goes u desk mark s knows sound adopted met),
+    ))

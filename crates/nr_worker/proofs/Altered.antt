@@ -1,6 +1,6 @@
 -- A desk stands for the same worker of the law once bytes of a connection were written, or no more are taken from it: what its seat keeps is altered then,
 -- and which jobs it gave is not.
-use Rattle.std.proofs.Common.{◌≡◌, ℕ, cond, List, Option, Some, None, refl, ap, ◌∙◌, sym, subst, eq-eqb}
+use Rattle.std.proofs.Common.{◌≡◌, ◌<◌, ℕ, false, cond, List, Option, Some, None, refl, ap, ◌∙◌, sym, subst, eq-eqb}
 use Rattle.std.specs.Option.{option_map}
 use Rattle.nr_model.specs.Items.{Connection}
 use Rattle.nr_entry.specs.Jobs.{items_of}
@@ -9,7 +9,7 @@ use Rattle.nr_seats.specs.Placed.{IsPut, SeatsState, seat_at}
 use Rattle.nr_seats.specs.Portions.{EachSeat}
 use Rattle.nr_seats.proofs.Putting.{each_put, named}
 use Rattle.nr_worker.specs.Desk.{Served}
-use Rattle.nr_worker.specs.Working.{Goes, IsBelow, IsSeatOf, IsSeated, WorkState, unchanged}
+use Rattle.nr_worker.specs.Working.{AreAccountedFor, Goes, IsBelow, IsSeatOf, IsSeated, WorkState, unchanged}
 use Rattle.nr_worker.proofs.Batched.{goes_nowhere}
 use Rattle.nr_worker.proofs.Lists.{all_weaker}
 
@@ -39,10 +39,10 @@ each_altered f P keeps node serial old new put was =
     (λ s at. was (named node serial) s (ap (λ b. cond b (seat_at serial old) None) (eq-eqb node node refl) ∙ at))) was
 
 altered_by : (f : SeatState → SeatState) → ((s : SeatState) (x : Served) → IsSeatOf s x → IsSeatOf (f s) x)
-    → ((s : SeatState) → (f s).session.next ≡ s.session.next)
+    → ((s : SeatState) → (f s).session.next ≡ s.session.next) → ((s : SeatState) → (f s).cut ≡ false → s.cut ≡ false)
     → (v u : WorkState) (seats : SeatsState) (serial : ℕ) → u ≡ v
     → IsPut serial (option_map f (seat_at serial u.seats)) u.seats seats → Goes unchanged v (record u { seats = seats })
-altered_by f stays next v u seats serial same put =
+altered_by f stays next uncut v u seats serial same put =
     let below : ℕ → Connection → Type 0 = λ next c. IsBelow u.worker.seat.lane.posted (items_of u.jobs) c next in
     subst (λ (x : WorkState). Goes unchanged x (record u { seats = seats })) same (record {
       leads = λ d led r. record {
@@ -53,6 +53,7 @@ altered_by f stays next v u seats serial same put =
           node = r.node;
           worker = r.worker;
           posted = r.posted;
+          heard = r.heard;
           mark = r.mark;
           below = r.below;
           apart = r.apart;
@@ -60,6 +61,9 @@ altered_by f stays next v u seats serial same put =
           seats = each_altered f (IsSeated d.served) (seated_still f stays d.served) u.worker.node serial u.seats seats put r.seats;
           numbers = each_altered f (λ c s. below s.session.next c) (λ c s is. subst (λ k. below k c) (sym (next s)) is) u.worker.node serial u.seats seats
               put r.numbers;
+          accounted = each_altered f (AreAccountedFor u.down (items_of u.jobs) u.worker.seat.lane)
+              (λ c s all takes number under. all (uncut s takes) number (subst (λ k. number < k) (next s) under)) u.worker.node serial u.seats seats
+              put r.accounted;
         };
         served = refl;
       };
@@ -70,7 +74,7 @@ pub written_by : (v u : WorkState) (seats : SeatsState) (serial count : ℕ) →
 written_by v u seats serial count =
     altered_by (with_written count)
     (λ s x is. record { unclosed = is.unclosed; handed = is.handed; own = is.own; session = is.session; counted = is.counted; few = is.few })
-    (λ s. refl) v u seats serial
+    (λ s. refl) (λ s takes. takes) v u seats serial
 
 pub stopped_by : (v u : WorkState) (seats : SeatsState) (serial : ℕ) → u ≡ v
     → IsPut serial (option_map cut_off (seat_at serial u.seats)) u.seats seats → Goes unchanged v (record u { seats = seats })
@@ -84,4 +88,4 @@ stopped_by =
       counted = λ takes. absurd (cc takes);
       few = is.few;
     })
-    (λ s. refl)
+    (λ s. refl) (λ s takes. absurd (cc takes))

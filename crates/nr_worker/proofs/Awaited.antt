@@ -3,7 +3,7 @@ use Rattle.std.proofs.Common.{◌<◌, ◌≡◌, ℕ, Bool, true, false, cond, 
 use Rattle.std.specs.Prelude.{nat_le}
 use Rattle.std.specs.List.{AllByRecursion}
 use Rattle.std.proofs.lemmas.List.{map-append}
-use Rattle.nr_model.specs.Items.{Item}
+use Rattle.nr_model.specs.Items.{Connection, Item}
 use Rattle.nr_model.proofs.JobLists.{All-append}
 use Rattle.nr_model.proofs.NodesExecutedLists.{in_middle}
 use Rattle.nr_entry.specs.Jobs.{item_of, items_of}
@@ -17,7 +17,8 @@ use Rattle.nr_combiner.specs.declared.worker.TheConstants.{MOST_JOBS}
 use Rattle.nr_seats.specs.Portions.{EachSeat}
 use Rattle.nr_worker.specs.Desk.{AllPosted, DeskState, IsAskedBy, IsLed, IsServedAt, Served, asked_of}
 use Rattle.nr_worker.specs.Settling.{AreOfBatches, IsOfBatch, back_of, down_of, late_of, left_of, settled_work}
-use Rattle.nr_worker.specs.Working.{Goes, IsBelow, IsSeated, IsToPost, WorkState, unchanged}
+use Rattle.nr_worker.specs.Working.{AreAccountedFor, Goes, IsAccountedFor, IsBelow, IsSeated, IsToPost, WorkState, unchanged}
+use Rattle.nr_worker.proofs.Accounted.{accounted_settled}
 use Rattle.nr_worker.proofs.Batched.{goes_nowhere, late_too}
 use Rattle.nr_worker.proofs.Lists.{all_weaker, posted_at}
 use Rattle.nr_worker.proofs.Portioned.{all_of}
@@ -33,10 +34,11 @@ to_post_again d led job of =
     }
 
 goes_settled : (v : WorkState) (worker : WorkerState) (back left : List Job) (down : Bool) → worker.node ≡ v.worker.node
-    → worker.seat.worker ≡ v.worker.seat.worker → worker.seat.lane.posted ≡ v.worker.seat.lane.posted
+    → worker.seat.worker ≡ v.worker.seat.worker → worker.seat.lane.posted ≡ v.worker.seat.lane.posted → worker.seat.noted ≡ v.worker.seat.noted
     → ((P : Item → Type 0) → AllByRecursion P (items_of v.jobs) → AllByRecursion P (items_of left)) → AreOfBatches v.worker.seat.lane.posted back
+    → ((c : Connection) (n : ℕ) → IsAccountedFor v.down (items_of v.jobs) v.worker.seat.lane c n → IsAccountedFor down (items_of (back ++ left)) worker.seat.lane c n)
     → Goes unchanged v (record v { worker = worker; jobs = back ++ left; returned = length back; waiting = false; down = down })
-goes_settled v worker back left down node number posted keeps of = record {
+goes_settled v worker back left down node number posted noted keeps of accounted = record {
   leads = λ d led r. record {
     then = d;
     led = led;
@@ -45,6 +47,7 @@ goes_settled v worker back left down node number posted keeps of = record {
       node = r.node ∙ sym node;
       worker = r.worker ∙ sym number;
       posted = r.posted ∙ sym posted;
+      heard = r.heard ∙ sym noted;
       mark = r.mark;
       below = r.below;
       apart = r.apart;
@@ -65,6 +68,8 @@ goes_settled v worker back left down node number posted keeps of = record {
                 (all_weaker (IsOfBatch v.worker.seat.lane.posted) P (λ job h. posted_at P v.worker.seat.lane.posted h.batch job old.posted h.there h.has) (items_of back) of)
                 (keeps P old.waits));
           });
+      accounted = subst (λ (n : ℕ). EachSeat (AreAccountedFor down (items_of (back ++ left)) worker.seat.lane) n v.seats) (sym node)
+          (λ c s at uncut number under. accounted c number (r.accounted c s at uncut number under));
     };
     served = refl;
   };
@@ -100,8 +105,12 @@ collected_goes outcome v worker c =
     late_too unchanged v (record v { worker = worker; jobs = back ++ left; returned = length back; waiting = false; down = down_of MOST_JOBS outcome v.down })
     (late_of MOST_JOBS outcome v.late)
     (goes_settled v worker back left (down_of MOST_JOBS outcome v.down) (ap (λ (w : WorkerState). w.node) c.collected)
-    (ap (λ (w : WorkerState). w.seat.worker) c.collected) (ap (λ (w : WorkerState). w.seat.lane.posted) c.collected) (left_keeps MOST_JOBS outcome v.jobs)
-    (back_batched MOST_JOBS outcome posted c.last.1 there (subst (λ (o : Outcome). IsBackOf o c.last.1.jobs.items) c.says c.last.4.3)))
+    (ap (λ (w : WorkerState). w.seat.worker) c.collected) (ap (λ (w : WorkerState). w.seat.lane.posted) c.collected)
+    (ap (λ (w : WorkerState). w.seat.noted) c.collected) (left_keeps MOST_JOBS outcome v.jobs)
+    (back_batched MOST_JOBS outcome posted c.last.1 there (subst (λ (o : Outcome). IsBackOf o c.last.1.jobs.items) c.says c.last.4.3))
+    (λ e n.
+    accounted_settled v.worker.seat.lane worker.seat.lane c.answer c.last (ap (λ (w : WorkerState). w.seat.lane.posted) c.collected)
+    (ap (λ (w : WorkerState). w.seat.lane.collected) c.collected) e n MOST_JOBS outcome v.down v.jobs c.says))
 
 none_left : {A : Type 0} (xs : List A) → length xs ≡ 0 → xs ≡ []
 none_left [] none = refl

@@ -1,6 +1,6 @@
 -- A desk stands for a worker of the law once a batch was handed in.
 use Rattle.std.proofs.Common.{◌<◌, ◌≡◌, ℕ, Bool, true, List, [], ◌∷◌, ◌++◌, length, take, drop, Contains, inl, inr, refl, ap, sym, ◌∙◌, subst, append-nil}
-use Rattle.std.specs.Prelude.{suc, Result, Ok, Err, IsOk, OnOk, OnErr}
+use Rattle.std.specs.Prelude.{suc, Result, Ok, Err, IsOk, OnOk}
 use Rattle.std.specs.List.{AllByRecursion}
 use Rattle.std.proofs.lemmas.List.{map-append, take-append-drop}
 use Rattle.nr_model.specs.Items.{Connection, Item}
@@ -16,7 +16,8 @@ use Rattle.nr_combiner.specs.Workers as workers
 use Rattle.nr_worker.specs.Desk.{DeskState, IsLed, Served, asked_of}
 use Rattle.nr_worker.specs.Law.{GoesTo}
 use Rattle.nr_worker.specs.Moves.{Posts}
-use Rattle.nr_worker.specs.Working.{Goes, IsBelow, IsToPost, LeadsTo, MayHaveClosed, Reflects, WorkState, unchanged}
+use Rattle.nr_worker.specs.Working.{Goes, IsBelow, IsToPost, LeadsTo, Reflects, WorkState, unchanged}
+use Rattle.nr_worker.proofs.Accounted.{accounted_posted}
 use Rattle.nr_worker.proofs.Desks.{posted_led}
 use Rattle.nr_worker.proofs.Lists.{all_weaker}
 
@@ -50,12 +51,14 @@ numbered_too change v w late generation g = record {
           node = now.node;
           worker = now.worker;
           posted = now.posted;
+          heard = now.heard;
           mark = now.mark;
           below = now.below;
           apart = now.apart;
           jobs = now.jobs;
           seats = now.seats;
           numbers = now.numbers;
+          accounted = now.accounted;
         };
         served = l.served;
       };
@@ -71,12 +74,6 @@ pub closed_too : (change : List Served → List Served) (v w : WorkState) (worke
     → Goes change v (record w { worker = worker })
 closed_too change v w worker (inl more) g = subst (λ (x : WorkerState). Goes change v (record w { worker = x })) (sym more) (more_too change v w g)
 closed_too change v w worker (inr same) g = subst (λ (x : WorkerState). Goes change v (record w { worker = x })) (sym same) g
-
--- where a connection wasn't opened its node may have closed it again
-pub unopened : {T E : Type 0} (r : Result T E) (v w : WorkState) → OnErr r (MayHaveClosed v w) → OnErr r (Goes unchanged v w)
-unopened (Ok opened) v w closed = tt
-unopened (Err why) v w closed =
-    subst (Goes unchanged v) (sym closed.changed) (closed_too unchanged v v w.worker closed.worker (stays v v refl))
 
 -- ---- a batch is handed in
 -- what holds of each of these with each of those
@@ -125,9 +122,9 @@ abbrev posting : Batch → WorkerState → WorkerState
 posting batch w = record w { seat = with_posted batch w.seat; next = suc w.next }
 
 posts : (v : WorkState) (batch : Batch) (left : List Job) (waiting : Bool) → v.jobs ≡ batch.jobs.items ++ left
-    → (d : DeskState) → IsLed d → Reflects v d
+    → length v.worker.seat.lane.posted ≡ length v.worker.seat.lane.collected → (d : DeskState) → IsLed d → Reflects v d
     → LeadsTo unchanged (record v { worker = posting batch v.worker; jobs = left; returned = 0; waiting = waiting }) d
-posts v batch left waiting are d led r =
+posts v batch left waiting are answered d led r =
     let e : DeskState = record d { posted = d.posted ++ batch ∷ [] } in
     let parts = both_parts d.served v.jobs batch.jobs.items left are r.jobs in
     let on = posted_led batch d e led (may_post d batch (all_front (IsToPost d.served) (items_of batch.jobs.items) (items_of left) parts)) in
@@ -139,32 +136,36 @@ posts v batch left waiting are d led r =
         node = r.node;
         worker = r.worker;
         posted = ap (λ (bs : List Batch). bs ++ batch ∷ []) r.posted;
+        heard = r.heard;
         mark = r.mark;
         below = r.below;
         apart = r.apart;
         jobs = all_back (IsToPost d.served) (items_of batch.jobs.items) (items_of left) parts;
         seats = r.seats;
         numbers = λ c s at. numbers_posted v.worker.seat.lane.posted batch v.jobs left c s.session.next are (r.numbers c s at);
+        accounted = λ c s at uncut number below.
+            accounted_posted v.down v.jobs left v.worker.seat.lane batch c number are answered (r.accounted c s at uncut number below);
       };
       served = refl;
     }
 
 handed_in : (most : ℕ) (v w : WorkState) → HasPosted (take most v.jobs) v.worker w.worker
+    → length v.worker.seat.lane.posted ≡ length v.worker.seat.lane.collected
     → w ≡ record v { worker = w.worker; jobs = drop most v.jobs; returned = 0; waiting = true } → Goes unchanged v w
-handed_in most v w p changed =
+handed_in most v w p answered changed =
     let front : v.jobs ≡ p.batch.jobs.items ++ drop most v.jobs =
     sym (take-append-drop most v.jobs) ∙ ap (λ (xs : List Job). xs ++ drop most v.jobs) (sym p.holds) in
     subst (Goes unchanged v)
     (sym (changed ∙ ap (λ (x : WorkerState). record v { worker = x; jobs = drop most v.jobs; returned = 0; waiting = true }) p.posted))
-    (record { leads = posts v p.batch (drop most v.jobs) true front })
+    (record { leads = posts v p.batch (drop most v.jobs) true front answered })
 
 pub goes_by : (most : ℕ) (v u : WorkState) (worker : WorkerState) (first back left : List Job) (late : ℕ) → u ≡ v → first ≡ take most u.jobs → back ≡ []
-    → left ≡ drop most u.jobs → HasPosted first u.worker worker
+    → left ≡ drop most u.jobs → HasPosted first u.worker worker → length u.worker.seat.lane.posted ≡ length u.worker.seat.lane.collected
     → Goes unchanged v (record u { worker = worker; jobs = back ++ left; returned = length back; waiting = true; late = late })
-goes_by most v u worker first back left late same front none behind p =
+goes_by most v u worker first back left late same front none behind p answered =
     let w : WorkState = record u { worker = worker; jobs = back ++ left; returned = length back; waiting = true } in
     subst (λ (x : WorkState). Goes unchanged x (record w { late = late })) same
-    (late_too unchanged u w late (handed_in most u w (subst (λ (js : List Job). HasPosted js u.worker worker) front p)
+    (late_too unchanged u w late (handed_in most u w (subst (λ (js : List Job). HasPosted js u.worker worker) front p) answered
     (λ i. record u { worker = worker; jobs = none i ++ behind i; returned = length (none i); waiting = true })))
 
 -- ---- the worker takes a batch

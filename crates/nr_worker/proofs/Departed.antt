@@ -22,7 +22,8 @@ use Rattle.nr_seats.specs.declared.seats.Closed.{Closed}
 use Rattle.nr_seats.proofs.Putting.{each_put, named, seat_here, seat_others}
 use Rattle.nr_worker.specs.Desk.{AllPosted, CountsFrom, DeskState, IsLed, IsServedAt, Served, asked_of}
 use Rattle.nr_worker.specs.Moves.{Asks}
-use Rattle.nr_worker.specs.Working.{AreApart, Closes, Goes, IsBelow, IsSeatOf, IsSeated, IsToPost, LeadsTo, Reflects, WorkState, all_closed, closed_with, connections_of, last_here, last_seen}
+use Rattle.nr_worker.specs.Working.{AreAccountedFor, AreApart, Closes, Goes, IsAccountedFor, IsBelow, IsSeatOf, IsSeated, IsToPost, LeadsTo, Reflects, WorkState, all_closed, closed_with, connections_of, last_here, last_seen}
+use Rattle.nr_worker.proofs.Accounted.{accounted_more}
 use Rattle.nr_worker.proofs.Batched.{closed_too, goes_nowhere, late_too}
 use Rattle.nr_worker.proofs.Desks.{asked_led}
 use Rattle.nr_worker.proofs.Lists.{above, all_at, all_both, all_weaker, posted_both, posted_weaker}
@@ -183,6 +184,12 @@ module _ (v : WorkState) (seats : SeatsState) (jobs : List Job) (serial moment :
         }
   ] refl
 
+  accounted_now : EachSeat (AreAccountedFor v.down (items_of jobs) v.worker.seat.lane) v.worker.node seats
+  accounted_now = each_put (AreAccountedFor v.down (items_of jobs) v.worker.seat.lane) v.worker.node serial None v.seats seats put (λ t is. absurd (cc is))
+      (λ e t at uncut number below.
+      subst (λ (js : Jobs). IsAccountedFor v.down js v.worker.seat.lane e number) (sym added)
+      (accounted_more v.down (items_of v.jobs) (job ∷ []) v.worker.seat.lane e number (r.accounted e t at uncut number below)))
+
   asks : Asks at_seat.known.one.fed (Some job) d after
   asks =
       let k = at_seat.known in
@@ -225,6 +232,7 @@ module _ (v : WorkState) (seats : SeatsState) (jobs : List Job) (serial moment :
           node = r.node;
           worker = r.worker;
           posted = r.posted;
+          heard = r.heard;
           mark = r.mark;
           below = all_map (λ (x : Served). x.connection.serial < v.next) change d.served r.below;
           apart = subst AreApart (sym (same_connections change (λ x. refl) d.served)) r.apart;
@@ -234,6 +242,7 @@ module _ (v : WorkState) (seats : SeatsState) (jobs : List Job) (serial moment :
               (all_both (IsToPost d.served) Below (items_of v.jobs) r.jobs numbers.waits)) (last_to_post, tt));
           seats = seated_now;
           numbers = numbers_now;
+          accounted = accounted_now;
         };
         served = refl;
       }
@@ -252,6 +261,7 @@ gone_leads v seats jobs serial put added d led r =
         node = r.node;
         worker = r.worker;
         posted = r.posted;
+        heard = r.heard;
         mark = r.mark;
         below = r.below;
         apart = r.apart;
@@ -259,6 +269,8 @@ gone_leads v seats jobs serial put added d led r =
         seats = each_put (IsSeated d.served) v.worker.node serial None v.seats seats put (λ s is. absurd (cc is)) r.seats;
         numbers = subst (λ (js : Jobs). EachSeat (λ e t. IsBelow v.worker.seat.lane.posted js e t.session.next) v.worker.node seats) same
             (each_put P v.worker.node serial None v.seats seats put (λ s is. absurd (cc is)) r.numbers);
+        accounted = subst (λ (js : Jobs). EachSeat (AreAccountedFor v.down js v.worker.seat.lane) v.worker.node seats) same
+            (each_put (AreAccountedFor v.down (items_of v.jobs) v.worker.seat.lane) v.worker.node serial None v.seats seats put (λ s is. absurd (cc is)) r.accounted);
       };
       served = refl;
     }

@@ -14,17 +14,20 @@ use Rattle.nr_model.proofs.NodesExecutedGrows.{begins_flat_map}
 use Rattle.nr_model.proofs.NodesExecutedLists.{first_in, in_cases, in_middle, later_in}
 use Rattle.nr_model.proofs.NodesPartsEmitted.{begins_on, none_begins}
 use Rattle.nr_entry.specs.Jobs.{connection_of, items_of}
+use Rattle.nr_entry.specs.declared.batch.Answer.{Answer}
 use Rattle.nr_entry.specs.declared.batch.Batch.{Batch}
 use Rattle.nr_log_end.specs.declared.standing.Standing.{Standing}
 use Rattle.nr_log_end.specs.declared.standing.Turn.{Turn}
 use Rattle.nr_log_end.specs.Standings.{items_of_turn, opened_of, record_of}
+use Rattle.nr_slots.specs.declared.view.Desk.{Desk}
 use Rattle.nr_slots.specs.declared.view.Lane.{Lane}
 use Rattle.nr_node.specs.Sound.{IsSound, Serves}
 use Rattle.nr_node.specs.declared.collecting.Handed.{Handed}
 use Rattle.nr_node.proofs.Owed.{all_back, all_front}
 use Rattle.nr_node.proofs.Lists.{opened-append}
 use Rattle.nr_combiner.specs.Heard.{Knows}
-use Rattle.nr_combiner.specs.Pieces.{IsHandedIn, IsHandedOf}
+use Rattle.nr_combiner.specs.Pieces.{HasExecuted, IsHandedIn, IsHandedOf}
+use Rattle.nr_combiner.specs.Served.{AreExecuted, IsAmong}
 use Rattle.nr_taps.specs.Marks.{Adopts}
 use Rattle.nr_taps.specs.Taps.{HaveMet}
 use Rattle.nr_taps.proofs.Explains.{begins_emitted}
@@ -35,7 +38,7 @@ use Rattle.nr_worker.specs.Moves.{Asks, HasGot, HaveGot, Opens, Posts, Turns, fr
 use Rattle.nr_worker.proofs.Lists.{no_front, all_at, all_both, all_weaker, piece_on, posted_both, posted_weaker}
 
 pub fresh_led : (node worker : ℕ) → IsLed (fresh_desk node worker)
-fresh_led node worker = record { sound = tt; own = tt; known = tt; each = tt }
+fresh_led node worker = record { sound = tt; own = tt; executed = tt; known = tt; each = tt }
 
 begins_itself : {A : Type 0} (xs : List A) → IsBeginningOf xs xs
 begins_itself xs = ([], append-nil xs)
@@ -68,6 +71,25 @@ pub begins_record : (x y : List Turn) → IsBeginningOf x y → IsBeginningOf (r
 begins_record x y b = begins_flat_map items_of_turn x y b
 
 -- ---- what a mark knows once it adopted a token
+-- what stands in a record stands in a longer one
+among_on : (done more : Sequence) → IsBeginningOf done more → (job : Item) → IsAmong job done → IsAmong job more
+among_on done more begins job a = record {
+  item = a.item;
+  there = subst (λ (jobs : Sequence). Contains jobs a.item) begins.1 (Contains-append_left done begins.0 a.item a.there);
+  connection = a.connection;
+  number = a.number;
+  deed = a.deed;
+}
+
+executed_on : (done more : Sequence) → IsBeginningOf done more → (batches : List Batch) (answers : List Answer) → AreExecuted done batches answers
+    → AreExecuted more batches answers
+executed_on done more begins [] answers all = tt
+executed_on done more begins (batch ∷ batches) [] all = tt
+executed_on done more begins (batch ∷ batches) (answer ∷ answers) all = (
+  λ says. all_weaker (λ (job : Item). IsAmong job done) (λ (job : Item). IsAmong job more) (among_on done more begins) (items_of batch.jobs.items) (all.0 says),
+  executed_on done more begins batches answers all.1,
+)
+
 -- a connection that was opened for a worker goes on to be
 pub opened_front : (xs ys : List ℕ) (i : ℕ) → IsBeginningOf xs ys → i < length xs → (i < length ys) × (get_or ys i 0 ≡ get_or xs i 0)
 opened_front xs ys i b near =
@@ -113,10 +135,14 @@ module _ (d : DeskState) (s : Standing) (now : Option Standing) (led : IsLed d) 
   sound_now = adopts_has (λ (x : Standing). IsSound x × (x.node ≡ d.node)) (λ x n h. (still_sound x n h.0, h.1)) d.mark now s led.sound at adopted
 
   -- the worker's jobs in its record are those that it posted
-  pub own_now : (lane : Lane) → Knows d.worker s lane → lane.posted ≡ d.posted → IfSome now (HasItsOwn d)
-  own_now lane knows posted =
+  pub own_now : (desk : Desk) (lane : Lane) → Knows d.worker desk s lane → lane.posted ≡ d.posted → IfSome now (HasItsOwn d)
+  own_now desk lane knows posted =
       adopts_has (HasItsOwn d) (λ x n h. λ c serves. h c (record { node = serves.node; opened = serves.opened; worker_is = serves.worker_is })) d.mark now s led.own
-      (λ c serves. handed_in d.posted lane.posted knows.desk.answered c (record_of s.history) posted (knows.own c serves)) adopted
+      (λ c serves. handed_in d.posted lane.posted desk.answered c (record_of s.history) posted (knows.own c serves)) adopted
+
+  -- and it has the jobs of each batch that was answered as executed
+  pub executed_now : (desk : Desk) → HasExecuted desk s → AreExecuted (record_of (history_of now)) desk.lifted desk.answered
+  executed_now desk all = executed_on (record_of s.history) (record_of (history_of now)) (begins_record s.history (history_of now) marks_begin.1) desk.lifted desk.answered all
 
   pub goes_now : (e : DeskState) → e.node ≡ d.node → e.worker ≡ d.worker → e.mark ≡ now → GoesTo d e
   goes_now e node worker mark =
@@ -144,7 +170,7 @@ module _ (c : Connection) (s : Standing) (lane : Lane) (d e : DeskState) (led : 
   x = new_one c
 
   abbrev opened_desk : DeskState
-  opened_desk = record d { mark = e.mark; served = d.served ++ x ∷ [] }
+  opened_desk = record d { heard = e.heard; mark = e.mark; served = d.served ++ x ∷ [] }
 
   abbrev first : IsBeginningOf (history_of d.mark) (history_of e.mark) × IsBeginningOf s.history (history_of e.mark)
   first = marks_begin d s e.mark led o.sound o.met o.adopted
@@ -165,7 +191,8 @@ module _ (c : Connection) (s : Standing) (lane : Lane) (d e : DeskState) (led : 
   opened_led = (
     subst IsLed (sym o.opened) record {
       sound = sound_then;
-      own = own_now d s e.mark led o.sound o.met o.adopted lane o.knows o.posted;
+      own = own_now d s e.mark led o.sound o.met o.adopted e.heard lane o.knows o.posted;
+      executed = executed_now d s e.mark led o.sound o.met o.adopted e.heard o.knows.executed;
       known = posted_weaker (IsAskedBy d.served) (IsAskedBy opened_desk.served) (opened_more d.served x) d.posted led.known;
       each = All-append (IsServedAt opened_desk) d.served (x ∷ []) (all_weaker (IsServedAt d) (IsServedAt opened_desk) others d.served led.each) (
         record {
@@ -212,6 +239,7 @@ asked_led fed closing d e led a =
       subst IsLed (sym a.changed) record {
         sound = led.sound;
         own = led.own;
+        executed = led.executed;
         known = posted_weaker (λ (job : Item). IsAskedBy (a.front ++ a.one ∷ a.back) job × (job.connection ≡ a.one.connection → Contains (asked_of now) job)) (IsAskedBy served)
             (λ job. asked_there a.front a.back a.one now job refl) d.posted known;
         each = All-append (IsServedAt f) a.front (now ∷ a.back)
@@ -284,6 +312,7 @@ posted_led batch d e led p =
       subst IsLed (sym p.posted) record {
         sound = led.sound;
         own = own_posted d batch d.mark led.own;
+        executed = led.executed;
         known = All-append (λ (b : Batch). AllByRecursion (IsAskedBy d.served) (items_of b.jobs.items)) d.posted (batch ∷ []) led.known
             (known_jobs d.served items items p.asked (each_there [] items) p.known, tt);
         each = all_weaker (λ (x : Served). IsServedAt d x × new x) (IsServedAt f) (served_posted d batch) d.served (all_both (IsServedAt d) new d.served led.each p.asked);
@@ -339,7 +368,7 @@ module _ (most : ℕ) (down : Bool) (s : Standing) (lane : Lane) (old new : List
   sound_after = sound_now d s e.mark led t.sound t.met t.adopted
 
   abbrev after : DeskState
-  after = record d { mark = e.mark; served = e.served }
+  after = record d { heard = e.heard; mark = e.mark; served = e.served }
 
   served_on : (x y : Served) → HasGot pieces x y → IsServedAt d x → IsServedAt after y
   served_on x y (inl same) k = subst (IsServedAt after) (sym same) record {
@@ -352,7 +381,7 @@ module _ (most : ℕ) (down : Bool) (s : Standing) (lane : Lane) (old new : List
   served_on x y (inr (one, there, named, from, got)) k =
       let added = t.heard.added in
       let piece = (all_at (λ (h : Handed). IsHandedOf most down h s) pieces one added.all there).piece in
-      let jobs = handed_in d.posted lane.posted t.heard.knows.desk.answered (connection_of one.piece.conn) (record_of s.history) t.posted (all_at _ pieces one added.own there) in
+      let jobs = handed_in d.posted lane.posted e.heard.answered (connection_of one.piece.conn) (record_of s.history) t.posted (all_at _ pieces one added.own there) in
       let bytes = one.piece.bytes.items in
       subst (IsServedAt after) (sym got) record {
         node = k.node;
@@ -375,7 +404,8 @@ module _ (most : ℕ) (down : Bool) (s : Standing) (lane : Lane) (old new : List
   turned_led = (
     subst IsLed (sym t.same) record {
       sound = sound_after;
-      own = own_now d s e.mark led t.sound t.met t.adopted lane t.heard.knows t.posted;
+      own = own_now d s e.mark led t.sound t.met t.adopted e.heard lane t.heard.knows t.posted;
+      executed = executed_now d s e.mark led t.sound t.met t.adopted e.heard t.heard.knows.executed;
       known = posted_weaker (IsAskedBy d.served) (IsAskedBy e.served) (asked_on pieces d.served e.served t.got) d.posted led.known;
       each = all_served_on d.served e.served t.got led.each;
     },

@@ -3,6 +3,7 @@ mod Desks
 mod Apart
 mod Answered
 mod Timed
+mod Accounted
 mod Batched
 mod Portioned
 mod Nourished
@@ -11,3 +12,4 @@ mod Awaited
 mod Admitted
 mod Departed
 mod Altered
+pub mod Rested

@@ -27,10 +27,11 @@ use Rattle.nr_session.specs.SessionState.{SessionState, asked, ends, framed, req
 use Rattle.nr_seats.specs.Seated.{HasFed, HasStopped, SeatState, takes}
 use Rattle.nr_seats.specs.Placed.{FeedsSeat, IsPut, SeatsState, StopsSeat, seat_at, takes_here}
 use Rattle.nr_seats.specs.Portions.{EachSeat, seat_of}
-use Rattle.nr_seats.proofs.Putting.{named, seat_here, seat_others}
+use Rattle.nr_seats.proofs.Putting.{each_put, named, seat_here, seat_others}
 use Rattle.nr_worker.specs.Desk.{CountsFrom, DeskState, IsLed, IsServedAt, Served, asked_of}
 use Rattle.nr_worker.specs.Moves.{Asks}
-use Rattle.nr_worker.specs.Working.{AreApart, Goes, IsBelow, IsSeatOf, IsSeated, IsSession, IsToPost, LeadsTo, Reflects, WorkState, all_fed, connections_of, fed_more, takes_from}
+use Rattle.nr_worker.specs.Working.{AreAccountedFor, AreApart, Goes, IsAccountedFor, IsBelow, IsSeatOf, IsSeated, IsSession, IsToPost, LeadsTo, Reflects, WorkState, all_fed, connections_of, fed_more, takes_from}
+use Rattle.nr_worker.proofs.Accounted.{accounted_fed, accounted_more}
 use Rattle.nr_worker.proofs.Batched.{late_too}
 use Rattle.nr_worker.proofs.Desks.{asked_led}
 use Rattle.nr_worker.proofs.Lists.{all_at, all_weaker, posted_weaker}
@@ -87,6 +88,7 @@ record HasGone (moment : ℕ) (bytes : Bytes) (was is : SeatState) (more : Jobs)
   handed : is.handed ≡ was.handed
   own : is.session.connection ≡ was.session.connection
   session : is.cut ≡ false → (text : Bytes) → IsSession was.session text → IsSession is.session (text ++ bytes)
+  whole : is.cut ≡ false → more ≡ new_jobs was moment bytes
   next : is.cut ≡ false → is.session.next ≡ was.session.next + length (asked was.session.mode was.session.rest bytes).deeds
   -- the numbers of those that were added, and how many there are in all
   below : AllByRecursion (λ (job : Item). job.number < is.session.next) more
@@ -123,6 +125,7 @@ has_fed moment bytes was is before after takes f =
                 let on : a.ended ≡ false = sym f.ended ∙ e in
                 f.rest e ∙ sym (ap (λ b. cond b [] (framed was.session.rest bytes).rest) on) ∙ g.rest on;
           };
+      whole = λ uncut. refl;
       next = λ uncut. f.next;
       below = subst (λ (m : ℕ). AllByRecursion (λ (job : Item). job.number < m) (new_jobs was moment bytes)) (sym f.next)
           (all_below was.session.connection was.session.next moment a.deeds);
@@ -152,6 +155,7 @@ has_stopped moment bytes was is before after f =
         handed = f.handed;
         own = f.connection;
         session = λ uncut. absurd (cc (sym f.cut ∙ uncut));
+        whole = λ uncut. absurd (cc (sym f.cut ∙ uncut));
         next = λ uncut. absurd (cc (sym f.cut ∙ uncut));
         below = subst (λ (m : ℕ). AllByRecursion (λ (job : Item). job.number < m) (take n all)) (sym f.jobs.numbered)
             (from_below s.connection s.next moment n ds);
@@ -387,6 +391,31 @@ module _ (v : WorkState) (seats : SeatsState) (jobs : List Job) (serial moment :
         }
   ] refl
 
+  -- none of them is lost
+  own_jobs : AllByRecursion (λ (job : Item). job.connection ≡ c) (new_jobs was moment bytes)
+  own_jobs = all_of (λ (job : Item). job.connection ≡ c) (new_jobs was moment bytes) is_own
+
+  was_accounted : AreAccountedFor v.down (items_of v.jobs) v.worker.seat.lane c was
+  was_accounted = r.accounted c was (ap (λ b. cond b (seat_at serial v.seats) None) (eq-eqb v.worker.node v.worker.node refl) ∙ there)
+
+  accounted_here : AreAccountedFor v.down (items_of jobs) v.worker.seat.lane c is
+  accounted_here uncut number below =
+      let deeds = (asked was.session.mode was.session.rest bytes).deeds in
+      let long = length-jobs_from was.session.connection was.session.next moment deeds in
+      let next = gone.next uncut in
+      subst (λ (js : Jobs). IsAccountedFor v.down js v.worker.seat.lane c number) (sym (added ∙ ap (λ (js : Jobs). items_of v.jobs ++ js) (gone.whole uncut)))
+      (accounted_fed v.down (items_of v.jobs) (new_jobs was moment bytes) v.worker.seat.lane c was.session.next number
+      (from_counts was.session.connection was.session.next moment deeds) own_jobs (omega (arith, long, next, below))
+      (λ old. was_accounted (took was.session.ended was.cut taken).1 number old))
+
+  accounted_now : EachSeat (AreAccountedFor v.down (items_of jobs) v.worker.seat.lane) v.worker.node seats
+  accounted_now = each_put (AreAccountedFor v.down (items_of jobs) v.worker.seat.lane) v.worker.node serial (Some is) v.seats seats put
+      (λ t at.
+      subst (AreAccountedFor v.down (items_of jobs) v.worker.seat.lane c) (ap (λ (o : Option SeatState). elim o [ None ↦ is | Some z ↦ z ]) at) accounted_here)
+      (λ e t at uncut number below.
+      subst (λ (js : Jobs). IsAccountedFor v.down js v.worker.seat.lane e number) (sym added)
+      (accounted_more v.down (items_of v.jobs) more v.worker.seat.lane e number (r.accounted e t at uncut number below)))
+
   -- the law's step
   asks : Asks (at_seat.known.one.fed ++ feeding_of c moment bytes ∷ []) None d after
   asks =
@@ -427,6 +456,7 @@ module _ (v : WorkState) (seats : SeatsState) (jobs : List Job) (serial moment :
           node = r.node;
           worker = r.worker;
           posted = r.posted;
+          heard = r.heard;
           mark = r.mark;
           below = all_map (λ (x : Served). x.connection.serial < v.next) change d.served r.below;
           apart = subst AreApart (sym (same_connections change (λ x. refl) d.served)) r.apart;
@@ -436,6 +466,7 @@ module _ (v : WorkState) (seats : SeatsState) (jobs : List Job) (serial moment :
               (all_of (IsToPost (map change d.served)) more new_to_post));
           seats = seated_now;
           numbers = numbers_now;
+          accounted = accounted_now;
         };
         served = refl;
       }

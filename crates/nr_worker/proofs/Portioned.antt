@@ -15,22 +15,25 @@ use Rattle.nr_session.specs.SessionState.{SessionState}
 use Rattle.nr_node.specs.Sound.{IsSound}
 use Rattle.nr_node.specs.declared.collecting.Handed.{Handed}
 use Rattle.nr_slots.specs.Seats.{NoteView}
+use Rattle.nr_slots.specs.declared.view.Desk.{Desk}
 use Rattle.nr_combiner.specs.Behind.{CollectsBehind, TurnsBehind}
 use Rattle.nr_combiner.specs.declared.answering.Collected.{Collected}
 use Rattle.nr_combiner.specs.declared.answering.Lifts.{Lifts}
 use Rattle.nr_combiner.specs.declared.answering.Turned.{Turned}
 use Rattle.nr_combiner.specs.Heard.{HasHeard}
 use Rattle.nr_combiner.specs.Pieces.{AreRising, IsHandedOf}
-use Rattle.nr_combiner.specs.Workers.{WorkerState, with_more}
+use Rattle.nr_combiner.specs.Workers.{WorkerState, told_of, with_more}
 use Rattle.nr_taps.specs.Marks.{Adopts}
 use Rattle.nr_taps.specs.Taps.{HaveMet}
+use Rattle.nr_taps.proofs.Marks.{adopts_has}
 use Rattle.nr_seats.specs.Seated.{SeatState}
 use Rattle.nr_seats.specs.Placed.{SeatsState, seat_at}
 use Rattle.nr_seats.specs.Portions.{Accepts, AreOfNode, Arrival, EachSeat, Grows, GrowsHere, Portion, arrivals_at, bytes_of, cuts, follow, handed_by, handed_of, kept_of, portion_of}
 use Rattle.nr_seats.proofs.Handing.{each_accepted, hands_out}
 use Rattle.nr_worker.specs.Desk.{DeskState, IsLed, IsServedAt, Served, asked_of}
 use Rattle.nr_worker.specs.Moves.{HasGot, HaveGot, Turns}
-use Rattle.nr_worker.specs.Working.{AreApart, HandsOn, IsBelow, IsSeatOf, IsSeated, IsServed, IsSession, IsToPost, LeadsTo, Reflects, WorkState, all_handed, connections_of, handed_more, TakesPieces, TakesTurn}
+use Rattle.nr_worker.specs.Working.{AreApart, HandsOn, IsBelow, IsKept, IsSeatOf, IsSeated, IsServed, IsSession, IsToPost, LeadsTo, Reflects, WorkState, all_handed, connections_of, handed_more, TakesPieces, TakesTurn}
+use Rattle.nr_worker.proofs.Accounted.{accounted_grown}
 use Rattle.nr_worker.proofs.Desks.{turned_led}
 use Rattle.nr_worker.proofs.Lists.{all_at, all_weaker}
 
@@ -274,7 +277,7 @@ more_to_post handed served job t = record {
 }
 
 -- ---- a turn
-module _ (v : WorkState) (seats : SeatsState) (mark : Option Standing) (most : ℕ) (down : Bool) (s : Standing) (pieces : List Handed)
+module _ (v : WorkState) (desk : Desk) (seats : SeatsState) (mark : Option Standing) (most : ℕ) (down : Bool) (s : Standing) (pieces : List Handed)
     (sound : IsSound s × (s.node ≡ v.worker.node)) (a : Accepts v.limit (map portion_of pieces) v.seats seats) where
   abbrev handed : List connections.Handed
   handed = handed_by a.arrivals
@@ -283,10 +286,10 @@ module _ (v : WorkState) (seats : SeatsState) (mark : Option Standing) (most : �
   change = handed_more handed
 
   abbrev now : WorkState
-  now = record v { worker = with_more v.worker; seats = seats; mark = mark }
+  now = record v { worker = with_more (told_of desk v.worker); seats = seats; mark = mark }
 
   abbrev then_of : DeskState → DeskState
-  then_of d = record d { mark = mark; served = map change d.served }
+  then_of d = record d { heard = desk; mark = mark; served = map change d.served }
 
   of_node : (hs : List Handed) → AllByRecursion (λ (h : Handed). IsHandedOf most down h s) hs → AreOfNode v.worker.node (map portion_of hs)
   of_node hs all =
@@ -294,7 +297,7 @@ module _ (v : WorkState) (seats : SeatsState) (mark : Option Standing) (most : �
       (all_weaker (λ (h : Handed). IsHandedOf most down h s) (λ (h : Handed). (connection_of h.piece.conn).node ≡ v.worker.node)
       (λ h is. is.piece.node ∙ sound.1) hs all)
 
-  module _ (d : DeskState) (led : IsLed d) (r : Reflects v d) (heard : HasHeard d.worker most down s v.worker.seat.lane [] pieces)
+  module _ (d : DeskState) (led : IsLed d) (r : Reflects v d) (heard : HasHeard d.worker most down desk s v.worker.seat.lane [] pieces)
       (adopted : Adopts d.mark s mark) (met : HaveMet d.mark (Some s)) where
     come : (c : Connection) → c.node ≡ v.worker.node → Comes c a.arrivals
     come c here =
@@ -335,6 +338,7 @@ module _ (v : WorkState) (seats : SeatsState) (mark : Option Standing) (most : �
             node = r.node;
             worker = r.worker;
             posted = r.posted;
+            heard = refl;
             mark = refl;
             below = all_map (λ (x : Served). x.connection.serial < v.next) change d.served r.below;
             apart = subst AreApart (sym (same_connections change (λ x. refl) d.served)) r.apart;
@@ -343,11 +347,12 @@ module _ (v : WorkState) (seats : SeatsState) (mark : Option Standing) (most : �
             numbers = each_accepted (λ c s. IsBelow v.worker.seat.lane.posted (items_of v.jobs) c s.session.next)
                 (λ c x y same n. subst (λ (u : SessionState). IsBelow v.worker.seat.lane.posted (items_of v.jobs) c u.next) (sym same) n) v.worker.node v.limit
                 (map portion_of pieces) v.seats seats a r.numbers;
+            accounted = accounted_grown v.down (items_of v.jobs) v.worker.seat.lane v.worker.node v.limit a.arrivals v.seats seats a.at r.accounted;
           };
           served = refl;
         }
 
-  hands_on : HasHeard v.worker.seat.worker most down s v.worker.seat.lane [] pieces → Adopts v.mark s mark → HaveMet v.mark (Some s) → HandsOn v now
+  hands_on : HasHeard v.worker.seat.worker most down desk s v.worker.seat.lane [] pieces → Adopts v.mark s mark → HaveMet v.mark (Some s) → HandsOn v now
   hands_on heard adopted met = record {
     handed = handed;
     waiting =
@@ -355,49 +360,65 @@ module _ (v : WorkState) (seats : SeatsState) (mark : Option Standing) (most : �
         (subst (λ (hs : List Handed). AreOfNode v.worker.node (map portion_of hs)) (sym heard.added.behind) (of_node heard.added.pieces heard.added.all));
     goes = record {
       leads = λ d led r.
-          leads d led r (subst (λ (n : ℕ). HasHeard n most down s v.worker.seat.lane [] pieces) (sym r.worker) heard)
+          leads d led r (subst (λ (n : ℕ). HasHeard n most down desk s v.worker.seat.lane [] pieces) (sym r.worker) heard)
           (subst (λ (m : Option Standing). Adopts m s mark) (sym r.mark) adopted) (subst (λ (m : Option Standing). HaveMet m (Some s)) (sym r.mark) met);
     };
     changed = refl;
   }
 
-pub turned_by : (v u : WorkState) (worker : WorkerState) (seats : SeatsState) (mark : Option Standing) (most : ℕ) (down : Bool) (s : Standing)
-    (old pieces : List Handed) → u ≡ v → old ≡ [] → worker ≡ with_more u.worker
-    → HasHeard u.worker.seat.worker most down s u.worker.seat.lane old pieces → IsSound s × (s.node ≡ u.worker.node) → Adopts u.mark s mark
+pub turned_by : (v u : WorkState) (desk : Desk) (worker : WorkerState) (seats : SeatsState) (mark : Option Standing) (most : ℕ) (down : Bool) (s : Standing)
+    (old pieces : List Handed) → u ≡ v → old ≡ [] → worker ≡ with_more (told_of desk u.worker)
+    → HasHeard u.worker.seat.worker most down desk s u.worker.seat.lane old pieces → IsSound s × (s.node ≡ u.worker.node) → Adopts u.mark s mark
     → HaveMet u.mark (Some s) → Accepts u.limit (map portion_of pieces) u.seats seats
     → HandsOn v (record u { worker = worker; seats = seats; mark = mark })
-turned_by v u worker seats mark most down s old pieces same none still heard sound adopted met a =
+turned_by v u desk worker seats mark most down s old pieces same none still heard sound adopted met a =
     subst (λ (x : WorkState). HandsOn x (record u { worker = worker; seats = seats; mark = mark })) same
     (subst (λ (x : WorkerState). HandsOn u (record u { worker = x; seats = seats; mark = mark })) (sym still)
-    (hands_on u seats mark most down s pieces sound a
-    (subst (λ (hs : List Handed). HasHeard u.worker.seat.worker most down s u.worker.seat.lane hs pieces) none heard) adopted met))
+    (hands_on u desk seats mark most down s pieces sound a
+    (subst (λ (hs : List Handed). HasHeard u.worker.seat.worker most down desk s u.worker.seat.lane hs pieces) none heard) adopted met))
 
 pub took_by : (places : ℕ) (lifts : Lifts) (turned : Turned) (v u : WorkState) (worker : WorkerState) (seats : SeatsState) (mark : Option Standing) (most : ℕ)
-    (s : Standing) (note : NoteView) (old pieces : List Handed) → u ≡ v → old ≡ [] → worker ≡ with_more u.worker
-    → TurnsBehind places u.worker.node u.worker.seat.worker u.worker.generation lifts most old pieces turned s note → Adopts u.mark s mark
+    (s : Standing) (note : NoteView) (old pieces : List Handed) → u ≡ v → old ≡ []
+    → turned.answered ≤ length worker.seat.noted.answered → TurnsBehind places u.worker.node u.worker.seat.worker u.worker.generation lifts most old pieces turned s note → Adopts u.mark s mark
     → Accepts u.limit (map portion_of pieces) u.seats seats
     → TakesTurn places lifts most turned v (record u { worker = worker; seats = seats; mark = mark })
-took_by places lifts turned v u worker seats mark most s note old pieces same none still behind adopted a =
+took_by places lifts turned v u worker seats mark most s note old pieces same none counted behind adopted a =
     subst (λ (x : WorkState). TakesTurn places lifts most turned x (record u { worker = worker; seats = seats; mark = mark })) same (record {
       standing = s;
       note = note;
       pieces = pieces;
       behind = subst (λ (hs : List Handed). TurnsBehind places u.worker.node u.worker.seat.worker u.worker.generation lifts most hs pieces turned s note) none behind;
+      counted = counted;
       adopted = adopted;
       accepted = a;
     })
 
 pub got_by : (collected : Collected) (v u : WorkState) (worker : WorkerState) (seats : SeatsState) (mark : Option Standing) (most : ℕ)
-    (s : Standing) (note : NoteView) (old pieces : List Handed) → u ≡ v → old ≡ [] → worker ≡ with_more u.worker
-    → CollectsBehind u.worker.node u.worker.seat.worker u.worker.generation most old pieces collected s note → Adopts u.mark s mark
+    (s : Standing) (note : NoteView) (old pieces : List Handed) → u ≡ v → old ≡ []
+    → collected.answered ≤ length worker.seat.noted.answered → CollectsBehind u.worker.node u.worker.seat.worker u.worker.generation most old pieces collected s note → Adopts u.mark s mark
     → Accepts u.limit (map portion_of pieces) u.seats seats
     → TakesPieces most collected v (record u { worker = worker; seats = seats; mark = mark })
-got_by collected v u worker seats mark most s note old pieces same none still behind adopted a =
+got_by collected v u worker seats mark most s note old pieces same none counted behind adopted a =
     subst (λ (x : WorkState). TakesPieces most collected x (record u { worker = worker; seats = seats; mark = mark })) same (record {
       standing = s;
       note = note;
       pieces = pieces;
       behind = subst (λ (hs : List Handed). CollectsBehind u.worker.node u.worker.seat.worker u.worker.generation most hs pieces collected s note) none behind;
+      counted = counted;
       adopted = adopted;
       accepted = a;
+    })
+
+-- what a worker's desk counts is as before
+pub told_kept : (batches : ℕ) (v : WorkState) (worker : WorkerState) (seats : SeatsState) (mark : Option Standing) (s : Standing) → IsKept batches v
+    → worker ≡ with_more (told_of worker.seat.noted v.worker) → s.node ≡ v.worker.node → Adopts v.mark s mark
+    → IsKept batches (record v { worker = worker; seats = seats; mark = mark })
+told_kept batches v worker seats mark s k is node adopted =
+    subst (λ (w : WorkerState). IsKept batches (record v { worker = w; seats = seats; mark = mark })) (sym is) (record {
+      counted = k.counted;
+      each = k.each;
+      waits = k.waits;
+      mark = adopts_has (λ (x : Standing). x.node ≡ v.worker.node) (λ x n h. h) v.mark mark s k.mark node adopted;
+      none = k.none;
+      few = k.few;
     })

@@ -13,7 +13,8 @@ use Rattle.nr_log_end.specs.declared.standing.Standing.{Standing}
 use Rattle.nr_log_end.specs.declared.standing.Turn.{Turn}
 use Rattle.nr_log_end.specs.Standings.{record_of}
 use Rattle.nr_node.specs.Sound.{IsSound, Serves}
-use Rattle.nr_combiner.specs.Served.{ComesFrom}
+use Rattle.nr_slots.specs.declared.view.Desk.{Desk}
+use Rattle.nr_combiner.specs.Served.{AreExecuted, ComesFrom}
 
 -- a connection that was opened, and may be gone: the bytes that were fed to it and when, the job that its close put, if it was closed and put one, and the bytes that
 -- were handed out for it
@@ -27,11 +28,13 @@ pub record Served : Type 0 where
 abbrev pub asked_of : Served → Jobs
 asked_of x = cut_by x.closing (jobs_of_feeds x.connection [] x.fed)
 
--- a worker: its node and its number there, the batches that it posted, the standing of its mark, and all connections that were ever opened at it
+-- a worker: its node and its number there, the batches that it posted, what its node's combiner had done at its slot as it heard last, the standing of its mark, and all
+-- connections that were ever opened at it
 pub record DeskState : Type 0 where
   pub node : ℕ
   pub worker : ℕ
   pub posted : List Batch
+  pub heard : Desk
   pub mark : Option Standing
   pub served : List Served
 
@@ -91,11 +94,12 @@ pub record IsServedAt (d : DeskState) (x : Served) : Type 0 where
 abbrev pub HasItsOwn : DeskState → Standing → Type 0
 HasItsOwn d s = (c : Connection) → Serves s d.worker c → ArePosted d.posted c (record_of s.history)
 
--- What holds of a worker: its mark is a sound standing of its node, whose record has no job of a connection that was opened for the worker but those that it posted; each
--- job that it posted is one that a connection asked for; and so it serves each connection.
+-- What holds of a worker: its mark is a sound standing of its node, whose record has no job of a connection that was opened for the worker but those that it posted, and the
+-- jobs of each batch that was answered as executed as it heard last; each job that it posted is one that a connection asked for; and so it serves each connection.
 pub record IsLed (d : DeskState) : Type 0 where
   pub sound : IfSome d.mark (λ (s : Standing). IsSound s × (s.node ≡ d.node))
   pub own : IfSome d.mark (HasItsOwn d)
+  pub executed : AreExecuted (record_of (history_of d.mark)) d.heard.lifted d.heard.answered
   pub known : AllPosted (IsAskedBy d.served) d.posted
   pub each : AllByRecursion (IsServedAt d) d.served
 

@@ -4,3 +4,4 @@ pub mod Law
 pub mod Due
 pub mod Working
 pub mod Settling
+pub mod Resting

@@ -7,6 +7,7 @@ use Rattle.nr_entry.specs.Jobs.{connection_of, items_of}
 use Rattle.nr_entry.specs.declared.batch.Batch.{Batch}
 use Rattle.nr_log_end.specs.declared.standing.Standing.{Standing}
 use Rattle.nr_slots.specs.declared.view.Lane.{Lane}
+use Rattle.nr_slots.specs.Rule.{no_desk}
 use Rattle.nr_node.specs.Sound.{IsSound, Serves}
 use Rattle.nr_node.specs.declared.collecting.Handed.{Handed}
 use Rattle.nr_combiner.specs.Heard.{HasHeard, Knows}
@@ -16,18 +17,18 @@ use Rattle.nr_worker.specs.Desk.{AllPosted, CountsFrom, DeskState, Served, asked
 
 -- one that has done nothing yet
 abbrev pub fresh_desk : ℕ → ℕ → DeskState
-fresh_desk node worker = record { node = node; worker = worker; posted = []; mark = None; served = [] }
+fresh_desk node worker = record { node = node; worker = worker; posted = []; heard = no_desk; mark = None; served = [] }
 
 -- a connection of the node was opened for the worker that it hasn't had, and its mark adopted the token of that
 pub record Opens (c : Connection) (s : Standing) (lane : Lane) (d e : DeskState) : Type 0 where
   pub new : AllByRecursion (λ (x : Served). x.connection ≢ c) d.served
-  pub knows : Knows d.worker s lane
+  pub knows : Knows d.worker e.heard s lane
   pub serves : Serves s d.worker c
   pub posted : lane.posted ≡ d.posted
   pub sound : IsSound s × (s.node ≡ d.node)
   pub adopted : Adopts d.mark s e.mark
   pub met : HaveMet d.mark (Some s)
-  pub opened : e ≡ record d { mark = e.mark; served = d.served ++ record { connection = c; fed = []; closing = None; handed = [] } ∷ [] }
+  pub opened : e ≡ record d { heard = e.heard; mark = e.mark; served = d.served ++ record { connection = c; fed = []; closing = None; handed = [] } ∷ [] }
 
 -- A connection was fed so much now, and closed so, if it was closed: the jobs that this asks for count up, those of it that were posted are among them, and nothing else
 -- changed. So it is where more bytes ask for more, and where a close puts a last job in the place of those that weren't posted.
@@ -59,10 +60,10 @@ HaveGot pieces (x ∷ xs) (y ∷ ys) = HasGot pieces x y × HaveGot pieces xs ys
 
 -- a turn, or what was handed out without one, of which it heard: its mark adopted the token, and each connection got a piece or nothing
 pub record Turns (most : ℕ) (down : Bool) (s : Standing) (lane : Lane) (old new : List Handed) (d e : DeskState) : Type 0 where
-  pub heard : HasHeard d.worker most down s lane old new
+  pub heard : HasHeard d.worker most down e.heard s lane old new
   pub posted : lane.posted ≡ d.posted
   pub sound : IsSound s × (s.node ≡ d.node)
   pub adopted : Adopts d.mark s e.mark
   pub met : HaveMet d.mark (Some s)
   pub got : HaveGot heard.added.pieces d.served e.served
-  pub same : e ≡ record d { mark = e.mark; served = e.served }
+  pub same : e ≡ record d { heard = e.heard; mark = e.mark; served = e.served }

@@ -1,7 +1,7 @@
 -- What contracts see of a worker's desk, and the law's worker that it stands for.
-use Rattle.std.specs.Prelude.{◌≡◌, ◌≢◌, ◌==◌, ◌&&◌, ℕ, ◌+◌, ◌<◌, ◌≤◌, Bool, true, false, cond, IfSome, List, [], ◌∷◌, ◌++◌, map, length, take, drop, Contains, option_to_list, Option, None, Some, refl}
+use Rattle.std.specs.Prelude.{◌≡◌, ◌≢◌, ◌==◌, ◌&&◌, ℕ, ◌+◌, ◌<◌, ◌≤◌, Bool, true, false, cond, IfSome, List, [], ◌∷◌, ◌++◌, ◌⊎◌, map, length, take, drop, Contains, option_to_list, Option, None, Some, refl}
 use Rattle.std.specs.Coded.{Coded, code_by, coded×, coded_ℕ, coded_bool, coded_list, coded_option}
-use Rattle.std.specs.List.{AllByRecursion}
+use Rattle.std.specs.List.{AllByRecursion, slice_get}
 use Rattle.std.specs.Option.{option_map}
 use Rattle.nr_model.specs.Bytes.{Bytes}
 use Rattle.nr_model.specs.Commands.{served}
@@ -10,12 +10,15 @@ use Rattle.nr_model.specs.Items.{Connection, Item, same_connection}
 use Rattle.nr_model.specs.Modes.{Conversation, framed_conversation, plain, deeds_by}
 use Rattle.nr_model.specs.Requests.{framing_of}
 use Rattle.nr_entry.specs.Jobs.{items_of}
+use Rattle.nr_entry.specs.declared.batch.Answer.{Answer}
 use Rattle.nr_entry.specs.declared.batch.Batch.{Batch}
+use Rattle.nr_entry.specs.declared.batch.Outcome.TheVariants.{Executed}
 use Rattle.nr_entry.specs.declared.job.Job.{Job}
 use Rattle.nr_entry.specs.contracts.job.Job as of_job
 use Rattle.nr_log_end.specs.declared.standing.Standing.{Standing}
 use Rattle.nr_log_end.specs.contracts.standing.Standing as of_standing
 use Rattle.nr_slots.specs.Seats.{NoteView, one_if}
+use Rattle.nr_slots.specs.declared.view.Lane.{Lane}
 use Rattle.nr_node.specs.declared.collecting.Handed.{Handed}
 use Rattle.nr_taps.specs.Marks.{Adopts}
 use Rattle.nr_session.specs.SessionState.{SessionState}
@@ -24,7 +27,7 @@ use Rattle.nr_combiner.specs.declared.answering.Collected.{Collected}
 use Rattle.nr_combiner.specs.declared.answering.Lifts.{Lifts}
 use Rattle.nr_combiner.specs.declared.answering.Turned.{Turned}
 use Rattle.nr_combiner.specs.declared.worker.TheConstants.{MOST_JOBS}
-use Rattle.nr_combiner.specs.Workers.{WorkerState, coded_worker, with_more, HasPosted}
+use Rattle.nr_combiner.specs.Workers.{WorkerState, coded_worker, told_of, with_more, HasPosted}
 use Rattle.nr_combiner.specs.Workers as workers
 use Rattle.nr_seats.specs.Seated.{SeatState, cut_off, fresh_seat, last_job, with_written}
 use Rattle.nr_seats.specs.Placed.{FeedsSeat, IsPut, SeatsState, StopsSeat, coded_seats, listens_here, seat_at, takes_here}
@@ -68,10 +71,11 @@ coded_work =
       late = p.1.1.1.1.1.1.1.1.1;
     }) (λ _. refl)
 
--- It has counted its batches, waits for an answer where one wasn't collected, and then none are handed back, of which there is at most a batch; and its mark is of
+-- It has counted its batches, by their numbers and as they were posted, waits for an answer where one wasn't collected, and then none are handed back, of which there is at most a batch; and its mark is of
 -- its node.
 pub record IsKept (batches : ℕ) (v : WorkState) : Type 0 where
   pub counted : batches ≡ v.worker.next
+  pub each : batches ≡ length v.worker.seat.lane.posted
   pub waits : length v.worker.seat.lane.posted ≡ length v.worker.seat.lane.collected + one_if v.waiting
   pub mark : IfSome v.mark (λ (s : Standing). s.node ≡ v.worker.node)
   pub none : v.waiting ≡ true → v.returned ≡ 0
@@ -127,6 +131,35 @@ pub record IsBelow (batches : List Batch) (jobs : List Item) (c : Connection) (n
   pub posted : AllPosted (λ (job : Item). job.connection ≡ c → job.number < next) batches
   pub waits : AllByRecursion (λ (job : Item). job.connection ≡ c → job.number < next) jobs
 
+-- one of these jobs is of a connection and has this number
+pub record HasNumber (c : Connection) (number : ℕ) (jobs : List Item) : Type 0 where
+  pub job : Item
+  pub there : Contains jobs job
+  pub own : job.connection ≡ c
+  pub numbered : job.number ≡ number
+
+-- there is no answer, or it says that all was executed
+abbrev pub IsNoOther : Option Answer → Type 0
+IsNoOther None = Unit {0}
+IsNoOther (Some answer) = answer.outcome ≡ Executed
+
+-- A batch that was posted has the job of a connection with this number. Where its answer was collected, that says that all was executed.
+pub record IsUnderway (lane : Lane) (c : Connection) (number : ℕ) : Type 0 where
+  pub before : List Batch
+  pub batch : Batch
+  pub after : List Batch
+  pub posted : lane.posted ≡ before ++ batch ∷ after
+  pub answered : IsNoOther (slice_get lane.collected (length before))
+  pub has : HasNumber c number (items_of batch.jobs.items)
+
+-- The job of a connection with this number waits, or was posted so; or the node is known to be down.
+abbrev pub IsAccountedFor : Bool → List Item → Lane → Connection → ℕ → Type 0
+IsAccountedFor down waits lane c number = (down ≡ true) ⊎ (HasNumber c number waits ⊎ IsUnderway lane c number)
+
+-- so it is with each job that a connection asked for whose seat isn't cut
+abbrev pub AreAccountedFor : Bool → List Item → Lane → Connection → SeatState → Type 0
+AreAccountedFor down waits lane c s = s.cut ≡ false → (number : ℕ) → number < s.session.next → IsAccountedFor down waits lane c number
+
 -- connections no two of which are the same
 abbrev pub AreApart : List Connection → Type 0
 AreApart [] = Unit {0}
@@ -135,18 +168,20 @@ AreApart (c ∷ more) = AllByRecursion (λ (other : Connection). other ≢ c) mo
 abbrev pub connections_of : List Served → List Connection
 connections_of served = map (λ (x : Served). x.connection) served
 
--- A desk stands for a worker of the law: what it posted and its mark are the same, its jobs are asked for there, and its seats are those of connections
--- that the worker serves, each of which numbers its next job behind those that were asked for.
+-- A desk stands for a worker of the law: what it posted, what it heard and its mark are the same, its jobs are asked for there, and its seats are those of connections
+-- that the worker serves, each of which numbers its next job behind those that were asked for; and none of these is lost.
 pub record Reflects (v : WorkState) (d : DeskState) : Type 0 where
   pub node : d.node ≡ v.worker.node
   pub worker : d.worker ≡ v.worker.seat.worker
   pub posted : d.posted ≡ v.worker.seat.lane.posted
+  pub heard : d.heard ≡ v.worker.seat.noted
   pub mark : d.mark ≡ v.mark
   pub below : AllByRecursion (λ (x : Served). x.connection.serial < v.next) d.served
   pub apart : AreApart (connections_of d.served)
   pub jobs : AllByRecursion (IsToPost d.served) (items_of v.jobs)
   pub seats : EachSeat (IsSeated d.served) v.worker.node v.seats
   pub numbers : EachSeat (λ c s. IsBelow v.worker.seat.lane.posted (items_of v.jobs) c s.session.next) v.worker.node v.seats
+  pub accounted : EachSeat (AreAccountedFor v.down (items_of v.jobs) v.worker.seat.lane) v.worker.node v.seats
 
 -- A worker of the law goes on to one that the desk then stands for, and its connections are changed so.
 pub record LeadsTo (change : List Served → List Served) (w : WorkState) (d : DeskState) : Type 0 where
@@ -183,18 +218,18 @@ all_fed feeding served = map (fed_more feeding) served
 abbrev pub one_opened : Connection → List Served → List Served
 one_opened c served = served ++ record { connection = c; fed = []; closing = None; handed = [] } ∷ []
 
--- A connection of the node with a serial that none had here has a new seat, and nothing else changed but the mark.
+-- A connection of the node with a serial that none had here has a new seat, and nothing else changed but what the worker heard last, and the mark.
 pub record OpensAt (c : Connection) (v w : WorkState) : Type 0 where
   pub node : c.node ≡ v.worker.node
   pub later : v.next ≤ c.serial
   pub absent : seat_at c.serial v.seats ≡ None
   pub put : IsPut c.serial (Some (fresh_seat c)) v.seats w.seats
-  pub changed : w ≡ record v { seats = w.seats; next = c.serial + 1; mark = w.mark }
+  pub changed : w ≡ record v { worker = told_of w.worker.seat.noted v.worker; seats = w.seats; next = c.serial + 1; mark = w.mark }
 
--- A connection that was opened may have been closed again, and nothing else changed.
+-- A connection that was opened may have been closed again, and nothing else changed but what the worker heard last, and the mark.
 pub record MayHaveClosed (v w : WorkState) : Type 0 where
-  pub worker : workers.MayHaveClosed v.worker w.worker
-  pub changed : w ≡ record v { worker = w.worker }
+  pub worker : workers.MayHaveClosed (told_of w.worker.seat.noted v.worker) w.worker
+  pub changed : w ≡ record v { worker = w.worker; mark = w.mark }
 
 -- it was closed with this last job, where it is the job's
 abbrev pub closed_with : Item → Served → Served
@@ -263,27 +298,30 @@ pub record HandsIn (most : ℕ) (v w : WorkState) : Type 0 where
   pub posted : HasPosted (take (due most v.returned) v.jobs) v.worker w.worker
   pub changed : w ≡ record v { worker = w.worker; jobs = drop (due most v.returned) v.jobs; returned = 0; waiting = true; late = w.late }
 
--- A turn handed these bytes out: they wait at the seats of their connections, the worker's generation went up once, and nothing else changed but the mark.
+-- A turn handed these bytes out: they wait at the seats of their connections, the worker's generation went up once, and nothing else changed but what it heard last, and the
+-- mark.
 pub record HandsOn (v w : WorkState) : Type 0 where
   pub handed : List connections.Handed
   pub waiting : HandsOut v.worker.node handed v.seats w.seats
   pub goes : Goes (all_handed handed) v w
-  pub changed : w ≡ record v { worker = with_more v.worker; seats = w.seats; mark = w.mark }
+  pub changed : w ≡ record v { worker = with_more (told_of w.worker.seat.noted v.worker); seats = w.seats; mark = w.mark }
 
--- So it came from the turn that tells this, whose token the mark adopted, and whose pieces came to the seats.
+-- So it came from the turn that tells this, whose token the mark adopted, and whose pieces came to the seats. As many batches of the worker were answered then as it tells.
 pub record TakesTurn (places : ℕ) (lifts : Lifts) (most : ℕ) (turned : Turned) (v w : WorkState) : Type 0 where
   pub standing : Standing
   pub note : NoteView
   pub pieces : List Handed
   pub behind : TurnsBehind places v.worker.node v.worker.seat.worker v.worker.generation lifts most [] pieces turned standing note
+  pub counted : turned.answered ≤ length w.worker.seat.noted.answered
   pub adopted : Adopts v.mark standing w.mark
   pub accepted : Accepts v.limit (map portion_of pieces) v.seats w.seats
 
--- So it came from what was handed out without a turn.
+-- So it came from what was handed out without a turn, of a node that had answered so many of the worker's batches.
 pub record TakesPieces (most : ℕ) (collected : Collected) (v w : WorkState) : Type 0 where
   pub standing : Standing
   pub note : NoteView
   pub pieces : List Handed
   pub behind : CollectsBehind v.worker.node v.worker.seat.worker v.worker.generation most [] pieces collected standing note
+  pub counted : collected.answered ≤ length w.worker.seat.noted.answered
   pub adopted : Adopts v.mark standing w.mark
   pub accepted : Accepts v.limit (map portion_of pieces) v.seats w.seats

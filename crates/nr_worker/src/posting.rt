@@ -1,6 +1,8 @@
 // Jobs are handed in.
 ghost use Rattle.std.specs.Prelude.{◌≡◌, ◌≢◌, ◌==◌, ◌+◌, ◌++◌, ◌^◌, ◌<◌, ◌≤◌, ◌||◌, not, take, drop, length, [], true, false, IsOk, IfOk, OnOk, OnErr};
 ghost use Rattle.std.specs.Bool.{OnTrue, OnFalse};
+ghost use Rattle.nr_slots.specs.Names.{IsTold};
+ghost use Rattle.nr_slots.specs.Seats.{one_if};
 ghost use Rattle.nr_combiner.specs.Workers.{HasPosted};
 ghost use Rattle.nr_worker.specs.Working.{due, unchanged, Goes, HandsIn};
 
@@ -55,9 +57,20 @@ impl<'a, R: Wait, B: ServerName> Desk<'a, R, B> {
 
     /// Whether jobs wait, or the answer to a batch does.
     pub fn is_at_work(&self) -> bool
-        ensures { result ≡ (self.now.waiting || not (length self.now.jobs == 0)) }
+        ensures told { result ≡ (self.now.waiting || not (length self.now.jobs == 0)) }
+        ensures counted { length self.now.worker.seat.lane.posted ≡ length self.now.worker.seat.lane.collected + one_if self.now.waiting }
+        ensures heard { IsTold self.now.worker.seat.noted self.now.worker.seat.lane }
+        ensures lifted { length self.now.worker.seat.noted.answered ≤ length self.now.worker.seat.noted.lifted }
     {
+        self.worker.told();
         self.is_waiting || !self.has_none()
+    }
+
+    /// How many batches were handed in. Constant.
+    pub fn batches(&self) -> u64
+        ensures { result ≡ length self.now.worker.seat.lane.posted }
+    {
+        self.batches
     }
 
     /// Hands the first jobs that wait in as the next batch, those of a batch that was handed back, else at most [`MOST_JOBS`]: one load and one store. Whether it did:

@@ -16,11 +16,12 @@ returns-clause-answered g c =
     let service = c.serve-ended.new.self in
     let mark = c.take_mark-mark.result.standing in
     let began = c.over-service.ensures.serving setup (c.new-desk.ensures.past setup) in
-    let left = is_left received sent g.S.Stream.course gives kept_at parted c.args.lane.clock setup service c.serve-ended.result
-    (c.serve-ended.ensures.serving c.args.lane.clock setup began) in
+    let ended = c.serve-ended.result in
+    let serving = c.serve-ended.ensures.serving c.args.lane.clock setup began in
+    let left = is_left received sent g.S.Stream.course gives kept_at parted c.args.lane.clock setup service ended serving in
     let known = c.take_mark-mark.ensures.mark in
-    let answered = is_answered received sent gives parted c.args.lane.clock setup service mark known left in
-    subst (λ t. IsAnswered received sent gives (parted t.0) mark t.2.items) (sym c.rest_of-device.ensures) answered
+    let answered = is_answered received sent gives parted c.args.lane.clock setup service ended mark known left.0 left.1 in
+    subst (λ t. IsAnswered received sent gives (parted t.0) ended mark t.2.items) (sym c.rest_of-device.ensures) answered
 
 pub returns-clause-limits : goal.returns-clause-limits
 returns-clause-limits g c =

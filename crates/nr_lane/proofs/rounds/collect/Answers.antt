@@ -1,4 +1,4 @@
-use Rattle.nr_lane.proofs.Working.{mark_collected, works_collected}
+use Rattle.nr_lane.proofs.Working.{heard_collected, mark_collected, works_collected}
 use Rattle.nr_lane.proofs.rounds.collect.Goals as goal
 
 pub collect-requires : goal.collect-requires
@@ -9,3 +9,6 @@ returns-clause-works g c = works_collected c.collect.result c.args.desk.now _ c.
 
 pub returns-clause-mark : goal.returns-clause-mark
 returns-clause-mark g c = mark_collected c.collect.result c.args.desk.now _ c.collect.ensures.settled c.collect.ensures.same
+
+pub returns-clause-heard : goal.returns-clause-heard
+returns-clause-heard g c = heard_collected c.collect.result c.args.desk.now _ c.collect.ensures.settled c.collect.ensures.same

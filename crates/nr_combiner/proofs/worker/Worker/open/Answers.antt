@@ -1,7 +1,8 @@
-use Rattle.std.proofs.Common.{ℕ, sym, subst}
+use Rattle.std.proofs.Common.{ℕ, ap, sym, subst}
 use Rattle.std.specs.Arc.{arc_value}
 use Rattle.atomic_table.specs.Seated.{TableId}
 use Rattle.nr_entry.specs.Jobs.{connection_of}
+use Rattle.nr_slots.specs.Seats.{WorkerView}
 use Rattle.nr_node.specs.Sound.{Serves}
 use Rattle.nr_combiner.specs.Behind.{OpensBehind}
 use Rattle.nr_combiner.specs.Heard.{KnowsOpened}
@@ -15,8 +16,10 @@ returns-clause-opened g c =
     let told = c.in_ok-conn.field-0 in
     let inside = c.self.inside in
     let heard = c.in_ok-conn.ensures in
-    subst (λ (w : WorkerState). KnowsOpened w.seat.worker told.conn told.token.standing w.seat.lane) c.self.view_is record {
-      knows = knows_by told.token.standing inside.seat.lane told.note.desks inside.worker inside.seat.worker c.self.invariant.1 c.hear.ensures.told heard.executed heard.own;
+    let noted = c.hear.new.self.noted in
+    subst (λ (w : WorkerState). KnowsOpened w.seat.worker told.conn noted told.token.standing w.seat.lane) c.self.view_is record {
+      knows = knows_by told.token.standing inside.seat.lane told.note.desks inside.worker inside.seat.worker noted c.self.invariant.1 (ap (λ (v : WorkerView). v.noted) c.hear.ensures.heard)
+          c.hear.ensures.told heard.executed heard.own;
       serves = subst (λ (k : ℕ). Serves told.token.standing k (connection_of told.conn)) c.self.invariant.1 heard.serves;
     }
 

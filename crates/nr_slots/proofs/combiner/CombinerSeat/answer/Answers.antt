@@ -13,4 +13,5 @@ invariant_of-self c =
     let near : c.args.worker < length c.self.inside.seat.me.0.desks = search rules in
     let same : length c.self.inside.seat.me.0.desks ≡ c.slots.inside.table.shared.key = search rules in
     let wide : length c.self.inside.holds ≡ 16 = search rules in
-    replied_kept c.put_answer.new.seat.table_id _ c.args.worker c.self.inside.holds c.self.inside.seat.me.0.desks c.self.inside.seat.me.0.looks c.put_answer.new.seat.me wide c.self.invariant.1 (search rules) near same c.self.invariant.3 c.args.answer last c.put_answer.ensures.view
+    let wide' : length c.self.inside.counts ≡ 16 = search rules in
+    replied_kept c.put_answer.new.seat.table_id _ c.args.worker c.self.inside.holds c.self.inside.counts c.self.inside.seat.me.0.desks c.self.inside.seat.me.0.looks c.put_answer.new.seat.me wide wide' c.self.invariant.1 (search rules) near same c.self.invariant.3 c.self.invariant.4 c.args.answer c.saturating_add.result c.saturating_add.ensures last c.put_answer.ensures.view
