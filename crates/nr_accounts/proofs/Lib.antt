@@ -1,6 +1,8 @@
 pub mod Seen
+mod After
 pub mod Steps
 pub mod Strangers
 pub mod Counts
+pub mod GoingBack
 mod Ends
 pub mod Batches

@@ -1,5 +1,5 @@
 -- The account of a connection: the worker that serves it, the number of its next job, and whether its end was taken.
-use Rattle.std.specs.Prelude.{ℕ, ◌+◌, ◌-◌, ◌^◌, Bool, false, not, ◌&&◌, ◌==◌, nat_lt}
+use Rattle.std.specs.Prelude.{ℕ, ◌+◌, ◌-◌, ◌^◌, Bool, false, not, ◌&&◌, ◌==◌, nat_lt, Option, Some, None}
 use Rattle.nr_model.specs.Items.{Item, is_end}
 use Rattle.nr_accounts.specs.declared.account.Account.{Account}
 
@@ -38,3 +38,11 @@ reopened account = record account { is_ended = false }
 -- its end was taken, and this is it: the last that was taken
 abbrev pub ends_with : Item → Account → Bool
 ends_with job account = ((account.is_ended && is_end job.deed) && nat_lt job.number account.next) && (account.next - job.number == 1)
+
+-- its next job is that of a number, and its end wasn't taken; and the same where there is a number
+abbrev pub back_to : ℕ → Account → Account
+back_to number account = record account { next = number; is_ended = false }
+
+abbrev pub back_by : Option ℕ → Account → Account
+back_by None account = account
+back_by (Some number) account = back_to number account

@@ -1,12 +1,13 @@
 -- What a node's accounts say of a batch.
-use Rattle.std.specs.Prelude.{ℕ, Bool, true, not, ◌&&◌, ◌||◌, ◌==◌, nat_lt, if◌then◌else◌, List, [], length, Option, Some, None, slice_index_or, slice_set, refl}
+use Rattle.std.specs.Prelude.{◌≡◌, ℕ, Bool, true, not, ◌&&◌, ◌||◌, ◌==◌, nat_lt, if◌then◌else◌, List, [], length, Option, Some, None, option_map, slice_index_or, slice_set, refl}
+use Rattle.std.specs.FinMap as finmap
 use Rattle.std.specs.Coded.{Coded, code_by, coded×, coded_ℕ, coded_list, coded_option}
 use Rattle.nr_model.specs.Entries.{Jobs}
 use Rattle.nr_entry.specs.Jobs.{items_of}
 use Rattle.nr_entry.specs.declared.batch.Batch.{Batch}
 use Rattle.nr_entry.specs.declared.batch.Refusal.{Refusal}
 use Rattle.nr_entry.specs.declared.batch.Refusal.TheVariants.{Stranger, WrongNumber}
-use Rattle.nr_accounts.specs.Held.{Held, coded_held, takes_all, taken_all, has_stranger, closed_all, AreTaken}
+use Rattle.nr_accounts.specs.Held.{Held, coded_held, takes_all, taken_all, has_stranger, closed_all, gone_back, AreTaken}
 
 -- the node, the accounts of its connections, and for each worker the number of the last batch that was taken
 pub record Book : Type 0 where
@@ -58,3 +59,10 @@ without_ended jobs book = record book { held = closed_all book.node book.held jo
 -- these are the jobs that were taken
 abbrev pub HasTaken : Book → Jobs → Type 0
 HasTaken book jobs = AreTaken book.node book.held jobs
+
+-- Jobs were dropped: each account went back to the first of its connection's jobs among them, and is as it was where none is there. Nothing else changed.
+pub record HasGoneBack (dropped : Jobs) (old new : Book) : Type 0 where
+  pub node : new.node ≡ old.node
+  pub last : new.last ≡ old.last
+  pub accounts : (serial : ℕ)
+      → finmap.get new.held serial ≡ option_map (gone_back dropped (record { node = old.node; serial = serial })) (finmap.get old.held serial)

@@ -1,15 +1,17 @@
 -- The accounts of a node's connections, by serial: which jobs are taken, one after the other, and with which of them an account goes.
-use Rattle.std.specs.Prelude.{◌≡◌, ℕ, Bool, true, false, not, ◌&&◌, ◌||◌, ◌==◌, cond, List, [], ◌∷◌, ◌++◌, map, length, Option, Some, None}
+use Rattle.std.specs.Prelude.{◌≡◌, ℕ, ◌<◌, Bool, true, false, not, ◌&&◌, ◌||◌, ◌==◌, cond, List, [], ◌∷◌, ◌++◌, map, length, Option, Some, None}
+use Rattle.std.specs.declared.ops.Bound.{Bound}
+use Rattle.std.specs.declared.ops.Bound.TheVariants.{Excluded, Unbounded}
 use Rattle.std.specs.List.{list_any, range_with_len}
 use Rattle.std.specs.Ordering.{nat_cmp}
 use Rattle.std.specs.FinMap as finmap
 use Rattle.std.specs.Coded.{Coded, coded_ℕ}
 use Rattle.nr_model.specs.Items.{Connection, same_connection, Item, is_end}
 use Rattle.nr_model.specs.Entries.{Jobs}
-use Rattle.nr_model.specs.Asked.{own_jobs}
+use Rattle.nr_model.specs.Asked.{own_jobs, first_number}
 use Rattle.nr_accounts.specs.declared.account.Account.{Account}
 use Rattle.nr_accounts.specs.contracts.account.Account as of_account
-use Rattle.nr_accounts.specs.Account.{is_of, takes, taken, noted, reopened, ends_with}
+use Rattle.nr_accounts.specs.Account.{is_of, takes, taken, noted, reopened, ends_with, back_by}
 
 abbrev pub Held : Type 0
 Held = finmap.FinMap nat_cmp Account
@@ -100,3 +102,16 @@ AreCounted count node held jobs = (serial : ℕ) → CountsTo count (finmap.get 
 
 abbrev pub AreTaken : ℕ → Held → Jobs → Type 0
 AreTaken node held jobs = AreCounted (λ account. account.next) node held jobs
+
+-- Jobs are dropped: the account of a connection goes back to the first of its jobs among them, where one is there.
+abbrev pub gone_back : Jobs → Connection → Account → Account
+gone_back dropped c account = back_by (first_number (own_jobs c dropped)) account
+
+-- a serial that comes after one, where there is one
+abbrev pub ComesAfter : Option ℕ → ℕ → Type 0
+ComesAfter None serial = Unit {0}
+ComesAfter (Some last) serial = last < serial
+
+abbrev pub start_after : Option ℕ → Bound ℕ
+start_after None = Unbounded
+start_after (Some last) = Excluded last

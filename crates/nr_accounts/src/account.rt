@@ -1,7 +1,7 @@
 // The account of one connection.
 ghost use Rattle.std.specs.Prelude.{◌≡◌, cond};
 ghost use Rattle.nr_entry.specs.Jobs.{item_of};
-ghost use Rattle.nr_accounts.specs.Account.{is_of, noted, reopened, takes, taken, untaken, ends_with};
+ghost use Rattle.nr_accounts.specs.Account.{is_of, noted, reopened, takes, taken, untaken, ends_with, back_to};
 
 use nr_entry::Job;
 
@@ -61,6 +61,14 @@ impl Account {
         ensures { self.new ≡ reopened self.old }
     {
         self.is_ended = false;
+    }
+
+    /// The job of this number is its next one, and its end wasn't taken.
+    pub(crate) fn go_back(&mut self, number: u64)
+        ensures { self.new ≡ back_to number self.old }
+    {
+        self.next = number;
+        self.reopen();
     }
 
     /// Whether its end was taken, and a job is that: the last one that was taken.

@@ -1,10 +1,10 @@
 // The accounts of a node.
-ghost use Rattle.std.specs.Prelude.{◌≡◌, ◌<◌, ◌++◌, length, replicate, slice_set, Some, None, IfOk, IfErr, OnOk, OnErr};
+ghost use Rattle.std.specs.Prelude.{◌≡◌, ◌<◌, ◌++◌, ℕ, length, replicate, slice_set, Some, None, IsSome, IfSome, IfNone, IfOk, IfErr, OnOk, OnErr};
 ghost use Rattle.std.specs.FinMap as finmap;
 ghost use Rattle.nr_model.specs.Entries.{Jobs};
 ghost use Rattle.nr_entry.specs.Jobs.{items_of};
-ghost use Rattle.nr_accounts.specs.Account.{fresh_account};
-ghost use Rattle.nr_accounts.specs.Held.{takes_all};
+ghost use Rattle.nr_accounts.specs.Account.{fresh_account, back_to};
+ghost use Rattle.nr_accounts.specs.Held.{takes_all, changed, ComesAfter};
 ghost use Rattle.nr_accounts.specs.Book.{Book, HasTaken, refusal_of, with_batch, with_jobs, without_ended, last_of, is_above};
 
 use crate::account::Account;
@@ -106,6 +106,29 @@ impl Accounts {
     {
         give_back(&mut self.held, &batch.jobs);
         self.last[batch.worker] = before;
+    }
+
+    /// The node whose connections have the accounts.
+    pub fn node(&self) -> usize
+        ensures { result ≡ self.now.node }
+    {
+        self.node
+    }
+
+    /// The first serial that has an account, after one where that is given. Logarithmic.
+    pub fn next_after(&self, last: Option<u64>) -> Option<u64>
+        ensures found { IfSome result (λ next. ComesAfter last next × IsSome (finmap.get self.now.held next)) }
+        ensures between { IfSome result (λ next. (other : ℕ) → ComesAfter last other → other < next → finmap.get self.now.held other ≡ None) }
+        ensures none { IfNone result ((other : ℕ) → ComesAfter last other → finmap.get self.now.held other ≡ None) }
+    {
+        self.held.next_after(last)
+    }
+
+    /// A connection's jobs from this number on were dropped: its account goes back to that, and its end wasn't taken. Logarithmic; it takes no memory.
+    pub fn go_back(&mut self, serial: u64, number: u64)
+        ensures { self.new ≡ record self.old { held = changed (back_to number) serial self.old.held } }
+    {
+        self.held.go_back(serial, number);
     }
 
     /// These jobs were executed: the account of each of the node's connections whose end is among them goes, where that is the last job that was taken of it.

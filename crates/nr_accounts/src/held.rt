@@ -1,10 +1,10 @@
 // The accounts of a node's connections, by serial.
-ghost use Rattle.std.specs.Prelude.{◌≡◌, cond, not, OnOk, OnErr};
+ghost use Rattle.std.specs.Prelude.{◌≡◌, ◌<◌, ℕ, None, cond, not, IsSome, IfSome, IfNone, OnOk, OnErr};
 ghost use Rattle.std.specs.Option.{option_copied};
 ghost use Rattle.std.specs.FinMap as finmap;
 ghost use Rattle.nr_entry.specs.Jobs.{item_of};
-ghost use Rattle.nr_accounts.specs.Account.{noted, reopened, taken, untaken};
-ghost use Rattle.nr_accounts.specs.Held.{changed, takes_by, is_strange, ends_by};
+ghost use Rattle.nr_accounts.specs.Account.{noted, reopened, taken, untaken, back_to};
+ghost use Rattle.nr_accounts.specs.Held.{changed, takes_by, is_strange, ends_by, start_after, ComesAfter};
 
 use crate::account::Account;
 use nr_blob::Memory;
@@ -12,6 +12,7 @@ use nr_entry::Job;
 use std::alloc::Global;
 use std::collections::BTreeMap;
 use std::marker::Model;
+use std::ops::Bound;
 
 /// The accounts of connections. They are seen as a finite map.
 #[derive(Drop)]
@@ -114,5 +115,38 @@ impl BySerial {
             Some(account) => account.ends_with(job),
             None => false,
         }
+    }
+
+    /// The first serial that has an account, after one where that is given. Logarithmic.
+    pub(crate) fn next_after(&self, last: Option<u64>) -> Option<u64>
+        ensures found { IfSome result (λ next. ComesAfter last next × IsSome (finmap.get self.now next)) }
+        ensures between { IfSome result (λ next. (other : ℕ) → ComesAfter last other → other < next → finmap.get self.now other ≡ None) }
+        ensures none { IfNone result ((other : ℕ) → ComesAfter last other → finmap.get self.now other ≡ None) }
+    {
+        let start = start_after(last);
+        match self.accounts.range((start, Bound::Unbounded)).next() {
+            Some((serial, _)) => Some(*serial),
+            None => None,
+        }
+    }
+
+    /// The connection's next job is that of this number, and its end wasn't taken.
+    pub(crate) fn go_back(&mut self, serial: u64, number: u64)
+        ensures { self.new ≡ changed (back_to number) serial self.old }
+    {
+        let Some(account) = self.accounts.get_mut(&serial) else {
+            return;
+        };
+        account.go_back(number);
+    }
+}
+
+// Where the serials after one begin.
+fn start_after(last: Option<u64>) -> Bound<u64>
+    ensures { result ≡ start_after last }
+{
+    match last {
+        Some(last) => Bound::Excluded(last),
+        None => Bound::Unbounded,
     }
 }

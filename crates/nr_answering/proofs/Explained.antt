@@ -15,11 +15,10 @@ stories_are_explained a story once =
     record {
       events = led.events;
       world = led.world;
-      items = law.0;
       is = led.is;
-      explains = law.1;
+      explains = law;
       begins = λ c.
-          let begins = law.1.accounts.beginning c in
+          let begins = law.accounts.beginning c in
           let waits = waiting_for led.world c in (
             waits ++ begins.0,
             ap (λ (os : List Occurrence). handed_to c (pieces_in os) ++ (waits ++ begins.0)) (sym led.is.told)

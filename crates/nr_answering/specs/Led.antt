@@ -1,9 +1,9 @@
 -- Which stories may have led to what answers, and what that says of one sequential Redis.
 use Rattle.std.specs.Prelude.{◌≡◌, false, List, None}
-use Rattle.nr_model.specs.Items.{Connection, Sequence}
+use Rattle.nr_model.specs.Items.{Connection}
 use Rattle.nr_model.specs.Sequential.{emitted_for}
 use Rattle.nr_model.specs.Bytes.{IsBeginningOf}
-use Rattle.nr_model.specs.Nodes.{World}
+use Rattle.nr_model.specs.Nodes.{World, sequence_of}
 use Rattle.nr_model.specs.Nodes.Steps.{is_client}
 use Rattle.nr_model.specs.Nodes.Pasts.{Event, IsPast}
 use Rattle.nr_model.specs.Nodes.Explained.{Explains}
@@ -43,15 +43,14 @@ pub record IsAtRest (a : AnsweringState) (story : Story) : Type 0 where
   pub settled : IsSettled story.setup events world
   pub absent : (c : Connection) → is_client world c ≡ false → kept_at c a.taps ≡ None
 
--- A story is that of events which one sequence explains. What was handed out for each connection is a beginning of what one sequential Redis emits
+-- A story is that of events which what was taken in their world, in order, explains. What was handed out for each connection is a beginning of what one sequential Redis emits
 -- for it along that sequence.
 pub record IsExplained (story : Story) : Type 0 where
   pub events : List Event
   pub world : World
-  pub items : Sequence
   pub is : IsOf story events world
-  pub explains : Explains items story.setup events world
-  pub begins : (c : Connection) → IsBeginningOf (bytes_handed c story) (emitted_for c items)
+  pub explains : Explains (sequence_of world) story.setup events world
+  pub begins : (c : Connection) → IsBeginningOf (bytes_handed c story) (emitted_for c (sequence_of world))
 
 abbrev pub StoryLaw : Type 0
 StoryLaw = (a : AnsweringState) (story : Story) → HasOnceLed story → IsExplained story

@@ -204,7 +204,7 @@ module _ (Q : Item → Type 0) where
   left_down : (es : List Entry) (ran : List Job) (tail : ℕ) (n m : NodeState) → GoesOnBy es ran tail n m → m.replica.down ≡ true
       → ((m.replica.waiting ≡ []) ⊎ (m.replica.waiting ≡ n.replica.waiting)) × ((m.next ≡ []) ⊎ (m.next ≡ n.next))
   left_down es ran tail n m by down = elim (cases_Bool n.replica.down) [
-    | inl was ↦ (inr (ap (λ (r : ReplicaState). r.waiting) (by.still was).0), by.dropped was)
+    | inl was ↦ (inr (ap (λ (r : ReplicaState). r.waiting) (by.still was)), by.dropped was)
     | inr up ↦ let fell = by.fell up down in (inl fell.1, inl fell.2)
   ]
 

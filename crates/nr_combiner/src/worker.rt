@@ -72,6 +72,13 @@ impl<B: ServerName> Worker<B> {
         }
     }
 
+    /// Which worker of its node it is, from 0 on.
+    pub fn number(&self) -> usize
+        ensures { result ≡ self.now.seat.worker }
+    {
+        self.worker
+    }
+
     /// The node, as all its workers share it.
     pub fn shared(&self) -> &Node<B>
         ensures { result.now ≡ shared_of self.now }

@@ -18,7 +18,7 @@ module _ (B : RattleType) (s : server_name.Ghosts B.Denot) (g : log_name.Ghosts 
   pub lane_send : (D M : RattleType) → IsSend D → IsSend M → IsSend (Lane.the_row B D M s g)
   lane_send D M device clock =
       declared_send (Lane.the_type B D M s g)
-      (worker_send B s g, (search sendable, (as_row_send (row_field D) device, (as_row_send (row_field M) clock, (search (sendable, crosses), tt)))))
+      (worker_send B s g, (as_row_send (row_field D) device, (as_row_send (row_field M) clock, (search (sendable, crosses), tt))))
 
 module _ (B : RattleType) (g : log_name.Ghosts B.Denot) where
   token_sent : IsSend (Token.the_field B g).row

@@ -1,5 +1,5 @@
 -- What a worker leaves, however its service ended.
-use Rattle.std.proofs.Common.{◌≡◌, ℕ, List, [], ◌++◌, Option, None, Some, append-nil, sym, ◌∙◌}
+use Rattle.std.proofs.Common.{◌≡◌, ℕ, List, [], ◌++◌, Option, None, Some, append-nil, ap, sym, ◌∙◌}
 use Rattle.std.specs.Prelude.{All, IfSome, slice_index_or}
 use Rattle.std.proofs.lemmas.List.Elements.{All-append}
 use Rattle.nr_model.specs.Bytes.{Bytes, IsBeginningOf}
@@ -15,7 +15,7 @@ use Rattle.nr_service.specs.declared.ended.Ended.{Ended}
 use Rattle.nr_service.specs.declared.ended.Ended.TheVariants as endings
 use Rattle.nr_service.specs.declared.service.Service.{Service}
 use Rattle.nr_lane.specs.Serving.{ServingState}
-use Rattle.nr_lane.specs.Led.{HasLedTo}
+use Rattle.nr_lane.specs.Led.{HasLedTo, size_of}
 use Rattle.nr_crew.specs.Left.{AreServedWhole, IsAnswered, IsServedWhole}
 
 -- who is served was fed a beginning of what its stream received, and was sent one of what was handed out
@@ -72,12 +72,15 @@ module _ {S D M : Type 0} (was_received was_sent : S → Option Bytes) (course :
 
 -- so it was answered
 pub is_answered : {S D M : Type 0} (was_received was_sent : S → Option Bytes) (gives : M → M → Option ℕ → Type 0) (parted : D → Option (List (Parting S)))
-    (first : M) (setup : Setup) (service : Service ServingState S D M) (ended : Ended) (mark : Option Standing) → mark ≡ service.answers.desk.mark
-    → (r : RanOut was_received was_sent gives HasLedTo parted first setup service) → AreServedWhole was_received was_sent r.story ended service.clients.items
-    → IsAnswered was_received was_sent gives (parted service.device) ended mark service.clients.items
-is_answered was_received was_sent gives parted first setup service ended mark is r whole = record {
+    (first : M) (node number : ℕ) (service : Service ServingState S D M) (ended : Ended) (mark : Option Standing) → mark ≡ service.answers.desk.mark
+    → (r : RanOut was_received was_sent gives HasLedTo parted first (size_of node number) service)
+    → AreServedWhole was_received was_sent r.story ended service.clients.items
+    → IsAnswered was_received was_sent gives (parted service.device) node number ended mark service.clients.items
+is_answered was_received was_sent gives parted first node number service ended mark is r whole = record {
   worker = r.known.worker;
   led = r.known.led;
+  node_is = ap (λ (s : Setup). s.nodes) (sym r.known.sized ∙ r.sized);
+  number_is = ap (λ (s : Setup). s.workers) (sym r.known.sized ∙ r.sized);
   marked = r.known.reflects.mark ∙ sym is;
   served = record {
     story = r.story;

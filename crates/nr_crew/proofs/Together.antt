@@ -139,12 +139,12 @@ module _ {S D M : Type 0} (was_received was_sent : S → Option Bytes) (gives : 
   -- one more worker left this
   pub left_more : (ms now : List MarkState) (lefts left_now : List (Left S D M)) (m : MarkState) (left : Left S D M) → now ≡ ms ++ m ∷ []
       → left_now ≡ lefts ++ left ∷ [] → AreLeft was_received was_sent gives parted ms lefts
-      → IsAnswered was_received was_sent gives (parted left.device) left.ended m.standing left.clients.items
+      → IsAnswered was_received was_sent gives (parted left.device) left.node left.worker left.ended m.standing left.clients.items
       → AreLeft was_received was_sent gives parted now left_now
   left_more ms now lefts left_now m left is left_is all here =
       subst (λ (l : List MarkState). AreLeft was_received was_sent gives parted l left_now) (sym is)
       (subst (AreLeft was_received was_sent gives parted (ms ++ m ∷ [])) (sym left_is)
-      (pairs_more (λ (mark : MarkState) (one : Left S D M). IsAnswered was_received was_sent gives (parted one.device) one.ended mark.standing one.clients.items) ms lefts m
+      (pairs_more (λ (mark : MarkState) (one : Left S D M). IsAnswered was_received was_sent gives (parted one.device) one.node one.worker one.ended mark.standing one.clients.items) ms lefts m
       left all here))
 
   record AreKnown (ms : List MarkState) (lefts : List (Left S D M)) : Type 0 where
@@ -166,7 +166,7 @@ module _ {S D M : Type 0} (was_received was_sent : S → Option Bytes) (gives : 
         marked = λ i. a.marked i ∷ more.marked i;
         known = λ i. option_to_list (a.marked i) ++ more.known i;
         led = (a.led, more.led);
-        each = (record { led = a.led; served = a.served }, more.each);
+        each = (record { led = a.led; node_is = a.node_is; number_is = a.number_is; served = a.served }, more.each);
       }
 
   pub are_together : (ms own : List MarkState) (lefts : List (Left S D M)) (replicas : List ReplicaState) → HoldsOfDesks

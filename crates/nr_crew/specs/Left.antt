@@ -27,8 +27,8 @@ AreServedWhole was_received was_sent story ended clients = ByEnding ended (All (
 
 -- A story tells of all that was fed to a worker's connections and handed out for them, of those that were ever opened at it, no two of which are one, and that each whose close
 -- put a last job was closed at the moment of that job. Each was one of a client, of those that left or of those that are there: it was fed a beginning of what its stream received,
--- and its stream sent a beginning of what was handed out for it; each that is there was fed all and was sent all that wasn't kept, where a turn was the last. The streams of those that left were given back, and bytes were fed and connections closed at the moments behind the
--- readings of the worker's clock.
+-- and its stream sent a beginning of what was handed out for it; each that is there was fed all and was sent all that wasn't kept, where a turn was the last. The streams of
+-- those that left were given back, and bytes were fed and connections closed at the moments behind the readings of the worker's clock.
 pub record HasServed {S M : Type 0} (was_received was_sent : S → Option Bytes) (gives : M → M → Option ℕ → Type 0) (given : Option (List (Parting S)))
     (ended : Ended) (clients : List (Client S)) (worker : DeskState) : Type 0 where
   pub story : Story
@@ -43,11 +43,13 @@ pub record HasServed {S M : Type 0} (was_received was_sent : S → Option Bytes)
   pub given_back : AreGivenBack (streams_of gone) given
   pub in_time : AreFedFrom gives first (fed_in story.occurrences) (closings_in story.occurrences)
 
--- So it was with a worker whose mark this is.
+-- So it was with this worker of a node, whose mark this is.
 pub record IsAnswered {S M : Type 0} (was_received was_sent : S → Option Bytes) (gives : M → M → Option ℕ → Type 0) (given : Option (List (Parting S)))
-    (ended : Ended) (mark : Option Standing) (clients : List (Client S)) : Type 0 where
+    (node number : ℕ) (ended : Ended) (mark : Option Standing) (clients : List (Client S)) : Type 0 where
   pub worker : DeskState
   pub led : IsLed worker
+  pub node_is : worker.node ≡ node
+  pub number_is : worker.worker ≡ number
   pub marked : worker.mark ≡ mark
   pub served : HasServed was_received was_sent gives given ended clients worker
 

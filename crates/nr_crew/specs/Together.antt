@@ -28,12 +28,14 @@ AllPairs R (x ∷ xs) (y ∷ ys) = R x y × AllPairs R xs ys
 abbrev pub AreLeft : {S D M : Type 0} → (S → Option Bytes) → (S → Option Bytes) → (M → M → Option ℕ → Type 0) → (D → Option (List (Parting S)))
     → List MarkState → List (Left S D M) → Type 0
 AreLeft {S} {D} {M} was_received was_sent gives parted marks lefts =
-    AllPairs (λ (mark : MarkState) (left : Left S D M). IsAnswered was_received was_sent gives (parted left.device) left.ended mark.standing left.clients.items) marks lefts
+    AllPairs (λ (mark : MarkState) (left : Left S D M). IsAnswered was_received was_sent gives (parted left.device) left.node left.worker left.ended mark.standing left.clients.items) marks lefts
 
--- this is what a worker left
+-- this is what this worker of a node left
 pub record IsLeftBy {S D M : Type 0} (was_received was_sent : S → Option Bytes) (gives : M → M → Option ℕ → Type 0)
     (parted : D → Option (List (Parting S))) (worker : DeskState) (left : Left S D M) : Type 0 where
   pub led : IsLed worker
+  pub node_is : worker.node ≡ left.node
+  pub number_is : worker.worker ≡ left.worker
   pub served : HasServed was_received was_sent gives (parted left.device) left.ended left.clients.items worker
 
 -- whatever a worker's mark knew earlier stands in front of all that it knows now, and of all that was fed behind that

@@ -15,8 +15,6 @@ use std::thread::Promise;
 #[derive(Drop)]
 pub struct Lane<B: ServerName, D, M> {
     pub worker: Worker<B>,
-    /// Which worker of its node it is.
-    pub number: usize,
     pub device: D,
     pub clock: M,
     pub(crate) buffer: Vec<u8>,
@@ -25,7 +23,7 @@ pub struct Lane<B: ServerName, D, M> {
 }
 
 impl<B: ServerName, D: Drop, M: Drop> Lane<B, D, M> {
-    /// The lane of a worker, which is this one of its node. It takes room for 65,536 bytes.
+    /// The lane of a worker. It takes room for 65,536 bytes.
     ///
     /// # Errors
     ///
@@ -33,20 +31,17 @@ impl<B: ServerName, D: Drop, M: Drop> Lane<B, D, M> {
     pub fn new(
         alloc: Global,
         worker: Worker<B>,
-        number: usize,
         device: D,
         clock: M,
     ) -> Result<Lane<B, D, M>, Memory>
         requires { worker ≡ fresh_worker (shared_of worker) worker.seat.worker }
         ensures worker { IfOk result (λ lane. lane.worker ≡ worker) }
-        ensures number { IfOk result (λ lane. lane.number ≡ number) }
         ensures device { IfOk result (λ lane. lane.device ≡ device) }
         ensures clock { IfOk result (λ lane. lane.clock ≡ clock) }
     {
         let buffer = read_buffer(alloc)?;
         Ok(Lane {
             worker,
-            number,
             device,
             clock,
             buffer,
@@ -54,9 +49,13 @@ impl<B: ServerName, D: Drop, M: Drop> Lane<B, D, M> {
     }
 }
 
-/// What a worker leaves: its device and its clock, the clients that were there, within which limits it served them, and how it ended.
+/// What a worker leaves: which one of which node it was, its device and its clock, the clients that were there, within which limits it served them, and how it ended.
 #[derive(Drop)]
 pub struct Left<S, D, M> {
+    /// Its node, from 0 on.
+    pub node: usize,
+    /// Which worker of the node it was, from 0 on.
+    pub worker: usize,
     pub device: D,
     pub clock: M,
     pub clients: Vec<Client<S>>,
@@ -81,6 +80,7 @@ impl<B: ServerName, S: Stream, D: Device<S>, M: Moments> Promise<Leaving<B, S, D
     ghost use Rattle.std.specs.Prelude.{◌≡◌};
     ghost use Rattle.nr_crew.specs.Left.{IsAnswered};
 
-    ghost kept_by = { λ promise leaving. IsAnswered S.received S.sent M.gives (D.parted leaving.left.device) leaving.left.ended leaving.mark.standing leaving.left.clients.items
+    ghost kept_by = { λ promise leaving. IsAnswered S.received S.sent M.gives (D.parted leaving.left.device) leaving.left.node leaving.left.worker leaving.left.ended
+        leaving.mark.standing leaving.left.clients.items
         × (leaving.left.limits ≡ promise.limits) };
 }

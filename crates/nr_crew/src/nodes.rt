@@ -83,14 +83,12 @@ fn add_lanes<B: ServerName, D: Drop, M: Drop>(
     requires { AllByRecursion IsFresh workers.items }
     ensures { OnOk result (vec_len lanes.new ≡ vec_len lanes.old + vec_len workers) }
 {
-    let mut number = 0usize;
     for worker in workers {
         let Some(Place { device, clock }) = places.pop() else {
             return Err(StartError::FewPlaces);
         };
-        let lane = Lane::new(alloc, worker, number, device, clock)?;
+        let lane = Lane::new(alloc, worker, device, clock)?;
         keep(lane, lanes)?;
-        number = number.saturating_add(1);
     }
     Ok(())
 }

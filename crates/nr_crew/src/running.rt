@@ -253,8 +253,11 @@ where
     M: Moments + Drop,
     K: Rings,
     G: Gate,
-    ensures answered { IsAnswered S.received S.sent M.gives (D.parted result.left.device) result.left.ended result.mark.standing result.left.clients.items }
+    ensures answered { IsAnswered S.received S.sent M.gives (D.parted result.left.device) result.left.node result.left.worker result.left.ended result.mark.standing
+        result.left.clients.items }
     ensures limits { result.left.limits ≡ shared.entry.limits }
+    ensures node { result.left.node ≡ lane.worker.node }
+    ensures worker { result.left.worker ≡ lane.worker.seat.worker }
 {
     let Shared {
         rt,

@@ -60,12 +60,14 @@ where
     M: Moments + Drop,
     K: Rings,
     G: Gate,
-    ensures answered { IsAnswered S.received S.sent M.gives (D.parted result.left.device) result.left.ended result.mark.standing result.left.clients.items }
+    ensures answered { IsAnswered S.received S.sent M.gives (D.parted result.left.device) result.left.node result.left.worker result.left.ended result.mark.standing
+        result.left.clients.items }
     ensures limits { result.left.limits ≡ limits }
+    ensures node { result.left.node ≡ lane.worker.node }
+    ensures worker { result.left.worker ≡ lane.worker.seat.worker }
 {
     let Lane {
         worker,
-        number,
         device,
         clock,
         buffer,
@@ -73,10 +75,11 @@ where
     } = lane;
     let ClientLimits { limit, timeout } = limits;
     let node = worker.shared().node();
+    let number = worker.number();
     // More than the limit may wait there: the service lets go of a client for which it does.
     let most = limit.saturating_mul(2);
     let enough = share_of(limit);
-    let desk = ServingDesk::new(alloc, rt, worker, number, crew, most, enough);
+    let desk = ServingDesk::new(alloc, rt, worker, crew, most, enough);
     let mut service = Service::over(
         alloc, buffer, node, number, desk, device, clock, limit, timeout,
     );
@@ -87,10 +90,13 @@ where
         limit: service.limit,
         timeout: service.timeout,
     };
+    let (node, number) = (service.node, service.worker);
     let (device, clock, clients) = rest_of(service);
     Leaving {
         mark,
         left: Left {
+            node,
+            worker: number,
             device,
             clock,
             clients,

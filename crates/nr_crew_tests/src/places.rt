@@ -164,8 +164,9 @@ pub(crate) struct Trial {
     /// How many of the connections stay to the end.
     pub stay: usize,
     pub held: Held,
-    /// How the first worker's door breaks.
+    /// How a worker's door breaks, and at which lane.
     pub breaks: Breaks,
+    pub breaks_at: usize,
     /// The first node falls over the first entry.
     pub falls: bool,
     /// After how many waits no connection can come any more.
@@ -210,7 +211,7 @@ fn places_of<'a, R: Abort>(
     alloc: Global,
     watch: &'a Watch,
     letters: &'a [Letters],
-    breaks: Breaks,
+    (breaks, breaks_at): (Breaks, usize),
 ) -> Vec<Place<Door<'a, R>, Still>> {
     let mut places = Vec::new(alloc);
     for (lane, letters) in letters.iter().enumerate() {
@@ -220,7 +221,11 @@ fn places_of<'a, R: Abort>(
             watch,
             letters,
             lane,
-            breaks: if lane == 0 { breaks } else { Breaks::Never },
+            breaks: if lane == breaks_at {
+                breaks
+            } else {
+                Breaks::Never
+            },
             has_given: false,
             gone: Vec::new(alloc),
             told: 0,
@@ -318,7 +323,7 @@ where
         waits: trial.waits,
         ends,
     };
-    let places = places_of(rt, alloc, &watch, &letters, trial.breaks);
+    let places = places_of(rt, alloc, &watch, &letters, (trial.breaks, trial.breaks_at));
     let keys = RandomState::new(rt).ok().expect(rt, "random bytes");
     let served = serve_by(rt, alloc, keys, trial, places, arrivals, &watch);
     let (served, arrivals) = served.ok().expect(rt, "memory");

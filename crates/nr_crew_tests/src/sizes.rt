@@ -504,8 +504,8 @@ fn desks_of<'c, B: ServerName, R: Wait + Abort>(
 ) -> Vec<ServingDesk<'c, R, B, Bells>> {
     let mut desks = Vec::new(alloc);
     for lane in lanes {
-        let Lane { worker, number, .. } = lane;
-        let desk = ServingDesk::new(alloc, rt, worker, number, crew, limit, MEBIBYTE);
+        let Lane { worker, .. } = lane;
+        let desk = ServingDesk::new(alloc, rt, worker, crew, limit, MEBIBYTE);
         desks.push(desk).ok().expect(rt, "memory");
     }
     desks

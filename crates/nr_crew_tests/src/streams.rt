@@ -22,6 +22,7 @@ const TRIAL: Trial = Trial {
     stay: 0,
     held: Held::Nobody,
     breaks: Breaks::Never,
+    breaks_at: 0,
     falls: false,
     waits: u64::MAX,
     ends: false,
@@ -225,18 +226,32 @@ fn dealt_in_turn(rt: HostRuntime) {
     went_to(&rt, &came, &[0, 2, 1, 3, 0, 2, 1, 3].map(Some));
 }
 
-// Each is served by the worker to which it was dealt: in its time no other takes a turn.
-#[test]
-fn served_where_they_are_dealt(rt: HostRuntime) {
-    let mut lines = Vec::new(rt.alloc());
-    for number in 0..4 {
-        add_pings(&rt, rt.alloc(), 1, number, &mut lines);
+// As many connections as two nodes have workers, so many each, go to these lanes, one after the other, and each is served there: in its time no other takes a turn.
+fn serves_at<R>(rt: &R, alloc: Global, workers: usize, lanes: &[Option<usize>])
+where
+    R: RandomSource + Threads + Wait + Abort + Sync,
+{
+    let count = lanes.len();
+    let mut lines = Vec::new(alloc);
+    for number in 0..count {
+        add_pings(rt, alloc, 1, number, &mut lines);
     }
     let mut trial = TRIAL;
+    trial.workers = workers;
     trial.held = Held::Others;
-    let came = serve(&rt, rt.alloc(), trial, lines);
-    holds(&rt, "all are answered", served_well(&rt, &came, 4) == 4);
-    went_to(&rt, &came, &[0, 2, 1, 3].map(Some));
+    let came = serve(rt, alloc, trial, lines);
+    holds(
+        rt,
+        "all are answered",
+        served_well(rt, &came, count) == count,
+    );
+    went_to(rt, &came, lanes);
+}
+
+#[test]
+fn served_where_they_are_dealt(rt: HostRuntime) {
+    serves_at(&rt, rt.alloc(), 2, &[0, 2, 1, 3].map(Some));
+    serves_at(&rt, rt.alloc(), 4, &[0, 4, 1, 5, 2, 6, 3, 7].map(Some));
 }
 
 // Where each node takes one connection, the first two go to a node each; once the second went the third goes to its node, and the fourth is turned away.
@@ -336,8 +351,8 @@ fn no_more_waits_than_may(rt: HostRuntime) {
     holds(&rt, "one is lost", served_well(&rt, &came, 6) == 5);
 }
 
-// Of two workers the first ends as its door breaks, with a client at each that stays: both end, and it is told why.
-fn ends_all<R>(rt: &R, alloc: Global, breaks: Breaks, why: ServeError)
+// Of two workers one ends as its door breaks, with a client at each that stays: both end, and it is told why.
+fn ends_all<R>(rt: &R, alloc: Global, lane: usize, breaks: Breaks, why: ServeError)
 where
     R: RandomSource + Threads + Wait + Abort + Sync,
 {
@@ -350,6 +365,7 @@ where
     let mut trial = TRIAL;
     trial.workers = 1;
     trial.breaks = breaks;
+    trial.breaks_at = lane;
     let came = serve(rt, alloc, trial, lines);
     holds(rt, "it is told why", came.ended == Err(why));
     holds(rt, "both end", came.workers == 2 && !came.gave_up);
@@ -357,10 +373,13 @@ where
 
 #[test]
 fn a_worker_that_ends_ends_all(rt: HostRuntime) {
-    ends_all(&rt, rt.alloc(), Breaks::Wait, ServeError::Device);
     let refused = refuse_memory(rt.alloc());
     let memory = refused.err().expect(&rt, "a block of 2^62 bytes");
-    ends_all(&rt, rt.alloc(), Breaks::Memory, ServeError::Memory(memory));
+    let memory = ServeError::Memory(memory);
+    for lane in 0..2 {
+        ends_all(&rt, rt.alloc(), lane, Breaks::Wait, ServeError::Device);
+        ends_all(&rt, rt.alloc(), lane, Breaks::Memory, memory);
+    }
 }
 
 /// One that says nothing is at each node, at that which falls and at the other; behind them one is answered at the first, and then a key is set at the other, which all
@@ -395,26 +414,36 @@ fn a_fall_holds_nobody_up(rt: HostRuntime) {
 // Where no connection can come any more all workers end.
 #[test]
 fn ends_where_none_can_come(rt: HostRuntime) {
-    let mut lines = Vec::new(rt.alloc());
-    add_pings(&rt, rt.alloc(), 1, usize::MAX, &mut lines);
-    let mut trial = TRIAL;
-    trial.waits = 10_000;
-    let came = serve(&rt, rt.alloc(), trial, lines);
-    holds(&rt, "it is told", came.ended == Err(ServeError::Device));
-    holds(&rt, "all workers end", came.workers == 4 && !came.gave_up);
+    for (nodes, workers) in [(2, 2), (5, 1)] {
+        let mut lines = Vec::new(rt.alloc());
+        add_pings(&rt, rt.alloc(), 1, usize::MAX, &mut lines);
+        let mut trial = TRIAL;
+        trial.nodes = nodes;
+        trial.workers = workers;
+        trial.waits = 10_000;
+        let came = serve(&rt, rt.alloc(), trial, lines);
+        holds(&rt, "it is told", came.ended == Err(ServeError::Device));
+        let all = nodes.saturating_mul(workers);
+        holds(&rt, "all workers end", came.workers == all && !came.gave_up);
+    }
 }
 
-// A node that has fallen takes no connection, and the other one does; once both have, none does.
+// A node that has fallen takes no connection, and the others do; once all have, none does.
 #[test]
 fn a_fallen_node_takes_none(rt: HostRuntime) {
-    let crew = Crew::new(rt.alloc(), Silent, 2, 1, 2);
+    let crew = Crew::new(rt.alloc(), Silent, 8, 1, 2);
     let crew = crew.ok().expect(&rt, "memory");
-    holds(&rt, "a node takes one", crew.admit(0));
-    crew.fall(0);
-    holds(&rt, "it has fallen", !crew.admit(0));
-    holds(&rt, "the other takes one", crew.admit(1) & !crew.are_down());
-    crew.fall(1);
-    holds(&rt, "both have", crew.are_down());
+    for node in 0..8 {
+        holds(&rt, "one is up", !crew.are_down() && !crew.is_down(node));
+        holds(&rt, "a node takes one", crew.admit(node));
+        crew.fall(node);
+        holds(
+            &rt,
+            "it has fallen",
+            crew.is_down(node) && !crew.admit(node),
+        );
+    }
+    holds(&rt, "all have", crew.are_down());
 }
 
 /// What a subscriber gets first, and each message behind that.

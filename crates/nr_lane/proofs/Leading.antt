@@ -10,13 +10,13 @@ use Rattle.nr_service.specs.Stories.{Closed, Closing, Fed, HandedOut, Occurrence
 use Rattle.nr_service.proofs.Occurrences.{pieces_closings, pieces_fed, pieces_handed, pieces_opened}
 use Rattle.nr_seats.specs.Seated.{SeatState}
 use Rattle.nr_seats.specs.Portions.{HandsOut, seat_of}
-use Rattle.nr_model.specs.Connections.{Setup}
 use Rattle.nr_worker.specs.Desk.{DeskState, Served}
+use Rattle.nr_worker.specs.Law.{GoesTo}
 use Rattle.nr_worker.specs.Moves.{fresh_desk}
 use Rattle.nr_worker.specs.Working.{Goes, IsServed, Reflects, WorkState, all_closed, all_fed, all_handed, closed_with, connections_of, fed_more, handed_more, one_opened, unchanged}
 use Rattle.nr_lane.specs.Serving.{ServingState}
 use Rattle.nr_lane.specs.Told.{Tells, close_by, closings_of, feeds_to}
-use Rattle.nr_lane.specs.Led.{HasLedTo}
+use Rattle.nr_lane.specs.Led.{HasLedTo, size_of}
 use Rattle.nr_lane.proofs.Lists.{at_one, fresh_is_led, goes_further, goes_nowhere}
 use Rattle.nr_lane.proofs.Telling.{IsClosedBy, NoneElse, some_there, absent_above, none_among, tells_map, tells_opened, was_fed, was_on}
 
@@ -56,6 +56,10 @@ apart_from v d occurrences c other s r t at absent = elim (same_connection c oth
 ] refl
 
 -- ---- a story goes on
+-- which worker it is stays
+size_kept : (story : Story) (d e : DeskState) → GoesTo d e → story.setup ≡ size_of d.node d.worker → story.setup ≡ size_of e.node e.worker
+size_kept story d e g is = is ∙ (λ i. size_of (sym g.node i) (sym g.worker i))
+
 pub led_on : (v w : ServingState) (story : Story) (more : List Occurrence) (change : List Served → List Served) → Goes change v.desk w.desk → fed_in more ≡ []
     → ((d : DeskState) → Reflects v.desk d → Tells story.occurrences d.served → Tells (story.occurrences ++ more) (change d.served))
     → HasLedTo v story → HasLedTo w (going_on story more)
@@ -63,6 +67,7 @@ led_on v w story more change g none tells h =
     let l = g.leads h.worker h.led h.reflects in
     record {
       worker = l.then;
+      sized = size_kept story h.worker l.then l.goes h.sized;
       led = l.led;
       reflects = l.reflects;
       tells = subst (Tells (story.occurrences ++ more)) (sym l.served) (tells h.worker h.reflects h.tells);
@@ -75,6 +80,7 @@ led_still v w story g h =
     let l = g.leads h.worker h.led h.reflects in
     record {
       worker = l.then;
+      sized = size_kept story h.worker l.then l.goes h.sized;
       led = l.led;
       reflects = l.reflects;
       tells = subst (Tells story.occurrences) (sym l.served) h.tells;
@@ -133,6 +139,7 @@ led_fed v w feeding s story g at h =
     let more = Fed feeding ∷ [] in
     record {
       worker = l.then;
+      sized = size_kept story h.worker l.then l.goes h.sized;
       led = l.led;
       reflects = l.reflects;
       tells = subst (Tells (story.occurrences ++ more)) (sym l.served)
@@ -186,9 +193,10 @@ led_closed v w closing s job story g at put h =
     (λ d r t. closed_told story.occurrences closing job d.served (put d r) (none_closed_else v.desk d story.occurrences closing s r t at) t) h
 
 -- at first
-pub led_fresh : (v : ServingState) (node worker : ℕ) (setup : Setup) → Reflects v.desk (fresh_desk node worker) → HasLedTo v (beginning setup)
-led_fresh v node worker setup r = record {
+pub led_fresh : (v : ServingState) (node worker : ℕ) → Reflects v.desk (fresh_desk node worker) → HasLedTo v (beginning (size_of node worker))
+led_fresh v node worker r = record {
   worker = fresh_desk node worker;
+  sized = refl;
   led = fresh_is_led node worker;
   reflects = r;
   tells = record { opened = refl; each = tt; others = λ c absent. record { fed = refl; handed = refl; closed = refl } };

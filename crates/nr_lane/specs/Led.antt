@@ -1,5 +1,6 @@
 -- Which stories may have led to a desk.
 use Rattle.std.specs.Prelude.{◌≡◌, ℕ, false}
+use Rattle.nr_model.specs.Connections.{Setup}
 use Rattle.nr_service.specs.Stories.{Story}
 use Rattle.nr_worker.specs.Desk.{DeskState, IsLed}
 use Rattle.nr_worker.specs.Resting.{AreAllExecuted}
@@ -8,9 +9,14 @@ use Rattle.nr_lane.specs.Serving.{ServingState}
 use Rattle.nr_lane.specs.Told.{Tells, WasAtFeeds}
 use Rattle.nr_lane.specs.Works.{IsResting}
 
+-- the story of one worker has for the size of what answers which worker of which node that is
+abbrev pub size_of : ℕ → ℕ → Setup
+size_of node worker = record { nodes = node; places = 0; workers = worker; connections = 0; queue_limit = 0 }
+
 -- So may a story have led to it: it stands for a worker of the law of which the story tells.
 pub record HasLedTo (d : ServingState) (story : Story) : Type 0 where
   pub worker : DeskState
+  pub sized : story.setup ≡ size_of worker.node worker.worker
   pub led : IsLed worker
   pub reflects : Reflects d.desk worker
   pub tells : Tells story.occurrences worker.served

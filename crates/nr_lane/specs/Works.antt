@@ -19,9 +19,8 @@ pub record Works (v w : WorkState) : Type 0 where
   pub waiting : HandsOut v.worker.node handed v.seats w.seats
   pub node : w.worker.node ≡ v.worker.node
 
--- No job waits, no answer is awaited, and that to each batch that was posted was collected. Of the answers that the node had given, as the desk heard last, and of those that
--- were collected, one is a beginning of the other; and no more were
--- given than batches were lifted.
+-- No job waits, no answer is awaited, and that to each batch that was posted was collected. Of the answers that the node had given, as the desk heard last, and of
+-- those that were collected, one is a beginning of the other; and no more were given than batches were lifted.
 pub record IsIdle (v : WorkState) : Type 0 where
   pub none : v.jobs ≡ []
   pub answered : v.waiting ≡ false

@@ -1,11 +1,10 @@
 // A worker's desk as what answers its service.
 ghost use Rattle.std.specs.Prelude.{◌≡◌, ◌≤◌, [], None};
-ghost use Rattle.nr_model.specs.Connections.{Setup};
 ghost use Rattle.nr_model.specs.Keyspace.{moment as moment_of, last_moment};
 ghost use Rattle.nr_combiner.specs.Workers.{fresh_worker, shared_of};
 ghost use Rattle.nr_service.specs.Stories.{beginning};
 ghost use Rattle.nr_worker.specs.Working.{without_mark};
-ghost use Rattle.nr_lane.specs.Led.{HasLedTo};
+ghost use Rattle.nr_lane.specs.Led.{HasLedTo, size_of};
 ghost use Rattle.nr_lane.specs.Serving.{has_nothing_to_do};
 
 use crate::crew::Crew;
@@ -67,22 +66,22 @@ fn capped(milliseconds: u64) -> u64
 }
 
 impl<'a, R: Wait, B: ServerName, K: Rings> ServingDesk<'a, R, B, K> {
-    /// The desk of a worker that has handed in nothing, which is this worker of its node, with no connections. At most `limit` bytes wait for each, and a work ends
-    /// once more than `enough` do. It takes no memory.
+    /// The desk of a worker that has handed in nothing, with no connections. At most `limit` bytes wait for each, and a work ends once more than `enough` do. It takes no
+    /// memory.
     pub fn new(
         alloc: Global,
         rt: &'a R,
         worker: Worker<B>,
-        number: usize,
         crew: &'a Crew<K>,
         limit: usize,
         enough: usize,
     ) -> ServingDesk<'a, R, B, K>
         requires { worker ≡ fresh_worker (shared_of worker) worker.seat.worker }
-        ensures past { (setup : Setup) → HasLedTo result (beginning setup) }
+        ensures past { HasLedTo result (beginning (size_of worker.node worker.seat.worker)) }
         ensures mark { result.desk.mark ≡ None }
         ensures limit { result.desk.limit ≡ limit }
     {
+        let number = worker.number();
         ServingDesk {
             desk: Desk::new(alloc, rt, worker, limit),
             crew,
@@ -114,7 +113,7 @@ impl<'a, R: Wait, B: ServerName, K: Rings> ServingDesk<'a, R, B, K> {
 }
 
 impl<'a, R: Wait, B: ServerName, K: Rings> Answers for ServingDesk<'a, R, B, K> {
-    ghost use Rattle.std.specs.Prelude.{◌≡◌, None};
+    ghost use Rattle.std.specs.Prelude.{◌≡◌, true, None};
     ghost use Rattle.nr_seats.specs.Portions.{seat_of};
     ghost use Rattle.nr_lane.specs.Led.{HasLedTo, IsAtRest};
     ghost use Rattle.nr_lane.specs.Serving.{kept_at, standing_of};
@@ -132,8 +131,8 @@ impl<'a, R: Wait, B: ServerName, K: Rings> Answers for ServingDesk<'a, R, B, K> 
 
     ghost stands = { λ d c standing. standing ≡ standing_of d c };
 
-    // Nobody knows of all nodes at once.
-    ghost falls = { λ _ _. Unit {0} };
+    // Its own node is down. Nobody knows of all nodes at once.
+    ghost falls = { λ d falls. falls ≡ true → d.down ≡ true };
 
     // There may be no memory for one more.
     ghost is_full = { λ _. Unit {0} };
@@ -171,7 +170,7 @@ impl<'a, R: Wait, B: ServerName, K: Rings> Answers for ServingDesk<'a, R, B, K> 
     }
 
     fn is_down(&self) -> bool {
-        self.crew.are_down()
+        self.is_down && self.crew.are_down()
     }
 
     /// Where memory runs out the connection is cut.

@@ -1,6 +1,5 @@
 -- One sequence explains every past: what was taken, in order.
 use Rattle.std.proofs.Common.{List, sym, subst}
-use Rattle.nr_model.specs.Items.{Sequence}
 use Rattle.nr_model.specs.Connections.{Setup}
 use Rattle.nr_model.specs.Nodes.{World, fresh, sequence_of}
 use Rattle.nr_model.specs.Nodes.Pasts.{Event, AreEvents, world_after}
@@ -29,6 +28,5 @@ pub nodes_are_explained : NodesLaw
 nodes_are_explained =
     record {
       explained = λ setup events world past.
-          subst (λ (w : World). (items : Sequence) × Explains items setup events w) (sym past.1)
-          (sequence_of (world_after setup events), each_explained setup events past.0);
+          subst (λ (w : World). Explains (sequence_of w) setup events w) (sym past.1) (each_explained setup events past.0);
     }

@@ -1,5 +1,5 @@
 -- A connection's queue: the bytes that wait for it, up to a limit (own).
-use Rattle.std.specs.Prelude.{ℕ, ◌+◌, ◌^◌, Bool, true, not, ◌&&◌, nat_le, nat_lt, cond, List, [], ◌∷◌, ◌++◌, length, take, drop, Option, Some, None, refl}
+use Rattle.std.specs.Prelude.{ℕ, ◌+◌, ◌^◌, Bool, true, not, ◌&&◌, nat_le, nat_lt, cond, List, [], ◌∷◌, ◌++◌, length, take, drop, slice_index_or, Option, Some, None, refl}
 use Rattle.std.specs.Coded.{Coded, code_by, coded×, coded_ℕ, coded_bool}
 use Rattle.nr_model.specs.Bytes.{Bytes}
 use Rattle.nr_model.specs.Keyspace.{coded_bytes}
@@ -43,6 +43,10 @@ put q text = cond (takes q text) (with_bytes q text) (cut_off q)
 abbrev pub puts : Queue → List Bytes → Queue
 puts q [] = q
 puts q (text ∷ texts) = puts (put q text) texts
+
+-- this one of them finds room behind those before it: the queue grows by it
+abbrev pub grows : Queue → List Bytes → ℕ → Bool
+grows q texts n = nat_lt n (length texts) && takes (puts q (take n texts)) (slice_index_or texts n [])
 
 -- and where memory is refused for one of them, the queue is cut before it
 abbrev pub received : Option ℕ → Queue → List Bytes → Queue

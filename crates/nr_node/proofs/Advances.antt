@@ -8,6 +8,7 @@ use Rattle.nr_model.specs.Items.{Connection, Sequence}
 use Rattle.nr_model.specs.Servers.{fresh, emitted_all}
 use Rattle.nr_model.specs.Entries.{Jobs, entry_items}
 use Rattle.nr_model.specs.Nodes.Steps.{texts_for}
+use Rattle.nr_model.proofs.NodesPartsEmitted.{begins_itself}
 use Rattle.nr_entry.specs.Jobs.{items_of}
 use Rattle.nr_entry.specs.declared.entry.Entry.{Entry}
 use Rattle.nr_entry.specs.declared.job.Job.{Job}
@@ -18,7 +19,7 @@ use Rattle.nr_log_end.specs.declared.standing.Turn.{Turn}
 use Rattle.nr_log_end.specs.declared.standing.Turn.TheVariants.{Applied}
 use Rattle.nr_log_end.specs.Standings.{record_of, applied_of, passed_of, StandsInLog, LooksOn, fetched_with, passed_on}
 use Rattle.nr_oplog.specs.declared.view.LogView.{LogView}
-use Rattle.nr_accounts.specs.Book.{Book, without_ended}
+use Rattle.nr_accounts.specs.Book.{Book, without_ended, HasGoneBack}
 use Rattle.nr_accounts.proofs.Steps.{closed-append}
 use Rattle.nr_replica.specs.Members.{worker_of}
 use Rattle.nr_replica.specs.declared.fall.Fall.{Fall}
@@ -28,14 +29,14 @@ use Rattle.nr_node.specs.declared.next.Next.{Next}
 use Rattle.nr_node.specs.Level.{unpassed, jobs_reserved, IsInOrder}
 use Rattle.nr_node.specs.Next.{jobs_next}
 use Rattle.nr_node.specs.Owing.{IsOwing, awaited, unexecuted}
-use Rattle.nr_node.specs.Advanced.{IsTakenIn, HasPassed, GoesOn, HasClosed, HaveGot, MeetsNoTail, HasStopped, jobs_of_own, jobs_of_all}
+use Rattle.nr_node.specs.Advanced.{IsTakenIn, HasPassed, GoesOn, HasClosed, HasLost, HaveGot, MeetsNoTail, HasStopped, jobs_of_own, jobs_of_all}
 use Rattle.nr_node.proofs.Lists.{record-append, applied-append, still_in_log, reserved_passed}
 use Rattle.nr_node.proofs.Queues.{delivered_length}
 use Rattle.nr_node.proofs.Levels.{passed_level, same_level}
 use Rattle.nr_node.proofs.Got.{got_itself, got_on, got_received}
 use Rattle.nr_node.proofs.Owed.{workers_owing, passed_owing, received_workers, still_awaited_if}
-use Rattle.nr_node.proofs.Orders.{passed_order, passed_down, met_order}
-use Rattle.nr_node.proofs.Closing.{still_closed, closed_then, entry_in, counted_record, all_closed}
+use Rattle.nr_node.proofs.Orders.{passed_order, passed_fallen, met_order}
+use Rattle.nr_node.proofs.Closing.{still_closed, closed_then, back_closed, entry_in, counted_record, all_closed}
 
 apart : (b : Bool) → b ≡ false → b ≡ true → ⊥
 apart b up down = absurd (cc (up, down))
@@ -78,7 +79,8 @@ goes_none s replica next book = record {
   level = λ l. l;
   order = λ o. o;
   closed = λ o. still_closed (record_of s.history) book;
-  ended = λ up. refl;
+  ended = λ _. refl;
+  lost = λ up down. absurd (apart replica.down up down);
   owing = λ l up o. o;
   members = refl;
   workers = λ c. refl;
@@ -88,7 +90,7 @@ goes_none s replica next book = record {
   up = λ up. (up, refl, refl);
   fell = λ up down. absurd (apart replica.down up down);
   cause = λ up down. absurd (apart replica.down up down);
-  still = λ _. (refl, refl);
+  still = λ _. refl;
   after_is = inr refl;
 }
 
@@ -120,6 +122,34 @@ ended_then es fs x y z first last =
     ∙ (λ i. record x { held = sym (closed-append x.node x.held (jobs_of_all es) (jobs_of_all fs)) i })
     ∙ sym (ap (λ (js : Jobs). without_ended js x) (jobs-append es fs))
 
+-- both of two moves leave it up or down, where all of it does
+still_both : (a b c : Bool) → c ≡ a → (a ≡ true → b ≡ true) → (c ≡ false → b ≡ false) → (b ≡ a) × (c ≡ b)
+still_both true b c same down up = (down refl, same ∙ sym (down refl))
+still_both false b c same down up = (up same, same ∙ sym (up same))
+
+-- it fell by one of the first, or of the last
+lost_then : (es fs : List Entry) (dropped : Jobs) (x y z : Book) → HasLost es dropped x y → z ≡ without_ended (jobs_of_all fs) y → HasLost (es ++ fs) dropped x z
+lost_then es fs dropped x y z lost ended = record {
+  before = lost.before;
+  over = lost.over;
+  behind = lost.behind ++ fs;
+  all = ap (λ (xs : List Entry). xs ++ fs) lost.all ∙ append_assoc lost.before (lost.over ∷ lost.behind) fs;
+  back = lost.back;
+  went_back = lost.went_back;
+  ended = ended_then (lost.over ∷ lost.behind) fs lost.back y z lost.ended ended;
+}
+
+then_lost : (es fs : List Entry) (dropped : Jobs) (x y z : Book) → y ≡ without_ended (jobs_of_all es) x → HasLost fs dropped y z → HasLost (es ++ fs) dropped x z
+then_lost es fs dropped x y z ended lost = record {
+  before = es ++ lost.before;
+  over = lost.over;
+  behind = lost.behind;
+  all = ap (λ (xs : List Entry). es ++ xs) lost.all ∙ sym (append_assoc es lost.before (lost.over ∷ lost.behind));
+  back = lost.back;
+  went_back = subst (λ (b : Book). HasGoneBack dropped b lost.back) (ended_then es lost.before x y (without_ended (jobs_of_all lost.before) y) ended refl) lost.went_back;
+  ended = lost.ended;
+}
+
 -- by some, and then by others
 pub goes_then : (es fs : List Entry) (s t u : Standing) (a b c : ReplicaState) (n m k : Option Next) (x y z : Book) → GoesOn es s t a b n m x y
     → GoesOn fs t u b c m k y z → GoesOn (es ++ fs) s u a c n k x z
@@ -129,7 +159,16 @@ goes_then es fs s t u a b c n m k x y z first last = record {
   level = λ l. last.level (first.level l);
   order = λ o. last.order (first.order o);
   closed = λ o. closed_then (record_of t.history) (record_of u.history) x y z (more_recorded fs t u last.passed) (first.closed o) (last.closed (first.order o));
-  ended = λ up. ended_then es fs x y z (first.ended (last.up up).0) (last.ended up);
+  ended = λ same.
+      let both = still_both a.down b.down c.down same (λ down. ap (λ (r : ReplicaState). r.down) (first.still down) ∙ down) (λ up. (last.up up).0) in
+      ended_then es fs x y z (first.ended both.0) (last.ended both.1);
+  lost = λ up down. elim (cases_Bool b.down) [
+    | inl gone ↦ lost_then es fs _ x y z (first.lost up gone) (last.ended (down ∙ sym gone))
+    | inr on ↦
+        let was = first.up on in
+        let same : items_of (jobs_next m) ++ items_of b.waiting ≡ items_of (jobs_next n) ++ items_of a.waiting = λ i. items_of (jobs_next (was.1 i)) ++ items_of (was.2 i) in
+        then_lost es fs _ x y z (first.ended (on ∙ sym up)) (subst (λ (dropped : Jobs). HasLost fs dropped y z) same (last.lost on down))
+  ];
   owing = λ l up o. last.owing (first.level l) up (first.owing l (last.up up).0 o);
   members = last.members ∙ first.members;
   workers = λ c. last.workers c ∙ first.workers c;
@@ -144,20 +183,19 @@ goes_then es fs s t u a b c n m k x y z first last = record {
     | inl gone ↦
         let by = first.fell up gone in (
           some_first es fs by.0,
-          ap (λ (r : ReplicaState). r.waiting) (last.still gone).0 ∙ by.1,
+          ap (λ (r : ReplicaState). r.waiting) (last.still gone) ∙ by.1,
           elim last.after_is [ inl none ↦ none | inr same ↦ same ∙ by.2 ],
-          ap (λ (r : ReplicaState). r.server) (last.still gone).0 ∙ by.3,
+          ap (λ (r : ReplicaState). r.server) (last.still gone) ∙ by.3,
         )
     | inr on ↦ let by = last.fell on down in (some_last es fs by.0, by.1, by.2, by.3)
   ];
   cause = λ up down is. elim (cases_Bool b.down) [
-    | inl gone ↦ first.cause up gone (sym (ap (λ (r : ReplicaState). r.fell) (last.still gone).0) ∙ is)
+    | inl gone ↦ first.cause up gone (sym (ap (λ (r : ReplicaState). r.fell) (last.still gone)) ∙ is)
     | inr on ↦ sym (first.refused on) ∙ last.cause on down is
   ];
   still = λ down.
       let same = first.still down in
-      let later = last.still (ap (λ (r : ReplicaState). r.down) same.0 ∙ down) in
-      (later.0 ∙ same.0, later.1 ∙ same.1);
+      last.still (ap (λ (r : ReplicaState). r.down) same ∙ down) ∙ same;
   after_is = elim last.after_is [
     | inl none ↦ inl none
     | inr same ↦ elim first.after_is [ inl none ↦ inl (same ∙ none) | inr first_same ↦ inr (same ∙ first_same) ]
@@ -175,7 +213,6 @@ record Leaves (old new : ReplicaState) : Type 0 where
   pub got : HaveGot old.members new.members
   pub refused : new.down ≡ false → new.refused ≡ old.refused
   pub up : new.down ≡ false → (old.down ≡ false) × (new.waiting ≡ old.waiting)
-  pub waits : (new.waiting ≡ []) ⊎ (new.waiting ≡ old.waiting)
   pub fell : old.down ≡ false → new.down ≡ true → (new.waiting ≡ []) × (new.server ≡ fresh)
   pub cause : old.down ≡ false → new.down ≡ true → new.fell ≡ Some Refused → old.refused ≡ true
   pub still : old.down ≡ true → new ≡ old
@@ -189,7 +226,6 @@ leaves e old new taken = elim taken [
     got = subst (λ (r : ReplicaState). HaveGot old.members r.members) (sym down.1) (got_itself old.members);
     refused = λ up. ap (λ (r : ReplicaState). r.refused) down.1;
     up = λ up. absurd (cc (up, ap (λ (r : ReplicaState). r.down) down.1, down.0));
-    waits = inr (ap (λ (r : ReplicaState). r.waiting) down.1);
     fell = λ up _. absurd (apart old.down up down.0);
     cause = λ up _. absurd (apart old.down up down.0);
     still = λ _. down.1;
@@ -204,7 +240,6 @@ leaves e old new taken = elim taken [
           got = got_received (λ c. texts_for c (emitted_all old.server (entry_items (items_of e.jobs.items)))) old.members new.members applied.delivered;
           refused = λ _. ap (λ (r : ReplicaState). r.refused) applied.state;
           up = λ _. (up.0, waiting);
-          waits = inr waiting;
           fell = λ _ gone. absurd (apart new.down (ap (λ (r : ReplicaState). r.down) applied.state ∙ up.0) gone);
           cause = λ _ gone. absurd (apart new.down (ap (λ (r : ReplicaState). r.down) applied.state ∙ up.0) gone);
           still = λ gone. absurd (apart old.down up.0 gone);
@@ -216,7 +251,6 @@ leaves e old new taken = elim taken [
       got = subst (λ (r : ReplicaState). HaveGot old.members r.members) (sym fell) (got_itself old.members);
       refused = λ up. absurd (cc (up, ap (λ (r : ReplicaState). r.down) fell));
       up = λ up. absurd (cc (up, ap (λ (r : ReplicaState). r.down) fell));
-      waits = inl (ap (λ (r : ReplicaState). r.waiting) fell);
       fell = λ _ _. (ap (λ (r : ReplicaState). r.waiting) fell, ap (λ (r : ReplicaState). r.server) fell);
       cause = λ _ _ is. falls.2 (same_some falls.0 Refused (sym (ap (λ (r : ReplicaState). r.fell) fell) ∙ is));
       still = λ gone. absurd (apart old.down up.0 gone);
@@ -224,15 +258,39 @@ leaves e old new taken = elim taken [
   ]
 ]
 
-order_kept : (s t : Standing) (e : Entry) (old new : ReplicaState) (next after : Option Next) (b : Bool) → new.down ≡ b → t ≡ passed_on (fetched_with e s)
-    → StandsInLog (fetched_with e s) → Leaves old new → (b ≡ true → after ≡ None) → (b ≡ false → after ≡ next)
-    → (book : Book) → IsInOrder s old book (jobs_next next) → IsInOrder t new book (jobs_next after)
-order_kept s t e old new next after true is t_is stands leaves none same book o =
-    subst (λ (n : Option Next). IsInOrder t new book (jobs_next n)) (sym (none refl))
-    (passed_down s t e old new book (jobs_next next) t_is stands leaves.members is leaves.waits o)
-order_kept s t e old new next after false is t_is stands leaves none same book o =
-    subst (λ (n : Option Next). IsInOrder t new book (jobs_next n)) (sym (same refl))
-    (passed_order s t e old new book (jobs_next next) t_is stands leaves.members (λ up. (leaves.up up).0) (leaves.up is).1 o)
+-- what was taken in leaves the next entry and the accounts as they were, unless the replica falls by it
+abbrev pub Stays : ReplicaState → ReplicaState → Option Next → Option Next → Book → Book → Type 0
+Stays old new next after book mid = new.down ≡ old.down → (after ≡ next) × (mid ≡ book)
+
+abbrev pub Drops : ReplicaState → ReplicaState → Option Next → Option Next → Book → Book → Type 0
+Drops old new next after book mid =
+    old.down ≡ false → new.down ≡ true → (after ≡ None) × HasGoneBack (items_of (jobs_next next) ++ items_of old.waiting) book mid
+
+order_kept : (s t : Standing) (e : Entry) (old new : ReplicaState) (next after : Option Next) (book mid : Book) → t ≡ passed_on (fetched_with e s)
+    → StandsInLog (fetched_with e s) → length new.members ≡ length old.members → IsTakenIn e old new → Stays old new next after book mid
+    → Drops old new next after book mid → IsInOrder s old book (jobs_next next)
+    → IsInOrder t new mid (jobs_next after) × HasClosed (record_of t.history) book mid
+order_kept s t e old new next after book mid is stands long taken stays drops o =
+    elim taken [
+      | inl down ↦ still (ap (λ (r : ReplicaState). r.down) down.1) (ap (λ (r : ReplicaState). r.waiting) down.1)
+      | inr up ↦ elim up.1 [
+        | inl applied ↦ still (ap (λ (r : ReplicaState). r.down) applied.state) (ap (λ (r : ReplicaState). r.waiting) applied.state)
+        | inr falls ↦
+            let by = drops up.0 (ap (λ (r : ReplicaState). r.down) falls.1) in (
+              subst (λ (n : Option Next). IsInOrder t new mid (jobs_next n)) (sym by.0)
+                  (passed_fallen s t e old new book mid (jobs_next next) is stands long (ap (λ (r : ReplicaState). r.waiting) falls.1) by.1 o),
+              back_closed (record_of t.history) (items_of (jobs_next next) ++ items_of old.waiting) book mid by.1,
+            )
+      ]
+    ]
+  where
+    still : new.down ≡ old.down → new.waiting ≡ old.waiting → IsInOrder t new mid (jobs_next after) × HasClosed (record_of t.history) book mid
+    still down waiting =
+        let same = stays down in
+        let there = passed_order s t e old new book (jobs_next next) is stands long waiting o in (
+          subst (λ (b : Book). IsInOrder t new b (jobs_next after)) (sym same.1) (subst (λ (n : Option Next). IsInOrder t new book (jobs_next n)) (sym same.0) there),
+          subst (HasClosed (record_of t.history) book) (sym same.1) (still_closed (record_of t.history) book),
+        )
 
 -- what is owed once one was applied
 owing_kept : (s t : Standing) (e : Entry) (old new : ReplicaState) (next after : Option Next) → t ≡ passed_on (fetched_with e s) → StandsInLog (fetched_with e s)
@@ -268,29 +326,30 @@ owing_taken s t e old new next after t_is stands node taken same is_up o = elim 
   ]
 ]
 
-after_by : (b : Bool) (next after : Option Next) → (b ≡ true → after ≡ None) → (b ≡ false → after ≡ next) → (after ≡ None) ⊎ (after ≡ next)
-after_by true next after none same = inl (none refl)
-after_by false next after none same = inr (same refl)
+after_by : (e : Entry) (old new : ReplicaState) (next after : Option Next) (book mid : Book) → IsTakenIn e old new → Stays old new next after book mid
+    → Drops old new next after book mid → (after ≡ None) ⊎ (after ≡ next)
+after_by e old new next after book mid taken stays drops = elim taken [
+  | inl down ↦ inr (stays (ap (λ (r : ReplicaState). r.down) down.1)).0
+  | inr up ↦ elim up.1 [
+    | inl applied ↦ inr (stays (ap (λ (r : ReplicaState). r.down) applied.state)).0
+    | inr falls ↦ inl (drops up.0 (ap (λ (r : ReplicaState). r.down) falls.1)).0
+  ]
+]
 
--- the accounts of connections whose end is in an entry went, where the replica is up
-ended_kept : (t : Standing) (front : Sequence) (e : Entry) (new : ReplicaState) (next : List Job) (book later : Book) (b : Bool) → new.down ≡ b
-    → record_of t.history ≡ front ++ entry_items (items_of e.jobs.items) → (b ≡ true → later ≡ book)
-    → (b ≡ false → later ≡ without_ended (items_of e.jobs.items) book) → IsInOrder t new book next
-    → IsInOrder t new later next × HasClosed (record_of t.history) book later
-ended_kept t front e new next book later true is recorded stays ended o = (
-  subst (λ (x : Book). IsInOrder t new x next) (sym (stays refl)) o,
-  subst (HasClosed (record_of t.history) book) (sym (stays refl)) (still_closed (record_of t.history) book),
-)
-ended_kept t front e new next book later false is recorded stays ended o =
-    all_closed t new next (items_of e.jobs.items) book later is
-    (entry_in t front (items_of e.jobs.items) recorded (counted_record t new book next o)) (ended refl) o
+-- the accounts of connections whose end is in an entry went
+ended_kept : (t : Standing) (front : Sequence) (e : Entry) (new : ReplicaState) (next : List Job) (book mid later : Book)
+    → record_of t.history ≡ front ++ entry_items (items_of e.jobs.items) → later ≡ without_ended (items_of e.jobs.items) mid
+    → IsInOrder t new mid next × HasClosed (record_of t.history) book mid → IsInOrder t new later next × HasClosed (record_of t.history) book later
+ended_kept t front e new next book mid later recorded ended both =
+    let done = record_of t.history in
+    let last = all_closed t new next (items_of e.jobs.items) mid later (entry_in t front (items_of e.jobs.items) recorded (counted_record t new mid next both.0)) ended both.0 in
+    (last.0, closed_then done done book mid later (begins_itself done) both.1 last.1)
 
 -- by one
-pub goes_by_entry : (s held t : Standing) (e : Entry) (old new : ReplicaState) (next after : Option Next) (book later : Book) → s.held ≡ None → held ≡ fetched_with e s
-    → t ≡ passed_on held → StandsInLog held → IsTakenIn e old new → (new.down ≡ true → after ≡ None) → (new.down ≡ false → after ≡ next)
-    → (new.down ≡ true → later ≡ book) → (new.down ≡ false → later ≡ without_ended (items_of e.jobs.items) book)
-    → GoesOn (e ∷ []) s t old new next after book later
-goes_by_entry s held t e old new next after book later idle fetched passed stands taken none same stays ended =
+pub goes_by_entry : (s held t : Standing) (e : Entry) (old new : ReplicaState) (next after : Option Next) (book mid later : Book) → s.held ≡ None
+    → held ≡ fetched_with e s → t ≡ passed_on held → StandsInLog held → IsTakenIn e old new → Stays old new next after book mid → Drops old new next after book mid
+    → later ≡ without_ended (items_of e.jobs.items) mid → GoesOn (e ∷ []) s t old new next after book later
+goes_by_entry s held t e old new next after book mid later idle fetched passed stands taken stays drops ended =
     let l = leaves e old new taken in
     let is : t ≡ passed_on (fetched_with e s) = passed ∙ ap passed_on fetched in
     let log : StandsInLog (fetched_with e s) = subst StandsInLog fetched stands in
@@ -298,8 +357,10 @@ goes_by_entry s held t e old new next after book later idle fetched passed stand
     let recorded : record_of t.history ≡ record_of s.history ++ entry_items items =
     ap (λ (x : Standing). record_of x.history) is ∙ record-append s.history (Applied e ∷ []) ∙ ap (λ (js : Sequence). record_of s.history ++ js) (append-nil (entry_items items)) in
     let both = λ (o : IsInOrder s old book (jobs_next next)).
-    ended_kept t (record_of s.history) e new (jobs_next after) book later new.down refl recorded stays ended
-    (order_kept s t e old new next after new.down refl is log l none same book o) in
+    ended_kept t (record_of s.history) e new (jobs_next after) book mid later recorded ended
+    (order_kept s t e old new next after book mid is log l.members taken stays drops o) in
+    let same = λ (up : new.down ≡ false). (stays (up ∙ sym (l.up up).0)).0 in
+    let whole : later ≡ without_ended (jobs_of_all (e ∷ [])) mid = ended ∙ ap (λ (js : Jobs). without_ended js mid) (sym (append-nil items)) in
     record {
       passed = record {
         seen = let seen = ap (λ (x : Standing). x.seen) is in omega (arith, seen);
@@ -310,7 +371,8 @@ goes_by_entry s held t e old new next after book later idle fetched passed stand
       level = λ lv. passed_level s t e old new is taken lv;
       order = λ o. (both o).0;
       closed = λ o. (both o).1;
-      ended = λ up. ended up ∙ ap (λ (js : Jobs). without_ended js book) (sym (append-nil items));
+      ended = λ down. whole ∙ ap (without_ended (jobs_of_all (e ∷ []))) (stays down).1;
+      lost = λ up down. record { before = []; over = e; behind = []; all = refl; back = mid; went_back = (drops up down).1; ended = whole };
       owing = λ lv up o. owing_taken s t e old new next after is log lv.node taken (same up) up o;
       members = l.members;
       workers = l.workers;
@@ -318,10 +380,10 @@ goes_by_entry s held t e old new next after book later idle fetched passed stand
       got = l.got;
       refused = l.refused;
       up = λ up. ((l.up up).0, same up, (l.up up).1);
-      fell = λ up down. let by = l.fell up down in (λ none_is. absurd (cc none_is), by.0, none down, by.1);
+      fell = λ up down. let by = l.fell up down in (λ none_is. absurd (cc none_is), by.0, (drops up down).0, by.1);
       cause = l.cause;
-      still = λ down. let same_replica = l.still down in (same_replica, stays (ap (λ (r : ReplicaState). r.down) same_replica ∙ down));
-      after_is = after_by new.down next after none same;
+      still = l.still;
+      after_is = after_by e old new next after book mid taken stays drops;
     }
 
 all_applied : (es : List Entry) → applied_of (map Applied es) ≡ es
@@ -342,7 +404,8 @@ goes_tail s t replica next book looks = record {
   level = λ l. same_level s t replica replica (ap (λ (x : Standing). x.node) looks.1) (ap (λ (x : Standing). x.history) looks.1) refl refl refl refl refl l;
   order = λ o. met_order s t replica book (jobs_next next) (record { seen = looks.0; standing = looks.1 }) o;
   closed = λ o. still_closed (record_of t.history) book;
-  ended = λ up. refl;
+  ended = λ _. refl;
+  lost = λ up down. absurd (apart replica.down up down);
   owing = λ l up o. subst (λ (x : Standing). IsOwing replica.members replica.owed (unexecuted x (jobs_next next) replica.waiting)) (sym looks.1) o;
   members = refl;
   workers = λ c. refl;
@@ -352,7 +415,7 @@ goes_tail s t replica next book looks = record {
   up = λ up. (up, refl, refl);
   fell = λ up down. absurd (apart replica.down up down);
   cause = λ up down. absurd (apart replica.down up down);
-  still = λ _. (refl, refl);
+  still = λ _. refl;
   after_is = inr refl;
 }
 

@@ -58,6 +58,7 @@ caught_by es end last old new book later next after n is g looks few order =
       from = g.passed.seen;
       closed = g.closed order;
       ended = g.ended;
+      lost = g.lost;
       owed = g.owed;
       got = g.got;
       refused = g.refused;
@@ -96,6 +97,7 @@ read_on n m t es ran looks more passed own same noted first last closed ended ow
   closed = closed_then (record_of t.history) (record_of m.seat.standing.history) n.book m.book m.book (noted_more t m.seat.standing ran noted) closed
       (still_closed (record_of m.seat.standing.history) m.book);
   ended = λ _. ended;
+  lost = λ _ fell. absurd (cc (up, fell));
   owed = owed;
   got = got;
   refused = refused;

@@ -1,6 +1,6 @@
 -- The account of a connection goes once its end is in the record.
 use Rattle.std.proofs.Common.{◌≡◌, ℕ, zero, suc, ◌<◌, ◌+◌, ◌-◌, inl, inr, Bool, true, false, cond, List, [], ◌∷◌, ◌++◌, length, map, refl, ap, sym, ◌∙◌, subst, arith, append_assoc, eqb, ltb}
-use Rattle.std.specs.Prelude.{◌⊎◌, ◌&&◌, Option, Some, None, IfSome}
+use Rattle.std.specs.Prelude.{◌⊎◌, ◌&&◌, Option, Some, None, IfSome, option_map}
 use Rattle.std.specs.List.{AllByRecursion, range_with_len}
 use Rattle.std.specs.FinMap as finmap
 use Rattle.std.proofs.lemmas.Bool.{cases_Bool, and_parts, and_from, eq-eqb, eqb-true, ltb-true}
@@ -10,16 +10,16 @@ use Rattle.std.proofs.lemmas.List.FromFn.{length-range_with_len}
 use Rattle.nr_model.specs.Bytes.{IsBeginningOf}
 use Rattle.nr_model.specs.Items.{Connection, Item, Sequence, same_connection, is_end}
 use Rattle.nr_model.specs.Entries.{Jobs, entry_items}
-use Rattle.nr_model.specs.Asked.{own_jobs}
+use Rattle.nr_model.specs.Asked.{own_jobs, first_number}
 use Rattle.nr_model.proofs.NodesPartsEmitted.{begins_itself, begins_on}
 use Rattle.nr_entry.specs.Jobs.{items_of}
 use Rattle.nr_entry.specs.declared.job.Job.{Job}
 use Rattle.nr_log_end.specs.declared.standing.Standing.{Standing}
 use Rattle.nr_log_end.specs.Standings.{record_of}
 use Rattle.nr_accounts.specs.declared.account.Account.{Account}
-use Rattle.nr_accounts.specs.Account.{ends_with}
+use Rattle.nr_accounts.specs.Account.{ends_with, back_to, back_by}
 use Rattle.nr_accounts.specs.Held.{Held, numbers_in, CountsTo, ends_by, closed_one}
-use Rattle.nr_accounts.specs.Book.{Book, without_ended}
+use Rattle.nr_accounts.specs.Book.{Book, without_ended, HasGoneBack}
 use Rattle.nr_accounts.proofs.Counts.{closed_counts}
 use Rattle.nr_replica.specs.Members.{Member, worker_of}
 use Rattle.nr_replica.specs.Replicas.{ReplicaState}
@@ -102,20 +102,25 @@ if_later c done more None grows h = tt
 if_later c done more (Some account) grows h =
     (h.0, begins_on (range_with_len 0 account.next) (numbers_in c done) (numbers_in c more) h.1 (begins_numbers c done more grows))
 
+-- none that is gone is there again
+none_still : (c : Connection) (done : Sequence) (old new : Option Account) → old ≡ None → IsClosedAt done c old new → new ≡ None
+none_still c done old new none (inl same) = same ∙ none
+none_still c done old new none (inr (inl gone)) = gone.0
+none_still c done old new none (inr (inr back)) = back.1 ∙ ap (option_map (back_to back.0)) none
+
+-- one that went back isn't gone, since its end wasn't taken, and may go back again
+back_then : (c : Connection) (done : Sequence) (number : ℕ) (old new : Option Account) → IsClosedAt done c (option_map (back_to number) old) new → IsClosedAt done c old new
+back_then c done number None new h = h
+back_then c done number (Some a) new (inl same) = inr (inr (number, same))
+back_then c done number (Some a) new (inr (inl gone)) = absurd (cc gone.1.0)
+back_then c done number (Some a) new (inr (inr again)) = inr (inr (again.0, again.1))
+
 -- some were, and then others
 closed_at_then : (c : Connection) (done more : Sequence) (x y z : Option Account) → IsBeginningOf done more → IsClosedAt done c x y → IsClosedAt more c y z
     → IsClosedAt more c x z
-closed_at_then c done more x y z grows first last = elim last [
-  | inl same ↦ elim first [ inl before ↦ inl (same ∙ before) | inr gone ↦ inr (same ∙ gone.0, if_later c done more x grows gone.1) ]
-  | inr gone ↦ elim first [
-    | inl before ↦ inr (
-      gone.0,
-      subst (λ (o : Option Account). IfSome o (λ (account : Account). (account.is_ended ≡ true) × IsBeginningOf (range_with_len 0 account.next) (numbers_in c more)))
-          before gone.1,
-    )
-    | inr early ↦ inr (gone.0, if_later c done more x grows early.1)
-  ]
-]
+closed_at_then c done more x y z grows (inl before) last = subst (λ (o : Option Account). IsClosedAt more c o z) before last
+closed_at_then c done more x y z grows (inr (inl gone)) last = inr (inl (none_still c more y z gone.0 last, if_later c done more x grows gone.1))
+closed_at_then c done more x y z grows (inr (inr back)) last = back_then c more back.0 x z (subst (λ (o : Option Account). IsClosedAt more c o z) back.1 last)
 
 pub closed_then : (done more : Sequence) (a b c : Book) → IsBeginningOf done more → HasClosed done a b → HasClosed more b c → HasClosed more a c
 closed_then done more a b c grows first last = record {
@@ -126,13 +131,41 @@ closed_then done more a b c grows first last = record {
       (subst (λ (n : ℕ). IsClosedAt more (connection_at n serial) (finmap.get b.held serial) (finmap.get c.held serial)) first.node (last.accounts serial));
 }
 
--- accounts that are left are as they were
+-- accounts went back
+back_at : (done : Sequence) (c : Connection) (number : Option ℕ) (old new : Option Account) → new ≡ option_map (back_by number) old → IsClosedAt done c old new
+back_at done c None None new is = inl is
+back_at done c None (Some a) new is = inl is
+back_at done c (Some number) old new is = inr (inr (number, is))
+
+pub back_closed : (done : Sequence) (dropped : Jobs) (book back : Book) → HasGoneBack dropped book back → HasClosed done book back
+back_closed done dropped book back goes = record {
+  node = goes.node;
+  last = goes.last;
+  accounts = λ serial.
+      let c = connection_at book.node serial in
+      back_at done c (first_number (own_jobs c dropped)) (finmap.get book.held serial) (finmap.get back.held serial) (goes.accounts serial);
+}
+
+-- accounts that are left are of the workers that they were of
+back_worker : (number : ℕ) (o : Option Account) (account : Account) → option_map (back_to number) o ≡ Some account
+    → (a : Account) × (o ≡ Some a) × (account.worker ≡ a.worker)
+back_worker number None account is = absurd (cc is)
+back_worker number (Some a) account is =
+    let same : back_to number a ≡ account = cc is in
+    (a, refl, ap (λ (x : Account). x.worker) (sym same))
+
 pub closed_accounts : (done : Sequence) (members : List Member) (old new : Book) → HasClosed done old new → HasAccounts old.node members old.held
     → HasAccounts new.node members new.held
 closed_accounts done members old new h has serial account at =
     subst (λ (n : ℕ). (serial < length members) × (account.worker ≡ worker_of members (connection_at n serial))) (sym h.node) (elim (h.accounts serial) [
       | inl same ↦ has serial account (sym same ∙ at)
-      | inr gone ↦ absurd (cc (sym gone.0 ∙ at))
+      | inr changed ↦ elim changed [
+        | inl gone ↦ absurd (cc (sym gone.0 ∙ at))
+        | inr back ↦
+            let was = back_worker back.0 (finmap.get old.held serial) account (sym back.1 ∙ at) in
+            let a = has serial was.0 was.1 in
+            (a.0, was.2 ∙ a.1)
+      ]
     ])
 
 -- what is found once a job was executed
@@ -161,7 +194,7 @@ one_order t new book next job o = record {
   book_is = o.book_is;
   own = o.own;
   numbered = o.numbered;
-  taken = λ up. closed_counts book.node book.held (all_jobs t next new.waiting) job (o.taken up);
+  taken = closed_counts book.node book.held (all_jobs t next new.waiting) job o.taken;
   unopened = o.unopened;
   closed = λ serial past. none_stays book.node book.held job serial (o.closed serial past);
   reads = o.reads;
@@ -192,9 +225,9 @@ if_some : (o : Option Account) (P : Account → Type 0) → ((a : Account) → o
 if_some None P h = tt
 if_some (Some a) P h = h a refl
 
-one_closed : (t : Standing) (new : ReplicaState) (book : Book) (next : List Job) (job : Item) → new.down ≡ false → IsIn t.node (record_of t.history) job
+one_closed : (t : Standing) (new : ReplicaState) (book : Book) (next : List Job) (job : Item) → IsIn t.node (record_of t.history) job
     → IsInOrder t new book next → HasClosed (record_of t.history) book (without_ended (job ∷ []) book)
-one_closed t new book next job up there o = record {
+one_closed t new book next job there o = record {
   node = refl;
   last = refl;
   accounts = λ serial.
@@ -202,33 +235,33 @@ one_closed t new book next job up there o = record {
       let c = connection_at book.node serial in
       elim (closed_at book.node book.held job serial) [
         | inl same ↦ inl same
-        | inr gone ↦ inr (
+        | inr gone ↦ inr (inl (
           gone.0,
           if_some (finmap.get book.held serial) (λ a. (a.is_ended ≡ true) × IsBeginningOf (range_with_len 0 a.next) (numbers_in c done)) (λ a at.
               let here : finmap.get book.held job.connection.serial ≡ Some a = ap (finmap.get book.held) (sym gone.1) ∙ at in
               let last = last_number job a (sym (ap (ends_by job) here) ∙ gone.3) in
               let rest = unexecuted t next new.waiting in
               let taken : numbers_in c (all_jobs t next new.waiting) ≡ range_with_len 0 a.next =
-              subst (λ (o : Option Account). CountsTo (λ (x : Account). x.next) o (numbers_in c (all_jobs t next new.waiting))) at (o.taken up serial) in
+              subst (λ (o : Option Account). CountsTo (λ (x : Account). x.next) o (numbers_in c (all_jobs t next new.waiting))) at (o.taken serial) in
               let apart : all_jobs t next new.waiting ≡ done ++ rest = append_assoc done (jobs_reserved (unpassed t)) (items_of next ++ items_of new.waiting) in
               let same : job.connection ≡ c = λ i. record { node = gone.2 i; serial = sym gone.1 i } in
               let inside : job.number < length (numbers_in c done) = subst (λ (d : Connection). job.number < length (numbers_in d done)) same (there (gone.2 ∙ o.book_is)) in
               let whole = done_whole (numbers_in c done) (numbers_in c rest) a.next job.number (sym (numbers-append c done rest) ∙ sym (ap (numbers_in c) apart) ∙ taken) inside last.1 in
               (last.0, ([], append-nil (range_with_len 0 a.next) ∙ sym whole))),
-        )
+        ))
       ];
 }
 
 -- all of an entry's were executed
-pub all_closed : (t : Standing) (new : ReplicaState) (next : List Job) (jobs : Jobs) (book later : Book) → new.down ≡ false
+pub all_closed : (t : Standing) (new : ReplicaState) (next : List Job) (jobs : Jobs) (book later : Book)
     → AllByRecursion (IsIn t.node (record_of t.history)) jobs → later ≡ without_ended jobs book → IsInOrder t new book next
     → IsInOrder t new later next × HasClosed (record_of t.history) book later
-all_closed t new next [] book later up all is o = (
+all_closed t new next [] book later all is o = (
   subst (λ (b : Book). IsInOrder t new b next) (sym is) o,
   subst (HasClosed (record_of t.history) book) (sym is) (still_closed (record_of t.history) book),
 )
-all_closed t new next (job ∷ jobs) book later up all is o =
+all_closed t new next (job ∷ jobs) book later all is o =
     let done = record_of t.history in
     let mid = without_ended (job ∷ []) book in
-    let rest = all_closed t new next jobs mid later up all.1 is (one_order t new book next job o) in
-    (rest.0, closed_then done done book mid later (begins_itself done) (one_closed t new book next job up all.0 o) rest.1)
+    let rest = all_closed t new next jobs mid later all.1 is (one_order t new book next job o) in
+    (rest.0, closed_then done done book mid later (begins_itself done) (one_closed t new book next job all.0 o) rest.1)

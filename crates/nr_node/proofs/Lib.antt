@@ -8,6 +8,7 @@ mod Got
 mod Closing
 mod Advances
 mod Fresh
+mod Dropped
 mod Filled
 mod Taking
 mod Caught

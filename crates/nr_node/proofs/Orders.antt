@@ -1,9 +1,9 @@
 -- The jobs of a node's connections stay in their order, wherever they are.
-use Rattle.std.proofs.Common.{◌≡◌, ℕ, zero, suc, ◌<◌, ◌≤◌, ◌+◌, inl, inr, true, false, List, [], ◌∷◌, ◌++◌, length, refl, ap, sym, ◌∙◌, subst, arith, append_assoc}
-use Rattle.std.specs.Prelude.{◌⊎◌, Option, Some, None}
+use Rattle.std.proofs.Common.{◌≡◌, ℕ, zero, suc, ◌<◌, ◌≤◌, ◌+◌, List, [], ◌∷◌, ◌++◌, length, refl, ap, sym, ◌∙◌, subst, arith, append_assoc}
+use Rattle.std.specs.Prelude.{Option, Some, None, option_map}
 use Rattle.std.specs.List.{AllByRecursion, range_with_len}
 use Rattle.std.specs.FinMap as finmap
-use Rattle.std.proofs.lemmas.List.{length-append, length-map}
+use Rattle.std.proofs.lemmas.List.{append-nil, length-append, length-map}
 use Rattle.nr_model.specs.Items.{Connection, Item}
 use Rattle.nr_model.specs.Entries.{Jobs}
 use Rattle.nr_model.proofs.JobLists.{All-append}
@@ -20,7 +20,8 @@ use Rattle.nr_log_end.specs.declared.standing.Turn.TheVariants.{Applied, Ran, Op
 use Rattle.nr_log_end.specs.Standings.{applied_of, opened_of, ran_from, ran_of, record_of, passed_of, own_entries, StandsInLog, fetched_with, opened_with, passed_on, reserved_as, EachRises}
 use Rattle.nr_accounts.specs.declared.account.Account.{Account}
 use Rattle.nr_accounts.specs.Held.{numbers_in, CountsTo}
-use Rattle.nr_accounts.specs.Book.{Book}
+use Rattle.nr_accounts.specs.Book.{Book, HasGoneBack}
+use Rattle.nr_accounts.proofs.GoingBack.{back_taken}
 use Rattle.nr_replica.specs.Members.{Member}
 use Rattle.nr_replica.specs.Replicas.{ReplicaState}
 use Rattle.nr_node.specs.Level.{IsCount, IsReadOf, connection_at, workers_of, unpassed, jobs_reserved, logged, all_jobs, IsInOrder}
@@ -44,12 +45,12 @@ counted : (count : Account → ℕ) (account : Option Account) (numbers : List �
 counted count None numbers h = h
 counted count (Some a) numbers h = h ∙ ap (range_with_len 0) (sym (ap length h ∙ length-range 0 (count a)))
 
--- all jobs of a node that is up are counted
-pub all_counted : (s : Standing) (old : ReplicaState) (book : Book) (next : List Job) → old.down ≡ false → IsInOrder s old book next
+-- all jobs of a node are counted
+pub all_counted : (s : Standing) (old : ReplicaState) (book : Book) (next : List Job) → IsInOrder s old book next
     → (serial : ℕ) → IsCount (numbers_in (connection_at s.node serial) (all_jobs s next old.waiting))
-all_counted s old book next up o serial =
+all_counted s old book next o serial =
     subst (λ (n : ℕ). IsCount (numbers_in (connection_at n serial) (all_jobs s next old.waiting))) o.book_is
-    (counted (λ (a : Account). a.next) (finmap.get book.held serial) _ (o.taken up serial))
+    (counted (λ (a : Account). a.next) (finmap.get book.held serial) _ (o.taken serial))
 
 -- the first of these are counted
 pub first_counted : (c : Connection) (front back : Jobs) (all : Jobs) → numbers_in c front ++ numbers_in c back ≡ numbers_in c all → IsCount (numbers_in c all) → IsCount (numbers_in c front)
@@ -80,19 +81,19 @@ is_sound s t old book next same idle served o = subst IsSound (sym same) record 
 
 -- nothing changed in the order of any connection's jobs
 pub same_order : (s t : Standing) (old new : ReplicaState) (book : Book) (next after : List Job) → t.node ≡ s.node → length new.members ≡ length old.members
-    → (new.down ≡ false → old.down ≡ false) → ((serial : ℕ) → IsCount (numbers_in (connection_at s.node serial) (logged t)))
+    → ((serial : ℕ) → IsCount (numbers_in (connection_at s.node serial) (logged t)))
     → ((serial : ℕ) → numbers_in (connection_at s.node serial) (all_jobs t after new.waiting) ≡ numbers_in (connection_at s.node serial) (all_jobs s next old.waiting))
     → AreOfNode s.node (items_of new.waiting) → AllByRecursion (λ (r : Job × ℕ). IsReadOf s.node (item_of r.0)) (ran_of t.history)
     → length (own_entries t.node (applied_of t.history)) ≤ length t.reservations → AllByRecursion (λ (r : ℕ × Entry). r.0 < t.seen) t.reservations
     → EachRises (applied_of t.history) → IsInOrder s old book next → IsInOrder t new book after
-same_order s t old new book next after node long was numbered all own reads passed met entries o = record {
+same_order s t old new book next after node long numbered all own reads passed met entries o = record {
   book_is = o.book_is ∙ sym node;
   own = subst (λ (n : ℕ). AreOfNode n (items_of new.waiting)) (sym node) own;
   numbered = λ serial. subst (λ (n : ℕ). IsCount (numbers_in (connection_at n serial) (logged t))) (sym node) (numbered serial);
-  taken = λ up serial.
+  taken = λ serial.
       let n = all serial in
       let here = subst (λ (n : ℕ). numbers_in (connection_at n serial) (all_jobs t after new.waiting) ≡ numbers_in (connection_at n serial) (all_jobs s next old.waiting)) (sym o.book_is) n in
-      subst (CountsTo (λ (a : Account). a.next) (finmap.get book.held serial)) (sym here) (o.taken (was up) serial);
+      subst (CountsTo (λ (a : Account). a.next) (finmap.get book.held serial)) (sym here) (o.taken serial);
   unopened = λ serial past.
       let before : length old.members ≤ serial = omega (arith, long) in
       subst (λ (n : ℕ). numbers_in (connection_at n serial) (all_jobs t after new.waiting) ≡ []) (sym node) (all serial ∙ o.unopened serial before);
@@ -105,36 +106,38 @@ same_order s t old new book next after node long was numbered all own reads pass
   met = met;
 }
 
--- the node is down, and what it had still to reserve is dropped
-pub dropped_order : (s t : Standing) (old new : ReplicaState) (book : Book) (next : List Job) → t.node ≡ s.node → length new.members ≡ length old.members
-    → new.down ≡ true → ((serial : ℕ) → numbers_in (connection_at s.node serial) (logged t) ≡ numbers_in (connection_at s.node serial) (logged s))
-    → ((new.waiting ≡ []) ⊎ (new.waiting ≡ old.waiting)) → AllByRecursion (λ (r : Job × ℕ). IsReadOf s.node (item_of r.0)) (ran_of t.history)
+none_back : (f : Account → Account) (o : Option Account) → o ≡ None → option_map f o ≡ None
+none_back f o none = ap (option_map f) none
+
+-- what the node had still to reserve is dropped, and the accounts have gone back by it
+pub dropped_order : (s t : Standing) (old new : ReplicaState) (book back : Book) (next : List Job) → t.node ≡ s.node → length new.members ≡ length old.members
+    → ((serial : ℕ) → numbers_in (connection_at s.node serial) (logged t) ≡ numbers_in (connection_at s.node serial) (logged s))
+    → new.waiting ≡ [] → HasGoneBack (items_of next ++ items_of old.waiting) book back → AllByRecursion (λ (r : Job × ℕ). IsReadOf s.node (item_of r.0)) (ran_of t.history)
     → length (own_entries t.node (applied_of t.history)) ≤ length t.reservations → AllByRecursion (λ (r : ℕ × Entry). r.0 < t.seen) t.reservations
-    → EachRises (applied_of t.history) → IsInOrder s old book next → IsInOrder t new book []
-dropped_order s t old new book next node long down same waits reads passed met entries o =
-    let own : AreOfNode s.node (items_of new.waiting) = elim waits [
-      | inl e ↦ subst (λ (js : List Job). AreOfNode s.node (items_of js)) (sym e) tt
-      | inr e ↦ subst (λ (js : List Job). AreOfNode s.node (items_of js)) (sym e) o.own
-    ] in
+    → EachRises (applied_of t.history) → IsInOrder s old book next → IsInOrder t new back []
+dropped_order s t old new book back next node long same waits goes reads passed met entries o =
+    let own : AreOfNode s.node (items_of new.waiting) = subst (λ (js : List Job). AreOfNode s.node (items_of js)) (sym waits) tt in
+    let book_is : back.node ≡ s.node = goes.node ∙ o.book_is in
+    let all : (serial : ℕ) → numbers_in (connection_at s.node serial) (all_jobs t [] new.waiting) ≡ numbers_in (connection_at s.node serial) (logged s) =
+    λ serial.
+    let c = connection_at s.node serial in
+    ap (λ (js : List Job). numbers_in c (logged t ++ items_of js)) waits ∙ ap (numbers_in c) (append-nil (logged t)) ∙ same serial in
     record {
-      book_is = o.book_is ∙ sym node;
+      book_is = book_is ∙ sym node;
       own = subst (λ (n : ℕ). AreOfNode n (items_of new.waiting)) (sym node) own;
       numbered = λ serial. subst (λ (n : ℕ). IsCount (numbers_in (connection_at n serial) (logged t))) (sym node) (subst IsCount (sym (same serial)) (o.numbered serial));
-      taken = λ up. absurd (cc (up, down));
+      taken = λ serial.
+          let here = subst (λ (n : ℕ). numbers_in (connection_at n serial) (all_jobs t [] new.waiting) ≡ numbers_in (connection_at n serial) (logged s)) (sym book_is) (all serial) in
+          subst (CountsTo (λ (a : Account). a.next) (finmap.get back.held serial)) (sym here)
+          (back_taken book back (logged s) (items_of next ++ items_of old.waiting) o.taken goes serial);
       unopened = λ serial past.
           let before : length old.members ≤ serial = omega (arith, long) in
           let c = connection_at s.node serial in
           let parts = no_parts (numbers_in c (logged s)) _ (sym (joined c (logged s) (items_of next) (items_of old.waiting)) ∙ o.unopened serial before) in
-          let rest = no_parts (numbers_in c (items_of next)) (numbers_in c (items_of old.waiting)) parts.1 in
-          let none : numbers_in c (items_of new.waiting) ≡ [] = elim waits [
-            | inl e ↦ ap (λ (js : List Job). numbers_in c (items_of js)) e
-            | inr e ↦ ap (λ (js : List Job). numbers_in c (items_of js)) e ∙ rest.1
-          ] in
-          subst (λ (n : ℕ). numbers_in (connection_at n serial) (all_jobs t [] new.waiting) ≡ []) (sym node)
-          (numbers-append c (logged t) (items_of new.waiting) ∙ (λ i. (same serial ∙ parts.0) i ++ none i));
+          subst (λ (n : ℕ). numbers_in (connection_at n serial) (all_jobs t [] new.waiting) ≡ []) (sym node) (all serial ∙ parts.0);
       closed = λ serial past.
           let before : length old.members ≤ serial = omega (arith, long) in
-          o.closed serial before;
+          goes.accounts serial ∙ none_back _ (finmap.get book.held serial) (o.closed serial before);
       reads = subst (λ (n : ℕ). AllByRecursion (λ (r : Job × ℕ). IsReadOf n (item_of r.0)) (ran_of t.history)) (sym node) reads;
       entries = entries;
       passed = passed;
@@ -143,15 +146,14 @@ dropped_order s t old new book next node long down same waits reads passed met e
 
 -- an entry was passed, and left what waits as it was
 pub passed_order : (s t : Standing) (e : Entry) (old new : ReplicaState) (book : Book) (next : List Job) → t ≡ passed_on (fetched_with e s) → StandsInLog (fetched_with e s)
-    → length new.members ≡ length old.members → (new.down ≡ false → old.down ≡ false) → new.waiting ≡ old.waiting
-    → IsInOrder s old book next → IsInOrder t new book next
-passed_order s t e old new book next is stands long was waits o =
+    → length new.members ≡ length old.members → new.waiting ≡ old.waiting → IsInOrder s old book next → IsInOrder t new book next
+passed_order s t e old new book next is stands long waits o =
     let p = passed_on (fetched_with e s) in
     let own = λ (r : Job × ℕ). IsReadOf s.node (item_of r.0) in
     let same : (serial : ℕ) → numbers_in (connection_at s.node serial) (logged p) ≡ numbers_in (connection_at s.node serial) (logged s) =
     λ serial. logged_passed s e (connection_at s.node serial) stands refl in
     subst (λ (x : Standing). IsInOrder x new book next) (sym is)
-    (same_order s p old new book next next refl long was (λ serial. subst IsCount (sym (same serial)) (o.numbered serial))
+    (same_order s p old new book next next refl long (λ serial. subst IsCount (sym (same serial)) (o.numbered serial))
     (λ serial.
     let c = connection_at s.node serial in
     joined c (logged p) (items_of next) (items_of new.waiting)
@@ -161,14 +163,14 @@ passed_order s t e old new book next is stands long was waits o =
     (ran-append (λ (job : Job). IsReadOf s.node (item_of job)) s.history (Applied e ∷ []) o.reads tt)
     (own_passed s e stands) o.met (entries_passed s e stands) o)
 
--- an entry was passed by a node that is down
-pub passed_down : (s t : Standing) (e : Entry) (old new : ReplicaState) (book : Book) (next : List Job) → t ≡ passed_on (fetched_with e s) → StandsInLog (fetched_with e s)
-    → length new.members ≡ length old.members → new.down ≡ true → ((new.waiting ≡ []) ⊎ (new.waiting ≡ old.waiting))
-    → IsInOrder s old book next → IsInOrder t new book []
-passed_down s t e old new book next is stands long down waits o =
+-- an entry was passed by a node that fell over it
+pub passed_fallen : (s t : Standing) (e : Entry) (old new : ReplicaState) (book back : Book) (next : List Job) → t ≡ passed_on (fetched_with e s)
+    → StandsInLog (fetched_with e s) → length new.members ≡ length old.members → new.waiting ≡ [] → HasGoneBack (items_of next ++ items_of old.waiting) book back
+    → IsInOrder s old book next → IsInOrder t new back []
+passed_fallen s t e old new book back next is stands long waits goes o =
     let p = passed_on (fetched_with e s) in
-    subst (λ (x : Standing). IsInOrder x new book []) (sym is)
-    (dropped_order s p old new book next refl long down (λ serial. logged_passed s e (connection_at s.node serial) stands refl) waits
+    subst (λ (x : Standing). IsInOrder x new back []) (sym is)
+    (dropped_order s p old new book back next refl long (λ serial. logged_passed s e (connection_at s.node serial) stands refl) waits goes
     (ran-append (λ (job : Job). IsReadOf s.node (item_of job)) s.history (Applied e ∷ []) o.reads tt)
     (own_passed s e stands) o.met (entries_passed s e stands) o)
 
@@ -196,8 +198,8 @@ count_rises numbers h = subst IsRising (sym h) (range_rises 0 (length numbers))
 
 -- the numbers of the entry that is due go on behind what is logged
 pub due_rises : (s : Standing) (e : Entry) (old : ReplicaState) (book : Book) (next : List Job) → items_of e.jobs.items ≡ due_jobs next old.waiting
-    → old.down ≡ false → IsInOrder s old book next → AreRising s.node (logged s ++ items_of e.jobs.items)
-due_rises s e old book next due up o = λ serial.
+    → IsInOrder s old book next → AreRising s.node (logged s ++ items_of e.jobs.items)
+due_rises s e old book next due o = λ serial.
     let c = connection_at s.node serial in
     let items = items_of e.jobs.items in
     let left = left_jobs next old.waiting in
@@ -207,13 +209,13 @@ due_rises s e old book next due up o = λ serial.
     ∙ ap (λ (ns : List ℕ). numbers_in c (logged s) ++ ns) (ap (λ (js : Jobs). numbers_in c js ++ numbers_in c left) due ∙ due_and_left c next old.waiting)
     ∙ sym (joined c (logged s) (items_of next) (items_of old.waiting)) in
     count_rises (numbers_in c (logged s ++ items))
-    (first_counted c (logged s ++ items) left (all_jobs s next old.waiting) apart (all_counted s old book next up o serial))
+    (first_counted c (logged s ++ items) left (all_jobs s next old.waiting) apart (all_counted s old book next o serial))
 
 -- the entry that was due stands in the log
 pub reserved_order : (s t : Standing) (at : ℕ) (e : Entry) (old new : ReplicaState) (book : Book) (next : List Job) → 0 < s.nodes → IsReserved at (shares_of e s.nodes) s t
-    → items_of e.jobs.items ≡ due_jobs next old.waiting → LeavesWaiting (left_jobs next old.waiting) old new → old.down ≡ false
+    → items_of e.jobs.items ≡ due_jobs next old.waiting → LeavesWaiting (left_jobs next old.waiting) old new
     → IsInOrder s old book next → IsInOrder t new book []
-reserved_order s t at e old new book next some reserved due left up o =
+reserved_order s t at e old new book next some reserved due left o =
     let r = reserved_as at (shares_of e s.nodes) s in
     let more : logged t ≡ logged s ++ items_of e.jobs.items = ap logged reserved.standing ∙ logged_reserved s at e some o.passed in
     let apart : (serial : ℕ) → let c = connection_at s.node serial in
@@ -225,7 +227,6 @@ reserved_order s t at e old new book next some reserved due left up o =
     ∙ ap (λ (ns : List ℕ). numbers_in c (logged s) ++ ns)
     (ap (λ (js : Jobs). numbers_in c js ++ numbers_in c (left_jobs next old.waiting)) due ∙ due_and_left c next old.waiting)
     ∙ sym (joined c (logged s) (items_of next) (items_of old.waiting)) in
-    let is_down : new.down ≡ old.down = ap (λ (x : ReplicaState). x.down) left.replica in
     let seen : t.seen ≡ at + 1 = ap (λ (x : Standing). x.seen) reserved.standing in
     let reservations : t.reservations ≡ s.reservations ++ (at, e) ∷ [] =
     ap (λ (x : Standing). x.reservations) reserved.standing ∙ ap (λ (rs : List (ℕ × Entry)). s.reservations ++ rs) (one_reservation at s.nodes e some) in
@@ -233,8 +234,8 @@ reserved_order s t at e old new book next some reserved due left up o =
     let history : t.history ≡ s.history = ap (λ (x : Standing). x.history) reserved.standing in
     let here : at < t.seen = omega (arith, seen) in
     let on : s.seen ≤ t.seen = omega (arith, seen, reserved.seen) in
-    same_order s t old new book next [] node (ap (λ (x : ReplicaState). length x.members) left.replica) (λ u. sym is_down ∙ u)
-    (λ serial. first_counted (connection_at s.node serial) (logged t) (items_of new.waiting) (all_jobs s next old.waiting) (apart serial) (all_counted s old book next up o serial))
+    same_order s t old new book next [] node (ap (λ (x : ReplicaState). length x.members) left.replica)
+    (λ serial. first_counted (connection_at s.node serial) (logged t) (items_of new.waiting) (all_jobs s next old.waiting) (apart serial) (all_counted s old book next o serial))
     (λ serial. numbers-append (connection_at s.node serial) (logged t) (items_of new.waiting) ∙ apart serial)
     (subst (AreOfNode s.node) (sym left.waiting) (left_own s.node next old.waiting o.own))
     (subst (λ (h : List Turn). AllByRecursion (λ (x : Job × ℕ). IsReadOf s.node (item_of x.0)) (ran_of h)) (sym history) o.reads)
@@ -255,9 +256,8 @@ pub due_order : (s t : Standing) (old new : ReplicaState) (book : Book) (next af
     → LeavesWaiting (left_jobs next old.waiting) old new → IsInOrder s old book next → IsInOrder t new book after
 due_order s t old new book next after met due left o =
     let same = met_logged s t met in
-    let is_down : new.down ≡ old.down = ap (λ (x : ReplicaState). x.down) left.replica in
     let history : t.history ≡ s.history = ap (λ (x : Standing). x.history) met.standing in
-    same_order s t old new book next after (ap (λ (x : Standing). x.node) met.standing) (ap (λ (x : ReplicaState). length x.members) left.replica) (λ u. sym is_down ∙ u)
+    same_order s t old new book next after (ap (λ (x : Standing). x.node) met.standing) (ap (λ (x : ReplicaState). length x.members) left.replica)
     (λ serial. subst (λ (js : Jobs). IsCount (numbers_in (connection_at s.node serial) js)) (sym same) (o.numbered serial))
     (λ serial.
     let c = connection_at s.node serial in
@@ -279,7 +279,7 @@ due_order s t old new book next after met due left o =
 pub met_order : (s t : Standing) (old : ReplicaState) (book : Book) (next : List Job) → HasMet s t → IsInOrder s old book next → IsInOrder t old book next
 met_order s t old book next met o =
     let same = met_logged s t met in
-    same_order s t old old book next next (ap (λ (x : Standing). x.node) met.standing) refl (λ u. u)
+    same_order s t old old book next next (ap (λ (x : Standing). x.node) met.standing) refl
     (λ serial. subst (λ (js : Jobs). IsCount (numbers_in (connection_at s.node serial) js)) (sym same) (o.numbered serial))
     (λ serial. ap (λ (js : Jobs). numbers_in (connection_at s.node serial) (js ++ (items_of next ++ items_of old.waiting))) same)
     o.own
@@ -303,7 +303,7 @@ pub noted_opened_order : (s : Standing) (worker seen : ℕ) (old : ReplicaState)
     → IsInOrder (opened_with worker seen s) old book next
 noted_opened_order s worker seen old book next later o =
     let same : logged (opened_with worker seen s) ≡ logged s = λ i. record_opened s worker i ++ jobs_reserved (unpassed_opened s worker seen i) in
-    same_order s (opened_with worker seen s) old old book next next refl refl (λ u. u)
+    same_order s (opened_with worker seen s) old old book next next refl refl
     (λ serial. subst (λ (js : Jobs). IsCount (numbers_in (connection_at s.node serial) js)) (sym same) (o.numbered serial))
     (λ serial. ap (λ (js : Jobs). numbers_in (connection_at s.node serial) (js ++ (items_of next ++ items_of old.waiting))) same)
     o.own

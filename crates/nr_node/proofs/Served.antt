@@ -88,20 +88,20 @@ noted_apart s t ran old c noted none ran_is =
     ∙ sym (numbers-append c (logged s) (items_of old.waiting) ∙ ap (λ (js : Jobs). numbers_in c js ++ numbers_in c (items_of old.waiting)) before)
 
 -- the numbers of the reads that lead go on behind what is logged
-pub noted_rises : (s : Standing) (old : ReplicaState) (book : Book) → unpassed s ≡ [] → old.down ≡ false → IsInOrder s old book []
+pub noted_rises : (s : Standing) (old : ReplicaState) (book : Book) → unpassed s ≡ [] → IsInOrder s old book []
     → MayBeNoted (read_jobs (items_of old.waiting)) s
-noted_rises s old book none up o = λ ran ran_is serial.
+noted_rises s old book none o = λ ran ran_is serial.
     let t = noted_with ran s.seen s in
     let noted : HasNoted ran s t = record { seen = le_refl s.seen; standing = refl } in
     let c = connection_at s.node serial in
     count_rises (numbers_in c (logged t))
     (first_counted c (logged t) (left_by_reads (items_of old.waiting)) (all_jobs s [] old.waiting) (noted_apart s t ran old c noted none ran_is)
-    (all_counted s old book [] up o serial))
+    (all_counted s old book [] o serial))
 
 -- the reads that led were run, behind all that was reserved
 pub noted_order : (s t : Standing) (ran : List Job) (old new : ReplicaState) (book : Book) → HasNoted ran s t → unpassed s ≡ [] → HasRead old new
-    → items_of ran ≡ read_jobs (items_of old.waiting) → old.down ≡ false → IsInOrder s old book [] → IsInOrder t new book []
-noted_order s t ran old new book noted none read ran_is up o =
+    → items_of ran ≡ read_jobs (items_of old.waiting) → IsInOrder s old book [] → IsInOrder t new book []
+noted_order s t ran old new book noted none read ran_is o =
     let node : t.node ≡ s.node = ap (λ (x : Standing). x.node) noted.standing in
     let history : t.history ≡ s.history ++ map Ran ran = ap (λ (x : Standing). x.history) noted.standing in
     let applied : applied_of t.history ≡ applied_of s.history = ap applied_of history ∙ applied_noted s.history ran in
@@ -111,9 +111,8 @@ noted_order s t ran old new book noted none read ran_is up o =
     λ serial.
     let c = connection_at s.node serial in
     ap (λ (js : Jobs). numbers_in c (logged t) ++ numbers_in c js) read.left ∙ noted_apart s t ran old c noted none ran_is in
-    let is_down : new.down ≡ old.down = ap (λ (x : ReplicaState). x.down) read.state in
-    same_order s t old new book [] [] node (length_read old new read) (λ u. sym is_down ∙ u)
-    (λ serial. first_counted (connection_at s.node serial) (logged t) (items_of new.waiting) (all_jobs s [] old.waiting) (apart serial) (all_counted s old book [] up o serial))
+    same_order s t old new book [] [] node (length_read old new read)
+    (λ serial. first_counted (connection_at s.node serial) (logged t) (items_of new.waiting) (all_jobs s [] old.waiting) (apart serial) (all_counted s old book [] o serial))
     (λ serial. numbers-append (connection_at s.node serial) (logged t) (items_of new.waiting) ∙ apart serial)
     (subst (AreOfNode s.node) (sym read.left) (All-left_by_reads (λ (job : Item). job.connection.node ≡ s.node) (items_of old.waiting) o.own))
     (subst (λ (h : List Turn). AllByRecursion (λ (x : Job × ℕ). IsReadOf s.node (item_of x.0)) (ran_of h)) (sym history)
@@ -137,7 +136,7 @@ opened_order s old new book next worker m is o =
       book_is = o.book_is;
       own = o.own;
       numbered = o.numbered;
-      taken = λ up serial. elim (eqb_tells serial n) [
+      taken = λ serial. elim (eqb_tells serial n) [
         | inl e ↦
             let c = connection_at book.node n in
             let none : numbers_in c (all_jobs s next old.waiting) ≡ [] =
@@ -145,7 +144,7 @@ opened_order s old new book next worker m is o =
             subst (λ (k : ℕ). CountsTo (λ (a : Account). a.next) (finmap.get held k) (numbers_in (connection_at book.node k) (all_jobs s next old.waiting))) (sym e.1)
             (subst (λ (a : Option Account). CountsTo (λ (a : Account). a.next) a (numbers_in c (all_jobs s next old.waiting))) (sym (put_here book.held n (fresh_account worker))) none)
         | inr e ↦ subst (λ (a : Option Account). CountsTo (λ (a : Account). a.next) a (numbers_in (connection_at book.node serial) (all_jobs s next old.waiting)))
-            (sym (put_elsewhere book.held n serial (fresh_account worker) e.1)) (o.taken up serial)
+            (sym (put_elsewhere book.held n serial (fresh_account worker) e.1)) (o.taken serial)
       ];
       unopened = λ serial past.
           let before : length old.members ≤ serial = omega (arith, length-append old.members (m ∷ [])) in
@@ -223,10 +222,10 @@ none_of_all node worker serial held (job ∷ jobs) e none =
 
 -- a batch was taken
 pub batch_order : (s : Standing) (old new : ReplicaState) (book : Book) (next : List Job) (batch : Batch) → refusal_of book batch ≡ None
-    → new.members ≡ old.members → new.down ≡ old.down → new.waiting ≡ old.waiting ++ batch.jobs.items
+    → new.members ≡ old.members → new.waiting ≡ old.waiting ++ batch.jobs.items
     → ((jobs : Jobs) → HasTaken book jobs → HasTaken (with_batch batch book) (jobs ++ items_of batch.jobs.items))
     → IsInOrder s old book next → IsInOrder s new (with_batch batch book) next
-batch_order s old new book next batch due members down waiting counts o =
+batch_order s old new book next batch due members waiting counts o =
     let jobs = items_of batch.jobs.items in
     let takes = all_of_due book batch.node batch.worker batch.number jobs due in
     let behind : items_of new.waiting ≡ items_of old.waiting ++ jobs = ap items_of waiting ∙ map-append item_of old.waiting batch.jobs.items in
@@ -238,7 +237,7 @@ batch_order s old new book next batch due members down waiting counts o =
       own = subst (AreOfNode s.node) (sym behind) (All-append (λ (job : Item). job.connection.node ≡ s.node) (items_of old.waiting) jobs o.own
           (subst (λ (n : ℕ). AreOfNode n jobs) o.book_is (all_own book.node batch.worker book.held jobs takes)));
       numbered = o.numbered;
-      taken = λ up. subst (HasTaken (with_batch batch book)) (sym all) (counts (all_jobs s next old.waiting) (o.taken (sym down ∙ up)));
+      taken = subst (HasTaken (with_batch batch book)) (sym all) (counts (all_jobs s next old.waiting) o.taken);
       unopened = λ serial past.
           let before : length old.members ≤ serial = omega (arith, ap length members) in
           let c = connection_at s.node serial in

@@ -188,7 +188,7 @@ reserved_kept s t at e old new book next after nodes some reserved taken up k =
     subst (λ (n : Option Next). IsKept t new book n nodes) (sym taken.none) record {
       level = waits_level s t old new (left_jobs (jobs_next next) old.waiting) (ap (λ (x : Standing). x.node) reserved.standing)
           (ap (λ (x : Standing). x.history) reserved.standing) taken.left k.level;
-      order = reserved_order s t at e old new book (jobs_next next) some reserved taken.due taken.left up k.order;
+      order = reserved_order s t at e old new book (jobs_next next) some reserved taken.due taken.left k.order;
       next_is = tt;
       owed = k.owed ∙ sym (ap (λ (x : ReplicaState). length x.owed) taken.left.replica);
       owing = λ is_up. waits_owing old new (jobs_next next) (jobs_reserved (unpassed s)) (unexecuted t [] new.waiting)
@@ -323,8 +323,7 @@ pub batch_kept : (s : Standing) (old new : ReplicaState) (book : Book) (next : O
 batch_kept s old new book next nodes batch due within idle is counts k = record {
   level = same_level s s old new refl refl (ap (λ (x : ReplicaState). x.node) is) (ap (λ (x : ReplicaState). x.members) is) (ap (λ (x : ReplicaState). x.down) is)
       (ap (λ (x : ReplicaState). x.server) is) (ap (λ (x : ReplicaState). x.applied) is) k.level;
-  order = batch_order s old new book (jobs_next next) batch due (ap (λ (x : ReplicaState). x.members) is) (ap (λ (x : ReplicaState). x.down) is)
-      (ap (λ (x : ReplicaState). x.waiting) is) counts k.order;
+  order = batch_order s old new book (jobs_next next) batch due (ap (λ (x : ReplicaState). x.members) is) (ap (λ (x : ReplicaState). x.waiting) is) counts k.order;
   next_is = k.next_is;
   owed = length-set book.last batch.worker (Some batch.number) ∙ k.owed ∙ sym (ap (λ (x : ReplicaState). length x.owed) is
       ∙ length-set old.owed batch.worker (Some (length batch.jobs.items)));
@@ -382,7 +381,7 @@ all_executed n next nodes worker up none k is = record {
         let d = connection_at n.book.node serial in
         let of_worker : worker_of r.members d ≡ worker = sym (k.accounts serial a at).1 ∙ own in
         let taken : numbers_in d (all_jobs s (jobs_next next) r.waiting) ≡ range_with_len 0 a.next =
-        subst (λ (o : Option Account). CountsTo (λ (a : Account). a.next) o (numbers_in d (all_jobs s (jobs_next next) r.waiting))) at (k.order.taken up serial) in
+        subst (λ (o : Option Account). CountsTo (λ (a : Account). a.next) o (numbers_in d (all_jobs s (jobs_next next) r.waiting))) at (k.order.taken serial) in
         let no_more : numbers_in d rest ≡ [] = none_numbered worker r.members d rest of_worker (sym ((k.owing up).counts worker) ∙ none) in
         let apart : all_jobs s (jobs_next next) r.waiting ≡ record_of s.history ++ rest =
         append_assoc (record_of s.history) (jobs_reserved (unpassed s)) (items_of (jobs_next next) ++ items_of r.waiting) in
@@ -455,7 +454,7 @@ noted_kept s t ran old new book next nodes noted none read ran_is up is k =
     let here = subst (λ (n : Option Next). IsKept s old book n nodes) is k in
     subst (λ (n : Option Next). IsKept t new book n nodes) (sym is) record {
       level = noted_level s t ran old new noted read ran_is up here.level;
-      order = noted_order s t ran old new book noted none read ran_is up here.order;
+      order = noted_order s t ran old new book noted none read ran_is here.order;
       next_is = tt;
       owed = here.owed ∙ sym (as_many new.owed old.owed (read_awaited old new read));
       owing = λ _. noted_owing s t ran old new noted none read (here.owing up);

@@ -1,5 +1,5 @@
 -- What an entry does to a replica, and how far a node has gone on.
-use Rattle.std.specs.Prelude.{◌≡◌, ◌≢◌, ◌⊎◌, ◌==◌, ◌≤◌, ℕ, true, false, cond, List, ◌++◌, map, flat_map, length, Option, Some, None, IfSome, [], ◌∷◌}
+use Rattle.std.specs.Prelude.{◌≡◌, ◌≢◌, ◌⊎◌, ◌==◌, ◌≤◌, ℕ, true, false, cond, List, ◌++◌, map, flat_map, length, Option, Some, None, IfSome, [], ◌∷◌, option_map}
 use Rattle.std.specs.List.{range_with_len}
 use Rattle.std.specs.FinMap as finmap
 use Rattle.nr_model.specs.Bytes.{Bytes, IsBeginningOf}
@@ -17,8 +17,9 @@ use Rattle.nr_log_end.specs.declared.standing.Turn.TheVariants.{Applied, Ran}
 use Rattle.nr_log_end.specs.Standings.{record_of, passed_of}
 use Rattle.nr_oplog.specs.declared.view.LogView.{LogView}
 use Rattle.nr_accounts.specs.declared.account.Account.{Account}
+use Rattle.nr_accounts.specs.Account.{back_to}
 use Rattle.nr_accounts.specs.Held.{numbers_in}
-use Rattle.nr_accounts.specs.Book.{Book, without_ended}
+use Rattle.nr_accounts.specs.Book.{Book, without_ended, HasGoneBack}
 use Rattle.nr_replica.specs.Members.{Member, worker_of}
 use Rattle.nr_replica.specs.Backlogs.{HasBacklog}
 use Rattle.nr_replica.specs.declared.fall.Fall.{Fall}
@@ -82,10 +83,13 @@ HaveGot (old ∷ olds) (new ∷ news) = HasGot old new × HaveGot olds news
 abbrev pub jobs_of_all : List Entry → Jobs
 jobs_of_all entries = flat_map (λ (entry : Entry). items_of entry.jobs.items) entries
 
--- an account is as it was, or it is gone: then its connection's end was taken, and all jobs that were taken of it are in a record
+-- an account is as it was; or it is gone: then its connection's end was taken, and all jobs that were taken of it are in a record; or it went back to a job that
+-- was dropped
 abbrev pub IsClosedAt : Sequence → Connection → Option Account → Option Account → Type 0
 IsClosedAt done c old new =
-    (new ≡ old) ⊎ ((new ≡ None) × IfSome old (λ (account : Account). (account.is_ended ≡ true) × IsBeginningOf (range_with_len 0 account.next) (numbers_in c done)))
+    (new ≡ old)
+    ⊎ (((new ≡ None) × IfSome old (λ (account : Account). (account.is_ended ≡ true) × IsBeginningOf (range_with_len 0 account.next) (numbers_in c done)))
+    ⊎ ((number : ℕ) × (new ≡ option_map (back_to number) old)))
 
 -- so is each of a node's, and nothing else of its book changed
 pub record HasClosed (done : Sequence) (old new : Book) : Type 0 where
@@ -93,14 +97,27 @@ pub record HasClosed (done : Sequence) (old new : Book) : Type 0 where
   pub last : new.last ≡ old.last
   pub accounts : (serial : ℕ) → IsClosedAt done (connection_at old.node serial) (finmap.get old.held serial) (finmap.get new.held serial)
 
--- a node went on by these entries: it is level, in order and owing if it was, and what waits is what waited unless it is down; none goes down without one
+-- A node fell over one of these entries, and what it had lifted was dropped: the accounts that ended before that entry went, then all went back by what was
+-- dropped, and then those went that ended from that entry on.
+pub record HasLost (entries : List Entry) (dropped : Jobs) (old new : Book) : Type 0 where
+  pub before : List Entry
+  pub over : Entry
+  pub behind : List Entry
+  pub all : entries ≡ before ++ over ∷ behind
+  pub back : Book
+  pub went_back : HasGoneBack dropped (without_ended (jobs_of_all before) old) back
+  pub ended : new ≡ without_ended (jobs_of_all (over ∷ behind)) back
+
+-- A node went on by these entries: it is level, in order and owing if it was, and what waits is what waited unless it is down; none goes down without one. The
+-- accounts that ended go, whether it is up or down, and where it falls all go back by what it drops.
 pub record GoesOn (entries : List Entry) (s t : Standing) (old new : ReplicaState) (next after : Option Next) (book later : Book) : Type 0 where
   pub passed : HasPassed entries s t
   pub own : jobs_reserved (unpassed s) ≡ jobs_of_own s.node entries ++ jobs_reserved (unpassed t)
   pub level : IsLevel s old → IsLevel t new
   pub order : IsInOrder s old book (jobs_next next) → IsInOrder t new later (jobs_next after)
   pub closed : IsInOrder s old book (jobs_next next) → HasClosed (record_of t.history) book later
-  pub ended : new.down ≡ false → later ≡ without_ended (jobs_of_all entries) book
+  pub ended : new.down ≡ old.down → later ≡ without_ended (jobs_of_all entries) book
+  pub lost : old.down ≡ false → new.down ≡ true → HasLost entries (items_of (jobs_next next) ++ items_of old.waiting) book later
   pub owing : IsLevel s old → new.down ≡ false → IsOwing old.members old.owed (unexecuted s (jobs_next next) old.waiting)
       → IsOwing new.members new.owed (unexecuted t (jobs_next after) new.waiting)
   pub members : length new.members ≡ length old.members
@@ -111,5 +128,5 @@ pub record GoesOn (entries : List Entry) (s t : Standing) (old new : ReplicaStat
   pub up : new.down ≡ false → (old.down ≡ false) × (after ≡ next) × (new.waiting ≡ old.waiting)
   pub fell : old.down ≡ false → new.down ≡ true → (entries ≢ []) × (new.waiting ≡ []) × (after ≡ None) × (new.server ≡ fresh)
   pub cause : old.down ≡ false → new.down ≡ true → new.fell ≡ Some Refused → old.refused ≡ true
-  pub still : old.down ≡ true → (new ≡ old) × (later ≡ book)
+  pub still : old.down ≡ true → new ≡ old
   pub after_is : (after ≡ None) ⊎ (after ≡ next)

@@ -88,15 +88,15 @@ pub record IsLevel (s : Standing) (replica : ReplicaState) : Type 0 where
 abbrev pub IsReadOf : ℕ → Item → Type 0
 IsReadOf node job = (job.connection.node ≡ node) × (is_update job.deed ≡ false)
 
--- The jobs of each connection of the node in the record, and behind it in the entries that it reserved, have the numbers 0, 1, 2 and so on, in this order. Where
--- the replica is up, so do these with those that go on waiting, and they are all that were taken. There are none of a connection that wasn't opened. What the
--- node ran by itself are reads of its connections. The numbers of each connection's jobs rise along the entries that it passed. All numbers that were reserved
--- are below the tail that was met.
+-- The jobs of each connection of the node in the record, and behind it in the entries that it reserved, have the numbers 0, 1, 2 and so on, in this order. So do
+-- these with those that go on waiting, and they are all that were taken, whether the replica is up or down. There are none of a connection that wasn't opened.
+-- What the node ran by itself are reads of its connections. The numbers of each connection's jobs rise along the entries that it passed. All numbers that were
+-- reserved are below the tail that was met.
 pub record IsInOrder (s : Standing) (replica : ReplicaState) (book : Book) (next : List Job) : Type 0 where
   pub book_is : book.node ≡ s.node
   pub own : AllByRecursion (λ (job : Item). job.connection.node ≡ s.node) (items_of replica.waiting)
   pub numbered : (serial : ℕ) → IsCount (numbers_in (connection_at s.node serial) (logged s))
-  pub taken : replica.down ≡ false → HasTaken book (all_jobs s next replica.waiting)
+  pub taken : HasTaken book (all_jobs s next replica.waiting)
   pub unopened : (serial : ℕ) → length replica.members ≤ serial → numbers_in (connection_at s.node serial) (all_jobs s next replica.waiting) ≡ []
   pub closed : (serial : ℕ) → length replica.members ≤ serial → finmap.get book.held serial ≡ None
   pub reads : AllByRecursion (λ (r : Job × ℕ). IsReadOf s.node (item_of r.0)) (ran_of s.history)

@@ -1,5 +1,5 @@
 -- The entry that a node takes to the log next.
-use Rattle.std.specs.Prelude.{◌≡◌, ℕ, List, [], ◌∷◌, Option, Some, None}
+use Rattle.std.specs.Prelude.{◌≡◌, ℕ, ◌<◌, List, [], ◌∷◌, length, Option, Some, None}
 use Rattle.nr_model.specs.Entries.{Jobs}
 use Rattle.nr_entry.specs.Jobs.{items_of}
 use Rattle.nr_entry.specs.declared.entry.Entry.{Entry}
@@ -28,6 +28,12 @@ abbrev pub IsNextOf : ℕ → ℕ → Option Next → Type 0
 IsNextOf node nodes None = Unit {0}
 IsNextOf node nodes (Some (forms.Unshared entry)) = (entry_of entry).node ≡ node
 IsNextOf node nodes (Some (forms.Shared shares)) = (entry : Entry) × (shares ≡ shares_of entry nodes) × (entry.node ≡ node)
+
+-- where there are shares of it, there is a first one
+abbrev pub HasFirst : Option Next → Type 0
+HasFirst None = Unit {0}
+HasFirst (Some (forms.Unshared entry)) = Unit {0}
+HasFirst (Some (forms.Shared shares)) = 0 < length shares
 
 -- it is this entry, whose shares aren't made
 abbrev pub HasLeft : Entry → Option Next → Type 0

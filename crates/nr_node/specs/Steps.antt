@@ -20,7 +20,7 @@ use Rattle.nr_replica.specs.Members.{Member, fresh_member, closed_member, handed
 use Rattle.nr_replica.specs.declared.fall.Fall.TheVariants.{Refused}
 use Rattle.nr_node.specs.Level.{NodeState, connection_at, unpassed, jobs_reserved}
 use Rattle.nr_node.specs.Owing.{awaited}
-use Rattle.nr_node.specs.Advanced.{HaveGot, HasClosed, jobs_of_own, jobs_of_all}
+use Rattle.nr_node.specs.Advanced.{HaveGot, HasClosed, HasLost, jobs_of_own, jobs_of_all}
 use Rattle.nr_node.specs.Reserved.{due_jobs, left_jobs, LeavesWaiting, HasMet, IsReserved}
 
 abbrev pub nobody : Member
@@ -102,16 +102,17 @@ abbrev pub HasLoaded : ℕ → List Look → List Look → Type 0
 HasLoaded tail looks after = (more : List Look) × (after ≡ looks ++ (Tail tail ∷ more))
 
 -- Entries were passed, and then reads were run, behind all that was in the record. The entries of the node's own among them are the first that it had reserved and
--- hadn't passed. The same workers wait for an answer. One entry at most is passed behind the tail that the call loaded. Where the node is up, the account of each of its
--- connections whose end is among them goes. Its replica goes down only where an entry was passed, for want of memory or since the entry was to be refused: then what waited is
--- dropped, and all keys. One that is down stays as it was.
+-- hadn't passed. The same workers wait for an answer. One entry at most is passed behind the tail that the call loaded. The account of each of its connections
+-- whose end is among them goes, whether the node is up or down. Its replica goes down only where an entry was passed, for want of memory or since the entry was to be
+-- refused: then what waited is dropped, and all keys, and the accounts go back by what is dropped, exactly. A replica that is down stays as it was.
 pub record GoesOnBy (entries : List Entry) (ran : List Job) (tail : ℕ) (n m : NodeState) : Type 0 where
   pub standing : m.seat.standing ≡ record n.seat.standing { history = n.seat.standing.history ++ (map Applied entries ++ map Ran ran); seen = m.seat.standing.seen }
   pub own : jobs_reserved (unpassed n.seat.standing) ≡ jobs_of_own n.book.node entries ++ jobs_reserved (unpassed m.seat.standing)
   pub loaded : HasLoaded tail n.seat.looks m.seat.looks
   pub from : n.seat.standing.seen ≤ tail
   pub closed : HasClosed (record_of m.seat.standing.history) n.book m.book
-  pub ended : m.replica.down ≡ false → m.book ≡ without_ended (jobs_of_all entries) n.book
+  pub ended : m.replica.down ≡ n.replica.down → m.book ≡ without_ended (jobs_of_all entries) n.book
+  pub lost : n.replica.down ≡ false → m.replica.down ≡ true → HasLost entries (items_of n.next ++ items_of n.replica.waiting) n.book m.book
   pub owed : awaited m.replica.owed ≡ awaited n.replica.owed
   pub got : HaveGot n.replica.members m.replica.members
   pub refused : m.replica.down ≡ false → m.replica.refused ≡ n.replica.refused
@@ -119,7 +120,7 @@ pub record GoesOnBy (entries : List Entry) (ran : List Job) (tail : ℕ) (n m : 
   pub few : length entries ≤ (tail - passed_of n.seat.standing) + 1
   pub fell : n.replica.down ≡ false → m.replica.down ≡ true → (entries ≢ []) × (m.replica.waiting ≡ []) × (m.next ≡ []) × (m.replica.server ≡ fresh)
   pub cause : n.replica.down ≡ false → m.replica.down ≡ true → m.replica.fell ≡ Some Refused → n.replica.refused ≡ true
-  pub still : n.replica.down ≡ true → (m.replica ≡ n.replica) × (m.book ≡ n.book)
+  pub still : n.replica.down ≡ true → m.replica ≡ n.replica
   pub dropped : n.replica.down ≡ true → (m.next ≡ []) ⊎ (m.next ≡ n.next)
 
 -- all entries that there were when the call loaded the tail are passed, the node's own among them; the reads that led were run, and no entry of the node was due

@@ -3,12 +3,14 @@ ghost use Rattle.std.specs.Prelude.{◌≡◌, ◌<◌, ◌≤◌, ◌+◌, ◌-
 ghost use Rattle.nr_entry.specs.declared.entry.Entry.{Entry};
 ghost use Rattle.nr_entry.specs.Jobs.{items_of};
 ghost use Rattle.nr_log_end.specs.Standings.{StandsInLog, passed_of};
-ghost use Rattle.nr_accounts.specs.Book.{without_ended};
+ghost use Rattle.nr_accounts.specs.Book.{without_ended, HasGoneBack};
 ghost use Rattle.nr_replica.specs.Backlogs.{HasBacklog};
 ghost use Rattle.nr_node.specs.Keeping.{Frees};
 ghost use Rattle.nr_node.specs.Level.{IsLevel};
+ghost use Rattle.nr_node.specs.Next.{jobs_next, HasFirst};
 ghost use Rattle.nr_node.specs.Advanced.{IsTakenIn, GoesOn, MeetsNoTail, HasStopped};
 
+use crate::falling::drop_lifted;
 use crate::keeping::OwnEntries;
 use crate::next::Next;
 use nr_accounts::Accounts;
@@ -20,7 +22,8 @@ use nr_replica::Replica;
 /// Lets go of the shares that are kept of entries which all nodes have passed. Takes all entries in that there are when it begins, and passes them, and the next
 /// one where that is there. It stops, and answers false, where one isn't there yet, or where the replica holds the others back, since much waits for a connection:
 /// see [`Replica::holds_back`](nr_replica::Replica::holds_back). The account of each connection whose end is among them goes. A replica that is down passes them
-/// too, executes none, and holds none back. Where the replica falls over one of them, or is down, the next entry of its own is dropped.
+/// too, executes none, and holds none back. Where the replica falls over one of them, what waits and the next entry of its own are dropped, and the accounts go
+/// back by that: see [`drop_lifted`].
 pub(crate) fn catch_up<B: LogName>(
     end: &mut End<B>,
     kept: &mut OwnEntries,
@@ -30,6 +33,7 @@ pub(crate) fn catch_up<B: LogName>(
 ) -> bool
     requires idle { end.old.standing.held ≡ None }
     requires level { IsLevel end.old.standing replica.old }
+    requires next { HasFirst next.old }
     ensures idle { end.new.standing.held ≡ None }
     ensures goes { (entries : List Entry) × GoesOn entries end.old.standing end.new.standing replica.old replica.new next.old next.new accounts.old accounts.new }
     ensures looks { (more : List Look) × (end.new.looks ≡ end.old.looks ++ Look.Tail end.new.standing.seen ∷ more) }
@@ -58,6 +62,7 @@ fn advance_by<B: LogName>(
     count: u64,
 ) -> bool
     requires idle { end.old.standing.held ≡ None }
+    requires next { HasFirst next.old }
     ensures idle { end.new.standing.held ≡ None }
     ensures met { MeetsNoTail end.old end.new }
     ensures stopped { result ≡ false → HasStopped end.old.looks end.new replica.new }
@@ -82,6 +87,7 @@ fn advance_further<B: LogName>(
     count: u64,
 ) -> bool
     requires idle { end.old.standing.held ≡ None }
+    requires next { HasFirst next.old }
     requires log { 0 < count → StandsInLog end.old.standing }
     ensures idle { end.new.standing.held ≡ None }
     ensures met { MeetsNoTail end.old end.new }
@@ -104,6 +110,7 @@ fn advance_unless_held<B: LogName>(
     next: &mut Option<Next>,
 ) -> bool
     requires idle { end.old.standing.held ≡ None }
+    requires next { HasFirst next.old }
     ensures idle { end.new.standing.held ≡ None }
     ensures met { MeetsNoTail end.old end.new }
     ensures stopped { result ≡ false → HasStopped end.old.looks end.new replica.new }
@@ -134,6 +141,7 @@ fn advance<B: LogName>(
     next: &mut Option<Next>,
 ) -> bool
     requires idle { end.old.standing.held ≡ None }
+    requires next { HasFirst next.old }
     ensures idle { end.new.standing.held ≡ None }
     ensures met { MeetsNoTail end.old end.new }
     ensures stopped { result ≡ false → HasStopped end.old.looks end.new replica.new }
@@ -144,40 +152,31 @@ fn advance<B: LogName>(
     let Some(entry) = end.fetch() else {
         return false;
     };
-    take_in(replica, &entry);
-    close_ended(replica, accounts, &entry);
+    take_in(replica, accounts, next, &entry);
+    close_ended(accounts, &entry);
     end.pass();
-    drop_next(replica, next);
     true
 }
 
-// Takes an entry in, unless the replica is down.
-fn take_in(replica: &mut Replica, entry: &Entry)
-    ensures { IsTakenIn entry.now replica.old replica.new }
+// Takes an entry in, unless the replica is down. Where it falls over it, what it has lifted is dropped, and the accounts go back by that.
+fn take_in(replica: &mut Replica, accounts: &mut Accounts, next: &mut Option<Next>, entry: &Entry)
+    requires { HasFirst next.old }
+    ensures replica { IsTakenIn entry.now replica.old replica.new }
+    ensures stays { replica.new.down ≡ replica.old.down → (next.new ≡ next.old) × (accounts.new ≡ accounts.old) }
+    ensures drops { replica.old.down ≡ false → replica.new.down ≡ true → (next.new ≡ None) × HasGoneBack (items_of (jobs_next next.old) ++ items_of replica.old.waiting) accounts.old accounts.new }
 {
     if replica.is_down() {
         return;
     }
-    let _applied = replica.apply(entry);
+    let Err(_fall) = replica.apply_or_stop(entry, true) else {
+        return;
+    };
+    drop_lifted(replica, accounts, next);
 }
 
-// The account of each connection whose end is in an entry goes, unless the replica is down.
-fn close_ended(replica: &Replica, accounts: &mut Accounts, entry: &Entry)
-    ensures down { replica.now.down ≡ true → accounts.new ≡ accounts.old }
-    ensures up { replica.now.down ≡ false → accounts.new ≡ without_ended (items_of entry.now.jobs.items) accounts.old }
+// The account of each connection whose end is in an entry goes.
+fn close_ended(accounts: &mut Accounts, entry: &Entry)
+    ensures { accounts.new ≡ without_ended (items_of entry.now.jobs.items) accounts.old }
 {
-    if replica.is_down() {
-        return;
-    }
     accounts.close(&entry.jobs);
-}
-
-// The entry that a node takes to the log next is dropped where its replica is down.
-fn drop_next(replica: &Replica, next: &mut Option<Next>)
-    ensures down { replica.now.down ≡ true → next.new ≡ None }
-    ensures up { replica.now.down ≡ false → next.new ≡ next.old }
-{
-    if replica.is_down() {
-        *next = None;
-    }
 }

@@ -8,6 +8,7 @@ pub use within::{Core, Shape};
 mod advancing;
 mod answers;
 mod collecting;
+mod falling;
 mod keeping;
 mod next;
 mod reading;

@@ -284,7 +284,9 @@ impl<B: LogName> Core<B> {
 
     /// Applies and passes all entries that there are when it begins, and the next one where that is there, and runs no read. It stops where one isn't filled yet,
     /// and where much waits for a connection, until that was handed out: see [`Replica::holds_back`](nr_replica::Replica::holds_back). A node that is down passes
-    /// them too, and stops for nothing that waits. It is never an error for want of memory.
+    /// them too, and stops for nothing that waits. The account of each connection whose end is among them goes. Where the node falls over one of them, what it has
+    /// lifted and not reserved is dropped, and the account of each connection that has a job there goes back to the first of these: linear in the accounts, times
+    /// the runs of jobs that wait and the jobs of an entry. It is never an error for want of memory.
     pub fn catch_up(&mut self) -> Looked
         ensures goes { (entries : List Entry) × ((tail : ℕ) × GoesOnBy entries [] tail self.old self.new × (result.is_behind ≡ false → tail ≤ passed_of self.new.seat.standing) × (result.is_behind ≡ true → passed_of self.new.seat.standing < tail)) }
         ensures done { (result.round ≡ Ok Round.Done) ↔ ((result.is_behind ≡ false) × (self.new.replica.down ≡ false)) }
@@ -309,7 +311,8 @@ impl<B: LogName> Core<B> {
 
     /// Applies and passes all entries that there are when it begins, as [`Core::catch_up`] does, and then runs the reads that lead, all of which it notes behind
     /// them. They are run only where all those entries were passed, and where no entry of the node's own found no place: so none runs before an update of its
-    /// connection. Where memory runs out none is run. A node that is down passes the entries that are there, executes none, and runs no read.
+    /// connection. Where memory runs out none is run. A node that is down passes the entries that are there, executes none, and runs no read. What becomes
+    /// of the accounts is as there.
     pub fn look(&mut self) -> Looked
         ensures goes { (entries : List Entry) × ((ran : List Job) × ((tail : ℕ) × GoesOnBy entries ran tail self.old self.new × (result.round ≡ Ok Round.Done → HasRead ran tail self.old self.new) × (result.round ≢ Ok Round.Done → ran ≡ []) × (result.is_behind ≡ false → tail ≤ passed_of self.new.seat.standing) × (result.is_behind ≡ true → passed_of self.new.seat.standing < tail))) }
         ensures not_yet { (result.round ≡ Ok Round.NotYet) ↔ ((result.is_behind ≡ true) × (self.new.replica.down ≡ false)) }

@@ -1,6 +1,7 @@
 -- A node applies an entry, falls by it, or runs reads.
 use Rattle.std.proofs.Common.{◌≡◌, ℕ, suc, Bool, true, false, cond, inl, inr, List, [], length, refl, ap, sym, ◌∙◌, subst, Some, None, eq-eqb}
 use Rattle.std.specs.Prelude.{map, nat_le, ◌==◌, ◌&&◌, ◌||◌}
+use Rattle.std.proofs.lemmas.List.Elements.{All-nil}
 use Rattle.nr_model.specs.Servers.{Server, after_all, emitted_all}
 use Rattle.nr_model.specs.Entries.{Jobs, entry_items, read_jobs}
 use Rattle.nr_model.specs.Nodes as nodes
@@ -14,9 +15,9 @@ use Rattle.nr_replica.specs.Replicas.{ReplicaState}
 use Rattle.nr_nodes.specs.declared.node.Node.{Node}
 use Rattle.nr_nodes.specs.Served.{clients_seen, workers_seen, node_seen, entry_seen, dropped_node}
 use Rattle.nr_nodes.specs.Whole.{IsWhole}
-use Rattle.nr_nodes.specs.Advanced.{IsAdvanced, IsApplied, HasRun}
+use Rattle.nr_nodes.specs.Advanced.{IsEntryCut, IsReadCut, IsAdvanced, IsApplied, HasRun}
 use Rattle.nr_nodes.proofs.Changed.{seen_by}
-use Rattle.nr_nodes.proofs.Cuts.{has_cuts, are_of}
+use Rattle.nr_nodes.proofs.Cuts.{each_from, grown_from, has_cuts}
 use Rattle.nr_nodes.proofs.Executed.{executed_is}
 use Rattle.nr_nodes.proofs.Batches.{whole_kept}
 
@@ -50,9 +51,9 @@ by_owner false own node jobs clients server h = refl
 
 pub advanced_is : (node : Node) (counted : Bool) (entry : Entry) (replica : ReplicaState) → length node.sessions ≡ length node.replica.members
     → AreNumbered node.replica.node 0 node.replica.members
-    → node.replica.refused ≡ false → counted ≡ nat_le node.resumed node.replica.applied → replicas.IsAppliedAs counted entry node.replica replica
+    → node.replica.down ≡ false → node.replica.refused ≡ false → counted ≡ nat_le node.resumed node.replica.applied → replicas.IsAppliedAs counted entry node.replica replica
     → IsAdvanced node.replica.node (entry_seen entry) (node_seen node) (seen_by node replica node.workers.items)
-advanced_is node counted entry replica h numbered still counts applied =
+advanced_is node counted entry replica h numbered up still counts applied =
     let jobs = items_of entry.jobs.items in
     let es = emitted_all node.replica.server (entry_items jobs) in
     let cuts = has_cuts es node.passed node.replica.node 0 node.sessions node.replica.members replica.members numbered applied.delivered in
@@ -62,7 +63,18 @@ advanced_is node counted entry replica h numbered still counts applied =
     let all = map (steps.delivered_to cuts.cuts node.passed es) (clients_seen node.sessions node.replica.members) in
     record {
       refused = record { falls = None; cuts = cuts.cuts; copy = false };
-      of_entry = record { falls = inl refl; cuts = are_of node.passed 0 cuts.cuts cuts.from };
+      of_entry = record {
+        falls = inl refl;
+        cuts = each_from (IsEntryCut node.replica.node (entry_seen entry) None (node_seen node)) es node.passed node.replica.node 0
+            (clients_seen node.sessions node.replica.members) cuts.cuts
+            (λ cut is. record {
+              at_entry = is.of_entry;
+              applies = λ i. up i || (still i || false);
+              grown = grown_from es node.passed node.replica.node (node_seen node) cut is;
+            })
+            cuts.from;
+        copy = refl;
+      };
       state = ap (λ (r : ReplicaState). seen_by node r node.workers.items) applied.state
           ∙ ap (λ (clients : List nodes.Client). record (node_seen node) { clients = clients; workers = workers_seen node.workers.items owed; applied = suc node.replica.applied; server = server }) cuts.clients
           ∙ by_owner counted own node jobs all server h
@@ -87,7 +99,11 @@ pub fallen_is : (node : Node) (fall : Fall) (entry : Entry) (replica : ReplicaSt
 fallen_is node fall entry replica new e dropped =
     record {
       refused = record { falls = Some node.passed; cuts = []; copy = false };
-      of_entry = record { falls = inr refl; cuts = tt };
+      of_entry = record {
+        falls = inr refl;
+        cuts = All-nil (IsEntryCut node.replica.node (entry_seen entry) (Some node.passed) (node_seen node));
+        copy = refl;
+      };
       state = dropped ∙ ap (λ (r : ReplicaState). dropped_node (seen_by node r node.workers.items)) e
           ∙ ap (λ (b : Bool). cond b (steps.fallen (node_seen node)) (steps.with_entry [] node.replica.node (entry_seen entry) (node_seen node)))
           (sym (ap (λ (b : Bool). node.replica.refused || b) (eq-eqb node.passed node.passed refl) ∙ or_true node.replica.refused));
@@ -107,13 +123,13 @@ pub applied_down : (n : ℕ) (entry : nodes.Logged) (old passed : nodes.Node) �
 applied_down n entry old passed down p =
     record {
       refused = steps.nothing_refused;
-      of_entry = record { falls = inl refl; cuts = tt };
+      of_entry = record { falls = inl refl; cuts = All-nil (IsEntryCut n entry None old); copy = refl };
       state = p ∙ ap steps.passing
           (ap (λ (b : Bool). cond b old (cond (old.refused || steps.falls_at None old.passed) (steps.fallen old) (steps.with_entry [] n entry old))) (sym down));
     }
 
 pub run_is : (node : Node) (tail : ℕ) (replica : ReplicaState) → length node.sessions ≡ length node.replica.members → AreNumbered node.replica.node 0 node.replica.members
-    → replicas.HasRead node.replica replica → HasRun tail (node_seen node) (seen_by node replica node.workers.items)
+    → replicas.HasRead node.replica replica → HasRun node.replica.node tail (node_seen node) (seen_by node replica node.workers.items)
 run_is node tail replica h numbered read =
     let jobs = read_jobs (items_of node.replica.waiting) in
     let es = emitted_all node.replica.server jobs in
@@ -123,7 +139,9 @@ run_is node tail replica h numbered read =
     let workers = executed_is 0 node.sessions node.replica.members jobs node.workers.items node.replica.owed h in
     record {
       cuts = cuts.cuts;
-      of_reads = are_of tail 0 cuts.cuts cuts.from;
+      of_reads = each_from (IsReadCut node.replica.node tail (node_seen node)) es tail node.replica.node 0
+          (clients_seen node.sessions node.replica.members) cuts.cuts
+          (λ cut is. record { at_tail = is.of_entry; grown = grown_from es tail node.replica.node (node_seen node) cut is }) cuts.from;
       state = ap (λ (r : ReplicaState). seen_by node r node.workers.items) read.state
           ∙ (λ i. record (node_seen node) { clients = clients i; workers = workers i; waiting = left i });
     }

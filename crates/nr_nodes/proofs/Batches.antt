@@ -28,6 +28,7 @@ use Rattle.nr_nodes.specs.Taken.{IsTaken, Takes}
 use Rattle.nr_nodes.specs.Collected.{emptied, emptied_member}
 use Rattle.nr_nodes.specs.Batches.{may_collect, executed_in, IsCollected, HasWorker}
 use Rattle.nr_nodes.proofs.Sides.{get_or-both}
+use Rattle.nr_nodes.proofs.Refusing.{nothing_is_refused}
 use Rattle.nr_nodes.proofs.Shown.{nodes_many, node_is, shows_changed, takes_nothing}
 use Rattle.nr_nodes.proofs.Standing.{shows_made, Makes, state, comes_to_no_such, has_there, held_at}
 
@@ -206,7 +207,7 @@ is_taken : (v new : WorldState) (world : nodes.World) (n w : ℕ) (outcome : ste
     → IsTaken v new (steps.Collect n w) outcome handed answer world
 is_taken v new world n w outcome handed answer is h a s = record {
   refused = steps.nothing_refused;
-  event = record { outcome_is = is; handed_is = h; answer_is = a; refused_in = λ _. refl };
+  event = record { outcome_is = is; handed_is = h; answer_is = a; refused_are = nothing_is_refused world (steps.Collect n w) outcome };
   shows = subst (λ (o : steps.Outcome). Shows new (steps.effect_by o v.setup world (steps.Collect n w) steps.nothing_refused)) is s;
 }
 

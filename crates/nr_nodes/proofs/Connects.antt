@@ -10,7 +10,7 @@ use Rattle.nr_model.specs.Nodes as nodes
 use Rattle.nr_model.specs.Nodes.Steps as steps
 use Rattle.nr_model.specs.declared.reason.Reason.TheVariants as reasons
 use Rattle.nr_model.specs.Nodes.Steps.{Opened, Done, Idle}
-use Rattle.nr_model.specs.Nodes.Pasts.{Event, IsPast, is_done, may_refuse, handed_by, answer_by}
+use Rattle.nr_model.specs.Nodes.Pasts.{Event, IsPast, is_done, handed_by, answer_by}
 use Rattle.nr_model.specs.Modes.{plain}
 use Rattle.nr_model.proofs.NodesSteps.{AreSized, each_sized, came_plainly}
 use Rattle.nr_model.proofs.NodesOwnShaped.{IsShapedWorld, each_shaped}
@@ -27,6 +27,7 @@ use Rattle.nr_nodes.specs.Whole.{ArePaired, IsWhole, AreWhole, IsHeld}
 use Rattle.nr_nodes.specs.Taken.{idle_or, Steps}
 use Rattle.nr_nodes.specs.Connected.{seen_world, is_over, takes_none}
 use Rattle.nr_nodes.proofs.Sides.{length-both}
+use Rattle.nr_nodes.proofs.Refusing.{nothing_is_refused}
 use Rattle.nr_nodes.proofs.Paired.{paired_many, pair_at, some_in_use, client_of_pair, or_false, not_either}
 use Rattle.nr_nodes.proofs.Shown.{seen_at, node_is, nodes_many, shows_changed, whole_at, whole_set, held_on, takes_nothing}
 
@@ -329,15 +330,14 @@ abbrev pub changed : WorldState → ℕ → Node → WorldState
 changed v n x = record v { nodes = set v.nodes n x }
 
 -- a step that changed one node
-pub changes : (v : WorldState) (step : steps.Step) (o : steps.Outcome) (n : ℕ) (old x : Node) (change : nodes.Node → nodes.Node) → IsBlind step → is_done o
-    ≡ true → may_refuse step ≡ false
+pub changes : (v : WorldState) (step : steps.Step) (o : steps.Outcome) (n : ℕ) (old x : Node) (change : nodes.Node → nodes.Node) → IsBlind step → is_done o ≡ true
     → ((world : nodes.World) → handed_by world step ≡ []) → ((world : nodes.World) → answer_by world step ≡ None)
     → n < length v.nodes → old ≡ get_or v.nodes n old
     → steps.outcome v.setup (seen_world v.nodes) step ≡ o → node_seen x ≡ change (node_seen old) → (change (node_seen old)).passed ≡ (node_seen old).passed
     → ((world : nodes.World) → (steps.effect v.setup world step steps.nothing_refused).nodes ≡ set world.nodes n (change (nodes.node_at n world)))
     → ((world : nodes.World) → (steps.effect v.setup world step steps.nothing_refused).taken ≡ world.taken)
     → Steps v (changed v n x) step o
-changes v step o n old x change blind done free same none h at e seen passed nodes_are taken_are = record {
+changes v step o n old x change blind done same none h at e seen passed nodes_are taken_are = record {
   setup = refl;
   taken = λ events world past s.
       let out = came_plainly v.setup world step ∙ outcome_in v world step blind s ∙ e in
@@ -354,7 +354,7 @@ changes v step o n old x change blind done free same none h at e seen passed nod
           outcome_is = sym out;
           handed_is = sym (ap (λ (b : Bool). cond b (handed_by world step) []) done ∙ same world);
           answer_is = sym (ap (λ (b : Bool). cond b (answer_by world step) None) done ∙ none world);
-          refused_in = λ _. refl;
+          refused_are = nothing_is_refused world step o;
         };
         shows = subst (λ (p : steps.Outcome). Shows (changed v n x) (steps.effect_by p v.setup world step steps.nothing_refused)) (sym out)
             (by_done (λ (w : nodes.World). Shows (changed v n x) w) o v.setup world step done shown);
@@ -400,7 +400,7 @@ opens v n w limit old x conn held l h at e seen name =
     old.replica.members whole.pairs) in
     subst (λ (c : Connection). Steps v (changed v n x) (steps.Open n w) (steps.Opened c))
     (sym (name ∙ (λ i. record { node = whole.number i; serial = many i })))
-    (changes v (steps.Open n w) (opened_in n v.nodes) n old x (opened_node v.setup.queue_limit n w) (λ setup world. refl) refl refl (λ world. refl)
+    (changes v (steps.Open n w) (opened_in n v.nodes) n old x (opened_node v.setup.queue_limit n w) (λ setup world. refl) refl (λ world. refl)
     (λ world. refl) h at e
     (seen ∙ (λ i. opened_node (l i) (whole.number i) w (node_seen old))) refl (λ world. refl) (λ world. refl))
 
@@ -410,15 +410,14 @@ pub feeds : (v : WorldState) (conn : ConnId) (time : ℕ) (bytes : Bytes) (old x
     → Steps v (changed v conn.node x) (steps.Feed (connection_of conn) time bytes) steps.Done
 feeds v conn time bytes old x h at e seen =
     changes v (steps.Feed (connection_of conn) time bytes) steps.Done conn.node old x (steps.fed_node (connection_of conn) time bytes)
-    (λ setup world. refl) refl refl
-    (λ world. refl) (λ world. refl) h at e seen refl (λ world. refl) (λ world. refl)
+    (λ setup world. refl) refl (λ world. refl) (λ world. refl) h at e seen refl (λ world. refl) (λ world. refl)
 
 pub closes : (v : WorldState) (conn : ConnId) (time : ℕ) (old x : Node) → conn.node < length v.nodes → old ≡ get_or v.nodes conn.node old
     → steps.outcome v.setup (seen_world v.nodes) (steps.Close (connection_of conn) time) ≡ steps.Done
     → node_seen x ≡ steps.closed_node (connection_of conn) time (node_seen old)
     → Steps v (changed v conn.node x) (steps.Close (connection_of conn) time) steps.Done
 closes v conn time old x h at e seen =
-    changes v (steps.Close (connection_of conn) time) steps.Done conn.node old x (steps.closed_node (connection_of conn) time) (λ setup world. refl) refl refl
+    changes v (steps.Close (connection_of conn) time) steps.Done conn.node old x (steps.closed_node (connection_of conn) time) (λ setup world. refl) refl
     (λ world. refl) (λ world. refl) h at e seen refl (λ world. refl) (λ world. refl)
 
 -- a node that a connection is opened at is there, and has room for it

@@ -7,6 +7,7 @@ pub mod Cuts
 pub mod Executed
 pub mod Advanced
 pub mod Collected
+pub mod Refusing
 pub mod Shown
 pub mod Runs
 pub mod Fresh

@@ -25,6 +25,7 @@ use Rattle.nr_nodes.specs.WorldState.{WorldState, Shows}
 use Rattle.nr_nodes.specs.Whole.{IsWhole, IsHeld}
 use Rattle.nr_nodes.specs.Taken.{Steps}
 use Rattle.nr_nodes.proofs.Sides.{any_default}
+use Rattle.nr_nodes.proofs.Refusing.{nothing_is_refused}
 use Rattle.nr_nodes.proofs.Shown.{nodes_many, tail_is, node_is, shows_changed, whole_at, whole_set, held_on, takes_done}
 
 -- the world that a world shows that is held
@@ -139,7 +140,7 @@ filled_takes v n t d x there is seen =
     let many = nodes_many v world s in
     let at = node_is v world n d s there in (
       steps.nothing_refused,
-      λ _. refl,
+      nothing_is_refused world (steps.Fill n t) steps.Done,
       is world s,
       shows_changed v world (steps.effect v.setup world (steps.Fill n t) steps.nothing_refused) n x (filled_node t (nodes.node_at n world)) s there
           (seen ∙ ap (filled_node t) (sym at)) refl refl (s.passed n (omega arith)),
@@ -156,7 +157,7 @@ fetched_takes v n d x there is seen =
     let many = nodes_many v world s in
     let at = node_is v world n d s there in (
       steps.nothing_refused,
-      λ _. refl,
+      nothing_is_refused world (steps.Fetch n) steps.Done,
       is events world past s,
       shows_changed v world (steps.effect v.setup world (steps.Fetch n) steps.nothing_refused) n x (fetched_node (nodes.node_at n world)) s there
           (seen ∙ ap fetched_node (sym at)) refl refl (s.passed n (omega arith)),
@@ -183,7 +184,7 @@ reserved_takes v n count tail d x log entry there is cells end seen entry_is mor
     entry_is ∙ ap (λ (y : nodes.Node). record { node = n; jobs = entry_jobs y.waiting }) (sym at) in
     let shows = shows_changed v world (nodes.with_node n next world) n x next s there sees refl refl (s.passed n (omega arith)) in (
       steps.nothing_refused,
-      λ _. refl,
+      nothing_is_refused world (steps.Reserve n) steps.Done,
       is world s,
       shows_logged (record v { nodes = set v.nodes n x }) (nodes.with_node n next world) n (entry_jobs node.waiting) log shows
           (more ∙ ap (λ (e : nodes.Logged). log_seen v.log ++ e ∷ []) jobs) base,

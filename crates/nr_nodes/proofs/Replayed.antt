@@ -23,12 +23,13 @@ use Rattle.nr_nodes.specs.declared.node.Node.{Node}
 use Rattle.nr_nodes.specs.declared.log.Log.{Log}
 use Rattle.nr_nodes.specs.Served.{clients_seen, node_seen, refused_node, applied_node}
 use Rattle.nr_nodes.specs.Logs.{log_seen}
-use Rattle.nr_nodes.specs.Advanced.{IsApplied, HasRun}
+use Rattle.nr_nodes.specs.Advanced.{IsOf, IsApplied, HasRun}
 use Rattle.nr_nodes.specs.WorldState.{WorldState, Shows}
 use Rattle.nr_nodes.specs.Whole.{IsWhole, AreWhole, IsHeld}
 use Rattle.nr_nodes.specs.Taken.{Steps}
 use Rattle.nr_nodes.specs.Batches.{ComesTo}
 use Rattle.nr_nodes.specs.Replayed.{IsWithin, IsNext, IsAhead, HasLooked, HavePassed, least_of}
+use Rattle.nr_nodes.proofs.Refusing.{nothing_is_refused, apply_refused, look_refused}
 use Rattle.nr_nodes.proofs.Shown.{nodes_many, tail_is, node_is, shows_changed, whole_at, whole_set, held_on, takes_done}
 use Rattle.nr_nodes.proofs.Kept.{paired_long}
 use Rattle.nr_nodes.proofs.Joined.{none_yet, one_more, looked_up}
@@ -176,7 +177,7 @@ next_is n log all entry old new base is at applied =
     ∙ ap (λ (k : ℕ). get_or all k d) far in
     record {
       refused = applied.refused;
-      of_entry = applied.of_entry;
+      of_entry = subst (λ (e : nodes.Logged). IsOf n e old applied.refused) same applied.of_entry;
       state = applied.state ∙ ap (λ (e : nodes.Logged). applied_node applied.refused n e old) same;
     }
 
@@ -267,6 +268,10 @@ number_at v n d held there = (whole_at v.nodes 0 n d there held.whole).number �
 abbrev pub Nexts : Log → Node → Node → Type 0
 Nexts log old new = (all : List nodes.Logged) → log_seen log ≡ drop log.base all → IsNext old.replica.node all (node_seen old) (node_seen new)
 
+next_at : (m n : ℕ) (log : List nodes.Logged) (old at new : nodes.Node) → m ≡ n → old ≡ at → IsNext m log old new → IsNext n log at new
+next_at m n log old at new e f h =
+    subst (λ (y : nodes.Node). IsNext n log y new) f (subst (λ (k : ℕ). IsNext k log old new) e h)
+
 pub takes_apply : (old new : WorldState) (n : ℕ) (d x : Node) → IsHeld old → ComesTo old (steps.Apply n) steps.Done → Nexts old.log (get_or old.nodes n d) x
     → IsLetGo (with_node old n x) new → Steps old new (steps.Apply n) steps.Done
 takes_apply old new n d x held asks nexts g =
@@ -275,18 +280,20 @@ takes_apply old new n d x held asks nexts g =
     let number = number_at old n d held there in
     takes_done old new (steps.Apply n) g.setup (λ _. refl) (λ _. refl) (λ events world past s.
     let log = nodes.log_of world.taken in
-    let next = nexts log s.log in
     let back : node_seen node ≡ nodes.node_at n world = sym (node_is old world n d s there) in
+    let next = next_at node.replica.node n log (node_seen node) (nodes.node_at n world) (node_seen x) number back (nexts log s.log) in
     let many = nodes_many old world s in
+    let tail = tail_is old world s in
+    let below = apply_within old n d held asks in
+    let same : node.passed ≡ (nodes.node_at n world).passed = ap (λ (y : nodes.Node). y.passed) back in
     let after = steps.advanced next.refused n log (nodes.node_at n world) in
-    let seen : node_seen x ≡ after = next.state ∙ (λ i. steps.advanced next.refused (number i) log (back i)) in
     let one = advanced_passed next.refused n log (nodes.node_at n world) in
     let base = s.passed n (omega arith) in (
       next.refused,
-      λ e. absurd (cc e),
+      apply_refused world n (node_seen x) next (omega (arith, many, there)) (omega (arith, tail, below, same)),
       asks.is events world past s,
       shows_let_go (with_node old n x) new (nodes.with_node n after world) g
-          (shows_changed old world (nodes.with_node n after world) n x after s there seen refl refl (omega arith)),
+          (shows_changed old world (nodes.with_node n after world) n x after s there next.state refl refl (omega arith)),
     ))
 
 pub held_on_let_go : (old new : WorldState) (n : ℕ) (d x : Node) (step : steps.Step) (outcome : steps.Outcome) → IsHeld old → n < length old.nodes
@@ -337,9 +344,13 @@ takes_look old new n d x held asks looks g =
     let node = get_or old.nodes n d in
     let looked = looked_at node.replica.node n (old.log.base + length (log_seen old.log)) (nodes.tail_of world) log (node_seen node) (nodes.node_at n world)
     (node_seen x)
-    number (tail_is old world s) (sym (node_is old world n d s there)) (looks log s.log) in (
+    number (tail_is old world s) (sym (node_is old world n d s there)) (looks log s.log) in
+    let many = nodes_many old world s in
+    let tail = tail_is old world s in
+    let within = (within_at old n d held there).tail in
+    let same : (nodes.node_at n world).passed ≡ node.passed = ap (λ (y : nodes.Node). y.passed) (node_is old world n d s there) in (
       looked.refused,
-      λ e. absurd (cc e),
+      look_refused world n (node_seen x) looked (omega (arith, many, there)) (omega (arith, tail, within, same)),
       asks.is events world past s,
       shows_let_go (with_node old n x) new (steps.looked looked.refused n world) g (shows_looked old world n x s there looked),
     ))
@@ -354,7 +365,7 @@ takes_refuse old n d x held asks seen =
     let many = nodes_many old world s in
     let after : nodes.Node = record (nodes.node_at n world) { refused = true } in (
       steps.nothing_refused,
-      λ _. refl,
+      nothing_is_refused world (steps.Refuse n) steps.Done,
       asks.is events world past s,
       shows_changed old world (nodes.with_node n after world) n x after s there (seen ∙ ap refused_node (sym (node_is old world n d s there))) refl refl
           (s.passed n (omega arith)),
@@ -546,10 +557,11 @@ looked_all a v n d x nodes log is up o at looks whole passed all base entries =
 pub read_looked : (log : Log) (old mid new : Node) (all : List nodes.Logged) → mid.replica.node ≡ old.replica.node
     → old.passed ≤ log.base + length (log_seen log)
     → IsAhead old.replica.node (log.base + length (log_seen log) - old.passed) all (node_seen old) (node_seen mid) → mid.replica.down ≡ false
-    → HasRun (log.base + length (log_seen log)) (node_seen mid) (node_seen new)
+    → HasRun mid.replica.node (log.base + length (log_seen log)) (node_seen mid) (node_seen new)
     → HasLooked old.replica.node (log.base + length (log_seen log)) all (node_seen old) (node_seen new)
 read_looked log old mid new all same within ahead up run =
-    looked_up old.replica.node (log.base + length (log_seen log)) all (node_seen old) (node_seen mid) (node_seen new) ahead within up run
+    looked_up old.replica.node (log.base + length (log_seen log)) all (node_seen old) (node_seen mid) (node_seen new) ahead within up
+    (subst (λ (n : ℕ). HasRun n (log.base + length (log_seen log)) (node_seen mid) (node_seen new)) same run)
 
 pub apply_more : (a : WorldState) (n : ℕ) (d : Node) → Opens a (steps.Apply n) → d ≡ get_or a.nodes n d → d.passed < a.log.base + length (log_seen a.log)
 apply_more a n d o at = subst (λ (y : Node). y.passed < a.log.base + length (log_seen a.log)) (sym at) (apply_within a n d o.held o.comes)

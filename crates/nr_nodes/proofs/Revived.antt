@@ -25,6 +25,7 @@ use Rattle.nr_nodes.specs.Taken.{Steps}
 use Rattle.nr_nodes.specs.Batches.{ComesTo}
 use Rattle.nr_nodes.proofs.Sides.{length-both}
 use Rattle.nr_nodes.proofs.Changed.{seen_from}
+use Rattle.nr_nodes.proofs.Refusing.{nothing_is_refused, copy_is_refused}
 use Rattle.nr_nodes.proofs.Shown.{nodes_many, tail_is, node_is, shows_changed, whole_at, whole_set, held_on, takes_done}
 use Rattle.nr_nodes.proofs.Replayed.{Opens, idle_done, as_many_nodes, with_node}
 
@@ -168,7 +169,7 @@ takes_revive v n f d e x server tail o copied end seen =
     let last : tail ≡ nodes.tail_of world = end ∙ tail_is v world s in
     let after = revived (nodes.tail_of world) (nodes.node_at f world).server (nodes.node_at n world) in (
       steps.nothing_refused,
-      λ no. refl,
+      nothing_is_refused world (steps.Revive n f) steps.Done,
       came_plainly v.setup world (steps.Revive n f) ∙ o.comes.is events world past s,
       shows_changed v world (nodes.with_node n after world) n x after s there (seen ∙ (λ i. revived (last i) (given i) (sym mine i))) refl refl
           (s.passed n (omega arith)),
@@ -196,7 +197,7 @@ copy_refused v n f comes = record {
       ap (steps.with_copy refused) (comes.is events world past s) in
       record {
         refused = refused;
-        event = record { outcome_is = sym is; handed_is = refl; answer_is = refl; refused_in = λ no. absurd (cc no) };
+        event = record { outcome_is = sym is; handed_is = refl; answer_is = refl; refused_are = copy_is_refused world n f (steps.Idle reasons.NoMemory) };
         shows = subst (λ (o : steps.Outcome). Shows v (steps.effect_by o v.setup world (steps.Revive n f) refused)) (sym is) s;
       };
 }

@@ -61,8 +61,14 @@ one_run setup path happened v w step came on same takes =
 
 pub all_run : (setup : traffic.Setup) (path : List steps.Step) (happened : List Happened) (v : WorldState) → IsOn setup path happened v → HasRun setup path happened v
 all_run setup path happened v on =
-    let law = nodes_are_explained.explained setup on.events on.world on.past in
-    record { events = on.events; world = on.world; items = law.0; are = on.are; past = on.past; shows = on.shows; explains = law.1 }
+    record {
+      events = on.events;
+      world = on.world;
+      are = on.are;
+      past = on.past;
+      shows = on.shows;
+      explains = nodes_are_explained.explained setup on.events on.world on.past;
+    }
 
 -- a step that handed out nothing and took no answer
 pub plain_takes : (v w : WorldState) (step : steps.Step) (outcome : Outcome) (happened : Happened) → Steps v w step (outcome_seen outcome)

@@ -1,12 +1,12 @@
 -- A change of one node is a change of the world that is shown.
-use Rattle.std.proofs.Common.{◌≡◌, ℕ, zero, suc, ◌+◌, ◌-◌, ◌<◌, ◌≤◌, ◌^◌, false, inl, inr, List, [], ◌∷◌, ◌++◌, length, map, drop, get_or, set, refl, ap, sym, ◌∙◌, subst, arith, None, Option}
+use Rattle.std.proofs.Common.{◌≡◌, ℕ, zero, suc, ◌+◌, ◌-◌, ◌<◌, ◌≤◌, ◌^◌, inl, inr, List, [], ◌∷◌, ◌++◌, length, map, drop, get_or, set, refl, ap, sym, ◌∙◌, subst, arith, None, Option}
 use Rattle.std.specs.Prelude.{fold}
 use Rattle.std.proofs.lemmas.Bool.Decides.{eqb_tells}
 use Rattle.std.proofs.lemmas.List.{length-map, length-set, length-drop, get_or-set_same, get_or-set_other}
 use Rattle.nr_model.specs.Connections as traffic
 use Rattle.nr_model.specs.Nodes as nodes
 use Rattle.nr_model.specs.Nodes.Steps as steps
-use Rattle.nr_model.specs.Nodes.Pasts.{Answering, Event, IsEvent, IsPast, AreEvents, after_event, handed_by, answer_by, may_refuse}
+use Rattle.nr_model.specs.Nodes.Pasts.{Answering, Event, IsEvent, IsPast, AreEvents, AreRefused, after_event, handed_by, answer_by}
 use Rattle.nr_model.proofs.NodesSteps.{world_after-append, came_plainly}
 use Rattle.nr_nodes.specs.declared.node.Node.{Node}
 use Rattle.nr_model.specs.declared.reason.Reason.{Reason}
@@ -15,6 +15,7 @@ use Rattle.nr_nodes.specs.Logs.{log_seen}
 use Rattle.nr_nodes.specs.WorldState.{WorldState, Shows}
 use Rattle.nr_nodes.specs.Whole.{IsWhole, AreWhole, IsHeld}
 use Rattle.nr_nodes.specs.Taken.{Takes, Steps}
+use Rattle.nr_nodes.proofs.Refusing.{nothing_is_refused}
 
 -- of a list of nodes, what is seen of one, and what is seen where another stands in its place
 pub seen_at : (xs : List Node) (n : ℕ) (d : Node) (e : nodes.Node) → n < length xs → get_or (map node_seen xs) n e ≡ node_seen (get_or xs n d)
@@ -116,7 +117,7 @@ takes_nothing v step reason is = record {
       let e = came_plainly v.setup world step ∙ is events world past s in
       record {
         refused = steps.nothing_refused;
-        event = record { outcome_is = sym e; handed_is = refl; answer_is = refl; refused_in = λ _. refl };
+        event = record { outcome_is = sym e; handed_is = refl; answer_is = refl; refused_are = nothing_is_refused world step (steps.Idle reason) };
         shows = subst (λ (o : steps.Outcome). Shows v (steps.effect_by o v.setup world step steps.nothing_refused)) (sym e) s;
       };
 }
@@ -125,7 +126,7 @@ takes_nothing v step reason is = record {
 pub takes_done : (old new : WorldState) (step : steps.Step) → new.setup ≡ old.setup
     → ((world : nodes.World) → handed_by world step ≡ []) → ((world : nodes.World) → answer_by world step ≡ None)
     → ((events : List Event) (world : nodes.World) → IsPast old.setup events world → Shows old world
-    → (refused : steps.Refused) × (may_refuse step ≡ false → refused ≡ steps.nothing_refused) × (steps.came_to old.setup world step refused ≡ steps.Done)
+    → (refused : steps.Refused) × AreRefused world step steps.Done refused × (steps.came_to old.setup world step refused ≡ steps.Done)
     × Shows new (steps.effect old.setup world step refused))
     → Steps old new step steps.Done
 takes_done old new step same none unanswered is = record {
@@ -134,7 +135,7 @@ takes_done old new step same none unanswered is = record {
       let t = is events world past s in
       record {
         refused = t.0;
-        event = record { outcome_is = sym t.2; handed_is = sym (none world); answer_is = sym (unanswered world); refused_in = t.1 };
+        event = record { outcome_is = sym t.2; handed_is = sym (none world); answer_is = sym (unanswered world); refused_are = t.1 };
         shows = subst (λ (o : steps.Outcome). Shows new (steps.effect_by o old.setup world step t.0)) (sym t.2) t.3;
       };
 }

@@ -24,6 +24,7 @@ use Rattle.nr_nodes.specs.Whole.{IsWhole, ArePaired, IsHeld}
 use Rattle.nr_nodes.specs.Taken.{Steps, Takes}
 use Rattle.nr_nodes.specs.Batches.{HasWorker, IsPlace, ComesTo}
 use Rattle.nr_nodes.proofs.Sides.{length-both}
+use Rattle.nr_nodes.proofs.Refusing.{nothing_is_refused}
 use Rattle.nr_nodes.proofs.Shown.{nodes_many, node_is, shows_changed, whole_at, whole_set, held_on, takes_done}
 
 -- as many sessions as members
@@ -150,7 +151,7 @@ steps_done v step n g x old makes none unanswered there at seen comes =
     takes_done v (record v { nodes = set v.nodes n x }) step refl none unanswered
     (λ events world past s. (
       steps.nothing_refused,
-      λ _. refl,
+      nothing_is_refused world step steps.Done,
       came_plainly v.setup world step ∙ comes.is events world past s,
       shows_made v world step n g x old makes there at seen s,
     ))

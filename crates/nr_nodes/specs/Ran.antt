@@ -1,6 +1,5 @@
 -- What a run of steps came to: the headline.
 use Rattle.std.specs.Prelude.{◌≡◌, List, [], ◌∷◌, map, option_map}
-use Rattle.nr_model.specs.Items.{Sequence}
 use Rattle.nr_model.specs.Connections.{Setup}
 use Rattle.nr_model.specs.Nodes as nodes
 use Rattle.nr_model.specs.Nodes.Steps as steps
@@ -22,12 +21,11 @@ AreOf [] [] [] = Unit {0}
 AreOf (step ∷ steps) (happened ∷ more) (e ∷ events) = IsOf step happened e × AreOf steps more events
 AreOf _ _ _ = ⊥
 
--- The events of these steps, with what each handed back, led to a world that is shown, and one sequence explains them.
+-- The events of these steps, with what each handed back, led to a world that is shown, and what was taken in it, in order, explains them.
 pub record HasRun (setup : Setup) (steps : List steps.Step) (happened : List Happened) (v : WorldState) : Type 0 where
   pub events : List Event
   pub world : nodes.World
-  pub items : Sequence
   pub are : AreOf steps happened events
   pub past : IsPast setup events world
   pub shows : Shows v world
-  pub explains : Explains items setup events world
+  pub explains : Explains (nodes.sequence_of world) setup events world

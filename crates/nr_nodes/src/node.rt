@@ -420,7 +420,7 @@ impl Node {
         requires up { self.old.replica.down ≡ false }
         requires clients { length self.old.sessions ≡ length self.old.replica.members }
         requires numbered { AreNumbered self.old.replica.node 0 self.old.replica.members }
-        ensures run { (tail : ℕ) → OnOk result (HasRun tail (node_seen self.old) (node_seen self.new)) }
+        ensures run { (tail : ℕ) → OnOk result (HasRun self.old.replica.node tail (node_seen self.old) (node_seen self.new)) }
         ensures whole { (n : ℕ) → IsWhole n self.old → OnOk result (IsWhole n self.new) }
         ensures passed { OnOk result (self.new.passed ≡ self.old.passed) }
     {

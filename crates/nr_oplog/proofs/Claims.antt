@@ -1,6 +1,6 @@
 -- A reservation keeps the rule.
 use Rattle.std.proofs.Common.{◌≡◌, ◌≢◌, ℕ, zero, suc, ◌+◌, ◌*◌, ◌^◌, ◌<◌, ◌≤◌, List, [], ◌∷◌, ◌++◌, length, set, get_or, eqb, replicate, Option, Some, None, option_map, unwrap_or, refl, sym, ap, ◌∙◌, subst, le_of_eq, le_refl, le_trans, arith, length-append, length-set, get_or-set_same, get_or-set_other}
-use mathlib.Core.Option.{some, some-injective}
+use mathlib.Core.Option.{some, some-injective, some-ne-none}
 use mathlib.Core.Logic.{dite}
 use native.Mathlib.Decide.{ℕ_discrete}
 use lib.ListN.{get_elem?}
@@ -32,6 +32,14 @@ share_there : (entry e : Entry) (n x : ℕ) → get_or (replicate n (Some entry)
 share_there entry e zero x is = absurd (cc)
 share_there entry e (suc n) zero is = (omega arith, ap (λ o. unwrap_or o entry) is)
 share_there entry e (suc n) (suc x) is = let r = share_there entry e n x is in let l : x < n = r.0 in (omega arith, r.1)
+
+-- each entry of a log is of such a node, and one entry more
+whose_more : (nodes : ℕ) (log : List Entry) (last : Entry) → ((number : ℕ) (entry : Entry) → get_elem? log number ≡ some entry → entry.node < nodes)
+    → last.node < nodes → (number : ℕ) (entry : Entry) → get_elem? (log ++ last ∷ []) number ≡ some entry → entry.node < nodes
+whose_more nodes [] last each own zero entry is = subst (λ (e : Entry). e.node < nodes) (some-injective last entry is) own
+whose_more nodes [] last each own (suc number) entry is = absurd (some-ne-none entry (sym is))
+whose_more nodes (x ∷ xs) last each own zero entry is = each 0 entry is
+whose_more nodes (x ∷ xs) last each own (suc number) entry is = whose_more nodes xs last (λ k e at. each (suc k) e at) own number entry is
 
 module _ (nodes places : ℕ) where
   abbrev St : Type 0
@@ -153,6 +161,7 @@ module _ (nodes places : ℕ) where
       sized = (length-set s.words 0 (old + 1) ∙ r.sized.0, r.sized.1);
       tail_is = get_or-set_same s.words 0 (old + 1) 0 (subst (λ z. 0 < z) (sym r.sized.0) (let b : ℕ = nodes * (places + 16) in let g : 0 < 16 * nodes + 16 + b = omega arith in g)) ∙ sym longer;
       bounded = let g : length log ≡ old + 1 = longer in omega arith;
+      whose = whose_more nodes r.log entry r.whose (subst (λ (z : ℕ). z < nodes) (sym own) mine.3);
       applied_is = r.applied_is;
       rising = λ x. dite (ℕ_discrete x m.0.standing.node)
           (λ is. subst (λ z. RisesAlong log z (r.past z)) (sym is) own_rises)

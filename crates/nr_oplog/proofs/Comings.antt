@@ -155,6 +155,7 @@ module _ (nodes places : ℕ) where
         sized = (length-replicate (words_of nodes places) 0, length-map (replicate (slots_of nodes places) None) some ∙ length-replicate (slots_of nodes places) None);
         tail_is = zero_row (words_of nodes places) 0;
         bounded = zero-le;
+        whose = λ number entry is. absurd (some-ne-none entry (sym is));
         applied_is = λ _. refl;
         rising = λ _. ([], refl, λ _. tt);
         each_node = λ node near. record { counts = zero_row (words_of nodes places) (passed_word node); room = zero-le; begins = begins_none [] };

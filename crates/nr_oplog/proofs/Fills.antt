@@ -51,6 +51,7 @@ module _ (nodes places : ℕ) where
     sized = (wide ∙ r.sized.0, deep ∙ r.sized.1);
     tail_is = first ∙ r.tail_is;
     bounded = r.bounded;
+    whose = r.whose;
     applied_is = r.applied_is;
     rising = r.rising;
     each_node = λ x there. let c = r.each_node x there in record { counts = counts x there ∙ c.counts; room = c.room; begins = c.begins };

@@ -15,3 +15,4 @@ pub mod Comings
 pub mod Adopted
 pub mod Seating
 pub mod Crossing
+mod Reserved

@@ -164,6 +164,7 @@ module _ (nodes places : ℕ) where
       sized = r.sized;
       tail_is = r.tail_is;
       bounded = r.bounded;
+      whose = r.whose;
       applied_is = same_applied;
       rising = λ x. at_change r.past node (m.0.standing.history ++ turns) (RisesAlong r.log) x
           (rises_done m.0.standing turns r.log none may ((r.each_seat id m.0 at).owns node has).own (subst (RisesAlong r.log node) whole (r.rising node)))

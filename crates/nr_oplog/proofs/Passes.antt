@@ -249,6 +249,7 @@ module _ (nodes places : ℕ) where
       sized = (length-set s.words (passed_word node) (count + 1) ∙ r.sized.0, length-set s.homes slot (some None) ∙ r.sized.1);
       tail_is = get_or-set_other s.words (passed_word node) 0 (count + 1) 0 (λ e. omega arith) ∙ r.tail_is;
       bounded = r.bounded;
+      whose = r.whose;
       applied_is = λ x. at_change r.past node history (λ y p. applied y ≡ applied_of p) x (here_applied ∙ sym (applied_append m.0.standing.history (Applied entry ∷ [])))
           (λ other. else_applied x other ∙ r.applied_is x);
       rising = λ x. at_change r.past node history (RisesAlong r.log) x

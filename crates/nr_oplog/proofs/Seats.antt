@@ -47,6 +47,7 @@ module _ (nodes places : ℕ) where
     sized = r.sized;
     tail_is = r.tail_is;
     bounded = r.bounded;
+    whose = r.whose;
     applied_is = r.applied_is;
     rising = r.rising;
     each_node = r.each_node;

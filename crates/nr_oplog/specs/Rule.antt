@@ -100,6 +100,7 @@ module _ (nodes places : ℕ) where
     pub sized : (length s.words ≡ words_of nodes places) × (length s.homes ≡ slots_of nodes places)
     pub tail_is : slice_index s.words 0 ≡ length log
     pub bounded : length log ≤ 2 ^ 63
+    pub whose : (number : ℕ) (entry : Entry) → get_elem? log number ≡ some entry → entry.node < nodes
     pub applied_is : (node : ℕ) → applied node ≡ applied_of (past node)
     pub rising : (node : ℕ) → RisesAlong log node (past node)
     pub each_node : (node : ℕ) → node < nodes → NodeOk log s.words (applied node) node

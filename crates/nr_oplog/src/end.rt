@@ -2,6 +2,7 @@
 ghost use Rattle.std.specs.Prelude.{◌≡◌};
 ghost use Rattle.nr_log_end.specs.Standings.{passed_of};
 ghost use Rattle.nr_oplog.specs.Calls.{LoadsCounts, IsLeastOf};
+ghost use Rattle.nr_oplog.specs.Plays.{AreOfOneLog};
 
 use crate::log::{LogName, Oplog};
 use crate::seat::LogSeat;
@@ -52,6 +53,16 @@ impl<B: LogName> End<B> {
         ensures { result ≡ passed_of self.now.standing }
     {
         self.seat.passed()
+    }
+
+    /// Meets a token of the log: of what this node and the token's know, one is a beginning of the other. It takes four loads of the tail.
+    pub fn meets(&mut self, token: &mut Token<B>)
+        ensures of_one_log { AreOfOneLog self.old.standing token.old.standing }
+        ensures standing { self.new ≡ self.old }
+        ensures token { token.new ≡ token.old }
+    {
+        let mut own = self.seat.token(&self.log);
+        own.order(&self.log, token);
     }
 }
 

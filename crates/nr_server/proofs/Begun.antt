@@ -33,7 +33,7 @@ fed_as known fed other e is = subst (λ (b : Bytes). IfSome known (λ bytes. IsB
 pub begins : {S M : Type 0} (was_received was_sent : S → Option Bytes) (gives : M → M → Option ℕ → Type 0) (first last : M) (now : ℕ) (story : Story)
     (events : List Event) (world : World) (client : Client S) → story.setup ≡ alone → closed_in story.occurrences ≡ [] → IsOf story events world
     → AreFedByClock gives first last now (fed_in story.occurrences) (closings_in story.occurrences) → IsLeft was_received was_sent story client
-    → IsBegun was_received was_sent gives first (connection client) events world (sequence_of world) client.stream
+    → IsBegun was_received was_sent gives first (connection client) events world client.stream
 begins was_received was_sent gives first last now story events world client sized calm is timed left =
     let c = connection client in
     let past : IsPast alone events world = subst (λ (s : Setup). IsPast s events world) sized is.past in

@@ -4,7 +4,7 @@ use Rattle.std.specs.Prelude.{Option, Some, IfSome, Result, Ok}
 use Rattle.std.specs.Io.KnownBytes.{Appends, Consumes}
 use Rattle.nr_model.specs.Bytes.{Bytes, IsBeginningOf}
 use Rattle.nr_model.specs.Items.{Connection}
-use Rattle.nr_model.specs.Nodes.{World, client_of}
+use Rattle.nr_model.specs.Nodes.{World, client_of, sequence_of}
 use Rattle.nr_model.specs.Connections.{fed_to}
 use Rattle.nr_model.specs.Sequential.{emitted_for}
 use Rattle.nr_server.specs.Ran.{run_answer, HasRunOn, IsOver as IsAtEnd, IsTold}
@@ -48,7 +48,7 @@ pub has_run : {R W S M : Type 0} (remaining : R → Option Bytes) (contents : W 
     → (has_ended ≡ true → IfSome all (λ bytes. ran.read.bytes ≡ bytes)) → ran.done ≡ run_answer served.done has_read_failed is_stuck
     → IsServed was_received was_sent course gives clock served → HasRunOn remaining contents gives clock reader writer ran
 has_run remaining contents gives clock reader writer ran all before was_received was_sent course served has_ended has_failed is_full has_read_failed is_stuck all_is
-    before_is received sent at reads writes ends told (c, events, world, items, begun, whole, broken) =
+    before_is received sent at reads writes ends told (c, events, world, begun, whole, broken) =
     let fed_by : (P : Bytes → Type 0) → IfSome (was_received served.stream) P → P ran.read.bytes =
     λ P. subst (λ (k : Option Bytes). IfSome k P) received in
     let sent_by : (P : Bytes → Type 0) → IfSome (was_sent served.stream) P → P ran.written.bytes = λ P. subst (λ (k : Option Bytes). IfSome k P) sent in
@@ -56,7 +56,6 @@ has_run remaining contents gives clock reader writer ran all before was_received
       c = c;
       events = events;
       world = world;
-      items = items;
       reads = subst (λ (k : Option Bytes). Consumes k (remaining ran.reader) ran.read.bytes) (sym all_is) reads;
       writes = subst (λ (k : Option Bytes). Appends k (contents ran.writer) ran.written.bytes) (sym before_is) writes;
       past = begun.past;
@@ -64,7 +63,7 @@ has_run remaining contents gives clock reader writer ran all before was_received
       unclosed = begun.unclosed;
       in_time = begun.in_time;
       fed = fed_by (IsBeginningOf (fed_to c world.fed)) begun.fed;
-      sent = sent_by (λ bytes. IsBeginningOf bytes (emitted_for c items)) begun.sent;
+      sent = sent_by (λ bytes. IsBeginningOf bytes (emitted_for c (sequence_of world))) begun.sent;
       told = is_told served.done has_read_failed is_stuck ran.done told;
       whole = λ ok.
           let w = whole (told_whole served.done has_read_failed is_stuck ran.done told ok) in
@@ -78,6 +77,6 @@ has_run remaining contents gives clock reader writer ran all before was_received
             up = w.up;
             fed = fed_by (λ bytes. bytes ≡ fed_to c world.fed) w.fed;
             executed = w.executed;
-            sent = λ uncut. sent_by (λ bytes. bytes ≡ emitted_for c items) (w.sent uncut);
+            sent = λ uncut. sent_by (λ bytes. bytes ≡ emitted_for c (sequence_of world)) (w.sent uncut);
           };
     }

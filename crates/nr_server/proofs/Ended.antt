@@ -5,7 +5,6 @@ use Rattle.std.proofs.lemmas.List.Elements.{All-nil, All-head}
 use Rattle.std.specs.List.{IsDistinct}
 use Rattle.nr_model.specs.Bytes.{Bytes}
 use Rattle.nr_model.specs.Items.{Connection}
-use Rattle.nr_model.specs.Nodes.{sequence_of}
 use Rattle.nr_service.specs.declared.client.Client.{Client}
 use Rattle.nr_service.specs.Readings.{AreFedByClock, IsNeverFed}
 use Rattle.nr_service.specs.Serving.{connection, AreServed, IsLeft, IsServed as IsServedSo}
@@ -68,7 +67,6 @@ first_served was_received was_sent course gives first last now a story client mo
       connection client,
       o.rest.events,
       o.rest.world,
-      sequence_of o.rest.world,
       begins was_received was_sent gives first last now o.next o.rest.events o.rest.world client size shut o.rest.is o.timed
           (still_left was_received was_sent course (Kept a) o.next client served),
       λ e. whole was_received was_sent course a o.next client size shut o.rest served (o.first.0 refl),
@@ -79,7 +77,6 @@ first_served was_received was_sent course gives first last now a story client mo
       connection client,
       l.left.led.events,
       l.left.led.world,
-      sequence_of l.left.led.world,
       begins was_received was_sent gives first last now l.next l.left.led.events l.left.led.world client (sized_on story l.next l.more l.is sized)
           (calm_on story l.next l.more l.is l.closed calm) l.left.led.is l.timed (All-head (IsLeft was_received was_sent l.next) client more l.each),
       λ e. absurd (cc e),
@@ -90,7 +87,6 @@ first_served was_received was_sent course gives first last now a story client mo
       connection client,
       l.left.led.events,
       l.left.led.world,
-      sequence_of l.left.led.world,
       begins was_received was_sent gives first last now l.next l.left.led.events l.left.led.world client (sized_on story l.next l.more l.is sized)
           (calm_on story l.next l.more l.is l.closed calm) l.left.led.is l.timed (All-head (IsLeft was_received was_sent l.next) client more l.each),
       λ e. absurd (cc e),

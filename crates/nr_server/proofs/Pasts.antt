@@ -2,15 +2,13 @@
 use Rattle.std.proofs.Common.{◌≡◌, List, [], ◌∷◌, map, refl, ap, sym, ◌∙◌, subst, false}
 use Rattle.nr_model.specs.Items.{Connection}
 use Rattle.nr_model.specs.Connections.{Setup, Closing, fed_to, handed_to}
-use Rattle.nr_model.specs.Nodes.{World, fresh, sequence_of, client_of}
-use Rattle.nr_model.specs.Nodes.Pasts.{Event, AreEvents, IsPast, world_after, handed_in}
+use Rattle.nr_model.specs.Nodes.{World, sequence_of, client_of}
+use Rattle.nr_model.specs.Nodes.Pasts.{Event, IsPast, handed_in}
 use Rattle.nr_model.specs.Nodes.Explained.{Explains}
 use Rattle.nr_model.proofs.NodesSteps.{IsClient}
-use Rattle.nr_model.proofs.NodesOwnHolds.{IsOwn, each_own, each_holds}
+use Rattle.nr_model.proofs.NodesExplained.{nodes_are_explained}
+use Rattle.nr_model.proofs.NodesOwnHolds.{IsOwn, each_own}
 use Rattle.nr_model.proofs.NodesOwnOwned.{is_shut}
-use Rattle.nr_model.proofs.NodesAccountsKnown.{nodes_accounted, nodes_replicas}
-use Rattle.nr_model.proofs.NodesExecuted.{are_executed}
-use Rattle.nr_model.proofs.NodesInTime.{AreKnown, are_in_time}
 use Rattle.nr_service.specs.Stories.{Occurrence, Story, fed_in, handed_in as pieces_in, closed_in, bytes_fed, bytes_handed}
 use Rattle.nr_answering.specs.Led.{IsOf}
 use Rattle.nr_answering.proofs.Apart.{IsApart}
@@ -18,24 +16,8 @@ use Rattle.nr_answering.proofs.Occurred.{told_handed}
 use Rattle.nr_answering.proofs.Pasts.{past_led}
 
 -- what was taken, in order, explains a past
-known : (setup : Setup) (events : List Event) → AreEvents setup (fresh setup) events → AreKnown events (world_after setup events)
-known setup events are =
-    record { own = (each_holds setup events).own; accounted = (nodes_accounted setup events are).beginning }
-
-explained : (setup : Setup) (events : List Event) → AreEvents setup (fresh setup) events
-    → Explains (sequence_of (world_after setup events)) setup events (world_after setup events)
-explained setup events are =
-    record {
-      holds = each_holds setup events;
-      executed = are_executed setup events are;
-      accounts = nodes_accounted setup events are;
-      replicas = nodes_replicas setup events are;
-      in_time = are_in_time setup (known setup) events are;
-    }
-
 pub past_explained : (setup : Setup) (events : List Event) (world : World) → IsPast setup events world → Explains (sequence_of world) setup events world
-past_explained setup events world past =
-    subst (λ (w : World). Explains (sequence_of w) setup events w) (sym past.1) (explained setup events past.0)
+past_explained setup events world past = nodes_are_explained.explained setup events world past
 
 -- what happened in a story is what happened by its events: its bytes are those of the world that they led to
 apart_of : (story : Story) (events : List Event) (world : World) → IsOf story events world → IsApart world story.occurrences

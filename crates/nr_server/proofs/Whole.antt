@@ -80,7 +80,7 @@ pub whole : {S : Type 0} (was_received was_sent : S → Option Bytes) (course : 
     → story.setup ≡ alone → closed_in story.occurrences ≡ [] → (rest : IsAtRest a story)
     → IsServed was_received was_sent course (λ c. kept_at c a.taps) story client
     → IsOver (λ (b : AnsweringState) c. kept_at c b.taps) Stands a client
-    → IsWhole was_received was_sent course (connection client) rest.world (sequence_of rest.world) client.stream
+    → IsWhole was_received was_sent course (connection client) rest.world client.stream
 whole was_received was_sent course a story client sized calm rest served over =
     let c = connection client in
     let world = rest.world in

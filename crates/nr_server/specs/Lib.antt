@@ -8,6 +8,7 @@ pub mod Faults
 pub mod Files
 pub mod Plays
 pub mod Serving
+pub mod ByTcp
 pub mod Listening
 pub mod Notices
 pub mod Parting

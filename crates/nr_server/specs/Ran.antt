@@ -4,8 +4,8 @@ use Rattle.std.specs.Io.KnownBytes.{Appends, Consumes}
 use Rattle.nr_model.specs.Asked.{own_jobs}
 use Rattle.nr_model.specs.Bytes.{Bytes, IsBeginningOf}
 use Rattle.nr_model.specs.Connections.{fed_to}
-use Rattle.nr_model.specs.Items.{Connection, Sequence}
-use Rattle.nr_model.specs.Nodes.{World, node_at, client_of}
+use Rattle.nr_model.specs.Items.{Connection}
+use Rattle.nr_model.specs.Nodes.{World, node_at, client_of, sequence_of}
 use Rattle.nr_model.specs.Nodes.Explained.{jobs_executed, asked_jobs, Explains}
 use Rattle.nr_model.specs.Nodes.Pasts.{Event, IsPast}
 use Rattle.nr_model.specs.Nodes.Steps.{is_client}
@@ -36,7 +36,7 @@ IsOver all read c world =
     IfSome all (λ bytes. read ≡ bytes) ⊎ ((client_of c world).ended ≡ true) ⊎ ((client_of c world).queue.cut ≡ true)
 
 -- what holds besides where it ended whole
-pub record HasEndedWhole (all : Option Bytes) (c : Connection) (world : World) (items : Sequence) (read written : Bytes) : Type 0 where
+pub record HasEndedWhole (all : Option Bytes) (c : Connection) (world : World) (read written : Bytes) : Type 0 where
   pub over : IsOver all read c world
   -- the connection is there, and its node is up
   pub there : is_client world c ≡ true
@@ -45,24 +45,23 @@ pub record HasEndedWhole (all : Option Bytes) (c : Connection) (world : World) (
   pub fed : read ≡ fed_to c world.fed
   pub executed : own_jobs c (jobs_executed world) ≡ asked_jobs world c
   -- all that one sequential Redis emits was written, unless the queue was cut
-  pub sent : (client_of c world).queue.cut ≡ false → written ≡ emitted_for c items
+  pub sent : (client_of c world).queue.cut ≡ false → written ≡ emitted_for c (sequence_of world)
 
 -- What was read is what the reader gave, and what was written stands behind what the writer held, where that is known of them. Events of a server of one
--- connection led to this world, and this sequence explains them. However it ended, a beginning of what was read was fed, at the moments behind the
--- readings of the clock, and a beginning of what one sequential Redis emits for that was written.
+-- connection led to this world, and what was taken in it, in order, explains them. However it ended, a beginning of what was read was fed, at the moments
+-- behind the readings of the clock, and a beginning of what one sequential Redis emits along that sequence was written.
 pub record HasRunOn {R W M : Type 0} (remaining : R → Option Bytes) (contents : W → Option Bytes) (gives : M → M → Option ℕ → Type 0) (clock : M)
     (reader : R) (writer : W) (ran : Ran R W) : Type 0 where
   pub c : Connection
   pub events : List Event
   pub world : World
-  pub items : Sequence
   pub reads : Consumes (remaining reader) (remaining ran.reader) ran.read.bytes
   pub writes : Appends (contents writer) (contents ran.writer) ran.written.bytes
   pub past : IsPast alone events world
-  pub explained : Explains items alone events world
+  pub explained : Explains (sequence_of world) alone events world
   pub unclosed : world.closed ≡ []
   pub in_time : AreFedFrom gives clock world.fed []
   pub fed : IsBeginningOf (fed_to c world.fed) ran.read.bytes
-  pub sent : IsBeginningOf ran.written.bytes (emitted_for c items)
+  pub sent : IsBeginningOf ran.written.bytes (emitted_for c (sequence_of world))
   pub told : IsTold ran.done
-  pub whole : ran.done ≡ Ok tt → HasEndedWhole (remaining reader) c world items ran.read.bytes ran.written.bytes
+  pub whole : ran.done ≡ Ok tt → HasEndedWhole (remaining reader) c world ran.read.bytes ran.written.bytes

@@ -1,11 +1,11 @@
 -- What serving one connection has done: the theorem of `serve_stream` is `IsServed`.
 use Rattle.std.specs.Prelude.{◌≡◌, ℕ, true, false, ◌⊎◌, List, [], Option, IfSome}
 use Rattle.nr_model.specs.Bytes.{Bytes, IsBeginningOf}
-use Rattle.nr_model.specs.Items.{Connection, Sequence}
+use Rattle.nr_model.specs.Items.{Connection}
 use Rattle.nr_model.specs.Sequential.{emitted_for}
 use Rattle.nr_model.specs.Connections.{Setup, fed_to}
 use Rattle.nr_model.specs.Asked.{own_jobs}
-use Rattle.nr_model.specs.Nodes.{World, node_at, client_of}
+use Rattle.nr_model.specs.Nodes.{World, node_at, client_of, sequence_of}
 use Rattle.nr_model.specs.Nodes.Steps.{is_client}
 use Rattle.nr_model.specs.Nodes.Pasts.{Event, IsPast}
 use Rattle.nr_model.specs.Nodes.Explained.{jobs_executed, asked_jobs, Explains}
@@ -24,11 +24,11 @@ pub record IsFresh {S : Type 0} (was_received was_sent : S → Option Bytes) (co
   pub sent : IfSome (was_sent stream) (λ bytes. bytes ≡ [])
   pub untried : IfSome (course stream) (λ at. at ≡ fresh_course)
 
--- What holds however it ended: these events of the server of one connection led to this world, and this sequence explains them.
+-- What holds however it ended: these events of the server of one connection led to this world, and what was taken in it, in order, explains them.
 pub record IsBegun {S M : Type 0} (was_received was_sent : S → Option Bytes) (gives : M → M → Option ℕ → Type 0) (clock : M) (c : Connection)
-    (events : List Event) (world : World) (items : Sequence) (stream : S) : Type 0 where
+    (events : List Event) (world : World) (stream : S) : Type 0 where
   pub past : IsPast alone events world
-  pub explained : Explains items alone events world
+  pub explained : Explains (sequence_of world) alone events world
   -- no connection was closed
   pub unclosed : world.closed ≡ []
   -- all that was fed was fed at the moments behind the readings of the clock, one for each exchange, in which nothing was closed
@@ -36,7 +36,7 @@ pub record IsBegun {S M : Type 0} (was_received was_sent : S → Option Bytes) (
   -- the connection was fed a beginning of what the stream received
   pub fed : IfSome (was_received stream) (λ bytes. IsBeginningOf (fed_to c world.fed) bytes)
   -- the stream sent a beginning of what one sequential Redis emits for it
-  pub sent : IfSome (was_sent stream) (λ bytes. IsBeginningOf bytes (emitted_for c items))
+  pub sent : IfSome (was_sent stream) (λ bytes. IsBeginningOf bytes (emitted_for c (sequence_of world)))
 
 -- Why it ended without a failure: no more bytes come, or the connection takes no more, since those that it was fed ended it, or since its queue was cut.
 abbrev pub IsOver : {S : Type 0} → (S → Option Course) → Connection → World → S → Type 0
@@ -44,7 +44,7 @@ IsOver course c world stream =
     IfSome (course stream) (λ at. at.ended ≡ true) ⊎ ((client_of c world).ended ≡ true) ⊎ ((client_of c world).queue.cut ≡ true)
 
 -- what holds besides where it didn't fail
-pub record IsWhole {S : Type 0} (was_received was_sent : S → Option Bytes) (course : S → Option Course) (c : Connection) (world : World) (items : Sequence)
+pub record IsWhole {S : Type 0} (was_received was_sent : S → Option Bytes) (course : S → Option Course) (c : Connection) (world : World)
     (stream : S) : Type 0 where
   pub over : IsOver course c world stream
   -- its stream didn't fail
@@ -57,13 +57,13 @@ pub record IsWhole {S : Type 0} (was_received was_sent : S → Option Bytes) (co
   -- every job that it asked for was executed
   pub executed : own_jobs c (jobs_executed world) ≡ asked_jobs world c
   -- the stream sent all that one sequential Redis emits for it, unless its queue was cut
-  pub sent : (client_of c world).queue.cut ≡ false → IfSome (was_sent stream) (λ bytes. bytes ≡ emitted_for c items)
+  pub sent : (client_of c world).queue.cut ≡ false → IfSome (was_sent stream) (λ bytes. bytes ≡ emitted_for c (sequence_of world))
 
--- There are a connection, events of a server of one connection, and a sequence; and the whole holds where it didn't fail. It is broken only where its
--- stream failed.
+-- There are a connection, events of a server of one connection, and the world that they led to; and the whole holds where it didn't fail. It is broken only
+-- where its stream failed.
 abbrev pub IsServed : {S M : Type 0} → (S → Option Bytes) → (S → Option Bytes) → (S → Option Course) → (M → M → Option ℕ → Type 0) → M → Served S → Type 0
 IsServed was_received was_sent course gives clock served =
-    (c : Connection) × (events : List Event) × (world : World) × (items : Sequence)
-    × IsBegun was_received was_sent gives clock c events world items served.stream
-    × (served.done ≡ dones.Whole → IsWhole was_received was_sent course c world items served.stream)
+    (c : Connection) × (events : List Event) × (world : World)
+    × IsBegun was_received was_sent gives clock c events world served.stream
+    × (served.done ≡ dones.Whole → IsWhole was_received was_sent course c world served.stream)
     × (served.done ≡ dones.Broken → IfSome (course served.stream) (λ at. at.failed ≡ true))

@@ -1,12 +1,13 @@
 // Serving by TCP: each worker of each node on a thread of its own.
 ghost use Rattle.std.specs.IoError.{error_kind, raw_os_error};
-ghost use Rattle.std.specs.Prelude.{◌≡◌, ◌<◌, ◌+◌, ◌*◌, List, length, IfOk, IfErr};
+ghost use Rattle.std.specs.Prelude.{◌≡◌, ◌⊎◌, ◌<◌, ◌+◌, ◌*◌, List, length, IfOk, IfErr};
 ghost use Rattle.std.specs.Vec.{vec_len};
 ghost use Rattle.nr_crew.specs.Dealing.{HasDealt};
 ghost use Rattle.nr_crew.specs.Ended.{HasEnded};
 ghost use Rattle.nr_crew.specs.Left.{AreServedWithin};
 ghost use Rattle.nr_crew.specs.Together.{AreServedTogether};
 ghost use Rattle.nr_replica.specs.Replicas.{ReplicaState};
+ghost use Rattle.nr_server.specs.ByTcp.{HasNotBegun, HasServedByTcp, IsBefore};
 ghost use Rattle.nr_server.specs.Listening.{IsRefused, IsRefusedAt, IsUnheardOf, IsUnopened, TellsOf};
 ghost use Rattle.nr_server.specs.Serving.{ended_by, input_of, told_of};
 ghost use Rattle.nr_sockets.specs.Addresses.{AreSaid};
@@ -223,7 +224,9 @@ impl Rings for Bells<'_> {
 }
 
 // What is told where a lane has no door.
-fn undoored(why: DoorError) -> Fault {
+fn undoored(why: DoorError) -> Fault
+    ensures { IsBefore result }
+{
     match why {
         DoorError::NoLane => Fault::Listener,
         DoorError::Memory(_) => Fault::Memory,
@@ -236,7 +239,9 @@ fn places_of<'a, R>(
     rt: &'a R,
     entrance: &'a Entrance,
     lookouts: Vec<Lookout>,
-) -> Result<Vec<Place<Door<'a, R>, MachineClock<'a, R>>>, Fault> {
+) -> Result<Vec<Place<Door<'a, R>, MachineClock<'a, R>>>, Fault>
+    ensures { IfErr result IsBefore }
+{
     let mut places = Vec::with_capacity(alloc, lookouts.len())?;
     for lookout in lookouts {
         let device = match Door::new(alloc, rt, entrance, lookout) {
@@ -324,6 +329,9 @@ where
     G: Gate + Sync,
     O: Write + Drop,
     E: Write + Drop,
+    ensures served { HasServedByTcp (⟦<Socket as Stream>⟧.received) (⟦<Socket as Stream>⟧.sent) (⟦<MachineClock<'static, R> as Moments>⟧.gives)
+        (⟦<Door<'static, R> as Device<Socket>>⟧.parted) (settings.now.nodes * settings.now.workers)
+        (record { limit = settings.now.queue_limit; timeout = settings.now.timeout * 1000 }) result ⊎ HasNotBegun result }
 {
     let lanes = settings.nodes * settings.workers;
     let (entrance, lookouts) = match open_lanes(alloc, rt, lanes) {

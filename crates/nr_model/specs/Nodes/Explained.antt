@@ -12,7 +12,7 @@ use Rattle.nr_model.specs.Servers.{database_in, subscribers_in, is_spoiled_in}
 use Rattle.nr_model.specs.Entries.{Jobs, entry_items}
 use Rattle.nr_model.specs.Connections.{Setup, handed_to}
 use Rattle.nr_model.specs.Asked.{own_jobs, jobs_of_feeds, cut_by, closing_job}
-use Rattle.nr_model.specs.Nodes.{Taken, Entry, Reads, Batch, World, node_at, client_of, jobs_taken, part_of}
+use Rattle.nr_model.specs.Nodes.{Taken, Entry, Reads, Batch, World, node_at, client_of, jobs_taken, part_of, sequence_of}
 use Rattle.nr_model.specs.Nodes.Steps.{is_client}
 use Rattle.nr_model.specs.Nodes.Pasts.{Event, Answering, IsPast, world_after, handed_in}
 
@@ -150,6 +150,6 @@ pub record Explains (items : Sequence) (setup : Setup) (events : List Event) (wo
   pub replicas : (r : ℕ) → r < setup.nodes → is_up r world ≡ true → IsReplica items r world
   pub in_time : IsInTime items setup events world
 
--- For every past there is one such sequence.
+-- Every past is explained by what was taken in it, in order.
 pub record NodesLaw : Type 0 where
-  pub explained : (setup : Setup) (events : List Event) (world : World) → IsPast setup events world → (items : Sequence) × Explains items setup events world
+  pub explained : (setup : Setup) (events : List Event) (world : World) → IsPast setup events world → Explains (sequence_of world) setup events world

@@ -1,4 +1,4 @@
-use Rattle.std.proofs.Common.{◌≡◌, ◌∙◌, false, ap, subst}
+use Rattle.std.proofs.Common.{◌≡◌, ◌∙◌, ap, subst}
 use Rattle.nr_entry.specs.Jobs.{items_of}
 use Rattle.nr_accounts.specs.Book.{without_ended}
 use Rattle.std.specs.Arc.{arc_value}
@@ -15,13 +15,12 @@ returns-clause-log g c =
 
 pub returns-clause-some : goal.returns-clause-some
 returns-clause-some g c = λ _.
-    let taken = subst (λ (e : Entry). IsTakenIn e c.args.replica.now c.take_in.new.replica) c.deref.ensures c.take_in.ensures in
-    let ended = subst (λ (e : Entry). c.take_in.new.replica.down ≡ false → c.close_ended.new.accounts ≡ without_ended (items_of e.jobs.items) c.args.accounts.now) c.deref-2.ensures
-    c.close_ended.ensures.up in (
+    let taken = subst (λ (e : Entry). IsTakenIn e c.args.replica.now c.take_in.new.replica) c.deref.ensures c.take_in.ensures.replica in
+    let ended = subst (λ (e : Entry). c.close_ended.new.accounts ≡ without_ended (items_of e.jobs.items) c.take_in.new.accounts) c.deref-2.ensures c.close_ended.ensures in (
       arc_value c.in-Some.entry,
       goes_by_entry c.args.end.now.standing c.fetch.new.self.standing c.pass.new.self.standing (arc_value c.in-Some.entry) c.args.replica.now c.take_in.new.replica
-          c.args.next.now c.drop_next.new.next c.args.accounts.now c.close_ended.new.accounts c.requires.idle c.in-Some.ensures.some c.pass.ensures.passed
-          c.in-Some.ensures.in_log taken c.drop_next.ensures.down c.drop_next.ensures.up c.close_ended.ensures.down ended,
+          c.args.next.now c.take_in.new.next c.args.accounts.now c.take_in.new.accounts c.close_ended.new.accounts c.requires.idle c.in-Some.ensures.some
+          c.pass.ensures.passed c.in-Some.ensures.in_log taken c.take_in.ensures.stays c.take_in.ensures.drops ended,
     )
 
 pub returns-clause-met : goal.returns-clause-met

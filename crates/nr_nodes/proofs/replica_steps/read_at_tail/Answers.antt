@@ -9,7 +9,7 @@ use Rattle.nr_nodes.proofs.replica_steps.read_at_tail.Goals as goal
 pub returns-then-is_down-clause-looked : goal.returns-then-is_down-clause-looked
 returns-then-is_down-clause-looked c = λ all is.
     looked_down c.args.node.now.replica.node _ all (node_seen c.args.node.now) (node_seen c.catch_up.new.node) (c.catch_up.ensures.ahead all is)
-    (sym c.is_down.ensures ∙ c.if-is_down.true)
+    c.requires.tail (sym c.is_down.ensures ∙ c.if-is_down.true)
 
 pub run_reads-requires-clause-clients : goal.run_reads-requires-clause-clients
 run_reads-requires-clause-clients c =

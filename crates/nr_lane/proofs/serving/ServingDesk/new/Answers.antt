@@ -2,4 +2,4 @@ use Rattle.nr_lane.proofs.Leading.{led_fresh}
 use Rattle.nr_lane.proofs.serving.ServingDesk.new.Goals as goal
 
 pub returns-clause-past : goal.returns-clause-past
-returns-clause-past g c = λ setup. led_fresh _ c.args.worker.node c.args.worker.seat.worker setup c.new.ensures.reflects
+returns-clause-past g c = led_fresh _ c.args.worker.node c.args.worker.seat.worker c.new.ensures.reflects

@@ -99,12 +99,11 @@ read-requires-clause-rising g c =
     let new = c.catch_up-reached.new.replica in
     let book = c.catch_up-reached.new.accounts in
     let next = c.catch_up-reached.new.next in
-    let up : new.down ≡ false = sym c.is_down.ensures ∙ c.if-is_down.false in
     let all = c.catch_up-reached.ensures.reached c.if-not-reached.false in
     let order = went.1.order c.self.invariant.0.order in
     let none = none_unpassed t all.1 c.catch_up-reached.ensures.idle all.0 order.met in
     let still = ap jobs_next (none_of next (sym c.is_some.ensures ∙ c.if-is_some.false)) in
-    noted_rises t new book none up (subst (IsInOrder t new book) still order)
+    noted_rises t new book none (subst (IsInOrder t new book) still order)
 
 pub invariant_of-self-in-Err : goal.invariant_of-self-in-Err
 invariant_of-self-in-Err g c =
@@ -165,7 +164,7 @@ returns-clause-goes g c =
     let still = ap jobs_next (none_of next (sym c.is_some.ensures ∙ c.if-is_some.false)) in
     let looks = c.in-Ok.ensures.looks in
     let by = read_on v m t went.0 ran c.catch_up-reached.new.end.looks looks.0 went.1.passed went.1.own c.self.invariant.0.order.book_is c.in-Ok.ensures.noted c.catch_up-reached.ensures.looks looks.2
-    (went.1.closed c.self.invariant.0.order) (went.1.ended up)
+    (went.1.closed c.self.invariant.0.order) (went.1.ended (up ∙ sym same.0))
     (read_awaited c.catch_up-reached.new.replica c.read.new.replica c.in-Ok.ensures.read ∙ went.1.owed)
     (read_got inside.replica c.catch_up-reached.new.replica c.read.new.replica went.1.got c.in-Ok.ensures.read)
     (λ _. ap (λ (r : ReplicaState). r.refused) c.in-Ok.ensures.read.state ∙ went.1.refused up) (went.1.up up).0 (ap (λ (r : ReplicaState). r.down) c.in-Ok.ensures.read.state ∙ up)

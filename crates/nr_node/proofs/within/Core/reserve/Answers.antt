@@ -44,12 +44,11 @@ put_in-requires-clause-nodes g c = (c.self.invariant.3, c.self.invariant.4)
 pub put_in-requires-clause-shares : goal.put_in-requires-clause-shares
 put_in-requires-clause-shares g c =
     let keeps = c.self.invariant in
-    let got = some_is _ _ _ c.in-Some.is c.in_ok-shares.ensures.some in
-    let up : c.self.inside.replica.down ≡ false = sym c.is_down.ensures ∙ c.if-is_down.false in (
+    let got = some_is _ _ _ c.in-Some.is c.in_ok-shares.ensures.some in (
       got.0,
       got.1 ∙ ap (shares_of got.0) keeps.3,
       got.2 ∙ sym keeps.0.level.node,
-      due_rises c.self.inside.end.standing got.0 c.self.inside.replica c.self.inside.accounts (jobs_next c.self.inside.next) got.3.due up keeps.0.order,
+      due_rises c.self.inside.end.standing got.0 c.self.inside.replica c.self.inside.accounts (jobs_next c.self.inside.next) got.3.due keeps.0.order,
     )
 
 pub invariant_of-self-in-Taken : goal.invariant_of-self-in-Taken

@@ -1,4 +1,4 @@
-use Rattle.std.proofs.Common.{◌≡◌, ℕ, true, false, length, refl, ap, sym, ◌∙◌, subst}
+use Rattle.std.proofs.Common.{◌≡◌, ℕ, false, length, refl, ap, sym, ◌∙◌, subst}
 use Rattle.std.specs.Prelude.{nat_le}
 use Rattle.nr_replica.specs.Members.{AreNumbered}
 use Rattle.nr_replica.specs.Replicas.{ReplicaState}
@@ -11,7 +11,7 @@ pub returns-in-Ok-clause-advanced : goal.returns-in-Ok-clause-advanced
 returns-in-Ok-clause-advanced c =
     let still : c.args.self.now.replica.refused ≡ false =
     not_true c.args.self.now.replica.refused (λ e. let no = sym c.in-Ok.is ∙ c.apply_or_stop.ensures.refused.1 e in absurd (cc no)) in
-    advanced_is c.args.self.now _ c.args.entry.now c.apply_or_stop.new.self c.requires.clients c.requires.numbered still
+    advanced_is c.args.self.now _ c.args.entry.now c.apply_or_stop.new.self c.requires.clients c.requires.numbered c.requires.up still
     (ap (nat_le c.args.self.now.resumed) c.applied.ensures) (c.in-Ok.ensures.applied)
 
 pub returns-in-Ok-clause-whole : goal.returns-in-Ok-clause-whole
