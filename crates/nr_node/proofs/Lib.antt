@@ -12,7 +12,6 @@ mod Dropped
 mod Filled
 mod Taking
 mod Caught
-mod Revived
 mod Due
 pub mod Ready
 mod Collected

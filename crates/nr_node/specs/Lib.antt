@@ -9,4 +9,3 @@ pub mod Sound
 pub mod Kept
 pub mod Collected
 pub mod Keeping
-pub mod Revived

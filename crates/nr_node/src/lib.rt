@@ -3,7 +3,6 @@
 
 pub use answers::{Looked, OpenError, Round, TakeError};
 pub use collecting::Handed;
-pub use reviving::{Offer, ReviveError};
 pub use within::{Core, Shape};
 
 mod advancing;
@@ -14,5 +13,4 @@ mod keeping;
 mod next;
 mod reading;
 mod reserving;
-mod reviving;
 mod within;
