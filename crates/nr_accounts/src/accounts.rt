@@ -115,6 +115,13 @@ impl Accounts {
         self.node
     }
 
+    /// How many workers the node has.
+    pub fn workers(&self) -> usize
+        ensures { result ≡ length self.now.last }
+    {
+        self.last.len()
+    }
+
     /// The first serial that has an account, after one where that is given. Logarithmic.
     pub fn next_after(&self, last: Option<u64>) -> Option<u64>
         ensures found { IfSome result (λ next. ComesAfter last next × IsSome (finmap.get self.now.held next)) }

@@ -27,10 +27,11 @@ use Rattle.nr_replica.specs.declared.fall.Fall.TheVariants.{Refused}
 use Rattle.nr_replica.specs.Replicas.{ReplicaState, IsApplied, owed_from}
 use Rattle.nr_node.specs.declared.next.Next.{Next}
 use Rattle.nr_node.specs.Level.{unpassed, jobs_reserved, IsInOrder}
+use Rattle.nr_node.specs.Keeping.{AreAhead}
 use Rattle.nr_node.specs.Next.{jobs_next}
 use Rattle.nr_node.specs.Owing.{IsOwing, awaited, unexecuted}
 use Rattle.nr_node.specs.Advanced.{IsTakenIn, HasPassed, GoesOn, HasClosed, HasLost, HaveGot, MeetsNoTail, HasStopped, jobs_of_own, jobs_of_all}
-use Rattle.nr_node.proofs.Lists.{record-append, applied-append, still_in_log, reserved_passed}
+use Rattle.nr_node.proofs.Lists.{record-append, applied-append, still_in_log, still_ahead, reserved_passed}
 use Rattle.nr_node.proofs.Queues.{delivered_length}
 use Rattle.nr_node.proofs.Levels.{passed_level, same_level}
 use Rattle.nr_node.proofs.Got.{got_itself, got_on, got_received}
@@ -91,6 +92,7 @@ goes_none s replica next book = record {
   fell = λ up down. absurd (apart replica.down up down);
   cause = λ up down. absurd (apart replica.down up down);
   still = λ _. refl;
+  ahead = λ some. absurd (some refl);
   after_is = inr refl;
 }
 
@@ -121,6 +123,17 @@ ended_then es fs x y z first last =
     last ∙ ap (without_ended (jobs_of_all fs)) first
     ∙ (λ i. record x { held = sym (closed-append x.node x.held (jobs_of_all es) (jobs_of_all fs)) i })
     ∙ sym (ap (λ (js : Jobs). without_ended js x) (jobs-append es fs))
+
+-- what isn't passed is ahead on, where none is passed
+pub ahead_on : (es : List Entry) (s t : Standing) → HasPassed es s t → (es ≢ [] → AreAhead t) → AreAhead s → AreAhead t
+ahead_on [] s t passed more ahead =
+    subst AreAhead (sym passed.standing)
+    (subst (λ (h : List Turn). AreAhead (record s { history = h; seen = t.seen })) (sym (append-nil s.history)) ahead)
+ahead_on (e ∷ es) s t passed more ahead = more (λ none. absurd (cc none))
+
+ahead_then : (es fs : List Entry) (t u : Standing) → HasPassed fs t u → (es ≢ [] → AreAhead t) → (fs ≢ [] → AreAhead u) → es ++ fs ≢ [] → AreAhead u
+ahead_then es [] t u passed first last some = ahead_on [] t u passed last (first (λ none. some (ap (λ (xs : List Entry). xs ++ []) none)))
+ahead_then es (f ∷ fs) t u passed first last some = last (λ none. absurd (cc none))
 
 -- both of two moves leave it up or down, where all of it does
 still_both : (a b c : Bool) → c ≡ a → (a ≡ true → b ≡ true) → (c ≡ false → b ≡ false) → (b ≡ a) × (c ≡ b)
@@ -196,6 +209,7 @@ goes_then es fs s t u a b c n m k x y z first last = record {
   still = λ down.
       let same = first.still down in
       last.still (ap (λ (r : ReplicaState). r.down) same ∙ down) ∙ same;
+  ahead = ahead_then es fs t u last.passed first.ahead last.ahead;
   after_is = elim last.after_is [
     | inl none ↦ inl none
     | inr same ↦ elim first.after_is [ inl none ↦ inl (same ∙ none) | inr first_same ↦ inr (same ∙ first_same) ]
@@ -383,6 +397,7 @@ goes_by_entry s held t e old new next after book mid later idle fetched passed s
       fell = λ up down. let by = l.fell up down in (λ none_is. absurd (cc none_is), by.0, (drops up down).0, by.1);
       cause = l.cause;
       still = l.still;
+      ahead = λ _. subst AreAhead (sym is) (still_ahead (passed_on (fetched_with e s)) (still_in_log s e log) refl);
       after_is = after_by e old new next after book mid taken stays drops;
     }
 
@@ -416,6 +431,7 @@ goes_tail s t replica next book looks = record {
   fell = λ up down. absurd (apart replica.down up down);
   cause = λ up down. absurd (apart replica.down up down);
   still = λ _. refl;
+  ahead = λ some. absurd (some refl);
   after_is = inr refl;
 }
 

@@ -1,4 +1,4 @@
--- A node may go to another thread: by its parts, from the end of the log and the replica on.
+-- A node may go to another thread, and so may what it offers: by their parts, from the end of the log and the replica on.
 use denote.RattleType.{RattleType}
 use denote.Param.Send.{IsSend, view_send}
 use denote.Param.SendFields.{declared_send}
@@ -6,12 +6,13 @@ use Rattle.std.proofs.Crossing.{send}
 use Rattle.std.specs.contracts.option.Option as Option
 use Rattle.nr_entry.proofs.Crossing.{sent}
 use Rattle.nr_oplog.specs.declared.log.LogName.{Ghosts}
-use Rattle.nr_oplog.proofs.Crossing.{end_send}
-use Rattle.nr_replica.proofs.Crossing.{replica_send}
+use Rattle.nr_oplog.proofs.Crossing.{end_send, token_send}
+use Rattle.nr_replica.proofs.Crossing.{offer_send, replica_send}
 use Rattle.nr_accounts.proofs.accounts.Accounts.TheSendSync as accounts
 use Rattle.nr_node.specs.contracts.keeping.Kept as Kept
 use Rattle.nr_node.specs.contracts.keeping.OwnEntries as OwnEntries
 use Rattle.nr_node.specs.contracts.next.Next as Next
+use Rattle.nr_node.specs.contracts.reviving.Offer as Offer
 use Rattle.nr_node.specs.contracts.within.Core as Core
 
 next_send : IsSend (Option.the_row Next.the_row)
@@ -21,8 +22,12 @@ kept_send : IsSend Kept.the_row
 kept_send = search sent depth 60 fits 100000
 
 own_send : IsSend OwnEntries.the_row
-own_send = view_send OwnEntries.TheInside.the_row _ _ _ _ (declared_send OwnEntries.TheInside.the_type ((search (sent, kept_send) depth 60 fits 100000, tt)))
+own_send = view_send OwnEntries.TheInside.the_row _ _ _ _ (declared_send OwnEntries.TheInside.the_type ((search (sent, kept_send) depth 60 fits 100000, (search sent depth 60, tt))))
 
 pub core_send : (B : RattleType) (g : Ghosts B.Denot) → IsSend (Core.the_row B g)
 core_send B g = view_send (Core.TheInside.the_row B g) _ _ _ _ (declared_send (Core.TheInside.the_type B g)
     (send, (search sent, (end_send B g, (own_send, (replica_send, (accounts.the_send, (next_send, tt))))))))
+
+pub node_offer_send : (B : RattleType) (g : Ghosts B.Denot) → IsSend (Offer.the_row B g)
+node_offer_send B g = view_send (Offer.TheInside.the_row B g) _ _ _ _ (declared_send (Offer.TheInside.the_type B g)
+    (offer_send, (token_send B g, (search sent depth 60, tt))))

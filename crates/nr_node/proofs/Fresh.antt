@@ -51,6 +51,7 @@ fresh_kept nodes places node upto workers shares = record {
   owed = refl;
   owing = λ up. fresh_owing workers;
   accounts = λ serial account at. absurd (cc (sym (none_held serial) ∙ at));
+  fallen = λ down. absurd (cc down);
 }
 
 pub started_kept : (end : LogView) (replica : ReplicaState) (book : Book) (nodes places node upto workers shares : ℕ) → end ≡ opening_view nodes places node upto

@@ -12,6 +12,7 @@ mod Dropped
 mod Filled
 mod Taking
 mod Caught
+mod Revived
 mod Due
 pub mod Ready
 mod Collected

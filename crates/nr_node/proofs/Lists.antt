@@ -19,6 +19,7 @@ use Rattle.nr_log_end.specs.Standings.{applied_of, opened_of, ran_from, ran_of, 
 pub use Rattle.nr_log_end.proofs.Numbered.{record-append, applied-append, own-append, numbers-append, numbers_entry, numbers_other}
 use Rattle.nr_log_end.proofs.Numbered.{behind_known, each_rises_front, numbers_front, unpassed_behind}
 use Rattle.nr_accounts.specs.Held.{numbers_in}
+use Rattle.nr_node.specs.Keeping.{AreAhead}
 use Rattle.nr_node.specs.Level.{unpassed, jobs_reserved, logged}
 
 -- which connections were opened, in one history behind another
@@ -180,17 +181,21 @@ none_between least most (r ∷ rs) h above below =
     let high = below.0 in
     absurd (omega (arith, h, low, high))
 
-pub none_unpassed : (s : Standing) → StandsInLog s → s.held ≡ None → s.seen ≤ passed_of s → AllByRecursion (λ (r : ℕ × Entry). r.0 < s.seen) s.reservations
-    → unpassed s ≡ []
-none_unpassed s stands idle all met =
+-- what isn't passed yet is ahead
+pub still_ahead : (s : Standing) → StandsInLog s → s.held ≡ None → AreAhead s
+still_ahead s stands idle =
     let known = applied_of s.history in
     let rest = stands.1.0 in
     let begins : known ++ rest ≡ stands.0 =
     ap (λ (es : List Entry). es ++ rest) (sym (append-nil known) ∙ ap (λ (held : Option Entry). known ++ option_to_list held) (sym idle)) ∙ stands.1.1 in
     let left : unpassed s ≡ own_from s.node (length known) rest = unpassed_behind s.node known rest stands.0 s.reservations begins stands.3 in
-    none_between (length known) s.seen (unpassed s) all
-    (subst (AllByRecursion (λ (r : ℕ × Entry). length known ≤ r.0)) (sym left) (numbered_on s.node (length known) rest))
-    (All-drop (λ (r : ℕ × Entry). r.0 < s.seen) (length (own_entries s.node known)) s.reservations met)
+    subst (AllByRecursion (λ (r : ℕ × Entry). length known ≤ r.0)) (sym left) (numbered_on s.node (length known) rest)
+
+pub none_unpassed : (s : Standing) → StandsInLog s → s.held ≡ None → s.seen ≤ passed_of s → AllByRecursion (λ (r : ℕ × Entry). r.0 < s.seen) s.reservations
+    → unpassed s ≡ []
+none_unpassed s stands idle all met =
+    none_between (passed_of s) s.seen (unpassed s) all (still_ahead s stands idle)
+    (All-drop (λ (r : ℕ × Entry). r.0 < s.seen) (length (own_entries s.node (applied_of s.history))) s.reservations met)
 
 -- one more is reserved
 reserved-append : (rs more : List (ℕ × Entry)) → jobs_reserved (rs ++ more) ≡ jobs_reserved rs ++ jobs_reserved more

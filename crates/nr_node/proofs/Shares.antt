@@ -12,9 +12,9 @@ use Rattle.nr_log_end.specs.declared.standing.Look.TheVariants.{Tail}
 use Rattle.nr_oplog.specs.Calls.{LoadsCounts, IsLeastOf, loads_from}
 use Rattle.nr_oplog.specs.declared.view.LogView.{LogView}
 use Rattle.nr_entry.specs.declared.job.Job.{Job}
-use Rattle.nr_node.specs.Advanced.{HasNoted, HasPassed}
+use Rattle.nr_node.specs.Advanced.{HasNoted, HasPassed, MeetsNoTail}
 use Rattle.nr_node.specs.Reserved.{HasMet, IsReserved}
-use Rattle.nr_node.specs.Keeping.{AreLast, AreBelow, Frees, IsFirst, IsFromOn, IsSeenPassed, LetsGo}
+use Rattle.nr_node.specs.Keeping.{OwnState, last_number, AreLast, AreBelow, Frees, IsFirst, IsFromOn, IsSeenPassed, LetsGo}
 
 -- what was seen is seen on
 seen_on : (nodes number : ℕ) (looks more after : List Look) → after ≡ looks ++ more → IsSeenPassed nodes looks number → IsSeenPassed nodes after number
@@ -38,32 +38,41 @@ all_both P [] ys all more = more
 all_both P (x ∷ xs) ys all more = (all.0, all_both P xs ys all.1 more)
 
 -- they are so of whoever has the same reservations, and made more loads
-pub still_last : (kept : List (ℕ × Entry)) (v w : LogView) → w.standing.reservations ≡ v.standing.reservations → w.standing.nodes ≡ v.standing.nodes
-    → (more : List Look) × (w.looks ≡ v.looks ++ more) → AreLast kept v → AreLast kept w
-still_last kept v w same nodes more last = (
+pub still_last : (own : OwnState) (v w : LogView) → w.standing.reservations ≡ v.standing.reservations → w.standing.nodes ≡ v.standing.nodes
+    → (more : List Look) × (w.looks ≡ v.looks ++ more) → AreLast own v → AreLast own w
+still_last own v w same nodes more last = (
   last.0,
   last.1 ∙ sym same,
   subst (λ (n : ℕ). AllByRecursion (λ (one : ℕ × Entry). IsSeenPassed n w.looks one.0) last.0) (sym nodes)
       (all_seen_on v.standing.nodes v.looks more.0 w.looks last.0 more.1 last.2),
+  last.3 ∙ ap last_number (sym same),
 )
 
-pub none_last : (kept : List (ℕ × Entry)) (v : LogView) → kept ≡ [] → v.standing.reservations ≡ [] → AreLast kept v
-none_last kept v none nothing = ([], none ∙ sym nothing, tt)
+pub none_last : (own : OwnState) (v : LogView) → own ≡ record { kept = []; last = None } → v.standing.reservations ≡ [] → AreLast own v
+none_last own v none nothing = ([], ap (λ (o : OwnState). o.kept) none ∙ sym nothing, tt, ap (λ (o : OwnState). o.last) none ∙ ap last_number (sym nothing))
 
 -- one was reserved, and a share of it is kept
 pub first_of : (at : ℕ) (shares : List (Option Entry)) (e : Entry) → slice_index_or shares 0 None ≡ Some e → reservation at shares ≡ (at, e) ∷ []
 first_of at [] e is = absurd (cc is)
 first_of at (share ∷ shares) e is = ap (λ (o : Option Entry). map (λ (entry : Entry). (at, entry)) (option_to_list o)) is
 
-pub kept_more : (kept new : List (ℕ × Entry)) (at : ℕ) (shares : List (Option Entry)) (v w : LogView) → new ≡ kept ++ reservation at shares
+last_behind : (rs : List (ℕ × Entry)) (r : ℕ × Entry) → last_number (rs ++ r ∷ []) ≡ Some r.0
+last_behind [] r = refl
+last_behind (q ∷ []) r = refl
+last_behind (q ∷ (next ∷ rs)) r = last_behind (next ∷ rs) r
+
+pub kept_more : (own new : OwnState) (at : ℕ) (shares : List (Option Entry)) (e : Entry) (v w : LogView) → slice_index_or shares 0 None ≡ Some e
+    → new ≡ record { kept = own.kept ++ reservation at shares; last = Some at }
     → w.standing.reservations ≡ v.standing.reservations ++ reservation at shares → w.standing.nodes ≡ v.standing.nodes → (more : List Look) × (w.looks ≡ v.looks ++ more)
-    → AreLast kept v → AreLast new w
-kept_more kept new at shares v w is longer nodes more last = (
+    → AreLast own v → AreLast new w
+kept_more own new at shares e v w first is longer nodes more last = (
   last.0,
-  ap (λ (rs : List (ℕ × Entry)). last.0 ++ rs) is ∙ sym (append_assoc last.0 kept (reservation at shares))
+  ap (λ (o : OwnState). last.0 ++ o.kept) is ∙ sym (append_assoc last.0 own.kept (reservation at shares))
       ∙ ap (λ (rs : List (ℕ × Entry)). rs ++ reservation at shares) last.1 ∙ sym longer,
   subst (λ (n : ℕ). AllByRecursion (λ (one : ℕ × Entry). IsSeenPassed n w.looks one.0) last.0) (sym nodes)
       (all_seen_on v.standing.nodes v.looks more.0 w.looks last.0 more.1 last.2),
+  ap (λ (o : OwnState). o.last) is ∙ sym (ap last_number (longer ∙ ap (λ (rs : List (ℕ × Entry)). v.standing.reservations ++ rs) (first_of at shares e first))
+      ∙ last_behind v.standing.reservations (at, e)),
 )
 
 -- some of the first are let go of, which were seen to be passed
@@ -86,41 +95,48 @@ all_seen_below nodes least looks before behind after counts (one ∷ gone) loade
   all_seen_below nodes least looks before behind after counts gone loaded every is below.1,
 )
 
-pub freed_last : (old new : List (ℕ × Entry)) (v w : LogView) → Frees old new v.standing.nodes v.looks w.looks → w.standing.reservations ≡ v.standing.reservations
-    → w.standing.nodes ≡ v.standing.nodes → (more : List Look) × (w.looks ≡ v.looks ++ more) → AreLast old v → AreLast new w
-freed_last old new v w (inl none) same nodes more last = subst (λ (xs : List (ℕ × Entry)). AreLast xs w) (none.0 ∙ sym none.1) (still_last old v w same nodes more last)
-freed_last old new v w (inr by) same nodes more last = (
+pub freed_last : (old new : OwnState) (v w : LogView) → Frees old.kept new.kept v.standing.nodes v.looks w.looks → new.last ≡ old.last
+    → w.standing.reservations ≡ v.standing.reservations → w.standing.nodes ≡ v.standing.nodes → (more : List Look) × (w.looks ≡ v.looks ++ more) → AreLast old v → AreLast new w
+freed_last old new v w (inl none) still same nodes more last =
+    let here = still_last old v w same nodes more last in
+    (here.0, ap (λ (xs : List (ℕ × Entry)). here.0 ++ xs) (none.1 ∙ sym none.0) ∙ here.1, here.2, still ∙ here.3)
+freed_last old new v w (inr by) still same nodes more last = (
   last.0 ++ by.gone,
-  append_assoc last.0 by.gone new ∙ ap (λ (rs : List (ℕ × Entry)). last.0 ++ rs) by.all ∙ last.1 ∙ sym same,
+  append_assoc last.0 by.gone new.kept ∙ ap (λ (rs : List (ℕ × Entry)). last.0 ++ rs) by.all ∙ last.1 ∙ sym same,
   subst (λ (n : ℕ). AllByRecursion (λ (one : ℕ × Entry). IsSeenPassed n w.looks one.0) (last.0 ++ by.gone)) (sym nodes)
       (all_both (λ (one : ℕ × Entry). IsSeenPassed v.standing.nodes w.looks one.0) last.0 by.gone
       (all_seen_on v.standing.nodes v.looks more.0 w.looks last.0 more.1 last.2)
       (all_seen_below v.standing.nodes by.least v.looks by.before by.behind w.looks by.counts by.gone by.loaded by.every by.is_least by.below)),
+  still ∙ last.3 ∙ ap last_number (sym same),
 )
 
 -- the steps of a node
-pub went_last : (es : List Entry) (old new : List (ℕ × Entry)) (v w : LogView) → HasPassed es v.standing w.standing → Frees old new v.standing.nodes v.looks w.looks
-    → (more : List Look) × (w.looks ≡ v.looks ++ (Tail w.standing.seen ∷ more)) → AreLast old v → AreLast new w
-went_last es old new v w passed freed more last =
-    freed_last old new v w freed (ap (λ (s : Standing). s.reservations) passed.standing) (ap (λ (s : Standing). s.nodes) passed.standing)
+pub went_last : (es : List Entry) (old new : OwnState) (v w : LogView) → HasPassed es v.standing w.standing → Frees old.kept new.kept v.standing.nodes v.looks w.looks
+    → new.last ≡ old.last → (more : List Look) × (w.looks ≡ v.looks ++ (Tail w.standing.seen ∷ more)) → AreLast old v → AreLast new w
+went_last es old new v w passed freed still more last =
+    freed_last old new v w freed still (ap (λ (s : Standing). s.reservations) passed.standing) (ap (λ (s : Standing). s.nodes) passed.standing)
     (Tail w.standing.seen ∷ more.0, more.1) last
 
-pub ended_last : (kept : List (ℕ × Entry)) (v w : LogView) → w ≡ v → AreLast kept v → AreLast kept w
+pub reached_last : (es : List Entry) (own : OwnState) (v w : LogView) → HasPassed es v.standing w.standing → MeetsNoTail v w → AreLast own v → AreLast own w
+reached_last es own v w passed met last =
+    still_last own v w (ap (λ (s : Standing). s.reservations) passed.standing) (ap (λ (s : Standing). s.nodes) passed.standing) met.1 last
+
+pub ended_last : (kept : OwnState) (v w : LogView) → w ≡ v → AreLast kept v → AreLast kept w
 ended_last kept v w same last = subst (AreLast kept) (sym same) last
 
-pub noted_last : (kept : List (ℕ × Entry)) (ran : List Job) (v w : LogView) → HasNoted ran v.standing w.standing
+pub noted_last : (kept : OwnState) (ran : List Job) (v w : LogView) → HasNoted ran v.standing w.standing
     → (more : List Look) × (length more ≤ 1) × (w.looks ≡ v.looks ++ more) → AreLast kept v → AreLast kept w
 noted_last kept ran v w noted more last =
     still_last kept v w (ap (λ (s : Standing). s.reservations) noted.standing) (ap (λ (s : Standing). s.nodes) noted.standing) (more.0, more.2) last
 
-pub stood_last : (kept : List (ℕ × Entry)) (v w : LogView) → w.standing ≡ v.standing → w.looks ≡ v.looks → AreLast kept v → AreLast kept w
+pub stood_last : (kept : OwnState) (v w : LogView) → w.standing ≡ v.standing → w.looks ≡ v.looks → AreLast kept v → AreLast kept w
 stood_last kept v w same looks last =
     still_last kept v w (ap (λ (s : Standing). s.reservations) same) (ap (λ (s : Standing). s.nodes) same) ([], looks ∙ sym (append-nil v.looks)) last
 
-pub met_last : (kept new : List (ℕ × Entry)) (v w : LogView) → new ≡ kept → HasMet v.standing w.standing → (more : List Look) × (w.looks ≡ v.looks ++ more)
+pub met_last : (kept new : OwnState) (v w : LogView) → new ≡ kept → HasMet v.standing w.standing → (more : List Look) × (w.looks ≡ v.looks ++ more)
     → AreLast kept v → AreLast new w
 met_last kept new v w same met more last =
-    subst (λ (xs : List (ℕ × Entry)). AreLast xs w) (sym same)
+    subst (λ (o : OwnState). AreLast o w) (sym same)
     (still_last kept v w (ap (λ (s : Standing). s.reservations) met.standing) (ap (λ (s : Standing). s.nodes) met.standing) more last)
 
 pub reserved_more : (v w : LogView) (at : ℕ) (shares : List (Option Entry)) → IsReserved at shares v.standing w.standing
@@ -197,7 +213,7 @@ one_out least old now new so (one, is, near) = record {
 }
 
 -- there is a share of an entry for the first of its nodes
-one_of_all : (e : Entry) (nodes : ℕ) → 0 < nodes → IsFirst (shares_of e nodes)
+pub one_of_all : (e : Entry) (nodes : ℕ) → 0 < nodes → IsFirst (shares_of e nodes)
 one_of_all e zero some = absurd (omega (arith, some))
 one_of_all e (suc nodes) some = (omega arith, (e, refl))
 

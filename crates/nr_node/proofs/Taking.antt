@@ -3,6 +3,7 @@ use Rattle.std.proofs.Common.{◌≡◌, ℕ, zero, suc, ◌<◌, inl, inr, Bool
 use Rattle.std.specs.Prelude.{◌≢◌, slice_index_or, Option, Some, None, IfOk, IfSome, IfNone, OnErr, Result, Ok, Err}
 use Rattle.std.specs.FinMap as finmap
 use Rattle.std.specs.List.{AllByRecursion, range_with_len}
+use Rattle.std.proofs.lemmas.Bool.{cases_Bool}
 use Rattle.std.proofs.lemmas.List.{append-nil, length-map, map-append}
 use Rattle.nr_model.specs.Bytes.{Bytes, IsBeginningOf}
 use Rattle.nr_model.specs.Items.{Connection}
@@ -36,11 +37,13 @@ use Rattle.nr_node.specs.Level.{NodeState, IsLevel, IsInOrder, connection_at, qu
 use Rattle.nr_node.specs.Batches.{IsOpened, IsPiece}
 use Rattle.nr_node.specs.Next.{jobs_shared, jobs_next, IsNextOf, HasLeft}
 use Rattle.nr_node.specs.Owing.{unexecuted, count_owed, awaited, answer_by, answered_node, IsOwing, IsServedBy, HasAccounts, HasAllExecuted}
+use Rattle.nr_node.specs.Keeping.{AreAhead}
 use Rattle.nr_node.specs.Kept.{IsKept}
+use Rattle.nr_node.proofs.Advances.{ahead_on}
 use Rattle.nr_node.specs.Advanced.{HasNoted, GoesOn}
 use Rattle.nr_node.specs.Reserved.{due_jobs, left_jobs, LeavesWaiting, AreTaken, AreNone, AreDue, HasMet, IsReserved}
 use Rattle.nr_node.specs.Steps.{nobody}
-use Rattle.nr_node.proofs.Lists.{unpassed_opened, numbers-append, no_numbers, none_unpassed, jobs_reserved_more}
+use Rattle.nr_node.proofs.Lists.{applied_opened, unpassed_opened, numbers-append, no_numbers, none_unpassed, jobs_reserved_more}
 use Rattle.nr_node.proofs.Levels.{same_level, opened_level, closed_level, handed_level, noted_level}
 use Rattle.nr_node.proofs.Orders.{none_recorded, reserved_order, due_order, members_order, noted_opened_order, owed_order}
 use Rattle.nr_node.proofs.Closing.{closed_accounts}
@@ -156,6 +159,10 @@ reserved_jobs s t at e next waiting left some reserved passed due is =
     ap (λ (js : Jobs). js ++ items_of left) (ap (λ (x : Standing). jobs_reserved (unpassed x)) reserved.standing ∙ jobs_reserved_more s at e some passed)
     ∙ append_assoc before items (items_of left) ∙ (λ i. before ++ (due i ++ is i))
 
+no_items : (jobs : List Job) → items_of jobs ≡ [] → jobs ≡ []
+no_items [] none = refl
+no_items (job ∷ jobs) none = absurd (cc none)
+
 -- the entry goes on waiting
 pub due_kept : (s t : Standing) (old new : ReplicaState) (book : Book) (next after : Option Next) (nodes : ℕ) → HasMet s t
     → items_of (jobs_next after) ≡ due_jobs (jobs_next next) old.waiting → LeavesWaiting (left_jobs (jobs_next next) old.waiting) old new → IsNextOf t.node nodes after
@@ -168,6 +175,12 @@ due_kept s t old new book next after nodes met due left is k = record {
   owing = λ up. waits_owing old new (jobs_next next) (jobs_reserved (unpassed s)) (unexecuted t (jobs_next after) new.waiting)
       (λ i. jobs_reserved (unpassed (met.standing i)) ++ (due i ++ left.waiting i)) left (k.owing (sym (ap (λ (x : ReplicaState). x.down) left.replica) ∙ up));
   accounts = waits_accounts book.node old new book.held _ left k.accounts;
+  fallen = λ down.
+      let f = k.fallen (sym (ap (λ (x : ReplicaState). x.down) left.replica) ∙ down) in (
+        no_items new.waiting (left.waiting ∙ (λ i. left_jobs (f.1 i) (f.0 i))),
+        no_items (jobs_next after) (due ∙ (λ i. due_jobs (f.1 i) (f.0 i))),
+        subst AreAhead (sym met.standing) f.2,
+      );
 }
 
 pub memory_kept : (s : Standing) (old new : ReplicaState) (book : Book) (next after : Option Next) (nodes : ℕ) → AreDue next old after new → IsNextOf s.node nodes after
@@ -194,6 +207,7 @@ reserved_kept s t at e old new book next after nodes some reserved taken up k =
       owing = λ is_up. waits_owing old new (jobs_next next) (jobs_reserved (unpassed s)) (unexecuted t [] new.waiting)
           (reserved_jobs s t at e (jobs_next next) old.waiting new.waiting some reserved k.order.passed taken.due taken.left.waiting) taken.left (k.owing up);
       accounts = waits_accounts book.node old new book.held _ taken.left k.accounts;
+      fallen = λ down. absurd (cc (up, sym (ap (λ (x : ReplicaState). x.down) taken.left.replica) ∙ down));
     }
 
 -- shares that came back go on waiting
@@ -204,6 +218,18 @@ back_kept s t e old new book next between shares back nodes some met taken are i
     let jobs : jobs_shared back ≡ e.jobs.items = ap jobs_shared (is ∙ are) ∙ shared_jobs e nodes some in
     due_kept s t old new book next (Some (forms.Shared back)) nodes met (ap items_of jobs ∙ taken.due) taken.left
     (e, is ∙ are, own ∙ sym (ap (λ (x : Standing). x.node) met.standing)) k
+
+opened_ahead : (s : Standing) (worker seen : ℕ) → AreAhead s → AreAhead (opened_with worker seen s)
+opened_ahead s worker seen ahead =
+    subst (λ (es : List Entry). AllByRecursion (λ (r : ℕ × Entry). length es ≤ r.0) (unpassed (opened_with worker seen s))) (sym (applied_opened s worker))
+    (subst (AllByRecursion (λ (r : ℕ × Entry). passed_of s ≤ r.0)) (sym (unpassed_opened s worker seen)) ahead)
+
+-- a node that is down and changed otherwise
+still_fallen : (s : Standing) (old new : ReplicaState) (next : Option Next) → new.down ≡ old.down → new.waiting ≡ old.waiting
+    → (old.down ≡ true → (old.waiting ≡ []) × (jobs_next next ≡ []) × AreAhead s) → new.down ≡ true → (new.waiting ≡ []) × (jobs_next next ≡ []) × AreAhead s
+still_fallen s old new next same waiting fallen down =
+    let f = fallen (sym same ∙ down) in
+    (waiting ∙ f.0, f.1, f.2)
 
 -- a connection more, which is noted
 pub opened_kept : (s t : Standing) (old new : ReplicaState) (book : Book) (next : Option Next) (nodes worker limit : ℕ)
@@ -228,6 +254,9 @@ opened_kept s t old new book next nodes worker limit is noted later k =
           (pushed_owing old.members m old.owed (unexecuted s (jobs_next next) old.waiting) (k.owing (sym (ap (λ (x : ReplicaState). x.down) is) ∙ up))));
       accounts = subst (λ (ms : List Member). HasAccounts book.node ms (finmap.insert book.held (length old.members) (fresh_account worker)))
           (sym (ap (λ (x : ReplicaState). x.members) is)) (pushed_accounts book.node worker old.members m book.held refl k.accounts);
+      fallen = λ down.
+          let f = k.fallen (sym (ap (λ (x : ReplicaState). x.down) is) ∙ down) in
+          (ap (λ (x : ReplicaState). x.waiting) is ∙ f.0, f.1, opened_ahead s worker t.seen f.2);
     }
 
 -- a connection changed, and is of its worker
@@ -255,6 +284,7 @@ closed_kept s old new book next nodes i there is k = record {
   owed = k.owed ∙ sym (ap (λ (x : ReplicaState). length x.owed) is);
   owing = set_owing s old new (jobs_next next) i _ there is refl k.owing;
   accounts = set_accounts book.node old new book.held i _ there is refl k.accounts;
+  fallen = still_fallen s old new next (ap (λ (x : ReplicaState). x.down) is) (ap (λ (x : ReplicaState). x.waiting) is) k.fallen;
 }
 
 pub handed_kept : (s t : Standing) (old new : ReplicaState) (book : Book) (next : Option Next) (nodes i most : ℕ) → t ≡ s → i < length old.members
@@ -266,6 +296,7 @@ handed_kept s t old new book next nodes i most same there is k = subst (λ (x : 
   owed = k.owed ∙ sym (ap (λ (x : ReplicaState). length x.owed) is);
   owing = set_owing s old new (jobs_next next) i _ there is refl k.owing;
   accounts = set_accounts book.node old new book.held i _ there is refl k.accounts;
+  fallen = still_fallen s old new next (ap (λ (x : ReplicaState). x.down) is) (ap (λ (x : ReplicaState). x.waiting) is) k.fallen;
 }
 
 -- its next entry is refused
@@ -289,6 +320,7 @@ refusing_kept s old new book next nodes is k = subst (λ (r : ReplicaState). IsK
   owed = k.owed;
   owing = k.owing;
   accounts = k.accounts;
+  fallen = k.fallen;
 }
 
 -- its jobs are owed
@@ -316,11 +348,11 @@ batch_served s old book next batch due o has =
 
 -- a batch was taken
 pub batch_kept : (s : Standing) (old new : ReplicaState) (book : Book) (next : Option Next) (nodes : ℕ) (batch : Batch) → refusal_of book batch ≡ None
-    → batch.worker < length book.last → slice_index_or old.owed batch.worker None ≡ None
+    → batch.worker < length book.last → slice_index_or old.owed batch.worker None ≡ None → old.down ≡ false
     → new ≡ record old { waiting = old.waiting ++ batch.jobs.items; owed = slice_set old.owed batch.worker (Some (length batch.jobs.items)) }
     → ((jobs : Jobs) → HasTaken book jobs → HasTaken (with_batch batch book) (jobs ++ items_of batch.jobs.items))
     → IsKept s old book next nodes → IsKept s new (with_batch batch book) next nodes
-batch_kept s old new book next nodes batch due within idle is counts k = record {
+batch_kept s old new book next nodes batch due within idle was is counts k = record {
   level = same_level s s old new refl refl (ap (λ (x : ReplicaState). x.node) is) (ap (λ (x : ReplicaState). x.members) is) (ap (λ (x : ReplicaState). x.down) is)
       (ap (λ (x : ReplicaState). x.server) is) (ap (λ (x : ReplicaState). x.applied) is) k.level;
   order = batch_order s old new book (jobs_next next) batch due (ap (λ (x : ReplicaState). x.members) is) (ap (λ (x : ReplicaState). x.waiting) is) counts k.order;
@@ -332,6 +364,7 @@ batch_kept s old new book next nodes batch due within idle is counts k = record 
       (batch_served s old book (jobs_next next) batch due k.order k.accounts).0 (k.owing (sym (ap (λ (x : ReplicaState). x.down) is) ∙ up)));
   accounts = subst (λ (ms : List Member). HasAccounts book.node ms (taken_all book.held (items_of batch.jobs.items))) (sym (ap (λ (x : ReplicaState). x.members) is))
       (batch_served s old book (jobs_next next) batch due k.order k.accounts).1;
+  fallen = λ down. absurd (cc (was, sym (ap (λ (x : ReplicaState). x.down) is) ∙ down));
 }
 
 -- where a batch is answered none of its jobs is owed, unless the replica is down
@@ -360,6 +393,7 @@ answered_kept s old new book next nodes worker is none k = record {
       subst (λ (r : ReplicaState). IsOwing r.members r.owed (unexecuted s (jobs_next next) r.waiting)) (sym is)
       (answered_owing old.members old.owed (unexecuted s (jobs_next next) old.waiting) worker (none was) (k.owing was));
   accounts = subst (λ (ms : List Member). HasAccounts book.node ms book.held) (sym (ap (λ (x : ReplicaState). x.members) is)) k.accounts;
+  fallen = still_fallen s old new next (ap (λ (x : ReplicaState). x.down) is) (ap (λ (x : ReplicaState). x.waiting) is) k.fallen;
 }
 
 -- none of the worker's jobs is left where it is owed none
@@ -414,6 +448,15 @@ goes_kept es s t old new book later next after nodes g k = record {
   owing = λ up. g.owing k.level up (k.owing (g.up up).0);
   accounts = closed_accounts (record_of t.history) new.members book later (g.closed k.order)
       (workers_accounts book.node old.members new.members book.held g.members g.workers k.accounts);
+  fallen = λ down. elim (cases_Bool old.down) [
+    | inl was ↦
+        let f = k.fallen was in (
+          ap (λ (r : ReplicaState). r.waiting) (g.still was) ∙ f.0,
+          elim g.after_is [ inl none ↦ ap jobs_next none | inr same ↦ ap jobs_next same ∙ f.1 ],
+          ahead_on es s t g.passed g.ahead f.2,
+        )
+    | inr up ↦ let fell = g.fell up down in (fell.1, ap jobs_next fell.2, g.ahead fell.0)
+  ];
 }
 
 pub read_awaited : (old new : ReplicaState) → HasRead old new → awaited new.owed ≡ awaited old.owed
@@ -460,6 +503,7 @@ noted_kept s t ran old new book next nodes noted none read ran_is up is k =
       owing = λ _. noted_owing s t ran old new noted none read (here.owing up);
       accounts = workers_accounts book.node old.members new.members book.held (length_read old new read)
           (received_workers (λ c. texts_for c (emitted_all old.server (read_jobs (items_of old.waiting)))) old.members new.members read.delivered) here.accounts;
+      fallen = λ down. absurd (cc (up, sym (ap (λ (x : ReplicaState). x.down) read.state) ∙ down));
     }
 
 -- what holds of what is there

@@ -27,6 +27,7 @@ use Rattle.nr_replica.specs.declared.fall.Fall.TheVariants.{Refused}
 use Rattle.nr_replica.specs.Replicas.{ReplicaState, IsApplied, fallen}
 use Rattle.nr_node.specs.declared.next.Next.{Next}
 use Rattle.nr_node.specs.Level.{IsLevel, IsInOrder, connection_at, unpassed, jobs_reserved}
+use Rattle.nr_node.specs.Keeping.{AreAhead}
 use Rattle.nr_node.specs.Next.{jobs_next}
 use Rattle.nr_node.specs.Owing.{IsOwing, awaited, unexecuted}
 
@@ -129,4 +130,5 @@ pub record GoesOn (entries : List Entry) (s t : Standing) (old new : ReplicaStat
   pub fell : old.down ≡ false → new.down ≡ true → (entries ≢ []) × (new.waiting ≡ []) × (after ≡ None) × (new.server ≡ fresh)
   pub cause : old.down ≡ false → new.down ≡ true → new.fell ≡ Some Refused → old.refused ≡ true
   pub still : old.down ≡ true → new ≡ old
+  pub ahead : entries ≢ [] → AreAhead t
   pub after_is : (after ≡ None) ⊎ (after ≡ next)

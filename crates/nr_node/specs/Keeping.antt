@@ -1,12 +1,20 @@
 -- What came of a try to put an entry into the log, and the shares of its own entries that a node keeps.
-use Rattle.std.specs.Prelude.{◌≡◌, ◌⊎◌, ⊤, ℕ, ◌<◌, ◌≤◌, List, [], ◌++◌, length, slice_index, slice_index_or, Option, Some, None, IfSome}
+use Rattle.std.specs.Prelude.{◌≡◌, ◌⊎◌, ⊤, ℕ, ◌<◌, ◌≤◌, Bool, false, nat_le, List, [], ◌∷◌, ◌++◌, length, slice_index, slice_index_or, Option, Some, None, IfSome, refl}
+use Rattle.std.specs.Coded.{Coded, code_by, coded×, coded_ℕ, coded_list, coded_option}
 use Rattle.std.specs.List.{AllByRecursion, slice_get}
 use Rattle.nr_entry.specs.declared.entry.Entry.{Entry}
+use Rattle.nr_entry.specs.contracts.entry.Entry as of_entry
 use Rattle.nr_log_end.specs.declared.standing.Look.{Look}
+use Rattle.nr_log_end.specs.declared.standing.Standing.{Standing}
+use Rattle.nr_log_end.specs.Standings.{passed_of, unpassed}
 use Rattle.nr_oplog.specs.Calls.{LoadsCounts, IsLeastOf, loads_from}
 use Rattle.nr_oplog.specs.declared.view.LogView.{LogView}
 use Rattle.nr_node.specs.declared.keeping.Put.{Put}
 use Rattle.nr_node.specs.declared.keeping.Put.TheVariants.{Taken, Full, Lost, Refused}
+
+-- the entries that a node has reserved and not passed have numbers that it has still to pass
+abbrev pub AreAhead : Standing → Type 0
+AreAhead s = AllByRecursion (λ (r : ℕ × Entry). passed_of s ≤ r.0) (unpassed s)
 
 -- P holds of the number, where one was taken
 abbrev pub IfTaken : Put → (ℕ → Type 0) → Type 0
@@ -60,9 +68,31 @@ pub record IsSeenPassed (nodes : ℕ) (looks : List Look) (number : ℕ) : Type 
 abbrev pub AreSeenPassed : LogView → List (ℕ × Entry) → Type 0
 AreSeenPassed v entries = AllByRecursion (λ (one : ℕ × Entry). IsSeenPassed v.standing.nodes v.looks one.0) entries
 
+-- the shares of its own entries that a node keeps, with their numbers, and the number of the last entry that it reserved
+pub record OwnState : Type 0 where
+  pub kept : List (ℕ × Entry)
+  pub last : Option ℕ
+
+abbrev pub coded_own : Coded OwnState
+coded_own =
+    code_by (List (ℕ × Entry) × Option ℕ) (coded× (coded_list (coded× coded_ℕ of_entry.the_row.coded)) (coded_option coded_ℕ)) (λ o. (o.kept, o.last))
+    (λ p. record { kept = p.0; last = p.1 }) (λ _. refl)
+
+-- the number of the last reservation
+abbrev pub last_number : List (ℕ × Entry) → Option ℕ
+last_number [] = None
+last_number (r ∷ []) = Some r.0
+last_number (r ∷ (next ∷ rs)) = last_number (next ∷ rs)
+
+-- whether there is a last one, and its number is that or a greater one
+abbrev pub is_from : ℕ → Option ℕ → Bool
+is_from number None = false
+is_from number (Some last) = nat_le number last
+
 -- these are the last of a node's reservations, and of each before them it was seen that all nodes have passed it
-abbrev pub AreLast : List (ℕ × Entry) → LogView → Type 0
-AreLast kept v = (gone : List (ℕ × Entry)) × (gone ++ kept ≡ v.standing.reservations) × AreSeenPassed v gone
+abbrev pub AreLast : OwnState → LogView → Type 0
+AreLast own v =
+    (gone : List (ℕ × Entry)) × (gone ++ own.kept ≡ v.standing.reservations) × AreSeenPassed v gone × (own.last ≡ last_number v.standing.reservations)
 
 -- their numbers are below one
 abbrev pub AreBelow : ℕ → List (ℕ × Entry) → Type 0

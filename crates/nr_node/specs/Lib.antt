@@ -9,3 +9,4 @@ pub mod Sound
 pub mod Kept
 pub mod Collected
 pub mod Keeping
+pub mod Revived

@@ -37,7 +37,8 @@ pub(crate) fn catch_up<B: LogName>(
     ensures idle { end.new.standing.held ≡ None }
     ensures goes { (entries : List Entry) × GoesOn entries end.old.standing end.new.standing replica.old replica.new next.old next.new accounts.old accounts.new }
     ensures looks { (more : List Look) × (end.new.looks ≡ end.old.looks ++ Look.Tail end.new.standing.seen ∷ more) }
-    ensures freed { Frees kept.old kept.new end.old.standing.nodes end.old.looks end.new.looks }
+    ensures freed { Frees kept.old.kept kept.new.kept end.old.standing.nodes end.old.looks end.new.looks }
+    ensures last { kept.new.last ≡ kept.old.last }
     ensures reached { result ≡ true → (end.new.standing.seen ≤ passed_of end.new.standing) × StandsInLog end.new.standing }
     ensures behind { result ≡ false → passed_of end.new.standing < end.new.standing.seen }
     ensures stopped { result ≡ false → HasStopped end.old.looks end.new replica.new }
@@ -53,8 +54,8 @@ pub(crate) fn catch_up<B: LogName>(
     true
 }
 
-// Takes so many entries in, one after the other. False where one isn't there yet, or is held back.
-fn advance_by<B: LogName>(
+/// Takes so many entries in, one after the other. False where one isn't there yet, or is held back.
+pub(crate) fn advance_by<B: LogName>(
     end: &mut End<B>,
     replica: &mut Replica,
     accounts: &mut Accounts,

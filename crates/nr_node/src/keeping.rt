@@ -6,7 +6,7 @@ ghost use Rattle.std.specs.VecDeque.{deque_len, deque_capacity};
 ghost use Rattle.nr_entry.specs.declared.entry.Entry.{Entry};
 ghost use Rattle.nr_log_end.specs.Standings.{IsSharesFor, IsAllFilled, reservation};
 ghost use Rattle.nr_log_end.specs.Tries.{IsTaken, IsFull, IsLost};
-ghost use Rattle.nr_node.specs.Keeping.{IfBack, IfTaken, IfFull, IfLost, IfRefused, IsFirst, AreBelow, IsFromOn, LetsGo};
+ghost use Rattle.nr_node.specs.Keeping.{IfBack, IfTaken, IfFull, IfLost, IfRefused, IsFirst, AreBelow, IsFromOn, LetsGo, is_from};
 
 use nr_blob::Memory;
 use nr_entry::{Entry, Shares};
@@ -52,32 +52,41 @@ impl Model for Kept {
 }
 
 /// Shares of a node's own entries, which it keeps until all nodes have passed them: so the memory that the node took for an entry is given back by this node, and not by
-/// the one that passes it last. Contracts see the entries with their numbers.
+/// the one that passes it last. Contracts see the entries with their numbers, and the number of the last entry that was reserved.
 #[derive(Drop)]
 pub(crate) struct OwnEntries {
     kept: VecDeque<Kept>,
+    last: Option<u64>,
 }
 
 impl Model for OwnEntries {
-    ghost use Rattle.std.specs.Prelude.{ℕ, List};
-    ghost use Rattle.std.specs.Coded.{coded_list, coded×, coded_ℕ};
-    ghost use Rattle.nr_entry.specs.declared.entry.Entry.{Entry};
-    ghost use Rattle.nr_entry.specs.contracts.entry.Entry as of_entry;
+    ghost use Rattle.nr_node.specs.Keeping.{OwnState, coded_own};
 
-    ghost Value = { List (ℕ × Entry) };
+    ghost Value = { OwnState };
 
-    ghost coded = { coded_list (coded× coded_ℕ of_entry.the_row.coded) };
+    ghost coded = { coded_own };
 
-    ghost view = { λ o. o.kept.items };
+    ghost view = { λ o. record { kept = o.kept.items; last = o.last } };
 }
 
 impl OwnEntries {
-    /// None is kept yet.
+    /// None is kept yet, nor was any reserved.
     pub(crate) fn new(alloc: Global) -> OwnEntries
-        ensures { result ≡ [] }
+        ensures { result ≡ record { kept = []; last = None } }
     {
         OwnEntries {
             kept: VecDeque::new(alloc),
+            last: None,
+        }
+    }
+
+    /// Whether an entry with this number or a greater one was reserved. Constant.
+    pub(crate) fn has_from(&self, number: u64) -> bool
+        ensures { result ≡ is_from number self.now.last }
+    {
+        match self.last {
+            Some(last) => number <= last,
+            None => false,
         }
     }
 
@@ -90,7 +99,7 @@ impl OwnEntries {
         ensures full { IfFull result (λ back. (back ≡ shares) × IsFull end.old.standing end.old.looks B.places end.new.standing end.new.looks) }
         ensures lost { IfLost result (λ back. (back ≡ shares) × IsLost end.old.standing end.old.looks end.new.standing end.new.looks) }
         ensures refused { IfRefused result (λ back. (back ≡ shares) × (end.new ≡ end.old)) }
-        ensures kept { IfTaken result (λ at. self.new ≡ self.old ++ reservation at shares) }
+        ensures kept { IfTaken result (λ at. self.new ≡ record { kept = self.old.kept ++ reservation at shares; last = Some at }) }
         ensures others { IfBack result (self.new ≡ self.old) }
     {
         let share = match prepare(&mut self.kept, &shares) {
@@ -100,6 +109,7 @@ impl OwnEntries {
         match end.reserve(shares) {
             Reserve::Taken(number) => {
                 self.kept.push_back_reserved(Kept { number, share });
+                self.last = Some(number);
                 Put::Taken(number)
             }
             Reserve::Full(back) => Put::Full(back),
@@ -109,7 +119,8 @@ impl OwnEntries {
 
     /// Lets go of the shares of the entries that all nodes have passed: one load for each node, where any are kept.
     pub(crate) fn let_go<B: LogName>(&mut self, end: &mut End<B>)
-        ensures { LetsGo self.old self.new end.old end.new }
+        ensures go { LetsGo self.old.kept self.new.kept end.old end.new }
+        ensures last { self.new.last ≡ self.old.last }
     {
         let_go_passed(end, &mut self.kept);
     }

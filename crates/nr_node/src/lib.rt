@@ -3,6 +3,7 @@
 
 pub use answers::{Looked, OpenError, Round, TakeError};
 pub use collecting::Handed;
+pub use reviving::{Offer, ReviveError};
 pub use within::{Core, Shape};
 
 mod advancing;
@@ -13,4 +14,5 @@ mod keeping;
 mod next;
 mod reading;
 mod reserving;
+mod reviving;
 mod within;

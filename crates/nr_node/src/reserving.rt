@@ -80,7 +80,7 @@ pub(crate) fn put_in<B: LogName>(
     ensures met_full { IfFull result (λ _. IsFull end.old.standing end.old.looks B.places end.new.standing end.new.looks) }
     ensures met_lost { IfLost result (λ _. IsLost end.old.standing end.old.looks end.new.standing end.new.looks) }
     ensures filled { IsAllFilled end.new.standing }
-    ensures kept { IfTaken result (λ at. kept.new ≡ kept.old ++ reservation at shares) }
+    ensures kept { IfTaken result (λ at. kept.new ≡ record { kept = kept.old.kept ++ reservation at shares; last = Some at }) }
     ensures others { IfBack result (kept.new ≡ kept.old) }
     ensures looks { (more : List Look) × (end.new.looks ≡ end.old.looks ++ more) }
 {

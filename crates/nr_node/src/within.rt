@@ -10,11 +10,13 @@ ghost use Rattle.nr_log_end.specs.Standings.{opened_of, passed_of};
 ghost use Rattle.nr_log_end.specs.Tries.{IsFull, IsLost};
 ghost use Rattle.nr_oplog.specs.Rule.{opening_view};
 ghost use Rattle.nr_replica.specs.Members.{next_ready};
+ghost use Rattle.nr_replica.specs.declared.offer.OfferError.TheVariants as offers;
 ghost use Rattle.nr_node.specs.Level.{connection_at, queue_at, is_closed_at, worker_at, workers_of, IsLevel};
 ghost use Rattle.nr_node.specs.Advanced.{HasStopped};
 ghost use Rattle.nr_node.specs.Batches.{AreSame, refusal, is_cut_at, IsOpened, IsPiece};
 ghost use Rattle.nr_node.specs.Collected.{IsHanded};
 ghost use Rattle.nr_node.specs.Owing.{answer_of, answered_node, IsServedBy, HasAllExecuted};
+ghost use Rattle.nr_node.specs.Revived.{IsOffered, HasRevived, IsNotYet, revive_refusal};
 ghost use Rattle.nr_node.specs.Sound.{IsSound};
 ghost use Rattle.nr_node.specs.Steps.{fresh_node, closed_node, taken_node, refusing_node, is_due, HasOpened, HasReserved, GoesOnWaiting, HasNoneDue, GoesOnBy, HasRead, IsStill, HasHandedOut};
 
@@ -25,12 +27,13 @@ use crate::keeping::{OwnEntries, Put};
 use crate::next::Next;
 use crate::reading::read;
 use crate::reserving::{put_in, take_shares};
+use crate::reviving::{Offer, ReviveError, come_back, is_busy, reach};
 use nr_accounts::Accounts;
 use nr_blob::Memory;
 use nr_entry::{Batch, ConnId, Outcome};
 use nr_log_end::{LogEnd, Look};
 use nr_oplog::{End, LogName, Token};
-use nr_replica::{Piece, Replica, Spares};
+use nr_replica::{OfferError, Piece, Replica, Spares};
 use std::alloc::Global;
 use std::hash::RandomState;
 use std::marker::Model;
@@ -480,6 +483,75 @@ impl<B: LogName> Core<B> {
         ensures { self.new ≡ refusing_node self.old }
     {
         self.replica.refuse();
+    }
+
+    /// A copy of its server, with which another node of the log that is down comes back: see [`Core::revive`]. Linear in what is stored and remembered.
+    ///
+    /// # Errors
+    ///
+    /// `Down` exactly where it is down, and `Memory` where there is none for the copy, of which nothing is kept.
+    pub fn offer(&mut self) -> Result<Offer<B>, OfferError>
+        ensures copied { IfOk result (λ offer. offer ≡ record { server = self.old.replica.server; standing = self.old.seat.standing }) }
+        ensures offered { IfOk result IsOffered }
+        ensures down { (result ≡ Err offers.Down) ↔ (self.old.replica.down ≡ true) }
+        ensures same { IsStill self.old self.new }
+    {
+        let server = match self.replica.offer() {
+            Ok(server) => server,
+            Err(why) => return Err(why),
+        };
+        let place = self.end.passed();
+        Ok(Offer {
+            server,
+            token: self.end.token(),
+            place,
+        })
+    }
+
+    /// A node that is down comes back with what another one of the log offered. It passes the entries up to the offer's place, and no further, and is up then, with
+    /// the server of the offer. Nothing more comes to wait for the connections that it has. Where [`Core::refuse`] was called while it was down, the next entry is
+    /// refused. It costs the passing of these entries, and is linear in the workers and in the connections that aren't closed. It takes no memory.
+    ///
+    /// # Errors
+    ///
+    /// The offer comes back, with the first reason that holds, and nothing changes: but where it isn't yet, the entries before are passed.
+    pub fn revive(&mut self, offer: Offer<B>) -> Result<(), (Offer<B>, ReviveError)>
+        ensures revived { OnOk result ((revive_refusal self.old offer ≡ None) × HasRevived offer self.old self.new) }
+        ensures refused { IfErr result (λ back. ((revive_refusal self.old offer ≡ Some back.1) × (self.new ≡ self.old)) ⊎ ((revive_refusal self.old offer ≡ None) × (back.1 ≡ ReviveError.NotYet) × IsNotYet offer self.old self.new)) }
+        ensures back { IfErr result (λ back. back.0 ≡ offer) }
+    {
+        if let Some(why) = self.revive_refusal(&offer) {
+            return Err((offer, why));
+        }
+        let place = offer.place();
+        if !reach(
+            &mut self.end,
+            &self.kept,
+            &mut self.replica,
+            &mut self.accounts,
+            &mut self.next,
+            place,
+        ) {
+            return Err((offer, ReviveError::NotYet));
+        }
+        come_back(&mut self.end, &mut self.replica, offer);
+        Ok(())
+    }
+
+    // Why it doesn't come back with an offer, whatever its end of the log finds.
+    fn revive_refusal(&self, offer: &Offer<B>) -> Option<ReviveError>
+        ensures { result ≡ revive_refusal self.now offer.now }
+    {
+        if !self.replica.is_down() {
+            return Some(ReviveError::NotDown);
+        }
+        if offer.place() < self.end.passed() {
+            return Some(ReviveError::Behind);
+        }
+        if is_busy(&self.replica, self.accounts.workers()) {
+            return Some(ReviveError::Busy);
+        }
+        None
     }
 
     // Whether a connection is the node's, and was opened.

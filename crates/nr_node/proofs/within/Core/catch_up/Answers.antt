@@ -13,7 +13,7 @@ invariant_of-self g c =
     let went = c.catch_up-reached.ensures.goes in
     let w = goes_within went.0 inside.end.standing c.catch_up-reached.new.end.standing inside.replica c.catch_up-reached.new.replica inside.accounts c.catch_up-reached.new.accounts inside.next
     c.catch_up-reached.new.next inside.nodes went.1 c.catch_up-reached.ensures.idle (c.self.invariant.0, c.self.invariant.1, c.self.invariant.2, c.self.invariant.3, c.self.invariant.4) in
-    (w.0, w.1, w.2, w.3, w.4, went_last went.0 inside.kept c.catch_up-reached.new.kept inside.end c.catch_up-reached.new.end went.1.passed c.catch_up-reached.ensures.freed c.catch_up-reached.ensures.looks c.self.invariant.5)
+    (w.0, w.1, w.2, w.3, w.4, went_last went.0 inside.kept c.catch_up-reached.new.kept inside.end c.catch_up-reached.new.end went.1.passed c.catch_up-reached.ensures.freed c.catch_up-reached.ensures.last c.catch_up-reached.ensures.looks c.self.invariant.5)
 
 pub returns-clause-goes : goal.returns-clause-goes
 returns-clause-goes g c =

@@ -21,7 +21,7 @@ invariant_of-self g c =
     let went = c.catch_up-reached.ensures.goes in
     let w = goes_within went.0 inside.end.standing c.catch_up-reached.new.end.standing inside.replica c.catch_up-reached.new.replica inside.accounts c.catch_up-reached.new.accounts inside.next
     c.catch_up-reached.new.next inside.nodes went.1 c.catch_up-reached.ensures.idle (c.self.invariant.0, c.self.invariant.1, c.self.invariant.2, c.self.invariant.3, c.self.invariant.4) in
-    (w.0, w.1, w.2, w.3, w.4, went_last went.0 inside.kept c.catch_up-reached.new.kept inside.end c.catch_up-reached.new.end went.1.passed c.catch_up-reached.ensures.freed c.catch_up-reached.ensures.looks c.self.invariant.5)
+    (w.0, w.1, w.2, w.3, w.4, went_last went.0 inside.kept c.catch_up-reached.new.kept inside.end c.catch_up-reached.new.end went.1.passed c.catch_up-reached.ensures.freed c.catch_up-reached.ensures.last c.catch_up-reached.ensures.looks c.self.invariant.5)
 
 pub invariant_of-self-then-not-reached : goal.invariant_of-self-then-not-reached
 invariant_of-self-then-not-reached g c =
@@ -29,7 +29,7 @@ invariant_of-self-then-not-reached g c =
     let went = c.catch_up-reached.ensures.goes in
     let w = goes_within went.0 inside.end.standing c.catch_up-reached.new.end.standing inside.replica c.catch_up-reached.new.replica inside.accounts c.catch_up-reached.new.accounts inside.next
     c.catch_up-reached.new.next inside.nodes went.1 c.catch_up-reached.ensures.idle (c.self.invariant.0, c.self.invariant.1, c.self.invariant.2, c.self.invariant.3, c.self.invariant.4) in
-    (w.0, w.1, w.2, w.3, w.4, went_last went.0 inside.kept c.catch_up-reached.new.kept inside.end c.catch_up-reached.new.end went.1.passed c.catch_up-reached.ensures.freed c.catch_up-reached.ensures.looks c.self.invariant.5)
+    (w.0, w.1, w.2, w.3, w.4, went_last went.0 inside.kept c.catch_up-reached.new.kept inside.end c.catch_up-reached.new.end went.1.passed c.catch_up-reached.ensures.freed c.catch_up-reached.ensures.last c.catch_up-reached.ensures.looks c.self.invariant.5)
 
 pub invariant_of-self-then-is_some : goal.invariant_of-self-then-is_some
 invariant_of-self-then-is_some g c =
@@ -37,7 +37,7 @@ invariant_of-self-then-is_some g c =
     let went = c.catch_up-reached.ensures.goes in
     let w = goes_within went.0 inside.end.standing c.catch_up-reached.new.end.standing inside.replica c.catch_up-reached.new.replica inside.accounts c.catch_up-reached.new.accounts inside.next
     c.catch_up-reached.new.next inside.nodes went.1 c.catch_up-reached.ensures.idle (c.self.invariant.0, c.self.invariant.1, c.self.invariant.2, c.self.invariant.3, c.self.invariant.4) in
-    (w.0, w.1, w.2, w.3, w.4, went_last went.0 inside.kept c.catch_up-reached.new.kept inside.end c.catch_up-reached.new.end went.1.passed c.catch_up-reached.ensures.freed c.catch_up-reached.ensures.looks c.self.invariant.5)
+    (w.0, w.1, w.2, w.3, w.4, went_last went.0 inside.kept c.catch_up-reached.new.kept inside.end c.catch_up-reached.new.end went.1.passed c.catch_up-reached.ensures.freed c.catch_up-reached.ensures.last c.catch_up-reached.ensures.looks c.self.invariant.5)
 
 pub returns-then-is_down-clause-goes : goal.returns-then-is_down-clause-goes
 returns-then-is_down-clause-goes g c =
@@ -111,7 +111,7 @@ invariant_of-self-in-Err g c =
     let went = c.catch_up-reached.ensures.goes in
     let w = failed_within went.0 inside.end.standing c.catch_up-reached.new.end c.read.new.end inside.replica c.catch_up-reached.new.replica c.read.new.replica inside.accounts c.catch_up-reached.new.accounts inside.next
     c.catch_up-reached.new.next inside.nodes went.1 c.catch_up-reached.ensures.idle c.in-Err.ensures.end c.in-Err.ensures.replica (c.self.invariant.0, c.self.invariant.1, c.self.invariant.2, c.self.invariant.3, c.self.invariant.4) in
-    (w.0, w.1, w.2, w.3, w.4, ended_last c.catch_up-reached.new.kept c.catch_up-reached.new.end c.read.new.end c.in-Err.ensures.end (went_last went.0 inside.kept c.catch_up-reached.new.kept inside.end c.catch_up-reached.new.end went.1.passed c.catch_up-reached.ensures.freed c.catch_up-reached.ensures.looks c.self.invariant.5))
+    (w.0, w.1, w.2, w.3, w.4, ended_last c.catch_up-reached.new.kept c.catch_up-reached.new.end c.read.new.end c.in-Err.ensures.end (went_last went.0 inside.kept c.catch_up-reached.new.kept inside.end c.catch_up-reached.new.end went.1.passed c.catch_up-reached.ensures.freed c.catch_up-reached.ensures.last c.catch_up-reached.ensures.looks c.self.invariant.5))
 
 pub returns-in-Err-clause-goes : goal.returns-in-Err-clause-goes
 returns-in-Err-clause-goes g c =
@@ -146,7 +146,7 @@ invariant_of-self-2 g c =
     let w = noted_within went.0 inside.end.standing c.catch_up-reached.new.end.standing c.read.new.end.standing c.in-Ok.ran.items inside.replica c.catch_up-reached.new.replica
     c.read.new.replica inside.accounts c.catch_up-reached.new.accounts inside.next next inside.nodes went.1 c.catch_up-reached.ensures.idle (c.catch_up-reached.ensures.reached c.if-not-reached.false)
     c.in-Ok.ensures.noted c.in-Ok.ensures.read c.in-Ok.ensures.ran up (none_of next (sym c.is_some.ensures ∙ c.if-is_some.false)) (c.self.invariant.0, c.self.invariant.1, c.self.invariant.2, c.self.invariant.3, c.self.invariant.4) in
-    (w.0, w.1, w.2, w.3, w.4, noted_last c.catch_up-reached.new.kept c.in-Ok.ran.items c.catch_up-reached.new.end c.read.new.end c.in-Ok.ensures.noted c.in-Ok.ensures.looks (went_last went.0 inside.kept c.catch_up-reached.new.kept inside.end c.catch_up-reached.new.end went.1.passed c.catch_up-reached.ensures.freed c.catch_up-reached.ensures.looks c.self.invariant.5))
+    (w.0, w.1, w.2, w.3, w.4, noted_last c.catch_up-reached.new.kept c.in-Ok.ran.items c.catch_up-reached.new.end c.read.new.end c.in-Ok.ensures.noted c.in-Ok.ensures.looks (went_last went.0 inside.kept c.catch_up-reached.new.kept inside.end c.catch_up-reached.new.end went.1.passed c.catch_up-reached.ensures.freed c.catch_up-reached.ensures.last c.catch_up-reached.ensures.looks c.self.invariant.5))
 
 pub returns-clause-goes : goal.returns-clause-goes
 returns-clause-goes g c =

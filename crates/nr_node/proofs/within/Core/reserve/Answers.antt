@@ -9,7 +9,8 @@ use Rattle.nr_node.specs.Steps.{HasReserved}
 use Rattle.nr_node.proofs.Lists.{jobs_reserved_more}
 use Rattle.nr_node.proofs.Orders.{due_rises}
 use Rattle.nr_node.proofs.Taking.{some_is, none_is, memory_kept, none_kept, reserved_within, back_within}
-use Rattle.nr_node.proofs.Shares.{kept_more, reserved_more, reserved_nodes, met_last}
+use Rattle.nr_node.specs.Keeping.{IsFirst}
+use Rattle.nr_node.proofs.Shares.{kept_more, one_of_all, reserved_more, reserved_nodes, met_last}
 use Rattle.nr_node.proofs.within.Core.reserve.Goals as goal
 
 pub invariant_of-self : goal.invariant_of-self
@@ -60,7 +61,8 @@ invariant_of-self-in-Taken g c =
     let up : inside.replica.down ≡ false = sym c.is_down.ensures ∙ c.if-is_down.false in
     let w = reserved_within inside.end.standing t c.in-Taken.field-0 got.0 inside.replica c.take_shares.new.replica inside.accounts inside.next c.take_shares.new.next inside.nodes named got.3 up
     c.put_in.ensures.filled (c.self.invariant.0, c.self.invariant.1, c.self.invariant.2, c.self.invariant.3, c.self.invariant.4) in
-    (w.0, w.1, w.2, w.3, w.4, kept_more inside.kept c.put_in.new.kept c.in-Taken.field-0 c.in-Some.shares inside.end c.put_in.new.end c.in-Taken.ensures.kept (reserved_more inside.end c.put_in.new.end c.in-Taken.field-0 c.in-Some.shares c.in-Taken.ensures.taken) (reserved_nodes inside.end c.put_in.new.end c.in-Taken.field-0 c.in-Some.shares c.in-Taken.ensures.taken) c.put_in.ensures.looks c.self.invariant.5)
+    let first = subst IsFirst (sym got.1) (one_of_all got.0 inside.nodes c.self.invariant.4) in
+    (w.0, w.1, w.2, w.3, w.4, kept_more inside.kept c.put_in.new.kept c.in-Taken.field-0 c.in-Some.shares first.1.0 inside.end c.put_in.new.end first.1.1 c.in-Taken.ensures.kept (reserved_more inside.end c.put_in.new.end c.in-Taken.field-0 c.in-Some.shares c.in-Taken.ensures.taken) (reserved_nodes inside.end c.put_in.new.end c.in-Taken.field-0 c.in-Some.shares c.in-Taken.ensures.taken) c.put_in.ensures.looks c.self.invariant.5)
 
 pub invariant_of-self-in-Full : goal.invariant_of-self-in-Full
 invariant_of-self-in-Full g c =

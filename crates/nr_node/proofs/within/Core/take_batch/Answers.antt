@@ -33,6 +33,7 @@ invariant_of-self-in-Ok-lift g c =
     λ jobs h. subst (λ (b : Book). HasTaken b (jobs ++ items_of c.args.batch.jobs.items)) c.in-Ok.ensures.taken (c.in-Ok.ensures.numbered jobs h) in (
       subst (λ (b : Book). IsKept inside.end.standing c.lift.new.self b inside.next inside.nodes) (sym c.in-Ok.ensures.taken)
           (batch_kept inside.end.standing inside.replica c.lift.new.self inside.accounts inside.next inside.nodes c.args.batch c.in-Ok.ensures.due c.in-Ok.ensures.worker idle
+          (sym c.is_down.ensures ∙ c.if-is_down.false)
           c.in-Ok-lift.ensures.lifted counts keeps.0),
       keeps.1,
       keeps.2,
