@@ -1,5 +1,5 @@
--- The first account after a serial, as the map of accounts finds it.
-use Rattle.std.proofs.Common.{◌≡◌, ℕ, ◌<◌, false, Option, Some, None, [], ◌∷◌, refl, sym, ◌∙◌, subst, arith}
+-- The first account after a serial, as the map of accounts finds it, and the first of a connection that goes on.
+use Rattle.std.proofs.Common.{◌≡◌, ℕ, ◌-◌, ◌<◌, ◌^◌, false, Option, Some, None, [], ◌∷◌, refl, sym, ◌∙◌, subst, arith}
 use Rattle.std.proofs.lemmas.Grind.{common_steps}
 use Rattle.std.specs.Prelude.{IsSome, IfSome, slice_get}
 use Rattle.std.specs.declared.ops.Bound.TheVariants.{Unbounded}
@@ -11,7 +11,7 @@ use Rattle.std.specs.BTreeMap.{BTreeMap, is_at}
 use Rattle.std.specs.BTreeMap.Range.{IsRangeOf, IsFromStart, IsEntryInRange}
 use Rattle.std.specs.FinMap as finmap
 use Rattle.nr_accounts.specs.declared.account.Account.{Account}
-use Rattle.nr_accounts.specs.Held.{ComesAfter, start_after}
+use Rattle.nr_accounts.specs.Held.{Held, is_unended, ComesAfter, start_after}
 use Rattle.nr_accounts.proofs.Seen.{Entries, seen, get_seen}
 
 less : (a b : ℕ) → a < b → nat_cmp a b ≡ Less
@@ -56,3 +56,13 @@ none_between last m part rest s a rises is split other after below =
 pub none_after : (last : Option ℕ) (m : BTreeMap ℕ Account) (part : Entries) → IsStrictlySortedBy nat_cmp (keys_of m.entries) → IsPart last m part → part ≡ []
     → (other : ℕ) → ComesAfter last other → finmap.get (seen m.entries) other ≡ None
 none_after last m part rises is none other after = get_seen m.entries rises other ∙ is.5 none other (in_range last other after, tt)
+
+-- how many serials may come after one
+abbrev pub left_after : Option ℕ → ℕ
+left_after None = 2 ^ 64
+left_after (Some last) = (2 ^ 64 - 1) - last
+
+-- from one serial up to another no connection of a worker goes on
+pub record PassesOver (worker : ℕ) (held : Held) (from last : Option ℕ) : Type 0 where
+  pub further : (serial : ℕ) → ComesAfter last serial → ComesAfter from serial
+  pub ended : (serial : ℕ) → ComesAfter from serial → (ComesAfter last serial → ⊥) → is_unended worker (finmap.get held serial) ≡ false

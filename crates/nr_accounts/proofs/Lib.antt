@@ -1,5 +1,5 @@
 pub mod Seen
-mod After
+pub mod After
 pub mod Steps
 pub mod Strangers
 pub mod Counts

@@ -1,5 +1,5 @@
 -- The accounts of a node's connections, by serial: which jobs are taken, one after the other, and with which of them an account goes.
-use Rattle.std.specs.Prelude.{◌≡◌, ℕ, ◌<◌, Bool, true, false, not, ◌&&◌, ◌||◌, ◌==◌, cond, List, [], ◌∷◌, ◌++◌, map, length, Option, Some, None}
+use Rattle.std.specs.Prelude.{◌≡◌, ℕ, ◌<◌, Bool, true, false, not, ◌&&◌, ◌||◌, ◌==◌, nat_lt, cond, List, [], ◌∷◌, ◌++◌, map, length, Option, Some, None}
 use Rattle.std.specs.declared.ops.Bound.{Bound}
 use Rattle.std.specs.declared.ops.Bound.TheVariants.{Excluded, Unbounded}
 use Rattle.std.specs.List.{list_any, range_with_len}
@@ -106,6 +106,11 @@ AreTaken node held jobs = AreCounted (λ account. account.next) node held jobs
 -- Jobs are dropped: the account of a connection goes back to the first of its jobs among them, where one is there.
 abbrev pub gone_back : Jobs → Connection → Account → Account
 gone_back dropped c account = back_by (first_number (own_jobs c dropped)) account
+
+-- a job of a connection that this worker serves was taken, and its end wasn't
+abbrev pub is_unended : ℕ → Option Account → Bool
+is_unended worker None = false
+is_unended worker (Some account) = is_of worker account && nat_lt 0 account.next
 
 -- a serial that comes after one, where there is one
 abbrev pub ComesAfter : Option ℕ → ℕ → Type 0

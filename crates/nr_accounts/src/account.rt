@@ -1,6 +1,7 @@
 // The account of one connection.
-ghost use Rattle.std.specs.Prelude.{◌≡◌, cond};
+ghost use Rattle.std.specs.Prelude.{◌≡◌, cond, Some};
 ghost use Rattle.nr_entry.specs.Jobs.{item_of};
+ghost use Rattle.nr_accounts.specs.Held.{is_unended};
 ghost use Rattle.nr_accounts.specs.Account.{is_of, noted, reopened, takes, taken, untaken, ends_with, back_to};
 
 use nr_entry::Job;
@@ -16,12 +17,27 @@ pub struct Account {
     pub is_ended: bool,
 }
 
+/// A connection of which a job was taken, but not its end.
+#[derive(Clone, Copy, Debug, PartialEq, Eq)]
+pub struct Unended {
+    pub serial: u64,
+    /// The number of its next job.
+    pub next: u64,
+}
+
 impl Account {
     /// Whether this worker serves the connection, and its end wasn't taken.
     fn is_of(&self, worker: usize) -> bool
         ensures { result ≡ is_of worker self.now }
     {
         self.worker as usize == worker && !self.is_ended
+    }
+
+    /// Whether this worker serves the connection, and a job of it was taken, but not its end.
+    pub(crate) fn is_unended(&self, worker: usize) -> bool
+        ensures { result ≡ is_unended worker (Some self.now) }
+    {
+        self.is_of(worker) && self.next > 0
     }
 
     /// Takes its next job, if it is that.

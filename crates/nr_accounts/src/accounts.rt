@@ -1,13 +1,14 @@
 // The accounts of a node.
-ghost use Rattle.std.specs.Prelude.{◌≡◌, ◌<◌, ◌++◌, ℕ, length, replicate, slice_set, Some, None, IsSome, IfSome, IfNone, IfOk, IfErr, OnOk, OnErr};
+ghost use Rattle.std.specs.Prelude.{◌≡◌, ◌<◌, ◌++◌, ℕ, length, replicate, option_map, true, false, Some, None, IsSome, IfSome, IfNone, IfOk, IfErr, OnOk, OnErr};
 ghost use Rattle.std.specs.FinMap as finmap;
 ghost use Rattle.nr_model.specs.Entries.{Jobs};
 ghost use Rattle.nr_entry.specs.Jobs.{items_of};
 ghost use Rattle.nr_accounts.specs.Account.{fresh_account, back_to};
-ghost use Rattle.nr_accounts.specs.Held.{takes_all, changed, ComesAfter};
-ghost use Rattle.nr_accounts.specs.Book.{Book, HasTaken, refusal_of, with_batch, with_jobs, without_ended, last_of, is_above};
+ghost use Rattle.nr_accounts.specs.Held.{changed, is_unended, ComesAfter};
+ghost use Rattle.nr_accounts.specs.declared.account.Account.{Account};
+ghost use Rattle.nr_accounts.specs.Book.{Book, HasTaken, refusal_of, with_batch, without_ended, last_of, is_above};
 
-use crate::account::Account;
+use crate::account::{Account, Unended};
 use crate::held::BySerial;
 use crate::taking::{close_all, give_back, has_stranger, take_all};
 use nr_blob::Memory;
@@ -129,6 +130,16 @@ impl Accounts {
         ensures none { IfNone result ((other : ℕ) → ComesAfter last other → finmap.get self.now.held other ≡ None) }
     {
         self.held.next_after(last)
+    }
+
+    /// The first connection after one, by serial, that this worker serves, and of which a job was taken, but not its end. Logarithmic for each account between.
+    pub fn next_unended(&self, worker: usize, last: Option<u64>) -> Option<Unended>
+        ensures found { IfSome result (λ one. ComesAfter last one.serial × (is_unended worker (finmap.get self.now.held one.serial) ≡ true)) }
+        ensures next { IfSome result (λ one. option_map (λ (account : Account). account.next) (finmap.get self.now.held one.serial) ≡ Some one.next) }
+        ensures between { IfSome result (λ one. (other : ℕ) → ComesAfter last other → other < one.serial → is_unended worker (finmap.get self.now.held other) ≡ false) }
+        ensures none { IfNone result ((other : ℕ) → ComesAfter last other → is_unended worker (finmap.get self.now.held other) ≡ false) }
+    {
+        self.held.next_unended(worker, last)
     }
 
     /// A connection's jobs from this number on were dropped: its account goes back to that, and its end wasn't taken. Logarithmic; it takes no memory.

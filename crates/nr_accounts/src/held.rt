@@ -1,12 +1,13 @@
 // The accounts of a node's connections, by serial.
-ghost use Rattle.std.specs.Prelude.{◌≡◌, ◌<◌, ℕ, None, cond, not, IsSome, IfSome, IfNone, OnOk, OnErr};
+ghost use Rattle.std.specs.Prelude.{◌≡◌, ◌<◌, ℕ, None, Some, option_map, true, false, cond, not, IsSome, IfSome, IfNone, OnOk, OnErr};
 ghost use Rattle.std.specs.Option.{option_copied};
 ghost use Rattle.std.specs.FinMap as finmap;
 ghost use Rattle.nr_entry.specs.Jobs.{item_of};
 ghost use Rattle.nr_accounts.specs.Account.{noted, reopened, taken, untaken, back_to};
-ghost use Rattle.nr_accounts.specs.Held.{changed, takes_by, is_strange, ends_by, start_after, ComesAfter};
+ghost use Rattle.nr_accounts.specs.Held.{changed, takes_by, is_strange, is_unended, ends_by, start_after, ComesAfter};
+ghost use Rattle.nr_accounts.specs.declared.account.Account.{Account};
 
-use crate::account::Account;
+use crate::account::{Account, Unended};
 use nr_blob::Memory;
 use nr_entry::Job;
 use std::alloc::Global;
@@ -128,6 +129,32 @@ impl BySerial {
             Some((serial, _)) => Some(*serial),
             None => None,
         }
+    }
+
+    /// The number of the connection's next job, where this worker serves it, and a job of it was taken, but not its end.
+    pub(crate) fn unended(&self, serial: u64, worker: usize) -> Option<u64>
+        ensures some { IfSome result (λ next. (is_unended worker (finmap.get self.now serial) ≡ true) × (option_map (λ (account : Account). account.next) (finmap.get self.now serial) ≡ Some next)) }
+        ensures none { IfNone result (is_unended worker (finmap.get self.now serial) ≡ false) }
+    {
+        let account = self.get(serial)?;
+        account.is_unended(worker).then_some(account.next)
+    }
+
+    /// The first connection after one, by serial, that this worker serves, and of which a job was taken, but not its end. Logarithmic for each account between.
+    pub(crate) fn next_unended(&self, worker: usize, last: Option<u64>) -> Option<Unended>
+        ensures found { IfSome result (λ one. ComesAfter last one.serial × (is_unended worker (finmap.get self.now one.serial) ≡ true)) }
+        ensures next { IfSome result (λ one. option_map (λ (account : Account). account.next) (finmap.get self.now one.serial) ≡ Some one.next) }
+        ensures between { IfSome result (λ one. (other : ℕ) → ComesAfter last other → other < one.serial → is_unended worker (finmap.get self.now other) ≡ false) }
+        ensures none { IfNone result ((other : ℕ) → ComesAfter last other → is_unended worker (finmap.get self.now other) ≡ false) }
+    {
+        let mut last = last;
+        while let Some(serial) = self.next_after(last) {
+            if let Some(next) = self.unended(serial, worker) {
+                return Some(Unended { serial, next });
+            }
+            last = Some(serial);
+        }
+        None
     }
 
     /// The connection's next job is that of this number, and its end wasn't taken.

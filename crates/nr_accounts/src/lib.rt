@@ -4,7 +4,7 @@
 //! dropped, the account goes back to the first of them.
 #![tactic(auto)]
 
-pub use account::Account;
+pub use account::{Account, Unended};
 pub use accounts::Accounts;
 
 mod account;

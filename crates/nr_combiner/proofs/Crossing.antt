@@ -20,11 +20,11 @@ use Rattle.nr_combiner.specs.contracts.worker.Worker as Worker
 
 module _ (B : RattleType) (s : server_name.Ghosts B.Denot) (g : log_name.Ghosts B.Denot) where
   counts_send : IsSend Counts.the_row
-  counts_send = view_send Counts.TheInside.the_row _ _ _ _ (declared_send Counts.TheInside.the_type (search sent, (search sent, tt)))
+  counts_send = view_send Counts.TheInside.the_row _ _ _ _ (declared_send Counts.TheInside.the_type (search sent, (search sent, (search sent, tt))))
 
   combiner_send : IsSend (Combiner.the_row B s g)
   combiner_send = view_send (Combiner.TheInside.the_row B s g) _ _ _ _ (declared_send (Combiner.TheInside.the_type B s g)
-      (core_send B g, (desk_send, (Arc-send Slots.the_row slots_send slots_sync, (search sent, (search sent, (counts_send, tt)))))))
+      (core_send B g, (desk_send, (Arc-send Slots.the_row slots_send slots_sync, (search sent, (search sent, (counts_send, (search sent, tt))))))))
 
   lock_send : IsSend (Mutex.the_row (Combiner.the_row B s g))
   lock_send = search (crosses, combiner_send)

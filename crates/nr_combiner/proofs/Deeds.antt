@@ -27,7 +27,7 @@ use Rattle.nr_slots.specs.declared.view.Desk.{Desk}
 use Rattle.nr_slots.specs.Rule.{no_desk}
 use Rattle.nr_slots.specs.Seats.{CombinerView, desk_of, with_lifted, with_answered}
 use Rattle.nr_node.specs.Level.{NodeState, unpassed, jobs_reserved}
-use Rattle.nr_node.specs.Advanced.{jobs_of_own}
+use Rattle.nr_node.specs.Advanced.{HasPassed, jobs_of_own}
 use Rattle.nr_node.specs.Reserved.{due_jobs, left_jobs}
 use Rattle.nr_node.specs.Steps.{taken_node, HasReserved, HasNoneDue, GoesOnWaiting, GoesOnBy}
 use Rattle.nr_node.specs.declared.answers.Round.{Round}
@@ -251,6 +251,23 @@ module _ (Q : Item → Type 0) where
                   }
             ]
       ]
+
+  -- entries are passed, and no read is run
+  pub passed_all : (es : List Entry) (n m : NodeState) → SpeaksOf n.book.node → HasPassed es n.seat.standing m.seat.standing
+      → jobs_reserved (unpassed n.seat.standing) ≡ jobs_of_own n.book.node es ++ jobs_reserved (unpassed m.seat.standing)
+      → (m.next ≡ []) ⊎ (m.next ≡ n.next) → (m.replica.waiting ≡ []) ⊎ (m.replica.waiting ≡ n.replica.waiting) → AllJobs Q n → AllJobs Q m
+  passed_all es n m speaks passed own next waiting a =
+      let before = n.seat.standing.history in
+      let is : record_of m.seat.standing.history ≡ record_of before ++ record_of (map Applied es) =
+      ap (λ (s : Standing). record_of s.history) passed.standing ∙ record-append before (map Applied es) in
+      let all = subst (AllByRecursion Q) own a.reserved in
+      let applied = applied_all n.book.node speaks es (all_front Q (jobs_of_own n.book.node es) (jobs_reserved (unpassed m.seat.standing)) all) in
+      record {
+        done = subst (AllByRecursion Q) (sym is) (All-append Q (record_of before) (record_of (map Applied es)) a.done applied);
+        reserved = all_back Q (jobs_of_own n.book.node es) (jobs_reserved (unpassed m.seat.standing)) all;
+        due = either_all m.next n.next next a.due;
+        waits = either_all m.replica.waiting n.replica.waiting waiting a.waits;
+      }
 
 -- ---- jobs of batches
 pub jobs_weaker : (Q R : Item → Type 0) → ((job : Item) → Q job → R job) → (n : NodeState) → AllJobs Q n → AllJobs R n

@@ -1,10 +1,10 @@
 -- A batch that was lifted is due or refused: the combiner keeps what it kept.
 use Rattle.std.proofs.Common.{◌≡◌, ℕ, zero, suc, ◌+◌, ◌<◌, inl, inr, Bool, true, false, cond, not, eqb, ltb, List, [], ◌∷◌, ◌++◌, length, Option, Some, None, refl, ap, sym, ◌∙◌, subst, arith, get_or, set, get_or-set_same}
 use Rattle.std.specs.Prelude.{◌||◌}
-use Rattle.std.specs.List.{AllByRecursion}
+use Rattle.std.specs.List.{AllByRecursion, list_any}
 use Rattle.std.proofs.lemmas.Bool.{eqb-true}
 use Rattle.std.proofs.lemmas.List.{length-append}
-use Rattle.nr_entry.specs.Jobs.{items_of}
+use Rattle.nr_entry.specs.Jobs.{item_of, items_of}
 use Rattle.nr_entry.specs.declared.batch.Batch.{Batch}
 use Rattle.nr_entry.specs.declared.batch.Answer.{Answer}
 use Rattle.nr_entry.specs.declared.batch.Outcome.{Outcome}
@@ -25,7 +25,7 @@ use Rattle.nr_node.specs.Steps.{taken_node}
 use Rattle.nr_node.specs.declared.answers.TakeError.{TakeError}
 use Rattle.nr_node.specs.declared.answers.TakeError.TheVariants as errors
 use Rattle.nr_combiner.specs.Served.{CombinerState, owed_at, IsDesk, IsNoRefusal, IsServed}
-use Rattle.nr_combiner.specs.Steps.{refusal_at, IsRefusedFor, IsOutcomeOf, HandsBack}
+use Rattle.nr_combiner.specs.Steps.{has_lost, is_lost, refusal_at, IsRefusedFor, IsOutcomeOf, HandsBack}
 use Rattle.nr_node.specs.Owing.{answer_by, answer_of, answered_node, IsServedBy, HasAllExecuted}
 use Rattle.nr_combiner.proofs.Lifted.{taken_served, back_served, is_last, holds_some, answered_served}
 
@@ -56,8 +56,16 @@ idle_at n seat after numbers worker batch near is u s =
     let even : length old.lifted ≡ length old.answered = omega (arith, long, few, left, right) in
     none_by n worker (get_or numbers worker 0) old (owed_at worker n) (s.desks worker (near_of n seat numbers worker near s)) even
 
+-- one of some jobs is lost
+any_lost : (since : ℕ) (jobs : List Job) → list_any (λ (job : Job). is_lost since (item_of job)) jobs ≡ has_lost since (items_of jobs)
+any_lost since [] = refl
+any_lost since (job ∷ jobs) = ap (λ (more : Bool). is_lost since (item_of job) || more) (any_lost since jobs)
+
+pub lost_by : (found : Bool) (since : ℕ) (jobs : List Job) → found ≡ list_any (λ (job : Job). is_lost since (item_of job)) jobs → found ≡ has_lost since (items_of jobs)
+lost_by found since jobs is = is ∙ any_lost since jobs
+
 -- what isn't refused is of the node, and its jobs are due
-same_by : (down same : Bool) (o : Option TakeError) → cond down (Some errors.Down) (cond same o (Some errors.Stranger)) ≡ None → (same ≡ true) × (o ≡ None)
+same_by : (lost same : Bool) (o : Option TakeError) → cond lost (Some errors.Down) (cond same o (Some errors.Stranger)) ≡ None → (same ≡ true) × (o ≡ None)
 same_by true same o e = absurd (cc e)
 same_by false true o e = (refl, e)
 same_by false false o e = absurd (cc e)
@@ -72,12 +80,12 @@ own_by true there strange ordered e = refl
 own_by false there strange ordered e = absurd (cc e)
 
 -- one is taken in
-pub lifted_served : (n m : NodeState) (seat after : CombinerView) (numbers : List ℕ) (worker : ℕ) (batch : Batch) → worker < length seat.desks
-    → owed_at worker n ≡ None → refusal_at worker n batch ≡ None → AllByRecursion (IsServedBy worker n.replica.members) (items_of batch.jobs.items) → m ≡ taken_node batch n
+pub lifted_served : (n m : NodeState) (seat after : CombinerView) (numbers : List ℕ) (worker since : ℕ) (batch : Batch) → worker < length seat.desks
+    → owed_at worker n ≡ None → refusal_at worker since n batch ≡ None → AllByRecursion (IsServedBy worker n.replica.members) (items_of batch.jobs.items) → m ≡ taken_node batch n
     → after ≡ with_lifted worker batch seat
     → IsServed n seat numbers → IsServed m after (set numbers worker batch.number)
-lifted_served n m seat after numbers worker batch near idle due served m_is is s =
-    let parts = same_by n.replica.down (eqb batch.worker worker) (refusal n batch) due in
+lifted_served n m seat after numbers worker since batch near idle due served m_is is s =
+    let parts = same_by (n.replica.down || has_lost since (items_of batch.jobs.items)) (eqb batch.worker worker) (refusal n batch) due in
     let named : batch.worker ≡ worker = eqb-true batch.worker worker parts.0 in
     let accepted : refusal_of n.book batch ≡ None = none_refused n.replica.down (refusal_of n.book batch) parts.1 in
     let jobs = items_of batch.jobs.items in
@@ -132,7 +140,7 @@ names_refused answer batch why node worker number told =
     (node, worker, number, back_of why answer.outcome batch.jobs.items batch.jobs.items told refl)
 
 pub hands_back : (c d : CombinerState) (after : CombinerView) (worker : ℕ) (batch back : Batch) (why : TakeError) (answer : Answer)
-    → IsRefusedFor worker c.node batch why → AreSame back batch → d.node ≡ c.node → after ≡ with_lifted worker batch c.seat → d.seat ≡ with_answered worker answer after
+    → IsRefusedFor worker c.counts.since c.node batch why → AreSame back batch → d.node ≡ c.node → after ≡ with_lifted worker batch c.seat → d.seat ≡ with_answered worker answer after
     → d.counts ≡ c.counts → Names answer back → IsOutcomeOf why back.jobs.items answer.outcome → HandsBack worker batch answer why c d
 hands_back c d after worker batch back why answer refused same node is last taken names told = record {
   refused = refused;

@@ -21,12 +21,12 @@ use Rattle.nr_slots.specs.declared.view.Desk.{Desk}
 use Rattle.nr_slots.specs.declared.view.Lane.{Lane}
 use Rattle.nr_slots.specs.Names.{IsTold}
 use Rattle.nr_slots.specs.Rule.{no_desk}
-use Rattle.nr_slots.specs.Seats.{CombinerView, NoteView, desk_of}
+use Rattle.nr_slots.specs.Seats.{CombinerView, NoteView, desk_of, note_of}
 use Rattle.nr_node.specs.Batches.{IsPiece}
 use Rattle.nr_node.specs.Collected.{IsHanded, AreHanded, Collects}
 use Rattle.nr_node.specs.Level.{NodeState, connection_at, queue_at, workers_of}
 use Rattle.nr_node.specs.Sound.{IsSound}
-use Rattle.nr_node.specs.Steps.{nobody}
+use Rattle.nr_node.specs.Steps.{nobody, IsStill}
 use Rattle.nr_node.specs.declared.answers.Round.{Round}
 use Rattle.nr_node.specs.declared.answers.Round.TheVariants as rounds
 use Rattle.nr_node.specs.declared.collecting.Handed.{Handed}
@@ -180,6 +180,14 @@ pub owns_all : (n : NodeState) (desks : List Desk) (worker : ℕ) (s : Standing)
 owns_all n desks worker s opened node all = λ c serves.
     own_of n desks worker c (record_of s.history) (serves.node ∙ node)
     (sym (worker_at n.replica.members c.serial (fresh_member c 0 0)) ∙ ap (λ (ws : List ℕ). get_or ws c.serial 0) opened ∙ serves.worker_is) all
+
+-- and so it is told with a token and a note that were made then
+pub kept_own : (n m : NodeState) (v w : CombinerView) (worker : ℕ) (s : Standing) (note : NoteView) → workers_of n.replica.members ≡ opened_of s.history → s ≡ n.seat.standing
+    → s.node ≡ n.book.node → note ≡ note_of v → IsStill n m → w ≡ v → (numbers : List ℕ) × IsServed m w numbers → HasOwn worker (get_or note.desks worker no_desk) s
+kept_own n m v w worker s note opened is node noted still same served =
+    subst (λ (x : NoteView). HasOwn worker (get_or x.desks worker no_desk) s) (ap note_of same ∙ sym noted)
+    (owns_all m w.desks worker s (ap (λ (r : ReplicaState). workers_of r.members) still.replica ∙ opened) (node ∙ sym (ap (λ (b : Book). b.node) still.book))
+    (subst (λ (x : Standing). AllByRecursion (IsOwnOfBatch m w.desks) (record_of x.history)) (still.standing ∙ sym is) served.1.handed_in.done))
 
 owns : (n m : NodeState) (desks : List Desk) (worker node : ℕ) (done : Sequence) (serials : List ℕ) → node ≡ m.book.node
     → ((c : Connection) → c.serial < length n.replica.members → worker_of m.replica.members c ≡ worker_of n.replica.members c)
@@ -356,9 +364,9 @@ collects_own node worker generation most old new told s note b =
 pub turns_behind : (places node worker generation : ℕ) (which : Lifts) (most : ℕ) (old new : List Handed) (turned : Turned) (s : Standing) (note : NoteView) (c d : CombinerState)
     → HasTurned places worker which most old new turned s note c d → c.node.book.node ≡ node → s.node ≡ c.node.book.node
     → (turned.combined ≡ Ok rounds.Down) ↔ (d.node.replica.down ≡ true) → turned.answered ≡ min (length (desk_of d.seat worker).answered) (2 ^ 64 - 1)
-    → (numbers : List ℕ) × IsServed d.node d.seat numbers → StandsLevel c → StandsLevel d
+    → turned.since ≡ d.counts.since → (numbers : List ℕ) × IsServed d.node d.seat numbers → StandsLevel c → StandsLevel d
     → generation_of worker c.counts ≡ generation → TurnsBehind places node worker generation which most old new turned s note
-turns_behind places node worker generation which most old new turned s note c d t is standing down answered served was_level is_level met = record {
+turns_behind places node worker generation which most old new turned s note c d t is standing down answered since served was_level is_level met = record {
   before = c;
   after = d;
   has_turned = t;
@@ -366,6 +374,7 @@ turns_behind places node worker generation which most old new turned s note c d 
   standing = standing ∙ is;
   down = down;
   answered = answered;
+  since = since;
   met = met;
   numbers = served.0;
   served = served.1;
@@ -375,9 +384,10 @@ turns_behind places node worker generation which most old new turned s note c d 
 
 pub collects_behind : (node worker generation most : ℕ) (old new : List Handed) (told : Collected) (s : Standing) (note : NoteView) (c d : CombinerState)
     → HandsOutTo worker most old new told.result s note c d → c.node.book.node ≡ node → s.node ≡ c.node.book.node → told.is_down ≡ d.node.replica.down
-    → told.answered ≡ min (length (desk_of d.seat worker).answered) (2 ^ 64 - 1) → (numbers : List ℕ) × IsServed d.node d.seat numbers → StandsLevel c → StandsLevel d → generation_of worker c.counts ≡ generation
+    → told.answered ≡ min (length (desk_of d.seat worker).answered) (2 ^ 64 - 1) → told.since ≡ d.counts.since
+    → (numbers : List ℕ) × IsServed d.node d.seat numbers → StandsLevel c → StandsLevel d → generation_of worker c.counts ≡ generation
     → CollectsBehind node worker generation most old new told s note
-collects_behind node worker generation most old new told s note c d h is standing down answered served was_level is_level met = record {
+collects_behind node worker generation most old new told s note c d h is standing down answered since served was_level is_level met = record {
   before = c;
   after = d;
   handed = h;
@@ -385,6 +395,7 @@ collects_behind node worker generation most old new told s note c d h is standin
   standing = standing ∙ is;
   down = down;
   answered = answered;
+  since = since;
   met = met;
   numbers = served.0;
   served = served.1;

@@ -7,6 +7,8 @@ pub mod Turns
 pub mod Due
 pub mod Rounds
 pub mod Moves
+mod Revived
+mod Ends
 pub mod Handed
 mod Cut
 pub mod Crossing

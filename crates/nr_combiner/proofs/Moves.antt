@@ -1,8 +1,8 @@
 -- Connections are opened and closed, and bytes are handed out: what was kept holds on.
-use Rattle.std.proofs.Common.{◌≡◌, ℕ, zero, suc, ◌<◌, inl, inr, ◌⊎◌, List, [], ◌∷◌, ◌++◌, length, replicate, Option, Some, None, refl, ap, sym, ◌∙◌, subst, arith, get_or, set, length-set}
+use Rattle.std.proofs.Common.{◌≡◌, ℕ, zero, suc, ◌<◌, inl, inr, ◌⊎◌, true, cond, List, [], ◌∷◌, ◌++◌, length, replicate, Option, Some, None, refl, ap, sym, ◌∙◌, subst, arith, get_or, set, length-set}
 use Rattle.std.specs.Prelude.{Result, Ok, Err, OnOk, OnErr, IfOk, IfSome, IfNone}
 use Rattle.std.specs.List.{AllByRecursion}
-use Rattle.std.proofs.lemmas.Bool.{cases_lt}
+use Rattle.std.proofs.lemmas.Bool.{cases_Bool, cases_lt}
 use Rattle.std.proofs.lemmas.Bool.Decides.{eqb_tells}
 use Rattle.std.proofs.lemmas.List.{get_or-replicate, get_or_append_left, length-append}
 use lib.ListN.{length-replicate}
@@ -39,7 +39,7 @@ use Rattle.nr_combiner.proofs.Turns.{served_same}
 abbrev pub GoesOn : NodeState → NodeState → CombinerView → List ℕ → Type 0
 GoesOn n m seat numbers = IsServed m seat numbers × (n.book.node ≡ m.book.node)
 
-same_on : (n m : NodeState) (seat : CombinerView) (numbers : List ℕ) → m ≡ n → IsServed n seat numbers → GoesOn n m seat numbers
+pub same_on : (n m : NodeState) (seat : CombinerView) (numbers : List ℕ) → m ≡ n → IsServed n seat numbers → GoesOn n m seat numbers
 same_on n m seat numbers same s = (subst (λ (x : NodeState). IsServed x seat numbers) (sym same) s, ap (λ (x : NodeState). x.book.node) (sym same))
 
 -- a connection more leaves the others with their workers
@@ -151,13 +151,19 @@ kept_still n m seat numbers still s =
     (same_keeps n m still.standing still.next (ap (λ (r : ReplicaState). r.waiting) still.replica) (ap (λ (r : ReplicaState). r.down) still.replica))
     (same_jobs (IsOwnOfBatch n seat.desks) n m still.standing still.next (ap (λ (r : ReplicaState). r.waiting) still.replica) s.handed_in) s
 
--- the next entry is refused
+-- the next entry is refused, where it is up
+abbrev refused_node : NodeState → NodeState
+refused_node n = record n { replica = record n.replica { refused = true } }
+
 pub refusing_served : (n m : NodeState) (seat : CombinerView) (numbers : List ℕ) → m ≡ refusing_node n → IsServed n seat numbers → GoesOn n m seat numbers
-refusing_served n m seat numbers is s = subst (λ (x : NodeState). GoesOn n x seat numbers) (sym is) (
-  served_same n (refusing_node n) seat numbers refl refl (λ c near. (near, refl)) refl (same_keeps n (refusing_node n) refl refl refl refl)
-      (same_jobs (IsOwnOfBatch n seat.desks) n (refusing_node n) refl refl refl s.handed_in) s,
-  refl,
-)
+refusing_served n m seat numbers is s = subst (λ (x : NodeState). GoesOn n x seat numbers) (sym is) (elim (cases_Bool n.replica.down) [
+  | inl down ↦ same_on n (refusing_node n) seat numbers (ap (λ b. cond b n (refused_node n)) down) s
+  | inr up ↦ subst (λ (x : NodeState). GoesOn n x seat numbers) (sym (ap (λ b. cond b n (refused_node n)) up)) (
+    served_same n (refused_node n) seat numbers refl refl (λ c near. (near, refl)) refl (same_keeps n (refused_node n) refl refl refl refl)
+        (same_jobs (IsOwnOfBatch n seat.desks) n (refused_node n) refl refl refl s.handed_in) s,
+    refl,
+  )
+])
 
 -- nothing was lifted yet, and nothing is owed
 pub fresh_served : (n : NodeState) (seat : CombinerView) (numbers : List ℕ) (workers : ℕ) → n.replica.owed ≡ replicate workers None → seat.desks ≡ replicate workers no_desk

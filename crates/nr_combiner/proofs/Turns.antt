@@ -1,6 +1,6 @@
 -- What a turn of the combiner does to its node: what was kept holds on.
-use Rattle.std.proofs.Common.{◌≡◌, ℕ, zero, suc, Bool, inl, inr, ◌⊎◌, true, false, List, [], ◌∷◌, ◌++◌, map, length, Option, Some, None, refl, ap, sym, ◌∙◌, subst, arith, get_or}
-use Rattle.std.specs.Prelude.{◌≢◌, ◌↔◌, ◌<◌, ◌≤◌, OnErr, Result, Ok, Err}
+use Rattle.std.proofs.Common.{◌≡◌, ℕ, zero, suc, Bool, inl, inr, ◌⊎◌, List, [], ◌∷◌, ◌++◌, map, length, Option, Some, None, refl, ap, sym, ◌∙◌, subst, arith, get_or}
+use Rattle.std.specs.Prelude.{◌≢◌, ◌<◌, OnErr, Result, Ok, Err}
 use Rattle.nr_model.specs.Bytes.{IsBeginningOf}
 use Rattle.nr_model.proofs.NodesExecutedGrows.{begins_itself}
 use Rattle.nr_blob.specs.declared.memory.Memory.{Memory}
@@ -9,7 +9,7 @@ use Rattle.nr_entry.specs.declared.job.Job.{Job}
 use Rattle.nr_log_end.specs.declared.standing.Standing.{Standing}
 use Rattle.nr_log_end.specs.declared.standing.Turn.{Turn}
 use Rattle.nr_log_end.specs.declared.standing.Turn.TheVariants.{Applied, Ran}
-use Rattle.nr_log_end.specs.Standings.{record_of, passed_of}
+use Rattle.nr_log_end.specs.Standings.{record_of}
 use Rattle.nr_log_end.specs.Tries.{IsFull, IsLost}
 use Rattle.nr_accounts.specs.Book.{Book}
 use Rattle.nr_replica.specs.Members.{Member, fresh_member}
@@ -18,7 +18,7 @@ use Rattle.nr_slots.specs.Seats.{CombinerView}
 use Rattle.nr_node.specs.Advanced.{HaveGot}
 use Rattle.nr_node.specs.Level.{NodeState}
 use Rattle.nr_node.specs.Owing.{awaited}
-use Rattle.nr_node.specs.Steps.{GoesOnWaiting, GoesOnBy, HasRead}
+use Rattle.nr_node.specs.Steps.{GoesOnWaiting}
 use Rattle.nr_node.specs.declared.answers.Round.{Round}
 use Rattle.nr_node.specs.declared.answers.Round.TheVariants as rounds
 use Rattle.nr_node.proofs.Lists.{record-append}
@@ -128,27 +128,6 @@ looked_served looked behind entries ran tail n m seat numbers h s =
       log = (record_of more, sym longer);
     } in
     served_still n m seat numbers grows (still_at n.replica.owed m.replica.owed h.by.owed) (looked_all (IsOwnOfBatch n seat.desks) looked behind entries ran tail n m (speaks_of n seat.desks) h s.handed_in) s
-
--- what a look came to
-pub looked_by : (r : Result Round Memory) (behind : Bool) (n m : NodeState)
-    (goes : (entries : List Entry) × ((ran : List Job) × ((tail : ℕ) × GoesOnBy entries ran tail n m × (r ≡ Ok rounds.Done → HasRead ran tail n m) × (r ≢ Ok rounds.Done → ran ≡ [])
-    × (behind ≡ false → tail ≤ passed_of m.seat.standing) × (behind ≡ true → passed_of m.seat.standing < tail))))
-    → (r ≡ Ok rounds.NotYet) ↔ ((behind ≡ true) × (m.replica.down ≡ false))
-    → (r ≢ Ok rounds.Done → m.replica.down ≡ false → (m.replica.waiting ≡ n.replica.waiting) × (m.next ≡ n.next))
-    → (r ≡ Ok rounds.Again → n.next ≢ []) → r ≢ Ok rounds.Full
-    → (r ≡ Ok rounds.Down) ↔ (m.replica.down ≡ true) → HasLooked r behind goes.0 goes.1.0 goes.1.1.0 n m
-looked_by r behind n m goes not_yet waiting again never down = record {
-  by = goes.1.1.1;
-  read = goes.1.1.2;
-  none = goes.1.1.3;
-  reached = goes.1.1.4;
-  stopped = goes.1.1.5;
-  waiting = waiting;
-  not_yet = not_yet;
-  again = again;
-  never = never;
-  down = down;
-}
 
 -- what a try to reserve came to
 pub tried_by : (places : ℕ) (r : Result Round Memory) (n m : NodeState) → (r ≡ Ok rounds.Done → HasPut n m)

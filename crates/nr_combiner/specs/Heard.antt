@@ -1,5 +1,6 @@
 -- What a worker knows of what its node has done, and of what that hands out, by a turn or without one, in its own words.
 use Rattle.std.specs.Prelude.{ℕ, Bool, List}
+use Rattle.nr_model.specs.Items.{Connection}
 use Rattle.nr_entry.specs.Jobs.{connection_of}
 use Rattle.nr_entry.specs.declared.conn.ConnId.{ConnId}
 use Rattle.nr_log_end.specs.declared.standing.Standing.{Standing}
@@ -9,7 +10,7 @@ use Rattle.nr_slots.specs.declared.view.Lane.{Lane}
 use Rattle.nr_slots.specs.Names.{IsTold}
 use Rattle.nr_node.specs.Sound.{Serves}
 use Rattle.nr_node.specs.declared.collecting.Handed.{Handed}
-use Rattle.nr_combiner.specs.Pieces.{AreHandedIn, HasAdded, HasExecuted, HasOwn}
+use Rattle.nr_combiner.specs.Pieces.{AreHandedIn, HasAdded, HasExecuted, HasJobOf, HasOwn}
 
 -- what a combiner has done at a worker's desk, with all batches that the worker posted
 abbrev pub with_posted : Lane → Desk → Desk
@@ -26,6 +27,12 @@ pub record Knows (worker : ℕ) (desk : Desk) (s : Standing) (lane : Lane) : Typ
 pub record HasHeard (worker most : ℕ) (down : Bool) (desk : Desk) (s : Standing) (lane : Lane) (old new : List Handed) : Type 0 where
   pub knows : Knows worker desk s lane
   pub added : HasAdded most down s (AreHandedIn (with_posted lane desk) (record_of s.history)) old new
+
+-- So it knows of the record of a node that has a job of this connection, which was opened for it: a batch that it posted has one.
+pub record KnowsUnended (worker : ℕ) (c : Connection) (desk : Desk) (s : Standing) (lane : Lane) : Type 0 where
+  pub knows : Knows worker desk s lane
+  pub serves : Serves s worker c
+  pub posted : HasJobOf c lane.posted
 
 -- So it knows of the record of a node at which this connection was opened for it.
 pub record KnowsOpened (worker : ℕ) (conn : ConnId) (desk : Desk) (s : Standing) (lane : Lane) : Type 0 where

@@ -1,5 +1,5 @@
 -- What a node hands out, as it stands once the lock is free again.
-use Rattle.std.specs.Prelude.{◌≡◌, ℕ, ◌<◌, ◌≤◌, Bool, false, List, [], ◌∷◌, ◌++◌, length, drop}
+use Rattle.std.specs.Prelude.{◌≡◌, ℕ, ◌<◌, ◌≤◌, Bool, false, List, [], ◌∷◌, ◌++◌, length, drop, Contains}
 use Rattle.std.specs.List.{AllByRecursion, slice_get}
 use Rattle.nr_model.specs.Bytes.{IsBeginningOf}
 use Rattle.nr_model.specs.Items.{Connection, Item, Sequence}
@@ -65,6 +65,14 @@ HasOwn worker desk s = (c : Connection) → Serves s worker c → AreHandedIn de
 -- the jobs of each batch that was answered as executed are in the record
 abbrev pub HasExecuted : Desk → Standing → Type 0
 HasExecuted desk s = AreExecuted (record_of s.history) desk.lifted desk.answered
+
+-- one of these batches has a job of the connection
+pub record HasJobOf (c : Connection) (batches : List Batch) : Type 0 where
+  pub batch : Batch
+  pub there : Contains batches batch
+  pub job : Item
+  pub has : Contains (items_of batch.jobs.items) job
+  pub own : job.connection ≡ c
 
 -- what was there stays in front, and the first of all of these stand behind it, so that these are left
 pub record AddsFront (all old new left : List ConnId) : Type 0 where

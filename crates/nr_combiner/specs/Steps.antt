@@ -1,6 +1,11 @@
 -- What a combiner's calls come to.
-use Rattle.std.specs.Prelude.{◌≡◌, ◌≢◌, ◌↔◌, ◌⊎◌, ◌==◌, ◌<◌, ◌≤◌, ℕ, zero, suc, Bool, true, false, if◌then◌else◌, List, [], ◌++◌, length, Option, Some, None, Result, Ok, Err}
+use Rattle.std.specs.Prelude.{◌≡◌, ◌≢◌, ◌↔◌, ◌⊎◌, ◌==◌, ◌&&◌, ◌||◌, not, nat_lt, ◌<◌, ◌≤◌, ℕ, zero, suc, Bool, true, false, if◌then◌else◌, List, [], ◌++◌, length, Option, Some, None, Result, Ok, Err}
+use Rattle.std.specs.FinMap as finmap
+use Rattle.std.specs.List.{list_any, range_with_len}
+use Rattle.nr_model.specs.Items.{Item, is_end}
+use Rattle.nr_model.specs.Entries.{Jobs}
 use Rattle.nr_blob.specs.declared.memory.Memory.{Memory}
+use Rattle.nr_entry.specs.Jobs.{items_of}
 use Rattle.nr_entry.specs.declared.batch.Batch.{Batch}
 use Rattle.nr_entry.specs.declared.batch.Answer.{Answer}
 use Rattle.nr_entry.specs.declared.batch.Outcome.{Outcome}
@@ -12,7 +17,7 @@ use Rattle.nr_log_end.specs.Standings.{passed_of}
 use Rattle.nr_log_end.specs.Tries.{IsFull, IsLost}
 use Rattle.nr_slots.specs.Names.{Names, IsForLast}
 use Rattle.nr_slots.specs.Seats.{FoundNone, desk_of, with_lifted, with_answered}
-use Rattle.nr_node.specs.Level.{NodeState, is_closed_at, worker_at}
+use Rattle.nr_node.specs.Level.{NodeState, connection_at, is_closed_at, worker_at}
 use Rattle.nr_node.specs.Owing.{answer_of, answered_node}
 use Rattle.nr_node.specs.Batches.{refusal, take_error}
 use Rattle.nr_node.specs.Steps.{closed_node, taken_node, HasOpened, HasReserved, HasNoneDue, GoesOnWaiting, GoesOnBy, HasRead}
@@ -26,8 +31,11 @@ use Rattle.nr_combiner.specs.declared.answering.Lifts.{Lifts}
 use Rattle.nr_combiner.specs.declared.answering.Lifts.TheVariants as lifts
 use Rattle.nr_combiner.specs.declared.answering.OpenError.{OpenError}
 use Rattle.nr_combiner.specs.declared.answering.OpenError.TheVariants as open_errors
-use Rattle.nr_combiner.specs.Counts.{with_closed, with_opened}
-use Rattle.nr_combiner.specs.Served.{CombinerState}
+use Rattle.nr_node.specs.Revived.{OfferState, HasRevived, IsNotYet}
+use Rattle.nr_accounts.specs.Held.{is_unended, numbers_in, ComesAfter}
+use Rattle.nr_accounts.specs.declared.account.Unended.{Unended}
+use Rattle.nr_combiner.specs.Counts.{with_closed, with_opened, with_since}
+use Rattle.nr_combiner.specs.Served.{CombinerState, jobs_of}
 
 -- fewer connections than so many aren't closed, and the node has this worker
 abbrev pub HasRoom : ℕ → ℕ → CombinerState → Type 0
@@ -52,14 +60,24 @@ abbrev pub open_error : node_errors.OpenError → OpenError
 open_error node_error.Down = open_errors.Down
 open_error (node_error.Memory memory) = open_errors.Memory memory
 
--- what a batch in a worker's slot is refused for, where there is memory
-abbrev pub refusal_at : ℕ → NodeState → Batch → Option TakeError
-refusal_at worker n batch =
-    if n.replica.down then Some errors.Down else if batch.worker == worker then refusal n batch else Some errors.Stranger
+-- a job is of a connection with a lower serial than this, and doesn't end it; and one of these is
+abbrev pub is_lost : ℕ → Item → Bool
+is_lost since job = nat_lt job.connection.serial since && not (is_end job.deed)
+
+abbrev pub has_lost : ℕ → Jobs → Bool
+has_lost since jobs = list_any (is_lost since) jobs
+
+-- What a batch in a worker's slot is refused for, where there is memory. Of the connections that there were as the node came back last, which have lower serials than
+-- this, only ends are taken: any other job of theirs was asked for before the worker heard of the fall, and is lost as those were that the node had then.
+abbrev pub refusal_at : ℕ → ℕ → NodeState → Batch → Option TakeError
+refusal_at worker since n batch =
+    if n.replica.down || has_lost since (items_of batch.jobs.items) then Some errors.Down
+    else if batch.worker == worker then refusal n batch else Some errors.Stranger
 
 -- so it is refused, or for want of memory
-abbrev pub IsRefusedFor : ℕ → NodeState → Batch → TakeError → Type 0
-IsRefusedFor worker n batch why = (refusal_at worker n batch ≡ Some why) ⊎ ((refusal_at worker n batch ≡ None) × ((memory : Memory) × (why ≡ errors.Memory memory)))
+abbrev pub IsRefusedFor : ℕ → ℕ → NodeState → Batch → TakeError → Type 0
+IsRefusedFor worker since n batch why =
+    (refusal_at worker since n batch ≡ Some why) ⊎ ((refusal_at worker since n batch ≡ None) × ((memory : Memory) × (why ≡ errors.Memory memory)))
 
 -- a batch that was refused is answered with its jobs, or that the replica is down
 abbrev pub IsOutcomeOf : TakeError → List Job → Outcome → Type 0
@@ -69,14 +87,14 @@ IsOutcomeOf why jobs outcomes.Executed = ⊥
 
 -- a batch was lifted from the worker's slot, and its jobs wait at the node
 pub record TakesIn (worker : ℕ) (batch : Batch) (c d : CombinerState) : Type 0 where
-  pub due : refusal_at worker c.node batch ≡ None
+  pub due : refusal_at worker c.counts.since c.node batch ≡ None
   pub node : d.node ≡ taken_node batch c.node
   pub seat : d.seat ≡ with_lifted worker batch c.seat
   pub counts : d.counts ≡ c.counts
 
 -- one was lifted and refused, and this was answered
 pub record HandsBack (worker : ℕ) (batch : Batch) (answer : Answer) (why : TakeError) (c d : CombinerState) : Type 0 where
-  pub refused : IsRefusedFor worker c.node batch why
+  pub refused : IsRefusedFor worker c.counts.since c.node batch why
   pub names : Names answer batch
   pub outcome : IsOutcomeOf why batch.jobs.items answer.outcome
   pub node : d.node ≡ c.node
@@ -135,6 +153,27 @@ pub record HasTried (places : ℕ) (r : Result Round Memory) (n m : NodeState) :
   pub comes : ComesTo places r n m
   pub down : (r ≡ Ok rounds.Down) ↔ (n.replica.down ≡ true)
   pub looks : (more : List Look) × (m.seat.looks ≡ n.seat.looks ++ more)
+
+-- its node came back with an offer: all connections that it has are of before
+pub record ComesBack (offer : OfferState) (c d : CombinerState) : Type 0 where
+  pub node : HasRevived offer c.node d.node
+  pub seat : d.seat ≡ c.seat
+  pub counts : d.counts ≡ with_since (length c.node.replica.members) c.counts
+
+-- or it didn't yet
+pub record IsNotBack (offer : OfferState) (c d : CombinerState) : Type 0 where
+  pub node : IsNotYet offer c.node d.node
+  pub seat : d.seat ≡ c.seat
+  pub counts : d.counts ≡ c.counts
+
+-- The first connection after one, by serial, of those that there were as the node came back last, that this worker serves, and of which a job was taken, but not its
+-- end. Its next job is the one behind all that the node has of it.
+pub record IsUnendedAt (worker : ℕ) (last : Option ℕ) (one : Unended) (c : CombinerState) : Type 0 where
+  pub after : ComesAfter last one.serial
+  pub below : one.serial < c.counts.since
+  pub unended : is_unended worker (finmap.get c.node.book.held one.serial) ≡ true
+  pub numbered : numbers_in (connection_at c.node.book.node one.serial) (jobs_of c.node) ≡ range_with_len 0 one.next
+  pub between : (other : ℕ) → ComesAfter last other → other < one.serial → is_unended worker (finmap.get c.node.book.held other) ≡ false
 
 -- What a look comes to: entries were passed up to the tail that it loaded, or, where one of them isn't filled yet, up to there, which it tells, also where the replica
 -- is down; and reads were run only where it is done, and then all that led, while else all that waits goes on waiting.

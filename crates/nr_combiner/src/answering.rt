@@ -70,6 +70,8 @@ pub struct Turned {
     pub leads_update: bool,
     /// Whether a queue of the worker's connections was cut since it was told last.
     pub has_cut: bool,
+    /// How many connections the node had as it came back last; 0 where it never did. Of these, which have the serials below, only ends are taken.
+    pub since: u64,
 }
 
 /// What came of handing out what waits for a worker's connections, without a turn.
@@ -82,6 +84,8 @@ pub struct Collected {
     pub answered: u64,
     /// Whether a queue of the worker's connections was cut since it was told last. Nothing rests on it.
     pub has_cut: bool,
+    /// How many connections the node had as it came back last, as a turn tells it.
+    pub since: u64,
 }
 
 /// Why one wasn't opened where there is room.

@@ -1,30 +1,36 @@
 // What stands behind a node's lock: the node, and its combiner's seat at the slots.
-ghost use Rattle.std.specs.Prelude.{Bool, cond, ◌∷◌, filter, ◌≡◌, ◌≢◌, ◌↔◌, ◌⊎◌, ◌-◌, ◌^◌, ◌<◌, ◌≤◌, min, ◌++◌, [], ℕ, length, replicate, true, false, Ok, Err, None, IfOk, IfErr, IfSome, IfNone, OnOk, OnErr, List};
+ghost use Rattle.std.specs.Prelude.{Bool, cond, ◌∷◌, filter, ◌≡◌, ◌↔◌, ◌⊎◌, ◌-◌, ◌^◌, ◌<◌, min, ◌++◌, [], ℕ, length, replicate, true, false, Ok, Err, Some, None, IfOk, IfErr, IfSome, IfNone, OnOk, OnErr, List};
 ghost use Rattle.std.specs.Arc.{arc_value};
-ghost use Rattle.std.specs.List.{AllByRecursion};
-ghost use Rattle.nr_entry.specs.Jobs.{connection_of, items_of};
+ghost use Rattle.std.specs.List.{AllByRecursion, list_any};
+ghost use Rattle.std.specs.FinMap as finmap;
+ghost use Rattle.nr_entry.specs.Jobs.{connection_of, item_of, items_of};
+ghost use Rattle.nr_entry.specs.declared.entry.Entry.{Entry};
 ghost use Rattle.nr_slots.specs.Seats.{desk_of, new_combiner, note_of};
+ghost use Rattle.nr_accounts.specs.Held.{is_unended, ComesAfter};
+ghost use Rattle.nr_replica.specs.declared.offer.OfferError.TheVariants as offers;
 ghost use Rattle.nr_log_end.specs.Standings.{opened_of, passed_of};
 ghost use Rattle.nr_node.specs.Level.{connection_at, is_closed_at, queue_at, worker_at, workers_of};
 ghost use Rattle.nr_node.specs.Batches.{AreSame, is_cut_at, IsOpened, IsPiece};
 ghost use Rattle.nr_node.specs.Owing.{IsServedBy};
+ghost use Rattle.nr_node.specs.Revived.{IsOffered, revive_refusal};
 ghost use Rattle.nr_node.specs.Sound.{IsSound};
 ghost use Rattle.nr_node.specs.Steps.{taken_node, refusing_node, is_due, HasHandedOut, IsStill};
 ghost use Rattle.nr_combiner.specs.Counts.{fresh_counts, generation_of, with_next};
-ghost use Rattle.nr_combiner.specs.Pieces.{AddsFront};
+ghost use Rattle.nr_combiner.specs.Pieces.{AddsFront, HasJobOf};
 ghost use Rattle.nr_combiner.specs.Served.{owed_at, HasNoJobs, IsServed, StandsLevel};
-ghost use Rattle.nr_combiner.specs.Steps.{HasRoom, OpensFor, closed_combiner, refusal_at, IsRefusedFor, HasLifted, HasLiftedAll, HasLiftedBy, HasLiftedOwn, HasAnswered, HasAnsweredAll, HasTried, HasCombined, outcome_of};
+ghost use Rattle.nr_combiner.specs.Steps.{HasRoom, OpensFor, closed_combiner, refusal_at, has_lost, is_lost, ComesBack, IsNotBack, IsRefusedFor, IsUnendedAt, HasLooked, HasLifted, HasLiftedAll, HasLiftedBy, HasLiftedOwn, HasAnswered, HasAnsweredAll, HasTried, HasCombined, outcome_of};
 ghost use Rattle.nr_combiner.specs.Turned.{HandsOutTo, HasCollectedFor, HasTurned};
 
 use crate::answering::{Collected, Lifts, OpenError, Turned, hand_back, open_error};
 use crate::counts::Counts;
 use crate::name::ServerName;
 use crate::told::{Told, ToldPieces};
+use nr_accounts::Unended;
 use nr_blob::Memory;
-use nr_entry::{Answer, Batch, ConnId};
-use nr_node::{Core, Handed, Round, Shape, TakeError};
+use nr_entry::{Answer, Batch, ConnId, Job};
+use nr_node::{Core, Handed, Looked, Offer, ReviveError, Round, Shape, TakeError};
 use nr_oplog::{LogName, Token};
-use nr_replica::{Piece, Replica, Spares};
+use nr_replica::{OfferError, Piece, Replica, Spares};
 use nr_slots::{CombinerSeat, Note, Slots};
 use std::alloc::Global;
 use std::marker::Model;
@@ -41,6 +47,8 @@ pub struct Combiner<B: ServerName> {
     numbers: Vec<u64>,
     node: usize,
     counts: Counts,
+    // A node that is down passes nothing, until it goes on or comes back.
+    is_halted: bool,
 }
 
 impl<B: ServerName> Model for Combiner<B> {
@@ -118,6 +126,7 @@ impl<B: ServerName> Combiner<B> {
             numbers,
             node: shape.node,
             counts,
+            is_halted: false,
         })
     }
 
@@ -133,6 +142,13 @@ impl<B: ServerName> Combiner<B> {
         ensures { result ≡ generation_of worker self.now.counts }
     {
         self.counts.generation(worker)
+    }
+
+    /// How many connections the node had as it came back last; 0 where it never did. Of these, which have the serials below, only ends are taken.
+    pub fn since(&self) -> u64
+        ensures { result ≡ self.now.counts.since }
+    {
+        self.counts.since()
     }
 
     /// Whether the replica is down.
@@ -252,6 +268,7 @@ impl<B: ServerName> Combiner<B> {
         ensures handed { HandsOutTo worker most taken.old.items taken.new.items result.collected.result result.token.standing result.note self.old self.new }
         ensures down { result.collected.is_down ≡ self.new.node.replica.down }
         ensures answered { result.collected.answered ≡ min (length (desk_of self.new.seat worker).answered) (2 ^ 64 - 1) }
+        ensures since { result.collected.since ≡ self.new.counts.since }
         ensures served { (numbers : List ℕ) × IsServed self.new.node self.new.seat numbers }
         ensures sound { IsSound result.token.standing }
         ensures node { result.token.standing.node ≡ self.old.node.book.node }
@@ -262,12 +279,14 @@ impl<B: ServerName> Combiner<B> {
         let is_down = self.is_down();
         let has_cut = self.take_cut(worker);
         let answered = self.answered(worker);
+        let since = self.since();
         ToldPieces {
             collected: Collected {
                 result,
                 is_down,
                 answered,
                 has_cut,
+                since,
             },
             token,
             note,
@@ -287,6 +306,7 @@ impl<B: ServerName> Combiner<B> {
         ensures turned { HasTurned B.places worker lifts most taken.old.items taken.new.items result.turned result.token.standing result.note self.old self.new }
         ensures down { (result.turned.combined ≡ Ok Round.Down) ↔ (self.new.node.replica.down ≡ true) }
         ensures answered { result.turned.answered ≡ min (length (desk_of self.new.seat worker).answered) (2 ^ 64 - 1) }
+        ensures since { result.turned.since ≡ self.new.counts.since }
         ensures served { (numbers : List ℕ) × IsServed self.new.node self.new.seat numbers }
         ensures sound { IsSound result.token.standing }
         ensures node { result.token.standing.node ≡ self.old.node.book.node }
@@ -305,6 +325,7 @@ impl<B: ServerName> Combiner<B> {
             others,
             leads_update,
             has_cut: told.collected.has_cut,
+            since: told.collected.since,
         };
         Told {
             turned,
@@ -322,7 +343,65 @@ impl<B: ServerName> Combiner<B> {
         add_cut(&self.core, conns, cut)
     }
 
-    /// The next entry that the node applies is refused, as where memory runs out: then its replica falls. It is for tests.
+    /// [`Core::offer`] of its node.
+    pub fn offer(&mut self) -> Result<Offer<B>, OfferError>
+        ensures copied { IfOk result (λ offer. offer ≡ record { server = self.old.node.replica.server; standing = self.old.node.seat.standing }) }
+        ensures offered { IfOk result IsOffered }
+        ensures down { (result ≡ Err offers.Down) ↔ (self.old.node.replica.down ≡ true) }
+        ensures same { IsStill self.old.node self.new.node × (self.new.seat ≡ self.old.seat) × (self.new.counts ≡ self.old.counts) }
+    {
+        self.core.offer()
+    }
+
+    /// [`Core::revive`] of its node. From then on a batch with a job of one of the connections that the node has now is answered as one that its fall dropped, unless
+    /// that ends the connection.
+    ///
+    /// # Errors
+    ///
+    /// Those of [`Core::revive`].
+    pub fn revive(&mut self, offer: Offer<B>) -> Result<(), (Offer<B>, ReviveError)>
+        ensures revived { OnOk result ((revive_refusal self.old.node offer ≡ None) × ComesBack offer self.old self.new) }
+        ensures refused { IfErr result (λ back. ((revive_refusal self.old.node offer ≡ Some back.1) × (self.new ≡ self.old)) ⊎ ((revive_refusal self.old.node offer ≡ None) × (back.1 ≡ ReviveError.NotYet) × IsNotBack offer self.old self.new)) }
+        ensures back { IfErr result (λ back. back.0 ≡ offer) }
+    {
+        if let Err(back) = self.core.revive(offer) {
+            return Err(back);
+        }
+        self.counts.come_back(self.core.connections());
+        self.is_halted = false;
+        Ok(())
+    }
+
+    /// From now on the node, where it is down, passes nothing, until it goes on or comes back.
+    pub(crate) fn halt(&mut self)
+        ensures { self.new ≡ self.old }
+    {
+        self.is_halted = true;
+    }
+
+    /// It passes what there is again.
+    pub(crate) fn go_on(&mut self)
+        ensures { self.new ≡ self.old }
+    {
+        self.is_halted = false;
+    }
+
+    /// The first connection after one, by serial, of those that the node had as it came back last, that this worker serves, and of which a job was taken, but not its
+    /// end: with the number of its next job. Its cost is that of [`Core::next_unended`].
+    pub fn next_unended(&self, worker: usize, last: Option<u64>) -> Option<Unended>
+        ensures found { IfSome result (λ one. IsUnendedAt worker last one self.now) }
+        ensures serves { IfSome result (λ one. (one.serial < length self.now.node.replica.members) × (worker_at one.serial self.now.node.replica.members ≡ worker)) }
+        ensures handed_in { IfSome result (λ one. HasJobOf (connection_at self.now.node.book.node one.serial) (desk_of self.now.seat worker).lifted) }
+        ensures none { IfNone result ((other : ℕ) → ComesAfter last other → other < self.now.counts.since → is_unended worker (finmap.get self.now.node.book.held other) ≡ false) }
+    {
+        let unended = self.core.next_unended(worker, last)?;
+        if unended.serial >= self.since() {
+            return None;
+        }
+        Some(unended)
+    }
+
+    /// The next entry that the node applies is refused, as where memory runs out: then its replica falls. Where it is down, nothing is done. It is for tests.
     pub fn refuse(&mut self)
         ensures { self.new ≡ record self.old { node = refusing_node self.old.node } }
     {
@@ -396,7 +475,7 @@ impl<B: ServerName> Combiner<B> {
         let handed_back = lift_by(self, lifts, worker, workers);
         let was_due = self.core.is_due();
         let tried = try_to_reserve(&mut self.core);
-        let looked = self.core.look();
+        let looked = look(&mut self.core, self.is_halted);
         let answered = answer_all(self, workers);
         Combined {
             round: outcome(tried, looked.round),
@@ -423,7 +502,8 @@ impl<B: ServerName> Combiner<B> {
             return false;
         };
         let number = batch.number;
-        let Err((batch, why)) = take_in(&mut self.core, worker, batch) else {
+        let since = self.counts.since();
+        let Err((batch, why)) = take_in(&mut self.core, worker, since, batch) else {
             self.numbers[worker] = number;
             return false;
         };
@@ -560,21 +640,54 @@ fn add_if_cut<B: LogName>(
     Ok(())
 }
 
-// Takes in a batch that lay in a worker's slot.
+// A look of a node; or none, where it is down and passes nothing.
+fn look<B: LogName>(core: &mut Core<B>, is_halted: bool) -> Looked
+    ensures { (entries : List Entry) × ((ran : List Job) × ((tail : ℕ) × HasLooked result.round result.is_behind entries ran tail core.old core.new)) }
+{
+    if is_halted && core.is_down() {
+        return core.stand_by();
+    }
+    core.look()
+}
+
+// Whether one of these jobs is of a connection with a lower serial than this, and doesn't end it. Linear in them.
+#[tactic(auto, using(crate::proofs::Due::lost_by))]
+fn has_lost(jobs: &[Job], since: u64) -> bool
+    ensures { result ≡ has_lost since (items_of jobs.now) }
+{
+    any_lost(jobs, since)
+}
+
+// The same, said of the jobs themselves.
+fn any_lost(jobs: &[Job], since: u64) -> bool
+    ensures { result ≡ list_any (λ (job : Job). is_lost since (item_of job)) jobs.now }
+{
+    jobs.iter().any(|job| is_lost(job, since))
+}
+
+// Whether it is of a connection with a lower serial than this, and doesn't end it.
+fn is_lost(job: &Job, since: u64) -> bool
+    ensures { result ≡ is_lost since (item_of job.now) }
+{
+    job.conn.serial < since && !job.kind.is_end()
+}
+
+// Takes in a batch that lay in a worker's slot, of a node that had so many connections as it came back last.
 fn take_in<B: LogName>(
     core: &mut Core<B>,
     worker: usize,
+    since: u64,
     batch: Batch,
 ) -> Result<(), (Batch, TakeError)>
     requires idle { owed_at worker core.old ≡ None }
     ensures taken { OnOk result (core.new ≡ taken_node batch core.old) }
     ensures served { OnOk result (AllByRecursion (IsServedBy worker core.old.replica.members) (items_of batch.jobs.items)) }
-    ensures due { OnOk result (refusal_at worker core.old batch ≡ None) }
-    ensures refused { IfErr result (λ r. IsRefusedFor worker core.old batch r.1) }
+    ensures due { OnOk result (refusal_at worker since core.old batch ≡ None) }
+    ensures refused { IfErr result (λ r. IsRefusedFor worker since core.old batch r.1) }
     ensures back { IfErr result (λ r. AreSame r.0 batch) }
     ensures unchanged { OnErr result (core.new ≡ core.old) }
 {
-    if core.is_down() {
+    if core.is_down() || has_lost(&batch.jobs, since) {
         return Err((batch, TakeError::Down));
     }
     if batch.worker != worker {

@@ -1,17 +1,18 @@
 // What a combiner counts of its workers' connections.
 ghost use Rattle.std.specs.Prelude.{◌≡◌, ◌+◌, ◌<◌, ◌^◌, IfOk};
-ghost use Rattle.nr_combiner.specs.Counts.{closed_of, fresh_counts, generation_of, with_next, with_opened};
+ghost use Rattle.nr_combiner.specs.Counts.{closed_of, fresh_counts, generation_of, with_next, with_opened, with_since};
 
 use nr_blob::Memory;
 use std::alloc::Global;
 use std::marker::Model;
 
-/// How many connections aren't closed; and for each worker its generation: how often something was handed out for its connections, or one of them was closed. A worker
-/// counts the same: where both agree nobody else did either since it last did.
+/// How many connections aren't closed; for each worker its generation: how often something was handed out for its connections, or one of them was closed; and how many
+/// connections there were as the node came back last. A worker counts its generation, too: where both agree nobody else did either since it last did.
 #[derive(Drop)]
 pub(crate) struct Counts {
     unclosed: usize,
     generations: Vec<u64>,
+    since: u64,
 }
 
 impl Model for Counts {
@@ -21,7 +22,7 @@ impl Model for Counts {
 
     ghost coded = { coded_counts };
 
-    ghost view = { λ c. record { unclosed = c.unclosed; generations = c.generations.items } };
+    ghost view = { λ c. record { unclosed = c.unclosed; generations = c.generations.items; since = c.since } };
 }
 
 impl Counts {
@@ -34,6 +35,7 @@ impl Counts {
         Ok(Counts {
             unclosed: 0,
             generations,
+            since: 0,
         })
     }
 
@@ -42,6 +44,20 @@ impl Counts {
         ensures { result ≡ self.now.unclosed }
     {
         self.unclosed
+    }
+
+    /// How many there were as the node came back last: 0 where it never did.
+    pub(crate) fn since(&self) -> u64
+        ensures { result ≡ self.now.since }
+    {
+        self.since
+    }
+
+    /// The node came back, with so many.
+    pub(crate) fn come_back(&mut self, since: u64)
+        ensures { self.new ≡ with_since since self.old }
+    {
+        self.since = since;
     }
 
     /// One more was opened.

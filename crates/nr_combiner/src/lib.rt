@@ -7,7 +7,8 @@ pub use combiner::{ClosedQueue, Combiner};
 pub use name::ServerName;
 pub use node::Node;
 pub use opened::{BuildError, OpenedSlots, open_slots};
-pub use told::{Told, ToldOpened, ToldPieces};
+pub use reviving::RevivalError;
+pub use told::{Told, ToldOpened, ToldPieces, ToldUnended};
 pub use worker::{MOST_JOBS, Worker};
 
 mod answering;
@@ -17,5 +18,6 @@ mod counts;
 mod name;
 mod node;
 mod opened;
+mod reviving;
 mod told;
 mod worker;

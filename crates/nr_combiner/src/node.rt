@@ -5,18 +5,20 @@ ghost use Rattle.nr_entry.specs.Jobs.{connection_of};
 ghost use Rattle.nr_log_end.specs.Standings.{record_of};
 ghost use Rattle.nr_slots.specs.Rule.{no_desk};
 ghost use Rattle.nr_node.specs.Sound.{IsSound, Serves};
-ghost use Rattle.nr_combiner.specs.Pieces.{AreHandedIn, HasAdded, HasExecuted, HasOwn, IsPieceOf};
-ghost use Rattle.nr_combiner.specs.Behind.{CollectsBehind, CombinesBehind, CutsBehind, CutsFrontBehind, OpensBehind, RefusesBehind, TurnsBehind};
+ghost use Rattle.nr_node.specs.Level.{connection_at};
+ghost use Rattle.nr_combiner.specs.Pieces.{AreHandedIn, HasAdded, HasExecuted, HasJobOf, HasOwn, IsPieceOf};
+ghost use Rattle.nr_combiner.specs.Behind.{CollectsBehind, CombinesBehind, CutsBehind, CutsFrontBehind, EndsBehind, OpensBehind, RefusesBehind, RevivesBehind, TurnsBehind};
 ghost use Rattle.nr_combiner.specs.Shared.{IsTakenOut};
 ghost use Rattle.nr_combiner.specs.Turned.{tells_down};
 
 use crate::answering::{AskError, Lifts, OpenError};
 use crate::combiner::{ClosedQueue, Combiner};
 use crate::name::ServerName;
-use crate::told::{Told, ToldOpened, ToldPieces};
+use crate::reviving::RevivalError;
+use crate::told::{Told, ToldOpened, ToldPieces, ToldUnended};
 use nr_blob::Memory;
 use nr_entry::ConnId;
-use nr_node::{Handed, Round};
+use nr_node::{Handed, Offer, Round};
 use nr_oplog::{Oplog, Token};
 use nr_replica::{Piece, Replica, Spares};
 use nr_slots::Slots;
@@ -183,18 +185,19 @@ impl<B: ServerName> Node<B> {
         }
     }
 
-    /// [`Combiner::open`] behind the lock, of a connection that one of its workers serves, whose generation is this, with a token and a note that keep how the node
-    /// stands then: two loads more. [`OpenError::Down`] also where another node stands behind the lock, or the worker has another generation there, which there never
-    /// is.
+    /// [`Combiner::open`] behind the lock, of a connection that one of its workers serves, whose generation is this, and which knows that the node had so many connections as
+    /// it came back last; with a token and a note that keep how the node stands then: two loads more. [`OpenError::Down`] also where the node came back since, and where
+    /// another node stands behind the lock, or the worker has another generation there, which there never is.
     pub fn open<R: Wait>(
         &self,
         rt: &R,
         worker: u8,
         generation: u64,
+        since: u64,
     ) -> Result<ToldOpened<B>, OpenError>
         requires { worker < self.now.slots.workers }
         ensures node { IfOk result (λ told. told.conn.node ≡ self.now.node) }
-        ensures opened { IfOk result (λ told. OpensBehind self.now worker generation told.conn told.token.standing told.note) }
+        ensures opened { IfOk result (λ told. OpensBehind self.now worker generation since told.conn told.token.standing told.note) }
         ensures serves { IfOk result (λ told. Serves told.token.standing worker (connection_of told.conn)) }
         ensures own { IfOk result (λ told. HasOwn worker (slice_index_or told.note.desks worker no_desk) told.token.standing) }
         ensures executed { IfOk result (λ told. HasExecuted (slice_index_or told.note.desks worker no_desk) told.token.standing) }
@@ -203,6 +206,9 @@ impl<B: ServerName> Node<B> {
     {
         let mut combiner = self.hold(rt);
         if combiner.node() != self.node() || combiner.generation(worker as usize) != generation {
+            return Err(OpenError::Down);
+        }
+        if combiner.since() != since {
             return Err(OpenError::Down);
         }
         combiner.level();
@@ -390,6 +396,86 @@ impl<B: ServerName> Node<B> {
             return Err(AskError::Elsewhere);
         }
         combiner.cut_among(conns, cut)?;
+        Ok(())
+    }
+
+    /// [`Combiner::next_unended`] behind the lock, as a worker asks whose generation is this, with a token and a note that keep how the node stands: two loads more. `None`
+    /// also where another node stands behind the lock, or the worker has another generation there, which there never is.
+    pub fn next_unended<R: Wait>(
+        &self,
+        rt: &R,
+        worker: usize,
+        generation: u64,
+        last: Option<u64>,
+    ) -> Option<ToldUnended<B>>
+        ensures unended { IfSome result (λ told. EndsBehind self.now.node worker generation last told.unended told.token.standing told.note) }
+        ensures serves { IfSome result (λ told. Serves told.token.standing worker (connection_at self.now.node told.unended.serial)) }
+        ensures handed_in { IfSome result (λ told. HasJobOf (connection_at self.now.node told.unended.serial) (slice_index_or told.note.desks worker no_desk).lifted) }
+        ensures own { IfSome result (λ told. HasOwn worker (slice_index_or told.note.desks worker no_desk) told.token.standing) }
+        ensures executed { IfSome result (λ told. HasExecuted (slice_index_or told.note.desks worker no_desk) told.token.standing) }
+        ensures sound { IfSome result (λ told. IsSound told.token.standing × (told.token.standing.node ≡ self.now.node)) }
+        ensures named { IfSome result (λ told. told.note.slots ≡ B.slots self.now.node) }
+    {
+        let mut combiner = self.hold(rt);
+        if combiner.node() != self.node() || combiner.generation(worker) != generation {
+            return None;
+        }
+        combiner.level();
+        let unended = combiner.next_unended(worker, last)?;
+        let (token, note) = combiner.keep();
+        Some(ToldUnended {
+            unended,
+            token,
+            note,
+        })
+    }
+
+    // A turn of its combiner, by which a node that is down owes no answer; from then on it passes nothing, until it goes on or comes back.
+    pub(crate) fn halt<R: Wait>(&self, rt: &R) -> Result<(), RevivalError> {
+        let mut combiner = self.hold(rt);
+        if !combiner.is_down() {
+            return Err(RevivalError::NotDown);
+        }
+        let _is_down = combiner.combine();
+        combiner.halt();
+        Ok(())
+    }
+
+    // It passes what there is again.
+    pub(crate) fn go_on<R: Wait>(&self, rt: &R) {
+        self.hold(rt).go_on();
+    }
+
+    // A turn of its combiner, and a copy of its server, where all entries that there were are in it.
+    pub(crate) fn offer<R: Wait>(&self, rt: &R) -> Result<Offer<B>, RevivalError> {
+        let mut combiner = self.hold(rt);
+        if combiner.combine() == Ok(Round::NotYet) {
+            return Err(RevivalError::NotYet);
+        }
+        match combiner.offer() {
+            Ok(offer) => Ok(offer),
+            Err(why) => Err(why.into()),
+        }
+    }
+
+    // [`Combiner::revive`] behind the lock. The offer comes back with why it didn't.
+    pub(crate) fn come_back<R: Wait>(
+        &self,
+        rt: &R,
+        offer: Offer<B>,
+    ) -> Result<(), (Offer<B>, RevivalError)>
+        ensures { OnOk result (RevivesBehind self.now.node) }
+    {
+        let mut combiner = self.hold(rt);
+        if combiner.node() != self.node() {
+            return Err((offer, RevivalError::Elsewhere));
+        }
+        combiner.level();
+        offer.place();
+        if let Err((offer, why)) = combiner.revive(offer) {
+            return Err((offer, why.into()));
+        }
+        combiner.level();
         Ok(())
     }
 

@@ -1,5 +1,6 @@
-// What a node tells of a turn, of pieces that it hands out without one, and of a connection.
+// What a node tells of a turn, of pieces that it hands out without one, and of connections.
 use crate::answering::{Collected, Turned};
+use nr_accounts::Unended;
 use nr_entry::ConnId;
 use nr_oplog::{LogName, Token};
 use nr_slots::Note;
@@ -19,6 +20,16 @@ pub struct Told<B: LogName> {
 pub struct ToldOpened<B: LogName> {
     pub conn: ConnId,
     /// How the node stands, with the connection.
+    pub token: Token<B>,
+    /// What its combiner has done at the slots of its workers.
+    pub note: Note,
+}
+
+/// What a node tells of a connection that it had as it came back last, of which a job was taken, but not its end.
+#[derive(Drop)]
+pub struct ToldUnended<B: LogName> {
+    pub unended: Unended,
+    /// How the node stands.
     pub token: Token<B>,
     /// What its combiner has done at the slots of its workers.
     pub note: Note,

@@ -5,9 +5,10 @@ ghost use Rattle.nr_slots.specs.Seats.{NoteView, new_worker};
 ghost use Rattle.nr_slots.specs.declared.worker.Uncollected.TheVariants as Uncollected;
 ghost use Rattle.nr_node.specs.Sound.{IsSound};
 ghost use Rattle.nr_entry.specs.Jobs.{connection_of};
-ghost use Rattle.nr_combiner.specs.Behind.{CollectsBehind, CutsBehind, CutsFrontBehind, OpensBehind, TurnsBehind};
+ghost use Rattle.nr_node.specs.Level.{connection_at};
+ghost use Rattle.nr_combiner.specs.Behind.{CollectsBehind, CutsBehind, CutsFrontBehind, EndsBehind, OpensBehind, TurnsBehind};
 ghost use Rattle.nr_combiner.specs.Pieces.{IsPieceOf};
-ghost use Rattle.nr_combiner.specs.Heard.{HasHeard, KnowsOpened};
+ghost use Rattle.nr_combiner.specs.Heard.{HasHeard, KnowsOpened, KnowsUnended};
 ghost use Rattle.nr_combiner.specs.Turned.{tells_down};
 ghost use Rattle.nr_slots.specs.Names.{IsTold};
 ghost use Rattle.nr_combiner.specs.Workers.{fresh_worker, shared_of, told_of, with_more, HasPosted, HasCollected, MayHaveClosed};
@@ -16,7 +17,8 @@ use crate::answering::{AskError, Collected, Lifts, OpenError, Turned};
 use crate::combiner::ClosedQueue;
 use crate::name::ServerName;
 use crate::node::Node;
-use crate::told::{Told, ToldOpened, ToldPieces};
+use crate::told::{Told, ToldOpened, ToldPieces, ToldUnended};
+use nr_accounts::Unended;
 use nr_blob::Memory;
 use nr_entry::{Batch, ConnId, Job, Outcome};
 use nr_node::Handed;
@@ -98,10 +100,10 @@ impl<B: ServerName> Worker<B> {
         Ok(node)
     }
 
-    /// Opens a connection that this worker serves, and hears what its node and its combiner have done: [`Node::open`], and two loads. The token is of a record in
-    /// which each job of a connection that was opened for this worker, as this one was, was handed in by it.
-    pub fn open<R: Wait>(&mut self, rt: &R) -> Result<(ConnId, Token<B>), OpenError>
-        ensures behind { IfOk result (λ opened. (note : NoteView) × OpensBehind (shared_of self.old) self.old.seat.worker self.old.generation opened.0 opened.1.standing note) }
+    /// Opens a connection that this worker serves, which knows that its node had so many as it came back last, and hears what its node and its combiner have done:
+    /// [`Node::open`], and two loads. The token is of a record in which each job of a connection that was opened for this worker, as this one was, was handed in by it.
+    pub fn open<R: Wait>(&mut self, rt: &R, since: u64) -> Result<(ConnId, Token<B>), OpenError>
+        ensures behind { IfOk result (λ opened. (note : NoteView) × OpensBehind (shared_of self.old) self.old.seat.worker self.old.generation since opened.0 opened.1.standing note) }
         ensures opened { IfOk result (λ opened. KnowsOpened self.old.seat.worker opened.0 self.new.seat.noted opened.1.standing self.old.seat.lane) }
         ensures sound { IfOk result (λ opened. IsSound opened.1.standing × (opened.1.standing.node ≡ self.old.node)) }
         ensures heard { OnOk result (self.new ≡ told_of self.new.seat.noted self.old) }
@@ -109,9 +111,33 @@ impl<B: ServerName> Worker<B> {
     {
         let ToldOpened { conn, token, note } = self
             .shared
-            .open(rt, self.worker as u8, self.generation)?;
+            .open(rt, self.worker as u8, self.generation, since)?;
         self.seat.hear(self.shared.slots(), note);
         Ok((conn, token))
+    }
+
+    /// Hears of the first connection after one, by serial, of those that its node had as it came back last, that it serves, and of which a job was taken, but not its end:
+    /// [`Node::next_unended`], and two loads. A batch that it handed in has a job of that.
+    pub fn next_unended<R: Wait>(
+        &mut self,
+        rt: &R,
+        last: Option<u64>,
+    ) -> Option<(Unended, Token<B>)>
+        ensures behind { IfSome result (λ told. (note : NoteView) × EndsBehind self.old.node self.old.seat.worker self.old.generation last told.0 told.1.standing note) }
+        ensures unended { IfSome result (λ told. KnowsUnended self.old.seat.worker (connection_at self.old.node told.0.serial) self.new.seat.noted told.1.standing self.old.seat.lane) }
+        ensures sound { IfSome result (λ told. IsSound told.1.standing × (told.1.standing.node ≡ self.old.node)) }
+        ensures heard { IfSome result (λ _. self.new ≡ told_of self.new.seat.noted self.old) }
+        ensures same { IfNone result (self.new ≡ self.old) }
+    {
+        let ToldUnended {
+            unended,
+            token,
+            note,
+        } = self
+            .shared
+            .next_unended(rt, self.worker, self.generation, last)?;
+        self.seat.hear(self.shared.slots(), note);
+        Some((unended, token))
     }
 
     /// A turn at its node, which takes the lock once and lifts from all slots or from its own: [`Combiner::turn`](crate::Combiner::turn) for this worker, whose note

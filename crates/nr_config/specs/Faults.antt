@@ -7,7 +7,7 @@ use Rattle.toml.specs.Data.{Data, Members, get_member}
 use Rattle.toml.specs.Errors.{IsMemory}
 use Rattle.toml.specs.Parse.{parse_document}
 use Rattle.toml.specs.declared.de.error.Error.{Error}
-use Rattle.nr_config.specs.Keys.{kind_of, is_allowed, addresses_or, number_or}
+use Rattle.nr_config.specs.Keys.{kind_of, is_allowed, addresses_or, number_or, truth_or}
 use Rattle.nr_config.specs.Places.{IsPlaceIn}
 use Rattle.nr_config.specs.declared.error.ConfigError.{ConfigError}
 use Rattle.nr_config.specs.declared.error.ConfigError.TheVariants.{NotToml, UnknownKey, BadValue, Memory}
@@ -59,3 +59,4 @@ pub record Sets (file : Members) (settings : Settings) : Type 0 where
   pub tcp_keepalive : settings.tcp_keepalive ≡ number_or 300 (get_member (codes "tcp_keepalive") file)
   pub timeout : settings.timeout ≡ number_or 0 (get_member (codes "timeout") file)
   pub shutdown_seconds : settings.shutdown_seconds ≡ number_or 5 (get_member (codes "shutdown_seconds") file)
+  pub revive : settings.revive ≡ truth_or true (get_member (codes "revive") file)

@@ -59,6 +59,7 @@ pub record Replaces (old : Settings) (given : Given) (new : Settings) : Type 0 w
   pub tcp_keepalive : new.tcp_keepalive ≡ old.tcp_keepalive
   pub timeout : new.timeout ≡ old.timeout
   pub shutdown_seconds : new.shutdown_seconds ≡ old.shutdown_seconds
+  pub revive : new.revive ≡ old.revive
 
 -- what is told of the first word that spells no number of its setting, or want of memory
 abbrev pub BlamesFirstWord : Given → ConfigError → Type 0

@@ -3,9 +3,9 @@ use Rattle.std.specs.Prelude.{◌≡◌, ◌≤◌, ℕ, ℤ, pos, negsuc, Bool,
 use Rattle.std.specs.Fmt.{decimal}
 use Rattle.std.specs.Option.{option_map_or}
 use Rattle.std.specs.declared.alloc.Global.{Global}
-use Rattle.toml.specs.Data.{Data, array, integer, Items, no_items, item, Members, get_member, as_str}
+use Rattle.toml.specs.Data.{Data, array, boolean, integer, Items, no_items, item, Members, get_member, as_str}
 use Rattle.nr_config.specs.declared.keys.Kind.{Kind}
-use Rattle.nr_config.specs.declared.keys.Kind.TheVariants.{Addresses, Number}
+use Rattle.nr_config.specs.declared.keys.Kind.TheVariants.{Addresses, Number, Switch}
 
 -- what the value of the setting of this name has to be, where there is one
 abbrev pub kind_of : List ℕ → Option Kind
@@ -15,6 +15,7 @@ kind_of name =
     else if bytes_eq name (codes "nodes") then Some (Number 1 8)
     else if bytes_eq name (codes "places") then Some (Number 2 65536)
     else if bytes_eq name (codes "queue_limit") then Some (Number 1024 1073741824)
+    else if bytes_eq name (codes "revive") then Some Switch
     else if bytes_eq name (codes "shutdown_seconds") then Some (Number 0 3600)
     else if bytes_eq name (codes "tcp_keepalive") then Some (Number 0 86400)
     else if bytes_eq name (codes "timeout") then Some (Number 0 2147483)
@@ -25,6 +26,7 @@ kind_of name =
 abbrev pub kind_text : Kind → List ℕ
 kind_text Addresses = codes "an address and a port, or a list of them"
 kind_text (Number least most) = codes "from " ++ (decimal least ++ (codes " to " ++ decimal most))
+kind_text Switch = codes "true or false"
 
 abbrev pub natural : ℤ → Option ℕ
 natural (pos n) = Some n
@@ -34,6 +36,11 @@ natural (negsuc n) = None
 abbrev pub whole_number : Data → Option ℕ
 whole_number (integer z) = natural z
 whole_number _ = None
+
+-- which of true and false a value is
+abbrev pub truth : Data → Option Bool
+truth (boolean b) = Some b
+truth _ = None
 
 abbrev pub nonempty : List ℕ → Option (List ℕ)
 nonempty [] = None
@@ -69,11 +76,13 @@ bytes_of addresses = map string_bytes addresses.items
 abbrev pub is_within : ℕ → Kind → Bool
 is_within n Addresses = false
 is_within n (Number least most) = nat_le least n && nat_le n most
+is_within n Switch = false
 
 -- the value is of this kind
 abbrev pub fits : Kind → Data → Bool
 fits Addresses value = is_some (addresses_of value)
 fits (Number least most) value = option_map_or (λ n. is_within n (Number least most)) (whole_number value) false
+fits Switch value = is_some (truth value)
 
 -- a settings file may have this key with this value
 abbrev pub is_allowed : List ℕ → Data → Bool
@@ -87,6 +96,10 @@ HasNoFault file = (key : List ℕ) → IfSome (get_member key file) (λ value. i
 abbrev pub number_or : ℕ → Option Data → ℕ
 number_or default None = default
 number_or default (Some value) = unwrap_or (whole_number value) default
+
+abbrev pub truth_or : Bool → Option Data → Bool
+truth_or default None = default
+truth_or default (Some value) = unwrap_or (truth value) default
 
 abbrev pub addresses_or : List (List ℕ) → Option Data → List (List ℕ)
 addresses_or default None = default

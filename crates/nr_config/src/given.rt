@@ -96,6 +96,7 @@ impl Settings {
             tcp_keepalive: self.tcp_keepalive,
             timeout: self.timeout,
             shutdown_seconds: self.shutdown_seconds,
+            revive: self.revive,
         })
     }
 }

@@ -1,7 +1,7 @@
 // The keys of a settings file, and the values that they may have.
 ghost use Rattle.std.specs.Prelude.{◌≡◌, Some, ◌≤◌, IsTrue, OnOk, IfErr, IfOk, true, string_bytes};
 ghost use Rattle.toml.specs.View.{view};
-ghost use Rattle.nr_config.specs.Keys.{kind_of, whole_number, fits, is_allowed, is_within};
+ghost use Rattle.nr_config.specs.Keys.{kind_of, whole_number, truth, fits, is_allowed, is_within};
 ghost use Rattle.nr_config.specs.Faults.{Blames};
 
 use crate::addresses::gives_addresses;
@@ -17,6 +17,8 @@ pub enum Kind {
     Addresses,
     /// A whole number within the range.
     Number { least: usize, most: usize },
+    /// True or false.
+    Switch,
 }
 
 impl fmt::Display for Kind {
@@ -28,6 +30,7 @@ impl fmt::Display for Kind {
         match self {
             Kind::Addresses => f.write_str("an address and a port, or a list of them"),
             Kind::Number { least, most } => write!(f, "from {least} to {most}"),
+            Kind::Switch => f.write_str("true or false"),
         }
     }
 }
@@ -48,6 +51,7 @@ pub fn kind_of(name: &str) -> Option<Kind>
         "nodes" => number(1, 8),
         "places" => number(2, 65_536),
         "queue_limit" => number(1_024, 1_073_741_824),
+        "revive" => Some(Kind::Switch),
         "shutdown_seconds" => number(0, 3_600),
         "tcp_keepalive" => number(0, 86_400),
         "timeout" => number(0, 2_147_483),
@@ -66,12 +70,19 @@ pub fn whole_number(value: &Value) -> Option<usize>
     }
 }
 
+/// Which of true and false the value is.
+pub fn truth(value: &Value) -> Option<bool>
+    ensures { result ≡ truth (view value.now) }
+{
+    value.as_bool()
+}
+
 /// Whether a setting of this kind may be at this number.
 pub fn is_within(number: usize, kind: Kind) -> bool
     ensures { result ≡ is_within number kind }
 {
     match kind {
-        Kind::Addresses => false,
+        Kind::Addresses | Kind::Switch => false,
         Kind::Number { least, most } => least <= number && number <= most,
     }
 }
@@ -85,6 +96,7 @@ fn fits(kind: Kind, value: &Value) -> bool
             Some(number) => is_within(number, kind),
             None => false,
         },
+        Kind::Switch => truth(value).is_some(),
     }
 }
 

@@ -4,12 +4,12 @@ ghost use Rattle.toml.specs.Data.{Members, get_member};
 ghost use Rattle.toml.specs.Errors.{IsWithin};
 ghost use Rattle.toml.specs.View.{view, table_view};
 ghost use Rattle.toml.specs.Parse.{parse_document};
-ghost use Rattle.nr_config.specs.Keys.{HasNoFault, IsInRange, addresses_or, bytes_of, number_or};
+ghost use Rattle.nr_config.specs.Keys.{HasNoFault, IsInRange, addresses_or, bytes_of, number_or, truth_or};
 ghost use Rattle.nr_config.specs.Faults.{BlamesFirst, IsMadeOf, Refuses, Sets};
 
 use crate::addresses::{addresses_in, only};
 use crate::error::ConfigError;
-use crate::keys::{check, whole_number};
+use crate::keys::{check, truth, whole_number};
 use crate::place::Place;
 use crate::settings::Settings;
 use std::alloc::{AllocError, Global};
@@ -64,6 +64,15 @@ fn number_at(table: &Table, name: &str, default: usize) -> usize
     }
 }
 
+fn truth_at(table: &Table, name: &str, default: bool) -> bool
+    ensures { result ≡ truth_or default (get_member name.now (table_view table.now)) }
+{
+    match value_at(table, name) {
+        Some(value) => truth(value).unwrap_or(default),
+        None => default,
+    }
+}
+
 // The addresses of a setting, each in memory of its own.
 fn addresses_at(
     alloc: Global,
@@ -113,6 +122,7 @@ impl Settings {
             tcp_keepalive: number_at(&table, "tcp_keepalive", 300),
             timeout: number_at(&table, "timeout", 0),
             shutdown_seconds: number_at(&table, "shutdown_seconds", 5),
+            revive: truth_at(&table, "revive", true),
         })
     }
 }

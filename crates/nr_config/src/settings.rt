@@ -22,6 +22,8 @@ pub struct Settings {
     pub timeout: usize,
     /// How many seconds an orderly end takes at most: 0 to 3,600.
     pub shutdown_seconds: usize,
+    /// Whether a node that is down comes back with a copy of another one's server.
+    pub revive: bool,
     pub ghost listen_in_range: { (1 ≤ length listen.items) × (length listen.items ≤ 16) },
     pub ghost nodes_in_range: { (1 ≤ nodes) × (nodes ≤ 8) },
     pub ghost places_in_range: { (2 ≤ places) × (places ≤ 65536) },

@@ -1,9 +1,12 @@
 // The thread that takes connections deals them out to the workers.
-ghost use Rattle.std.specs.Prelude.{◌≡◌, ◌+◌, ◌*◌, ◌<◌, ◌≤◌, ◌%◌, ◌/◌};
+ghost use Rattle.std.specs.Prelude.{◌≡◌, ◌+◌, ◌*◌, ◌<◌, ◌≤◌, ◌%◌, ◌/◌, IfSome};
 ghost use Rattle.nr_crew.specs.Dealing.{DealsFrom, DealsOne, HasDealt};
 
+use nr_combiner::{Node, RevivalError, ServerName};
 use nr_lane::Crew;
-use nr_service::{Accepts, Ends, Rings};
+use nr_service::{Accepts, Ends, Revival, Rings};
+use std::alloc::Global;
+use std::sync::{Arc, Wait};
 
 // How many connections are dealt out between two waits at most.
 const MOST_DEALT: u32 = 64;
@@ -101,12 +104,94 @@ fn tell_of_fall<L: Accepts, K: Rings>(main: &mut L, crew: &Crew<K>, node: usize)
     main.hear_of_fall(node, connections);
 }
 
-// Tells of the nodes that are down, of which it didn't hear yet.
-fn tell_of_falls<L: Accepts, K: Rings>(main: &mut L, crew: &Crew<K>, shape: Shape)
+// The next node behind one that isn't known to be down.
+fn next_up<K: Rings>(crew: &Crew<K>, shape: Shape, node: usize) -> Option<usize>
+    requires { node < shape.nodes }
+    ensures { IfSome result (λ other. other < shape.nodes) }
+{
+    for passed in 1..shape.nodes {
+        let other = node_at(shape, node as u64, passed);
+        if !crew.is_down(other) {
+            return Some(other);
+        }
+    }
+    None
+}
+
+// Tries to bring a node back, from the next that is up. What came of it; nothing where it isn't down.
+fn revive_from_next<B: ServerName, R: Wait, K: Rings>(
+    rt: &R,
+    crew: &Crew<K>,
+    nodes: &[Arc<Node<B>, Global>],
+    shape: Shape,
+    node: usize,
+) -> Result<u64, RevivalError>
+    requires { node < shape.nodes }
+{
+    let Some(other) = next_up(crew, shape, node) else {
+        return Err(RevivalError::DonorDown);
+    };
+    match (nodes.get(node), nodes.get(other)) {
+        (Some(fallen), Some(donor)) => fallen.revive(rt, donor),
+        _ => Err(RevivalError::Elsewhere),
+    }
+}
+
+// Tells what became of a try, but where the node isn't down.
+fn tell_of_revival<L: Accepts>(main: &mut L, node: usize, revived: Result<u64, RevivalError>)
+    ensures { L.dealt main.new ≡ L.dealt main.old }
+{
+    match revived {
+        Ok(keys) => main.hear_of_revival(node, Revival::Back(keys)),
+        Err(RevivalError::Memory(memory)) => {
+            main.hear_of_revival(node, Revival::Memory(memory));
+        }
+        Err(RevivalError::NotDown) => {}
+        Err(_) => main.hear_of_revival(node, Revival::NotYet),
+    }
+}
+
+// Tries to bring a node back that is down, where another one is up and it is time to. None is brought back once all shall end in order: what a turn of its donor puts into the
+// log then, nobody is told of.
+fn revive_in_time<B: ServerName, R: Wait, L: Accepts, K: Rings>(
+    rt: &R,
+    main: &mut L,
+    crew: &Crew<K>,
+    nodes: &[Arc<Node<B>, Global>],
+    shape: Shape,
+    node: usize,
+)
+    requires { node < shape.nodes }
+    ensures { L.dealt main.new ≡ L.dealt main.old }
+{
+    if !crew.is_down(node) || crew.are_down() || crew.is_ending() {
+        return;
+    }
+    if !main.is_time_to_revive(node) {
+        return;
+    }
+    crew.begin_to_revive();
+    let revived = revive_from_next(rt, crew, nodes, shape, node);
+    if matches!(revived, Ok(_) | Err(RevivalError::NotDown)) {
+        crew.rise(node);
+    }
+    crew.end_reviving();
+    tell_of_revival(main, node, revived);
+}
+
+// Tells of the nodes that are down, of which it didn't hear yet, and tries to bring them back.
+fn hear_of_falls<B: ServerName, R: Wait, L: Accepts, K: Rings>(
+    rt: &R,
+    main: &mut L,
+    crew: &Crew<K>,
+    nodes: &[Arc<Node<B>, Global>],
+    shape: Shape,
+)
     ensures { L.dealt main.new ≡ L.dealt main.old }
 {
     for node in 0..shape.nodes {
         tell_of_fall(main, crew, node);
+        revive_in_time(rt, main, crew, nodes, shape, node);
     }
 }
 
@@ -125,11 +210,17 @@ fn is_over<L: Accepts, K: Rings>(main: &mut L, crew: &Crew<K>) -> bool
 }
 
 // Waits, and hears what there is. None where it goes on; else whether connections could come yet.
-fn wait_once<L: Accepts, K: Rings>(main: &mut L, crew: &Crew<K>, shape: Shape) -> Option<bool>
+fn wait_once<B: ServerName, R: Wait, L: Accepts, K: Rings>(
+    rt: &R,
+    main: &mut L,
+    crew: &Crew<K>,
+    nodes: &[Arc<Node<B>, Global>],
+    shape: Shape,
+) -> Option<bool>
     ensures { L.dealt main.new ≡ L.dealt main.old }
 {
     let can_come = main.wait();
-    tell_of_falls(main, crew, shape);
+    hear_of_falls(rt, main, crew, nodes, shape);
     if !can_come {
         return Some(false);
     }
@@ -140,7 +231,13 @@ fn wait_once<L: Accepts, K: Rings>(main: &mut L, crew: &Crew<K>, shape: Shape) -
 }
 
 // Deals connections out from number 0 on, as [`deal_out`] does, once that was told.
-fn deal_on<L: Accepts, K: Rings>(main: &mut L, crew: &Crew<K>, shape: Shape) -> bool
+fn deal_on<B: ServerName, R: Wait, L: Accepts, K: Rings>(
+    rt: &R,
+    main: &mut L,
+    crew: &Crew<K>,
+    nodes: &[Arc<Node<B>, Global>],
+    shape: Shape,
+) -> bool
     ensures { HasDealt shape.nodes shape.workers (L.dealt main.old) (L.dealt main.new) }
 {
     let mut number = 0;
@@ -149,7 +246,7 @@ fn deal_on<L: Accepts, K: Rings>(main: &mut L, crew: &Crew<K>, shape: Shape) -> 
             return true;
         }
         number = deal_waiting(main, crew, shape, number);
-        if let Some(can_come) = wait_once(main, crew, shape) {
+        if let Some(can_come) = wait_once(rt, main, crew, nodes, shape) {
             return can_come;
         }
     }
@@ -157,8 +254,14 @@ fn deal_on<L: Accepts, K: Rings>(main: &mut L, crew: &Crew<K>, shape: Shape) -> 
 }
 
 /// Deals connections out until all shall stop, nobody serves any more, all were told to end and rest or shall do so at once, or none can come any more. False where
-/// none can, or where whoever is to hear that all serve can't be told.
-pub(crate) fn deal_out<L: Accepts, K: Rings>(main: &mut L, crew: &Crew<K>, shape: Shape) -> bool
+/// none can, or where whoever is to hear that all serve can't be told. A node of these that is down is brought back once it is time to.
+pub(crate) fn deal_out<B: ServerName, R: Wait, L: Accepts, K: Rings>(
+    rt: &R,
+    main: &mut L,
+    crew: &Crew<K>,
+    nodes: &[Arc<Node<B>, Global>],
+    shape: Shape,
+) -> bool
     ensures { HasDealt shape.nodes shape.workers (L.dealt main.old) (L.dealt main.new) }
 {
     if crew.is_stopped() {
@@ -167,5 +270,5 @@ pub(crate) fn deal_out<L: Accepts, K: Rings>(main: &mut L, crew: &Crew<K>, shape
     if !main.begin() {
         return false;
     }
-    deal_on(main, crew, shape)
+    deal_on(rt, main, crew, nodes, shape)
 }

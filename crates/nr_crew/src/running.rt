@@ -332,6 +332,7 @@ fn run_all<B, R, S, D, M, K, G, L>(
     rt: &R,
     alloc: Global,
     lanes: Vec<Lane<B, D, M>>,
+    nodes: &[Arc<Node<B>, Global>],
     crew: &Crew<K>,
     main: L,
     gate: &G,
@@ -377,7 +378,7 @@ where
                 limits: ClientLimits { limit, timeout },
             };
             let has_all_threads = start_all(scope, &shared, lanes, &mut handles);
-            let comes_more = deal_out(&mut main, crew, shape);
+            let comes_more = deal_out(rt, &mut main, crew, nodes, shape);
             crew.stop();
             crew.ring_all();
             join_all(
@@ -459,7 +460,7 @@ fn keep_replicas<B: ServerName>(
 /// workers of each: worker w of node n is lane n * workers + w. Each connection is served within these limits. It ends once the gate stopped all workers, every node
 /// is down, one of them can't wait any more, no connection can come any more, `main` told to end, and all rest where that is to be in order, or the crew is
 /// told to stop: then all end, and what they left is handed back with `main` and the replicas of these nodes, which are those of the lanes. A node that somebody
-/// else holds then keeps its replica.
+/// else holds then keeps its replica. A node that is down meanwhile is brought back with a copy of another's server, as often as `main` says that it is time to.
 ///
 /// # Errors
 ///
@@ -490,7 +491,7 @@ where
     ensures ended { IfOk result (λ ran. HasEnded (vec_len lanes) ran.0.ended ran.0.lefts.items) }
     ensures within { IfOk result (λ ran. AreServedWithin limits ran.0.lefts.items) }
 {
-    let ran_all = run_all(rt, alloc, lanes, crew, main, gate, shape, limits)?;
+    let ran_all = run_all(rt, alloc, lanes, &nodes, crew, main, gate, shape, limits)?;
     let (joined, main) = ran_all;
     let Joined {
         mut marks,

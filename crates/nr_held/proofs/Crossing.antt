@@ -10,4 +10,4 @@ use Rattle.nr_held.specs.contracts.station.Station as Station
 
 module _ (B : RattleType) (s : server_name.Ghosts B.Denot) (g : log_name.Ghosts B.Denot) where
   pub station_send : IsSend (Station.the_row B s g)
-  station_send = declared_send (Station.the_type B s g) (search sent, (worker_send B s g, (search sent, tt)))
+  station_send = declared_send (Station.the_type B s g) (search sent, (worker_send B s g, (search sent, (search sent, tt))))

@@ -30,6 +30,8 @@ pub struct Station<B: ServerName> {
     alloc: Global,
     pub worker: Worker<B>,
     pub jobs: Vec<Job>,
+    // How many connections its node had as it came back last, as a turn told.
+    since: u64,
 }
 
 impl<B: ServerName> Drop for Station<B> {
@@ -38,6 +40,7 @@ impl<B: ServerName> Drop for Station<B> {
             alloc: _,
             worker: _worker,
             jobs: _jobs,
+            since: _,
         } = self;
     }
 }
@@ -101,6 +104,7 @@ fn add_each<B: ServerName>(
             alloc,
             worker,
             jobs: Vec::new(alloc),
+            since: 0,
         })?;
     }
     Ok(())
@@ -116,7 +120,7 @@ impl<B: ServerName> Station<B> {
         ensures same { OnErr result (self.new.worker ≡ self.old.worker) }
         ensures jobs { self.new.jobs ≡ self.old.jobs }
     {
-        let (conn, _token) = self.worker.open(rt)?;
+        let (conn, _token) = self.worker.open(rt, self.since)?;
         Ok(Client::new(self.alloc, conn))
     }
 
@@ -195,6 +199,7 @@ impl<B: ServerName> Station<B> {
         else {
             return Err(HeldError::Invalid);
         };
+        self.since = turned.since;
         Ok(Turn {
             turned,
             pieces,

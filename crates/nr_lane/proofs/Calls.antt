@@ -29,7 +29,7 @@ use Rattle.nr_lane.specs.Told.{close_by}
 use Rattle.nr_lane.proofs.Lists.{at_one}
 use Rattle.nr_lane.proofs.Telling.{nothing_fed}
 use Rattle.nr_lane.proofs.Working.{all_answered, looked_still}
-use Rattle.nr_lane.proofs.Leading.{IsPutBy, absent_new, led_closed, led_fed, led_handed, led_opened, led_still}
+use Rattle.nr_lane.proofs.Leading.{IsPutBy, absent_new, led_closed, led_fed, led_worked, led_opened, led_still}
 
 -- ---- seats of a node
 pub own_seat : (node : ℕ) (seats : SeatsState) (c : Connection) → c.node ≡ node → seat_of node seats c ≡ seat_at c.serial seats
@@ -108,7 +108,7 @@ both_true true b is = (refl, is)
 both_true false b is = absurd (true≢false (sym is))
 
 pub open_takes : (v : ServingState) (c : Connection) → standings.Open ≡ standing_of v c → takes_from c v.desk ≡ true
-open_takes v c is = elim v.down as (λ b. standings.Open ≡ cond b standings.Down (cond (takes_from c v.desk) standings.Open standings.Over) → takes_from c v.desk ≡ true) [
+open_takes v c is = elim v.desk.down as (λ b. standings.Open ≡ cond b standings.Down (cond (takes_from c v.desk) standings.Open standings.Over) → takes_from c v.desk ≡ true) [
   | true ↦ λ e. absurd (cc e)
   | false ↦ λ e. elim (takes_from c v.desk) as (λ t. standings.Open ≡ cond t standings.Open standings.Over → t ≡ true) [
     | true ↦ λ f. refl
@@ -150,9 +150,9 @@ pub has_worked : (places : ℕ) (v w : ServingState) → Works v.desk w.desk →
     → HasWorked (HasLedTo v) (HasLedTo w) (IsAtRest places w) (kept_at v) (kept_at w)
 has_worked places v w k rest = record {
   handed = k.handed;
-  past = λ story h. led_handed v w k.handed story k.goes k.waiting h;
+  past = λ story h. led_worked v w k.handed k.ends story k.goes k.waiting h;
   rest = λ story h.
-      let led = led_handed v w k.handed story k.goes k.waiting h in
+      let led = led_worked v w k.handed k.ends story k.goes k.waiting h in
       record { led = led; rest = rest; executed = λ calm up. at_rest places w _ led (rest calm) up };
   kept = λ c. ap (λ n. waiting_of n w.desk.seats c) k.node ∙ k.waiting.waiting c;
 }

@@ -17,8 +17,9 @@ use Rattle.nr_worker.specs.Working.{Goes, IsServed, Reflects, WorkState, all_clo
 use Rattle.nr_lane.specs.Serving.{ServingState}
 use Rattle.nr_lane.specs.Told.{Tells, close_by, closings_of, feeds_to}
 use Rattle.nr_lane.specs.Led.{HasLedTo, size_of}
+use Rattle.nr_lane.specs.Works.{all_worked}
 use Rattle.nr_lane.proofs.Lists.{at_one, fresh_is_led, goes_further, goes_nowhere}
-use Rattle.nr_lane.proofs.Telling.{IsClosedBy, NoneElse, some_there, absent_above, none_among, tells_map, tells_opened, was_fed, was_on}
+use Rattle.nr_lane.proofs.Telling.{IsClosedBy, NoneElse, some_there, absent_above, none_among, tells_ended, tells_map, tells_opened, was_fed, was_on}
 
 -- ---- who isn't told of has no seat
 absent_served : (served : List Served) (c : Connection) → is_among c (connections_of served) ≡ false → IsServed served c → ⊥
@@ -96,7 +97,7 @@ led_opened v w c story g later h =
     led_on v w story (Opened c ∷ []) (one_opened c) g refl
     (λ d r t. tells_opened story.occurrences c d.served (absent_new v.desk d story.occurrences c r t later) t) h
 
--- bytes were handed out
+-- bytes were handed out, and ends came
 none_handed : (v w : WorkState) (d : DeskState) (occurrences : List Occurrence) (handed : List Handed) → HandsOut v.worker.node handed v.seats w.seats
     → Reflects v d → Tells occurrences d.served → NoneElse occurrences (map HandedOut handed)
 none_handed v w d occurrences handed out r t = λ c absent. (
@@ -105,16 +106,17 @@ none_handed v w d occurrences handed out r t = λ c absent. (
   ap (closings_of c) (pieces_closings handed),
 )
 
-pub led_handed : (v w : ServingState) (handed : List Handed) (story : Story) → Goes (all_handed handed) v.desk w.desk
+pub led_worked : (v w : ServingState) (handed : List Handed) (ends : List Item) (story : Story) → Goes (all_worked handed ends) v.desk w.desk
     → HandsOut v.desk.worker.node handed v.desk.seats w.desk.seats → HasLedTo v story → HasLedTo w (going_on story (map HandedOut handed))
-led_handed v w handed story g out h =
+led_worked v w handed ends story g out h =
     let more = map HandedOut handed in
-    led_on v w story more (all_handed handed) g (pieces_fed handed)
+    led_on v w story more (all_worked handed ends) g (pieces_fed handed)
     (λ d r t.
-    tells_map story.occurrences more (handed_more handed) d.served (pieces_opened handed) (λ x. refl)
+    tells_ended (story.occurrences ++ more) ends (all_handed handed d.served)
+    (tells_map story.occurrences more (handed_more handed) d.served (pieces_opened handed) (λ x. refl)
     (λ x. sym (append-nil x.fed) ∙ ap (λ (l : List Feeding). x.fed ++ feeds_to x.connection l) (sym (pieces_fed handed)))
     (λ x. ap (λ (l : List Handed). x.handed ++ handed_to x.connection l) (sym (pieces_handed handed))) (λ x job is. inl is)
-    (none_handed v.desk w.desk d story.occurrences handed out r t) t) h
+    (none_handed v.desk w.desk d story.occurrences handed out r t) t)) h
 
 -- bytes were fed
 fed_is : (feeding : Feeding) (x : Served) → (fed_more feeding x).fed ≡ x.fed ++ feeds_to x.connection (feeding ∷ [])

@@ -15,7 +15,7 @@ use Rattle.nr_service.specs.Stories.{Closing, Occurrence, Opened, Fed, opened_in
 use Rattle.nr_service.proofs.Occurrences.{opened_both, fed_both, handed_both, closings_both}
 use Rattle.nr_worker.specs.Desk.{DeskState, Served}
 use Rattle.nr_worker.specs.Law.{GoesTo}
-use Rattle.nr_worker.specs.Working.{connections_of}
+use Rattle.nr_worker.specs.Working.{all_ended, connections_of, ended_more}
 use Rattle.nr_lane.specs.Told.{close_by, closings_of, feeds_to, IsTold, IsUntold, Tells, Was, WasAtFeeds}
 use Rattle.nr_lane.proofs.Lists.{each_mapped, each_weaker, goes_further}
 
@@ -144,8 +144,18 @@ tells_map occurrences more f xs none same fed handed closed else t =
           untold_on occurrences more c (else c was).0 (else c was).1 (else c was).2 (t.others c was);
     }
 
+-- ends that came as their node came back aren't told
+pub tells_ended : (occurrences : List Occurrence) (ends : List Item) (xs : List Served) → Tells occurrences xs → Tells occurrences (all_ended ends xs)
+tells_ended occurrences ends xs t = record {
+  opened = t.opened ∙ sym (same_connections (ended_more ends) xs (λ x. refl));
+  each = each_mapped (IsTold occurrences) (ended_more ends) xs
+      (each_weaker (IsTold occurrences) (λ (x : Served). IsTold occurrences (ended_more ends x))
+      (λ x is. record { fed = is.fed; handed = is.handed; closed = is.closed }) xs t.each);
+  others = t.others;
+}
+
 abbrev new_one : Connection → Served
-new_one c = record { connection = c; fed = []; closing = None; handed = [] }
+new_one c = record { connection = c; fed = []; closing = None; handed = []; ends = [] }
 
 told_still : (occurrences : List Occurrence) (c : Connection) (x : Served) → IsTold occurrences x → IsTold (occurrences ++ Opened c ∷ []) x
 told_still occurrences c x t = told_on occurrences (Opened c ∷ []) x x refl (sym (append-nil x.fed)) (sym (append-nil x.handed)) (λ job is. inl is) t

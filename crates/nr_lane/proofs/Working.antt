@@ -1,6 +1,6 @@
 -- What is done one behind the other is a work of the desk.
 use Rattle.std.proofs.Common.{◌≡◌, ◌≤◌, ℕ, arith, length, inl, inr, Bool, true, false, cond, List, [], ◌∷◌, ◌++◌, Option, Some, None, refl, ap, sym, ◌∙◌, subst, append-nil, append_assoc}
-use Rattle.std.specs.Prelude.{IfSome, IfNone, Result, Ok, Err, IfOk, OnErr}
+use Rattle.std.specs.Prelude.{filter, IfSome, IfNone, Result, Ok, Err, IfOk, OnErr}
 use Rattle.std.specs.Bool.{OnTrue, OnFalse}
 use Rattle.std.specs.Option.{option_map}
 use Rattle.nr_model.specs.Bytes.{Bytes}
@@ -8,37 +8,46 @@ use Rattle.nr_model.specs.Connections.{Handed, handed_to}
 use Rattle.nr_model.proofs.Exchanged.{handed_to-append}
 use Rattle.nr_slots.specs.Seats.{WorkerView}
 use Rattle.nr_slots.specs.declared.view.Desk.{Desk}
-use Rattle.nr_combiner.specs.Workers.{WorkerState}
+use Rattle.nr_combiner.specs.Workers.{WorkerState, told_of}
 use Rattle.nr_combiner.specs.declared.worker.TheConstants.{MOST_JOBS}
 use Rattle.nr_combiner.specs.declared.answering.Collected.{Collected}
 use Rattle.nr_combiner.specs.declared.answering.Lifts.TheVariants.{All}
 use Rattle.nr_combiner.specs.declared.answering.Turned.{Turned}
 use Rattle.std.specs.Prelude.{◌==◌}
 use Rattle.std.proofs.lemmas.Bool.{eqb-true}
-use Rattle.nr_model.specs.Items.{Connection}
+use Rattle.std.proofs.lemmas.List.Elements.{filter-append}
+use Rattle.nr_model.specs.Items.{Connection, Item, same_connection}
 use Rattle.nr_seats.specs.Seated.{SeatState, cut_off}
 use Rattle.nr_seats.specs.Placed.{IsPut, SeatsState, seat_at}
 use Rattle.nr_seats.specs.Portions.{HandsOut, seat_of, waiting_of}
 use Rattle.nr_worker.specs.Desk.{Served}
 use Rattle.nr_worker.specs.Settling.{HasSettled}
 use Rattle.nr_worker.specs.declared.collecting.Settled.{Settled}
-use Rattle.nr_worker.specs.Working.{CutsOff, Goes, HandsIn, HandsOn, TakesPieces, TakesTurn, WorkState, all_handed, unchanged}
+use Rattle.nr_worker.specs.Working.{CutsOff, EndsNext, Goes, HandsIn, HandsOn, TakesPieces, TakesTurn, WorkState, all_ended, all_handed, back_work, fallen_work, heard_work, is_away, is_bare, unchanged}
 use Rattle.nr_lane.specs.declared.rounds.TheConstants.{EVERY}
-use Rattle.nr_lane.specs.Works.{GaveAll, HasLooked, IsBehindPieces, IsBehindTurn, LeftNothing, Works}
+use Rattle.nr_lane.specs.Works.{GaveAll, HasLooked, IsBehindPieces, IsBehindTurn, LeftNothing, Works, all_worked}
 use Rattle.nr_lane.proofs.Lists.{goes_further, goes_nowhere}
 
--- ---- what was handed out in two parts
-handed_twice : (first second : List Handed) (served : List Served) → all_handed second (all_handed first served) ≡ all_handed (first ++ second) served
-handed_twice first second [] = refl
-handed_twice first second (x ∷ served) =
+-- ---- what was handed out in two parts, with ends that came in two
+worked_twice : (first second : List Handed) (few more : List Item) (served : List Served)
+    → all_worked second more (all_worked first few served) ≡ all_worked (first ++ second) (few ++ more) served
+worked_twice first second few more [] = refl
+worked_twice first second few more (x ∷ served) =
     let c = x.connection in
+    let own = λ (job : Item). same_connection job.connection c in
+    let ends : (x.ends ++ filter own few) ++ filter own more ≡ x.ends ++ filter own (few ++ more) =
+    append_assoc x.ends (filter own few) (filter own more) ∙ ap (λ (l : List Item). x.ends ++ l) (sym (filter-append own few more)) in
     let bytes : (x.handed ++ handed_to c first) ++ handed_to c second ≡ x.handed ++ handed_to c (first ++ second) =
     append_assoc x.handed (handed_to c first) (handed_to c second) ∙ ap (λ (b : Bytes). x.handed ++ b) (sym (handed_to-append c first second)) in
-    λ i. record x { handed = bytes i } ∷ handed_twice first second served i
+    λ i. record x { handed = bytes i; ends = ends i } ∷ worked_twice first second few more served i
 
 handed_nothing : (served : List Served) → served ≡ all_handed [] served
 handed_nothing [] = refl
 handed_nothing (x ∷ served) = λ i. record x { handed = sym (append-nil x.handed) i } ∷ handed_nothing served i
+
+ended_nothing : (served : List Served) → served ≡ all_ended [] served
+ended_nothing [] = refl
+ended_nothing (x ∷ served) = λ i. record x { ends = sym (append-nil x.ends) i } ∷ ended_nothing served i
 
 waited_twice : (o : Option Bytes) (a b all : Bytes) → a ++ b ≡ all
     → option_map (λ (bytes : Bytes). bytes ++ b) (option_map (λ (bytes : Bytes). bytes ++ a) o) ≡ option_map (λ (bytes : Bytes). bytes ++ all) o
@@ -65,9 +74,17 @@ hands_then node first second a b c one two = record {
 }
 
 -- ---- works
-goes_then : (first second : List Handed) (u v w : WorkState) → Goes (all_handed first) u v → Goes (all_handed second) v w
-    → Goes (all_handed (first ++ second)) u w
-goes_then first second u v w one two = record {
+-- whatever became of the worker's connections, it is the same
+goes_as : (change other : List Served → List Served) (v w : WorkState) → ((served : List Served) → change served ≡ other served) → Goes change v w → Goes other v w
+goes_as change other v w same g = record {
+  leads = λ d led r.
+      let a = g.leads d led r in
+      record { then = a.then; led = a.led; goes = a.goes; reflects = a.reflects; served = a.served ∙ same d.served };
+}
+
+goes_then : (first second : List Handed) (few more : List Item) (u v w : WorkState) → Goes (all_worked first few) u v → Goes (all_worked second more) v w
+    → Goes (all_worked (first ++ second) (few ++ more)) u w
+goes_then first second few more u v w one two = record {
   leads = λ d led r.
       let a = one.leads d led r in
       let b = two.leads a.then a.led a.reflects in
@@ -76,21 +93,24 @@ goes_then first second u v w one two = record {
         led = b.led;
         goes = goes_further d a.then b.then a.goes b.goes;
         reflects = b.reflects;
-        served = b.served ∙ ap (all_handed second) a.served ∙ handed_twice first second d.served;
+        served = b.served ∙ ap (all_worked second more) a.served ∙ worked_twice first second few more d.served;
       };
 }
 
-goes_nothing : (v w : WorkState) → Goes unchanged v w → Goes (all_handed []) v w
-goes_nothing v w g = record {
-  leads = λ d led r.
-      let a = g.leads d led r in
-      record { then = a.then; led = a.led; goes = a.goes; reflects = a.reflects; served = a.served ∙ handed_nothing d.served };
-}
+goes_handed : (handed : List Handed) (v w : WorkState) → Goes (all_handed handed) v w → Goes (all_worked handed []) v w
+goes_handed handed v w g = goes_as (all_handed handed) (all_worked handed []) v w (λ served. ended_nothing (all_handed handed served)) g
+
+goes_ended : (ends : List Item) (v w : WorkState) → Goes (all_ended ends) v w → Goes (all_worked [] ends) v w
+goes_ended ends v w g = goes_as (all_ended ends) (all_worked [] ends) v w (λ served. ap (all_ended ends) (handed_nothing served)) g
+
+goes_nothing : (v w : WorkState) → Goes unchanged v w → Goes (all_worked [] []) v w
+goes_nothing v w g = goes_handed [] v w (goes_as unchanged (all_handed []) v w handed_nothing g)
 
 pub works_then : (u v w : WorkState) → Works u v → Works v w → Works u w
 works_then u v w one two = record {
   handed = one.handed ++ two.handed;
-  goes = goes_then one.handed two.handed u v w one.goes two.goes;
+  ends = one.ends ++ two.ends;
+  goes = goes_then one.handed two.handed one.ends two.ends u v w one.goes two.goes;
   waiting = hands_then u.worker.node one.handed two.handed u.seats v.seats w.seats one.waiting
       (subst (λ (n : ℕ). HandsOut n two.handed v.seats w.seats) one.node two.waiting);
   node = two.node ∙ one.node;
@@ -100,6 +120,7 @@ works_then u v w one two = record {
 pub works_none : (v w : WorkState) → Goes unchanged v w → w.seats ≡ v.seats → w.worker.node ≡ v.worker.node → Works v w
 works_none v w g seats node = record {
   handed = [];
+  ends = [];
   goes = goes_nothing v w g;
   waiting = subst (HandsOut v.worker.node [] v.seats) (sym seats) (hands_none v.worker.node v.seats);
   node = node;
@@ -117,10 +138,17 @@ works_posted (Ok false) v w posted none same g = works_still v w g none
 works_posted (Err error) v w posted none same g = works_still v w g same
 
 pub works_turned : {A : Type 0} (turned : Option A) (v w : WorkState) → IfSome turned (λ _. HandsOn v w) → IfNone turned (w ≡ v) → Works v w
-works_turned (Some turned) v w on same = record { handed = on.handed; goes = on.goes; waiting = on.waiting; node = ap (λ (x : WorkState). x.worker.node) on.changed }
+works_turned (Some turned) v w on same = record {
+  handed = on.handed;
+  ends = [];
+  goes = goes_handed on.handed v w on.goes;
+  waiting = on.waiting;
+  node = ap (λ (x : WorkState). x.worker.node) on.changed;
+}
 works_turned None v w on same =
     subst (Works v) (sym same) (record {
       handed = [];
+      ends = [];
       goes = goes_nothing v v (record { leads = λ d led r. record { then = d; led = led; goes = goes_nowhere d; reflects = r; served = refl } });
       waiting = hands_none v.worker.node v.seats;
       node = refl;
@@ -132,6 +160,54 @@ works_collected (Ok told) v w s same g =
     works_none v w g (ap (λ (x : WorkState). x.seats) s.changed)
     (ap (λ (x : WorkState). x.worker.node) s.changed ∙ ap (λ (x : WorkerState). x.node) s.collected.collected)
 works_collected (Err why) v w s same g = works_still v w g same
+
+-- its node fell, or came back
+node_heard : (is_down : Bool) (since : ℕ) (v : WorkState)
+    → ((heard_work is_down since v).seats ≡ v.seats) × ((heard_work is_down since v).worker ≡ v.worker) × ((heard_work is_down since v).mark ≡ v.mark)
+node_heard true since v = (refl, refl, refl)
+node_heard false since v = elim (is_away since v) as
+    (λ b. let w = cond b (cond (is_bare v) (back_work since v) (fallen_work v)) v in (w.seats ≡ v.seats) × (w.worker ≡ v.worker) × (w.mark ≡ v.mark)) [
+      | true ↦ elim (is_bare v) as
+          (λ b. let w = cond b (back_work since v) (fallen_work v) in (w.seats ≡ v.seats) × (w.worker ≡ v.worker) × (w.mark ≡ v.mark)) [
+            | true ↦ (refl, refl, refl)
+            | false ↦ (refl, refl, refl)
+          ]
+      | false ↦ (refl, refl, refl)
+    ]
+
+pub works_heard : (is_down : Bool) (since : ℕ) (v w : WorkState) → w ≡ heard_work is_down since v → Goes unchanged v w → Works v w
+works_heard is_down since v w is g =
+    let same = node_heard is_down since v in
+    works_none v w g (ap (λ (x : WorkState). x.seats) is ∙ same.0) (ap (λ (x : WorkState). x.worker.node) is ∙ ap (λ (x : WorkerState). x.node) same.1)
+
+pub mark_heard : (is_down : Bool) (since : ℕ) (v w : WorkState) → w ≡ heard_work is_down since v → w.mark ≡ v.mark
+mark_heard is_down since v w is = ap (λ (x : WorkState). x.mark) is ∙ (node_heard is_down since v).2
+
+pub worker_heard : (is_down : Bool) (since : ℕ) (v w : WorkState) → w ≡ heard_work is_down since v → w.worker ≡ v.worker
+worker_heard is_down since v w is = ap (λ (x : WorkState). x.worker) is ∙ (node_heard is_down since v).1
+
+-- the end of one was put
+ended_seats : {E : Type 0} (put : Result Bool E) (v w : WorkState) → IfOk put (λ is_one. OnTrue is_one (EndsNext v w))
+    → IfOk put (λ is_one. OnFalse is_one (w ≡ record v { worker = told_of w.worker.seat.noted v.worker; mark = w.mark; ending = false }))
+    → OnErr put (w ≡ record v { worker = told_of w.worker.seat.noted v.worker; mark = w.mark; late = w.late })
+    → (w.seats ≡ v.seats) × (w.worker.node ≡ v.worker.node)
+ended_seats (Ok true) v w one none same = (ap (λ (x : WorkState). x.seats) one.changed, ap (λ (x : WorkState). x.worker.node) one.changed)
+ended_seats (Ok false) v w one none same = (ap (λ (x : WorkState). x.seats) none, ap (λ (x : WorkState). x.worker.node) none)
+ended_seats (Err memory) v w one none same = (ap (λ (x : WorkState). x.seats) same, ap (λ (x : WorkState). x.worker.node) same)
+
+pub works_ended : {E : Type 0} (put : Result Bool E) (v w : WorkState) → IfOk put (λ is_one. OnTrue is_one (EndsNext v w))
+    → IfOk put (λ is_one. OnFalse is_one (w ≡ record v { worker = told_of w.worker.seat.noted v.worker; mark = w.mark; ending = false }))
+    → OnErr put (w ≡ record v { worker = told_of w.worker.seat.noted v.worker; mark = w.mark; late = w.late })
+    → ((ends : List Item) × Goes (all_ended ends) v w) → Works v w
+works_ended put v w one none same (ends, g) =
+    let still = ended_seats put v w one none same in
+    record {
+      handed = [];
+      ends = ends;
+      goes = goes_ended ends v w g;
+      waiting = subst (HandsOut v.worker.node [] v.seats) (sym still.0) (hands_none v.worker.node v.seats);
+      node = still.1;
+    }
 
 pub works_same : (v : WorkState) → Works v v
 works_same v = works_turned {A = Turned} None v v tt refl
@@ -162,7 +238,7 @@ turn_still : (places : ℕ) (turned : Turned) (v w : WorkState) → w.worker.nod
 turn_still places turned v w node mark heard b =
     record { before = b.before; after = b.after; took = b.took; node = node ∙ b.node; mark = mark ∙ b.mark; heard = heard ∙ b.heard }
 
-pieces_still : (collected : Collected) (v w : WorkState) → w.worker.node ≡ v.worker.node → w.mark ≡ v.mark → w.worker.seat.noted ≡ v.worker.seat.noted
+pub pieces_still : (collected : Collected) (v w : WorkState) → w.worker.node ≡ v.worker.node → w.mark ≡ v.mark → w.worker.seat.noted ≡ v.worker.seat.noted
     → IsBehindPieces collected v → IsBehindPieces collected w
 pieces_still collected v w node mark heard b =
     record { before = b.before; after = b.after; took = b.took; node = node ∙ b.node; mark = mark ∙ b.mark; heard = heard ∙ b.heard }
@@ -236,6 +312,7 @@ none_pending (Some s) is = absurd (cc is)
 pub works_stopped : (serial : ℕ) (v w : WorkState) → CutsOff serial v w → Goes unchanged v w → Works v w
 works_stopped serial v w cut g = record {
   handed = [];
+  ends = [];
   goes = goes_nothing v w g;
   waiting = record {
     waiting = λ c. waits_still v.worker.node serial v.seats w.seats cut.put c ∙ waited_same (waiting_of v.worker.node v.seats c);

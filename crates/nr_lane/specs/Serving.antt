@@ -9,16 +9,14 @@ use Rattle.nr_seats.specs.Placed.{are_written}
 use Rattle.nr_seats.specs.Portions.{waiting_of}
 use Rattle.nr_worker.specs.Working.{WorkState, coded_work, takes_from}
 
--- the desk; whether something was left to be done when it worked last, and whether its node is known to be down
+-- the desk, and whether something was left to be done when it worked last
 pub record ServingState : Type 0 where
   pub desk : WorkState
   pub busy : Bool
-  pub down : Bool
 
 abbrev pub coded_serving : Coded ServingState
 coded_serving =
-    code_by (WorkState × (Bool × Bool)) (coded× coded_work (coded× coded_bool coded_bool)) (λ d. (d.desk, (d.busy, d.down)))
-    (λ p. record { desk = p.0; busy = p.1.0; down = p.1.1 }) (λ _. refl)
+    code_by (WorkState × Bool) (coded× coded_work coded_bool) (λ d. (d.desk, d.busy)) (λ p. record { desk = p.0; busy = p.1 }) (λ _. refl)
 
 -- the bytes that wait for a connection that is open here
 abbrev pub kept_at : ServingState → Kept
@@ -30,4 +28,4 @@ has_nothing_to_do d = not d.busy && not (d.desk.waiting || not (length d.desk.jo
 
 -- how a connection stands
 abbrev pub standing_of : ServingState → Connection → Standing
-standing_of d c = cond d.down standings.Down (cond (takes_from c d.desk) standings.Open standings.Over)
+standing_of d c = cond d.desk.down standings.Down (cond (takes_from c d.desk) standings.Open standings.Over)

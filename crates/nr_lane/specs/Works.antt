@@ -1,21 +1,28 @@
 -- What the work of a desk comes to.
 use Rattle.std.specs.Prelude.{◌≡◌, ◌≤◌, ◌⊎◌, ℕ, false, List, [], length, Ok}
 use Rattle.nr_model.specs.Connections.{Handed}
+use Rattle.nr_model.specs.Items.{Item}
 use Rattle.nr_node.specs.declared.answers.Round.TheVariants as rounds
 use Rattle.nr_combiner.specs.declared.answering.Collected.{Collected}
 use Rattle.nr_combiner.specs.declared.answering.Lifts.TheVariants.{All}
 use Rattle.nr_combiner.specs.declared.answering.Turned.{Turned}
 use Rattle.nr_slots.specs.Names.{IsTold}
 use Rattle.nr_seats.specs.Portions.{HandsOut}
-use Rattle.nr_worker.specs.Working.{Goes, TakesPieces, TakesTurn, WorkState, all_handed}
+use Rattle.nr_worker.specs.Desk.{Served}
+use Rattle.nr_worker.specs.Working.{Goes, TakesPieces, TakesTurn, WorkState, all_ended, all_handed}
 use Rattle.nr_lane.specs.declared.rounds.TheConstants.{EVERY}
 use Rattle.nr_lane.specs.declared.rounds.Waited.{Waited}
 use Rattle.nr_lane.specs.declared.rounds.Waited.TheVariants as waits
 
--- Bytes were handed out: they wait at the seats of their connections.
+-- so much more was handed out, and these ends came
+abbrev pub all_worked : List Handed → List Item → List Served → List Served
+all_worked handed ends served = all_ended ends (all_handed handed served)
+
+-- Bytes were handed out, which wait at the seats of their connections; and ends came to connections that the node had before it came back.
 pub record Works (v w : WorkState) : Type 0 where
   pub handed : List Handed
-  pub goes : Goes (all_handed handed) v w
+  pub ends : List Item
+  pub goes : Goes (all_worked handed ends) v w
   pub waiting : HandsOut v.worker.node handed v.seats w.seats
   pub node : w.worker.node ≡ v.worker.node
 

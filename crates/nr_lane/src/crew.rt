@@ -24,8 +24,12 @@ pub struct Crew<K> {
     // A bit for each node that is down, node 0's the lowest, and for each of them of which nobody heard yet.
     downs: AtomicU64,
     unheard: AtomicU64,
-    // Of each node, how many of its connections were open as it fell.
+    // Of each node, how many of its connections were open as it fell, how often it came back, and a bit for each worker that didn't hear of the last of these yet.
     fallen: Vec<AtomicU64>,
+    revivals: Vec<AtomicU64>,
+    unreturned: Vec<AtomicU64>,
+    // It is tried to bring one back.
+    is_reviving: AtomicBool,
     serving: AtomicUsize,
     stops: AtomicBool,
     // All shall end in order, and how often something was passed on since.
@@ -44,6 +48,20 @@ fn counts(alloc: Global, count: usize) -> Result<Vec<AtomicU64>, Memory> {
     Ok(made)
 }
 
+// The bit of a worker.
+fn worker_bit(worker: usize) -> u64 {
+    if worker < 64 { 1 << worker } else { 0 }
+}
+
+// Those of so many workers.
+fn worker_bits(workers: usize) -> u64 {
+    let mut bits = 0;
+    for worker in 0..workers {
+        bits |= worker_bit(worker);
+    }
+    bits
+}
+
 impl<K: Rings> Crew<K> {
     /// Of a server of so many nodes, each with so many workers, of which each node has at most so many connections: none yet. Nobody serves yet, and no node is down.
     pub fn new(
@@ -58,6 +76,8 @@ impl<K: Rings> Crew<K> {
     {
         let taken = counts(alloc, nodes)?;
         let fallen = counts(alloc, nodes)?;
+        let revivals = counts(alloc, nodes)?;
+        let unreturned = counts(alloc, nodes)?;
         let rests = counts(alloc, nodes.saturating_mul(workers))?;
         Ok(Crew {
             bells,
@@ -68,6 +88,9 @@ impl<K: Rings> Crew<K> {
             downs: AtomicU64::new(0),
             unheard: AtomicU64::new(0),
             fallen,
+            revivals,
+            unreturned,
+            is_reviving: AtomicBool::new(false),
             serving: AtomicUsize::new(0),
             stops: AtomicBool::new(false),
             ends: AtomicBool::new(false),
@@ -81,9 +104,10 @@ impl<K: Rings> Crew<K> {
         &self.bells
     }
 
-    /// Takes room for one more connection of a node. False where the node is down, or has as many as it takes: then no room is taken.
+    /// Takes room for one more connection of a node. False where the node is down, or came back and a worker of it hasn't let go of its connections of before yet, or has as
+    /// many as it takes: then no room is taken.
     pub fn admit(&self, node: usize) -> bool {
-        if self.is_down(node) {
+        if self.is_down(node) || self.is_returning(node) {
             return false;
         }
         self.take_room(node) || (self.find_lost(node) && self.take_room(node))
@@ -121,9 +145,17 @@ impl<K: Rings> Crew<K> {
         }
     }
 
-    /// A node is down from now on. Which of its workers finds that first tells it.
-    pub fn fall(&self, node: usize) {
-        if node >= 64 || self.downs.fetch_or(1 << node, Ordering::SeqCst) & (1 << node) != 0 {
+    /// A node is down from now on, as one of its workers found, before which it had come back so often. Which of them finds it first tells it. Where it came back since,
+    /// nothing is told.
+    pub fn fall(&self, node: usize, revivals: u64) {
+        if node >= 64 || self.is_down(node) || self.revivals(node) != revivals {
+            return;
+        }
+        if self.downs.fetch_or(1 << node, Ordering::SeqCst) & (1 << node) != 0 {
+            return;
+        }
+        if self.revivals(node) != revivals {
+            self.downs.fetch_and(!(1 << node), Ordering::SeqCst);
             return;
         }
         if let (Some(fallen), Some(taken)) = (self.fallen.get(node), self.taken.get(node)) {
@@ -142,13 +174,83 @@ impl<K: Rings> Crew<K> {
         Some(fallen.load(Ordering::SeqCst) as usize)
     }
 
+    /// How often a node came back.
+    pub fn revivals(&self, node: usize) -> u64 {
+        match self.revivals.get(node) {
+            Some(revivals) => revivals.load(Ordering::SeqCst),
+            None => 0,
+        }
+    }
+
+    /// It is tried to bring a node back: until that is over the nodes aren't all down.
+    pub fn begin_to_revive(&self) {
+        self.is_reviving.store(true, Ordering::SeqCst);
+    }
+
+    /// That is over.
+    pub fn end_reviving(&self) {
+        self.is_reviving.store(false, Ordering::SeqCst);
+    }
+
+    /// A node came back: its workers are woken, and once each of them heard of it connections are dealt to it again.
+    pub fn rise(&self, node: usize) {
+        if node >= 64 {
+            return;
+        }
+        if let (Some(revivals), Some(unreturned)) = (
+            self.revivals.get(node),
+            self.unreturned.get(node),
+        ) {
+            revivals.fetch_add(1, Ordering::SeqCst);
+            unreturned.store(worker_bits(self.workers), Ordering::SeqCst);
+        }
+        for worker in 0..self.workers {
+            self.ring(node, worker);
+        }
+        self.downs.fetch_and(!(1 << node), Ordering::SeqCst);
+    }
+
+    /// What a work of a worker came to that it began as its node had come back so often: whether it found that the node is down, and whether the worker takes it for down.
+    pub(crate) fn hear_of_work(
+        &self,
+        node: usize,
+        worker: usize,
+        revivals: u64,
+        is_fallen: bool,
+        is_down: bool,
+    ) {
+        if is_fallen {
+            self.fall(node, revivals);
+        } else if !is_down && self.is_returning(node) && self.revivals(node) == revivals {
+            self.end_returning(node, worker);
+        }
+    }
+
+    // A worker has heard that its node came back.
+    fn end_returning(&self, node: usize, worker: usize) {
+        if let Some(unreturned) = self.unreturned.get(node) {
+            unreturned.fetch_and(!worker_bit(worker), Ordering::SeqCst);
+        }
+    }
+
+    // Whether a node came back of which not every worker has heard.
+    fn is_returning(&self, node: usize) -> bool {
+        match self.unreturned.get(node) {
+            Some(unreturned) => unreturned.load(Ordering::SeqCst) != 0,
+            None => false,
+        }
+    }
+
     /// Whether a node is known to be down.
     pub fn is_down(&self, node: usize) -> bool {
         node < 64 && self.downs.load(Ordering::SeqCst) & (1 << node) != 0
     }
 
-    /// Whether every node is.
+    /// Whether every node is, and it isn't tried to bring one back.
     pub fn are_down(&self) -> bool {
+        if self.is_reviving.load(Ordering::SeqCst) {
+            return false;
+        }
         for node in 0..self.nodes {
             if !self.is_down(node) {
                 return false;

@@ -4,6 +4,7 @@ ghost use Rattle.std.specs.Bool.{OnFalse};
 ghost use Rattle.nr_lane.specs.Works.{GaveAll, HasLooked, HasWaited, IsBehindPieces, IsBehindTurn, IsIdle, IsResting, LeftNothing, Works};
 
 use crate::news::News;
+use nr_blob::Memory;
 use nr_combiner::{Collected, Lifts, ServerName, Turned};
 use nr_entry::{ConnId, Refusal};
 use nr_node::Round;
@@ -13,6 +14,9 @@ use std::sync::Wait;
 
 /// How many turns a work takes at most.
 const MOST_TURNS: u32 = 64;
+
+/// How many ends are put at most before a turn for connections that its node had as it came back.
+const MOST_ENDS: u32 = 64;
 
 /// How many bytes a turn hands out for a connection: all that wait.
 const EVERY: usize = usize::MAX;
@@ -47,7 +51,7 @@ enum Waited {
 #[derive(Clone, Copy, Debug)]
 pub(crate) struct Worked {
     pub news: News,
-    /// Its node is down.
+    /// Its node said that it is down.
     pub is_down: bool,
     /// A queue of one of its connections was cut.
     pub has_cut: bool,
@@ -60,6 +64,49 @@ fn hand_in<R: Wait, B: ServerName>(desk: &mut Desk<'_, R, B>)
     ensures { Works desk.old desk.new }
 {
     let _is_posted = desk.post();
+}
+
+// Whether the end of a connection was put.
+fn is_put(put: Result<bool, Memory>) -> bool {
+    matches!(put, Ok(true))
+}
+
+// Puts the end of the next connection that its node had as it came back. Whether there was one.
+fn put_end<R: Wait, B: ServerName>(desk: &mut Desk<'_, R, B>) -> bool
+    ensures { Works desk.old desk.new }
+{
+    let put = desk.end_next();
+    is_put(put)
+}
+
+// Puts such ends, as many as there are, and at most so many as go before a turn.
+fn put_ends<R: Wait, B: ServerName>(desk: &mut Desk<'_, R, B>)
+    ensures { Works desk.old desk.new }
+{
+    for _ in 0..MOST_ENDS {
+        if !desk.is_ending() {
+            return;
+        }
+        if !put_end(desk) {
+            return;
+        }
+    }
+}
+
+// Takes in what its node told.
+fn hear_of_node<R: Wait, B: ServerName>(desk: &mut Desk<'_, R, B>, is_down: bool, since: u64)
+    ensures works { Works desk.old desk.new }
+    ensures mark { desk.new.mark ≡ desk.old.mark }
+    ensures worker { desk.new.worker ≡ desk.old.worker }
+{
+    desk.hear_of_node(is_down, since);
+}
+
+// Whether something is left at it: jobs, an answer that is awaited, or ends to be put.
+fn has_more<R: Wait, B: ServerName>(desk: &Desk<'_, R, B>) -> bool
+    ensures { result ≡ false → IsIdle desk.now }
+{
+    desk.is_at_work() || desk.is_ending()
 }
 
 // A turn at its node, once its lock is free.
@@ -205,10 +252,11 @@ fn go_on_behind<R: Wait, B: ServerName>(
     ensures rest { result ≡ Next.Rest → HasLooked B.places desk.new }
 {
     let settled = collect(desk);
+    hear_of_node(desk, turned.combined == Ok(Round::Down), turned.since);
     worked.news.add(turned);
-    worked.is_down |= turned.combined == Ok(Round::Down) || settled == Some(Settled::Down);
+    worked.is_down |= turned.combined == Ok(Round::Down);
     worked.has_cut |= turned.has_cut;
-    next_of(turned, settled, desk.is_at_work(), desk.batches())
+    next_of(turned, settled, has_more(desk), desk.batches())
 }
 
 // Takes in what waits for its connections, once the batch was answered in another's turn.
@@ -223,16 +271,18 @@ fn go_on_answered<R: Wait, B: ServerName>(
     let Some(collected) = collect_pieces(desk) else {
         return Next::Later;
     };
-    worked.is_down |= collected.is_down || settled == Settled::Down;
+    hear_of_node(desk, collected.is_down, collected.since);
+    worked.is_down |= collected.is_down;
     worked.has_cut |= collected.has_cut;
-    next_collected(collected, settled, desk.is_at_work(), desk.batches())
+    next_collected(collected, settled, has_more(desk), desk.batches())
 }
 
-// Hands jobs in, waits for a turn, and takes in what became of the batch.
+// Puts ends, hands jobs in, waits for a turn, and takes in what became of the batch.
 fn take_turn<R: Wait, B: ServerName>(desk: &mut Desk<'_, R, B>, worked: &mut Worked) -> Next
     ensures works { Works desk.old desk.new }
     ensures rest { result ≡ Next.Rest → HasLooked B.places desk.new }
 {
+    put_ends(desk);
     hand_in(desk);
     match wait_for_turn(desk) {
         Waited::Turned(turned) => go_on_behind(desk, turned, worked),
@@ -323,6 +373,6 @@ pub(crate) fn work_on<R: Wait, B: ServerName>(
     };
     hear_in_time(desk, is_time);
     let has_rest = take_turns(desk, &mut worked, enough);
-    worked.is_busy = has_rest | desk.is_at_work();
+    worked.is_busy = has_rest | has_more(desk);
     worked
 }

@@ -37,7 +37,6 @@ pub struct ServingDesk<'a, R, B: ServerName, K> {
     // What its works found for others that wasn't passed on yet.
     news: Cell<News>,
     is_busy: bool,
-    is_down: bool,
     // Behind how many bytes that wait for a connection a work ends, so that they are written.
     enough: usize,
     // A queue of one of its connections was cut in the last work: the next one hears which.
@@ -55,7 +54,7 @@ impl<'a, R, B: ServerName, K> Model for ServingDesk<'a, R, B, K> {
 
     ghost coded = { coded_serving };
 
-    ghost view = { λ d. record { desk = d.desk; busy = d.is_busy; down = d.is_down } };
+    ghost view = { λ d. record { desk = d.desk; busy = d.is_busy } };
 }
 
 fn capped(milliseconds: u64) -> u64
@@ -88,7 +87,6 @@ impl<'a, R: Wait, B: ServerName, K: Rings> ServingDesk<'a, R, B, K> {
             worker: number,
             news: Cell::new(News::none()),
             is_busy: false,
-            is_down: false,
             enough,
             has_cut: false,
             works: 0,
@@ -132,7 +130,7 @@ impl<'a, R: Wait, B: ServerName, K: Rings> Answers for ServingDesk<'a, R, B, K> 
     ghost stands = { λ d c standing. standing ≡ standing_of d c };
 
     // Its own node is down. Nobody knows of all nodes at once.
-    ghost falls = { λ d falls. falls ≡ true → d.down ≡ true };
+    ghost falls = { λ d falls. falls ≡ true → d.desk.down ≡ true };
 
     // There may be no memory for one more.
     ghost is_full = { λ _. Unit {0} };
@@ -160,7 +158,7 @@ impl<'a, R: Wait, B: ServerName, K: Rings> Answers for ServingDesk<'a, R, B, K> 
     }
 
     fn standing(&self, conn: ConnId) -> Standing {
-        if self.is_down {
+        if self.desk.is_down() {
             return Standing::Down;
         }
         if self.desk.takes(conn) {
@@ -170,7 +168,7 @@ impl<'a, R: Wait, B: ServerName, K: Rings> Answers for ServingDesk<'a, R, B, K> 
     }
 
     fn is_down(&self) -> bool {
-        self.is_down && self.crew.are_down()
+        self.desk.is_down() && self.crew.are_down()
     }
 
     /// Where memory runs out the connection is cut.
@@ -183,16 +181,20 @@ impl<'a, R: Wait, B: ServerName, K: Rings> Answers for ServingDesk<'a, R, B, K> 
     /// does each 64th.
     fn work(&mut self) -> Result<(), Memory> {
         self.rises = self.crew.rises();
+        let revivals = self.crew.revivals(self.desk.node());
         self.desk.forget_told();
         self.works = self.works.wrapping_add(1);
         let is_time = self.has_cut || self.works % WORKS_TO_HEAR == 0;
         let worked = work_on(&mut self.desk, is_time, self.enough);
-        if worked.is_down && !self.is_down {
-            self.crew.fall(self.desk.node());
-        }
+        self.crew.hear_of_work(
+            self.desk.node(),
+            self.worker,
+            revivals,
+            worked.is_down,
+            self.desk.is_down(),
+        );
         self.news.set(self.news.get().with(worked.news));
         self.has_cut = worked.has_cut;
-        self.is_down |= worked.is_down;
         self.is_busy = worked.is_busy;
         Ok(())
     }

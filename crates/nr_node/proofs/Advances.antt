@@ -199,8 +199,9 @@ goes_then es fs s t u a b c n m k x y z first last = record {
           ap (λ (r : ReplicaState). r.waiting) (last.still gone) ∙ by.1,
           elim last.after_is [ inl none ↦ none | inr same ↦ same ∙ by.2 ],
           ap (λ (r : ReplicaState). r.server) (last.still gone) ∙ by.3,
+          ap (λ (r : ReplicaState). r.refused) (last.still gone) ∙ by.4,
         )
-    | inr on ↦ let by = last.fell on down in (some_last es fs by.0, by.1, by.2, by.3)
+    | inr on ↦ let by = last.fell on down in (some_last es fs by.0, by.1, by.2, by.3, by.4)
   ];
   cause = λ up down is. elim (cases_Bool b.down) [
     | inl gone ↦ first.cause up gone (sym (ap (λ (r : ReplicaState). r.fell) (last.still gone)) ∙ is)
@@ -227,7 +228,7 @@ record Leaves (old new : ReplicaState) : Type 0 where
   pub got : HaveGot old.members new.members
   pub refused : new.down ≡ false → new.refused ≡ old.refused
   pub up : new.down ≡ false → (old.down ≡ false) × (new.waiting ≡ old.waiting)
-  pub fell : old.down ≡ false → new.down ≡ true → (new.waiting ≡ []) × (new.server ≡ fresh)
+  pub fell : old.down ≡ false → new.down ≡ true → (new.waiting ≡ []) × (new.server ≡ fresh) × (new.refused ≡ false)
   pub cause : old.down ≡ false → new.down ≡ true → new.fell ≡ Some Refused → old.refused ≡ true
   pub still : old.down ≡ true → new ≡ old
 
@@ -265,7 +266,7 @@ leaves e old new taken = elim taken [
       got = subst (λ (r : ReplicaState). HaveGot old.members r.members) (sym fell) (got_itself old.members);
       refused = λ up. absurd (cc (up, ap (λ (r : ReplicaState). r.down) fell));
       up = λ up. absurd (cc (up, ap (λ (r : ReplicaState). r.down) fell));
-      fell = λ _ _. (ap (λ (r : ReplicaState). r.waiting) fell, ap (λ (r : ReplicaState). r.server) fell);
+      fell = λ _ _. (ap (λ (r : ReplicaState). r.waiting) fell, ap (λ (r : ReplicaState). r.server) fell, ap (λ (r : ReplicaState). r.refused) fell);
       cause = λ _ _ is. falls.2 (same_some falls.0 Refused (sym (ap (λ (r : ReplicaState). r.fell) fell) ∙ is));
       still = λ gone. absurd (apart old.down up.0 gone);
     }
@@ -394,7 +395,7 @@ goes_by_entry s held t e old new next after book mid later idle fetched passed s
       got = l.got;
       refused = l.refused;
       up = λ up. ((l.up up).0, same up, (l.up up).1);
-      fell = λ up down. let by = l.fell up down in (λ none_is. absurd (cc none_is), by.0, (drops up down).0, by.1);
+      fell = λ up down. let by = l.fell up down in (λ none_is. absurd (cc none_is), by.0, (drops up down).0, by.1, by.2);
       cause = l.cause;
       still = l.still;
       ahead = λ _. subst AreAhead (sym is) (still_ahead (passed_on (fetched_with e s)) (still_in_log s e log) refl);

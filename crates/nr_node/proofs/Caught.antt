@@ -1,6 +1,7 @@
 -- How far a node went on in a call.
-use Rattle.std.proofs.Common.{◌≡◌, ℕ, ◌<◌, ◌≤◌, ◌+◌, ◌-◌, inl, inr, true, false, List, [], ◌∷◌, ◌++◌, length, map, refl, ap, sym, ◌∙◌, subst, append_assoc, arith}
+use Rattle.std.proofs.Common.{◌≡◌, ℕ, ◌<◌, ◌≤◌, ◌+◌, ◌-◌, inl, inr, true, false, ltb, List, [], ◌∷◌, ◌++◌, length, map, refl, ap, sym, ◌∙◌, subst, append_assoc, arith}
 use Rattle.std.specs.Prelude.{◌⊎◌, Option, Some, None, is_some}
+use Rattle.std.proofs.lemmas.Bool.{ltb-true, ltb-false}
 use Rattle.std.proofs.lemmas.List.{append-nil}
 use Rattle.nr_model.specs.Bytes.{IsBeginningOf}
 use Rattle.nr_model.specs.Servers.{emitted_all}
@@ -14,7 +15,7 @@ use Rattle.nr_log_end.specs.declared.standing.Standing.{Standing}
 use Rattle.nr_log_end.specs.declared.standing.Look.{Look}
 use Rattle.nr_log_end.specs.declared.standing.Look.TheVariants.{Tail}
 use Rattle.nr_log_end.specs.declared.standing.Turn.TheVariants.{Applied, Ran}
-use Rattle.nr_log_end.specs.Standings.{passed_of, record_of}
+use Rattle.nr_log_end.specs.Standings.{LooksOn, passed_of, record_of}
 use Rattle.nr_accounts.specs.Book.{Book, without_ended}
 use Rattle.nr_oplog.specs.declared.view.LogView.{LogView}
 use Rattle.nr_replica.specs.Replicas.{ReplicaState}
@@ -28,7 +29,7 @@ use Rattle.nr_node.specs.Advanced.{HasPassed, HasNoted, HaveGot, GoesOn, HasClos
 use Rattle.nr_node.specs.Steps.{GoesOnBy, HasRead}
 use Rattle.nr_node.proofs.Lists.{record-append}
 use Rattle.nr_node.proofs.Closing.{still_closed, closed_then}
-use Rattle.nr_node.proofs.Advances.{few_entries}
+use Rattle.nr_node.proofs.Advances.{few_entries, goes_tail, same_passed}
 use Rattle.nr_node.proofs.Got.{got_on, got_received}
 use Rattle.nr_node.proofs.Levels.{applied_noted}
 use Rattle.nr_node.proofs.Served.{still_unpassed, unpassed_noted}
@@ -69,6 +70,23 @@ caught_by es end last old new book later next after n is g looks few order =
       still = g.still;
       dropped = λ _. next_after next after g.after_is;
     }
+
+-- by none, where it stands by
+pub stood_by : (end last : LogView) (replica : ReplicaState) (book : Book) (next : Option Next) (tail : ℕ) (n : NodeState)
+    → record { seat = end; replica = replica; book = book; next = jobs_next next } ≡ n → LooksOn end.standing last.standing → tail ≡ last.standing.seen
+    → last.looks ≡ end.looks ++ Tail tail ∷ [] → IsInOrder end.standing replica book (jobs_next next)
+    → GoesOnBy [] [] last.standing.seen n (record { seat = last; replica = replica; book = book; next = jobs_next next })
+stood_by end last replica book next tail n is on at looks order =
+    let same = same_passed end.standing last.standing on in
+    caught_by [] end last replica replica book book next next n is (goes_tail end.standing last.standing replica next book on)
+    ([], looks ∙ ap (λ (k : ℕ). end.looks ++ Tail k ∷ []) at) (omega (arith, same)) order
+
+pub tail_told : (passed tail : ℕ) (s : Standing) → passed ≡ passed_of s → tail ≡ s.seen
+    → (ltb passed tail ≡ false → s.seen ≤ passed_of s) × (ltb passed tail ≡ true → passed_of s < s.seen)
+tail_told passed tail s is at = (
+  λ e. let most = ltb-false passed tail e in omega (arith, is, at, most),
+  λ e. let less = ltb-true passed tail e in omega (arith, is, at, less),
+)
 
 -- reads couldn't be run, and nothing changed by them
 pub failed_by : (es : List Entry) (tail : ℕ) (n : NodeState) (end last : LogView) (old new : ReplicaState) (book : Book) (next : List Job) → last ≡ end → new ≡ old

@@ -1,5 +1,5 @@
 -- The accounts go back by what is dropped, one after the other.
-use Rattle.std.proofs.Common.{◌≡◌, ℕ, ◌-◌, ◌<◌, ◌^◌, inl, inr, refl, ap, sym, ◌∙◌, subst, arith}
+use Rattle.std.proofs.Common.{◌≡◌, ℕ, ◌<◌, inl, inr, refl, ap, sym, ◌∙◌, subst, arith}
 use Rattle.std.specs.Prelude.{◌⊎◌, Option, Some, None, option_map}
 use Rattle.std.specs.FinMap as finmap
 use Rattle.std.proofs.lemmas.Bool.Decides.{eqb_tells}
@@ -88,8 +88,3 @@ goes_back_more dropped last s old now new next between is so =
           let apart : q ≡ s → ⊥ = λ same. omega (arith, after, same) in
           at q ∙ changed_elsewhere g s q now.held apart ∙ so.rest q (after_both last s q next after);
     }
-
--- how many serials may come after one
-abbrev pub left_after : Option ℕ → ℕ
-left_after None = 2 ^ 64
-left_after (Some last) = (2 ^ 64 - 1) - last

@@ -17,4 +17,5 @@ mod Due
 pub mod Ready
 mod Collected
 mod Shares
+mod Unended
 pub mod Crossing

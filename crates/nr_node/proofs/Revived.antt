@@ -331,6 +331,7 @@ has_revived es v w old mid new next after book later last offer nodes r b within
       replica = whole;
       book = g.ended (ap (λ (x : ReplicaState). x.down) same);
       waiting = ap (λ (x : ReplicaState). x.waiting) whole ∙ lifted.0;
+      refused = ap (λ (x : ReplicaState). x.refused) whole ∙ lifted.3;
       next = next_none next after g.after_is lifted.1;
       owed = λ worker. ap (λ (x : ReplicaState). slice_index_or x.owed worker None) whole ∙ all_idle old.owed r.answered worker;
     }
@@ -360,6 +361,7 @@ is_not_yet es v w old mid next after book later last offer nodes r before within
       entries = es;
       passed = g.passed;
       seen = r.met.0;
+      own = g.own ∙ ap (λ (node : ℕ). jobs_of_own node es ++ jobs_reserved (unpassed w.standing)) (sym within.0.order.book_is);
       few = why.0;
       same = λ i. record { seat = w; replica = same i; book = later; next = next_is i };
       book = g.ended (ap (λ (x : ReplicaState). x.down) same);

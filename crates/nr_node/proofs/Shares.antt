@@ -6,7 +6,7 @@ use Rattle.std.specs.List.{AllByRecursion, slice_get}
 use Rattle.nr_entry.specs.declared.entry.Entry.{Entry}
 use Rattle.nr_entry.specs.Shares.{shares_of}
 use Rattle.nr_log_end.specs.declared.standing.Standing.{Standing}
-use Rattle.nr_log_end.specs.Standings.{reservation, IsSharesFor}
+use Rattle.nr_log_end.specs.Standings.{reservation, IsSharesFor, LooksOn}
 use Rattle.nr_log_end.specs.declared.standing.Look.{Look}
 use Rattle.nr_log_end.specs.declared.standing.Look.TheVariants.{Tail}
 use Rattle.nr_oplog.specs.Calls.{LoadsCounts, IsLeastOf, loads_from}
@@ -132,6 +132,10 @@ noted_last kept ran v w noted more last =
 pub stood_last : (kept : OwnState) (v w : LogView) → w.standing ≡ v.standing → w.looks ≡ v.looks → AreLast kept v → AreLast kept w
 stood_last kept v w same looks last =
     still_last kept v w (ap (λ (s : Standing). s.reservations) same) (ap (λ (s : Standing). s.nodes) same) ([], looks ∙ sym (append-nil v.looks)) last
+
+pub looked_last : (kept : OwnState) (v w : LogView) (tail : ℕ) → LooksOn v.standing w.standing → w.looks ≡ v.looks ++ Tail tail ∷ [] → AreLast kept v → AreLast kept w
+looked_last kept v w tail on looks last =
+    still_last kept v w (ap (λ (s : Standing). s.reservations) on.1) (ap (λ (s : Standing). s.nodes) on.1) (Tail tail ∷ [], looks) last
 
 pub met_last : (kept new : OwnState) (v w : LogView) → new ≡ kept → HasMet v.standing w.standing → (more : List Look) × (w.looks ≡ v.looks ++ more)
     → AreLast kept v → AreLast new w

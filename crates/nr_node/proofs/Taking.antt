@@ -1,5 +1,5 @@
 -- What is kept of a node: the next entry, and each step of it.
-use Rattle.std.proofs.Common.{◌≡◌, ℕ, zero, suc, ◌<◌, inl, inr, Bool, true, false, List, [], ◌∷◌, ◌++◌, length, refl, ap, sym, ◌∙◌, subst, arith, length-set, slice_set, take, drop, ◌+◌, ◌≤◌, append_assoc}
+use Rattle.std.proofs.Common.{◌≡◌, ℕ, zero, suc, ◌<◌, inl, inr, Bool, true, false, cond, List, [], ◌∷◌, ◌++◌, length, refl, ap, sym, ◌∙◌, subst, arith, length-set, slice_set, take, drop, ◌+◌, ◌≤◌, append_assoc}
 use Rattle.std.specs.Prelude.{◌≢◌, slice_index_or, Option, Some, None, IfOk, IfSome, IfNone, OnErr, Result, Ok, Err}
 use Rattle.std.specs.FinMap as finmap
 use Rattle.std.specs.List.{AllByRecursion, range_with_len}
@@ -21,7 +21,7 @@ use Rattle.nr_entry.specs.declared.batch.Outcome.TheVariants as outcomes
 use Rattle.nr_entry.specs.declared.entry.Entry.{Entry}
 use Rattle.nr_entry.specs.declared.job.Job.{Job}
 use Rattle.nr_log_end.specs.declared.standing.Standing.{Standing}
-use Rattle.nr_log_end.specs.Standings.{IsAllFilled, StandsInLog, opened_with, record_of, applied_of, passed_of, own_entries}
+use Rattle.nr_log_end.specs.Standings.{IsAllFilled, LooksOn, StandsInLog, opened_with, record_of, applied_of, passed_of, own_entries}
 use Rattle.nr_oplog.specs.declared.view.LogView.{LogView}
 use Rattle.nr_accounts.specs.declared.account.Account.{Account}
 use Rattle.nr_accounts.specs.Account.{fresh_account}
@@ -39,10 +39,10 @@ use Rattle.nr_node.specs.Next.{jobs_shared, jobs_next, IsNextOf, HasLeft}
 use Rattle.nr_node.specs.Owing.{unexecuted, count_owed, awaited, answer_by, answered_node, IsOwing, IsServedBy, HasAccounts, HasAllExecuted}
 use Rattle.nr_node.specs.Keeping.{AreAhead}
 use Rattle.nr_node.specs.Kept.{IsKept}
-use Rattle.nr_node.proofs.Advances.{ahead_on}
+use Rattle.nr_node.proofs.Advances.{ahead_on, goes_tail}
 use Rattle.nr_node.specs.Advanced.{HasNoted, GoesOn}
 use Rattle.nr_node.specs.Reserved.{due_jobs, left_jobs, LeavesWaiting, AreTaken, AreNone, AreDue, HasMet, IsReserved}
-use Rattle.nr_node.specs.Steps.{nobody}
+use Rattle.nr_node.specs.Steps.{nobody, refusing_node}
 use Rattle.nr_node.proofs.Lists.{applied_opened, unpassed_opened, numbers-append, no_numbers, none_unpassed, jobs_reserved_more}
 use Rattle.nr_node.proofs.Levels.{same_level, opened_level, closed_level, handed_level, noted_level}
 use Rattle.nr_node.proofs.Orders.{none_recorded, reserved_order, due_order, members_order, noted_opened_order, owed_order}
@@ -180,6 +180,7 @@ due_kept s t old new book next after nodes met due left is k = record {
         no_items new.waiting (left.waiting ∙ (λ i. left_jobs (f.1 i) (f.0 i))),
         no_items (jobs_next after) (due ∙ (λ i. due_jobs (f.1 i) (f.0 i))),
         subst AreAhead (sym met.standing) f.2,
+        ap (λ (x : ReplicaState). x.refused) left.replica ∙ f.3,
       );
 }
 
@@ -225,11 +226,12 @@ opened_ahead s worker seen ahead =
     (subst (AllByRecursion (λ (r : ℕ × Entry). passed_of s ≤ r.0)) (sym (unpassed_opened s worker seen)) ahead)
 
 -- a node that is down and changed otherwise
-still_fallen : (s : Standing) (old new : ReplicaState) (next : Option Next) → new.down ≡ old.down → new.waiting ≡ old.waiting
-    → (old.down ≡ true → (old.waiting ≡ []) × (jobs_next next ≡ []) × AreAhead s) → new.down ≡ true → (new.waiting ≡ []) × (jobs_next next ≡ []) × AreAhead s
-still_fallen s old new next same waiting fallen down =
+still_fallen : (s : Standing) (old new : ReplicaState) (next : Option Next) → new.down ≡ old.down → new.waiting ≡ old.waiting → new.refused ≡ old.refused
+    → (old.down ≡ true → (old.waiting ≡ []) × (jobs_next next ≡ []) × AreAhead s × (old.refused ≡ false))
+    → new.down ≡ true → (new.waiting ≡ []) × (jobs_next next ≡ []) × AreAhead s × (new.refused ≡ false)
+still_fallen s old new next same waiting refused fallen down =
     let f = fallen (sym same ∙ down) in
-    (waiting ∙ f.0, f.1, f.2)
+    (waiting ∙ f.0, f.1, f.2, refused ∙ f.3)
 
 -- a connection more, which is noted
 pub opened_kept : (s t : Standing) (old new : ReplicaState) (book : Book) (next : Option Next) (nodes worker limit : ℕ)
@@ -256,7 +258,7 @@ opened_kept s t old new book next nodes worker limit is noted later k =
           (sym (ap (λ (x : ReplicaState). x.members) is)) (pushed_accounts book.node worker old.members m book.held refl k.accounts);
       fallen = λ down.
           let f = k.fallen (sym (ap (λ (x : ReplicaState). x.down) is) ∙ down) in
-          (ap (λ (x : ReplicaState). x.waiting) is ∙ f.0, f.1, opened_ahead s worker t.seen f.2);
+          (ap (λ (x : ReplicaState). x.waiting) is ∙ f.0, f.1, opened_ahead s worker t.seen f.2, ap (λ (x : ReplicaState). x.refused) is ∙ f.3);
     }
 
 -- a connection changed, and is of its worker
@@ -284,7 +286,8 @@ closed_kept s old new book next nodes i there is k = record {
   owed = k.owed ∙ sym (ap (λ (x : ReplicaState). length x.owed) is);
   owing = set_owing s old new (jobs_next next) i _ there is refl k.owing;
   accounts = set_accounts book.node old new book.held i _ there is refl k.accounts;
-  fallen = still_fallen s old new next (ap (λ (x : ReplicaState). x.down) is) (ap (λ (x : ReplicaState). x.waiting) is) k.fallen;
+  fallen = still_fallen s old new next (ap (λ (x : ReplicaState). x.down) is) (ap (λ (x : ReplicaState). x.waiting) is)
+      (ap (λ (x : ReplicaState). x.refused) is) k.fallen;
 }
 
 pub handed_kept : (s t : Standing) (old new : ReplicaState) (book : Book) (next : Option Next) (nodes i most : ℕ) → t ≡ s → i < length old.members
@@ -296,13 +299,14 @@ handed_kept s t old new book next nodes i most same there is k = subst (λ (x : 
   owed = k.owed ∙ sym (ap (λ (x : ReplicaState). length x.owed) is);
   owing = set_owing s old new (jobs_next next) i _ there is refl k.owing;
   accounts = set_accounts book.node old new book.held i _ there is refl k.accounts;
-  fallen = still_fallen s old new next (ap (λ (x : ReplicaState). x.down) is) (ap (λ (x : ReplicaState). x.waiting) is) k.fallen;
+  fallen = still_fallen s old new next (ap (λ (x : ReplicaState). x.down) is) (ap (λ (x : ReplicaState). x.waiting) is)
+      (ap (λ (x : ReplicaState). x.refused) is) k.fallen;
 }
 
 -- its next entry is refused
-pub refusing_kept : (s : Standing) (old new : ReplicaState) (book : Book) (next : Option Next) (nodes : ℕ) → new ≡ record old { refused = true }
-    → IsKept s old book next nodes → IsKept s new book next nodes
-refusing_kept s old new book next nodes is k = subst (λ (r : ReplicaState). IsKept s r book next nodes) (sym is) record {
+refusing_up : (s : Standing) (old new : ReplicaState) (book : Book) (next : Option Next) (nodes : ℕ) → old.down ≡ false
+    → new ≡ record old { refused = true } → IsKept s old book next nodes → IsKept s new book next nodes
+refusing_up s old new book next nodes up is k = subst (λ (r : ReplicaState). IsKept s r book next nodes) (sym is) record {
   level = record { node = k.level.node; named = k.level.named; opened = k.level.opened; server = k.level.server; applied = k.level.applied; behind = k.level.behind; whole = k.level.whole };
   order = record {
     book_is = k.order.book_is;
@@ -320,8 +324,23 @@ refusing_kept s old new book next nodes is k = subst (λ (r : ReplicaState). IsK
   owed = k.owed;
   owing = k.owing;
   accounts = k.accounts;
-  fallen = k.fallen;
+  fallen = λ down. absurd (cc (up, down));
 }
+
+pub refusing_kept : (s : Standing) (old new : ReplicaState) (book : Book) (next : Option Next) (nodes : ℕ) → new ≡ cond old.down old (record old { refused = true })
+    → IsKept s old book next nodes → IsKept s new book next nodes
+refusing_kept s old new book next nodes is k = elim (cases_Bool old.down) [
+  | inl down ↦ subst (λ (r : ReplicaState). IsKept s r book next nodes) (sym (is ∙ ap (λ (b : Bool). cond b old (record old { refused = true })) down)) k
+  | inr up ↦ refusing_up s old new book next nodes up (is ∙ ap (λ (b : Bool). cond b old (record old { refused = true })) up) k
+]
+
+refusing_by : (down : Bool) (n : NodeState)
+    → record n { replica = cond down n.replica (record n.replica { refused = true }) } ≡ cond down n (record n { replica = record n.replica { refused = true } })
+refusing_by true n = refl
+refusing_by false n = refl
+
+pub refusing_is : (n : NodeState) (r : ReplicaState) → r ≡ cond n.replica.down n.replica (record n.replica { refused = true }) → record n { replica = r } ≡ refusing_node n
+refusing_is n r is = ap (λ (x : ReplicaState). record n { replica = x }) is ∙ refusing_by n.replica.down n
 
 -- its jobs are owed
 lifted_owing : (s : Standing) (old : ReplicaState) (next jobs : List Job) (worker : ℕ) → worker < length old.owed → slice_index_or old.owed worker None ≡ None
@@ -393,7 +412,8 @@ answered_kept s old new book next nodes worker is none k = record {
       subst (λ (r : ReplicaState). IsOwing r.members r.owed (unexecuted s (jobs_next next) r.waiting)) (sym is)
       (answered_owing old.members old.owed (unexecuted s (jobs_next next) old.waiting) worker (none was) (k.owing was));
   accounts = subst (λ (ms : List Member). HasAccounts book.node ms book.held) (sym (ap (λ (x : ReplicaState). x.members) is)) k.accounts;
-  fallen = still_fallen s old new next (ap (λ (x : ReplicaState). x.down) is) (ap (λ (x : ReplicaState). x.waiting) is) k.fallen;
+  fallen = still_fallen s old new next (ap (λ (x : ReplicaState). x.down) is) (ap (λ (x : ReplicaState). x.waiting) is)
+      (ap (λ (x : ReplicaState). x.refused) is) k.fallen;
 }
 
 -- none of the worker's jobs is left where it is owed none
@@ -454,8 +474,9 @@ goes_kept es s t old new book later next after nodes g k = record {
           ap (λ (r : ReplicaState). r.waiting) (g.still was) ∙ f.0,
           elim g.after_is [ inl none ↦ ap jobs_next none | inr same ↦ ap jobs_next same ∙ f.1 ],
           ahead_on es s t g.passed g.ahead f.2,
+          ap (λ (r : ReplicaState). r.refused) (g.still was) ∙ f.3,
         )
-    | inr up ↦ let fell = g.fell up down in (fell.1, ap jobs_next fell.2, g.ahead fell.0)
+    | inr up ↦ let fell = g.fell up down in (fell.1, ap jobs_next fell.2, g.ahead fell.0, fell.4)
   ];
 }
 
@@ -489,6 +510,12 @@ goes_within es s t old new book later next after nodes g idle w = (
   w.3 ∙ sym (ap (λ (x : Standing). x.nodes) g.passed.standing),
   w.4,
 )
+
+-- it stands by: the tail was loaded
+pub stood_within : (s t : Standing) (replica : ReplicaState) (book : Book) (next : Option Next) (nodes : ℕ) → LooksOn s t → IsWithin s replica book next nodes
+    → IsWithin t replica book next nodes
+stood_within s t replica book next nodes on w =
+    goes_within [] s t replica replica book book next next nodes (goes_tail s t replica next book on) (ap (λ (x : Standing). x.held) on.1 ∙ w.1) w
 
 -- the reads that led were run
 pub noted_kept : (s t : Standing) (ran : List Job) (old new : ReplicaState) (book : Book) (next : Option Next) (nodes : ℕ) → HasNoted ran s t → unpassed s ≡ []

@@ -127,7 +127,7 @@ pub record GoesOn (entries : List Entry) (s t : Standing) (old new : ReplicaStat
   pub got : HaveGot old.members new.members
   pub refused : new.down ≡ false → new.refused ≡ old.refused
   pub up : new.down ≡ false → (old.down ≡ false) × (after ≡ next) × (new.waiting ≡ old.waiting)
-  pub fell : old.down ≡ false → new.down ≡ true → (entries ≢ []) × (new.waiting ≡ []) × (after ≡ None) × (new.server ≡ fresh)
+  pub fell : old.down ≡ false → new.down ≡ true → (entries ≢ []) × (new.waiting ≡ []) × (after ≡ None) × (new.server ≡ fresh) × (new.refused ≡ false)
   pub cause : old.down ≡ false → new.down ≡ true → new.fell ≡ Some Refused → old.refused ≡ true
   pub still : old.down ≡ true → new ≡ old
   pub ahead : entries ≢ [] → AreAhead t

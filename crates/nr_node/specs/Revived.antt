@@ -54,7 +54,7 @@ revived_replica offer r =
     record r { members = map cut_member r.members; applied = place_of offer; server = offer.server; down = false; fell = None }
 
 -- The entries up to the offer's place were passed, and no further, and all that the node had reserved are among them. The accounts that ended went. It is up, with
--- the server of the offer. It has lifted nothing, and owes no worker an answer.
+-- the server of the offer. It has lifted nothing, owes no worker an answer, and no entry is to be refused.
 pub record HasRevived (offer : OfferState) (n m : NodeState) : Type 0 where
   pub entries : List Entry
   pub passed : HasPassed entries n.seat.standing m.seat.standing
@@ -66,15 +66,17 @@ pub record HasRevived (offer : OfferState) (n m : NodeState) : Type 0 where
   pub replica : m.replica ≡ revived_replica offer n.replica
   pub book : m.book ≡ without_ended (jobs_of_all entries) n.book
   pub waiting : m.replica.waiting ≡ []
+  pub refused : m.replica.refused ≡ false
   pub next : m.next ≡ []
   pub owed : (worker : ℕ) → slice_index_or m.replica.owed worker None ≡ None
 
--- The entries that were there were passed, up to the offer's place. Before that one wasn't filled, as the stamp of its cell said that was loaded last, or the last
--- entry that the node has reserved lies there or behind.
+-- The entries that were there were passed, up to the offer's place; those of the node's own among them are the first that it had reserved. Before that place one wasn't
+-- filled, as the stamp of its cell said that was loaded last, or the last entry that the node has reserved lies there or behind.
 pub record IsNotYet (offer : OfferState) (n m : NodeState) : Type 0 where
   pub entries : List Entry
   pub passed : HasPassed entries n.seat.standing m.seat.standing
   pub seen : m.seat.standing.seen ≡ n.seat.standing.seen
+  pub own : jobs_reserved (unpassed n.seat.standing) ≡ jobs_of_own n.book.node entries ++ jobs_reserved (unpassed m.seat.standing)
   pub few : passed_of m.seat.standing ≤ place_of offer
   pub same : m ≡ record n { seat = m.seat; book = m.book }
   pub book : m.book ≡ without_ended (jobs_of_all entries) n.book

@@ -1,5 +1,5 @@
 -- What the calls of a node come to.
-use Rattle.std.specs.Prelude.{◌≡◌, ◌≢◌, ◌⊎◌, ℕ, Bool, ◌≤◌, ◌+◌, ◌-◌, true, false, List, [], ◌∷◌, ◌++◌, map, length, slice_set, slice_index_or, replicate, Some, None}
+use Rattle.std.specs.Prelude.{◌≡◌, ◌≢◌, ◌⊎◌, ℕ, Bool, ◌≤◌, ◌+◌, ◌-◌, true, false, cond, List, [], ◌∷◌, ◌++◌, map, length, slice_set, slice_index_or, replicate, Some, None}
 use Rattle.std.specs.FinMap as finmap
 use Rattle.nr_model.specs.Servers.{fresh}
 use Rattle.nr_model.specs.Entries.{read_jobs, left_by_reads}
@@ -56,9 +56,9 @@ abbrev pub closed_node : ℕ → NodeState → NodeState
 closed_node serial n =
     record n { replica = record n.replica { members = slice_set n.replica.members serial (closed_member (slice_index_or n.replica.members serial nobody)) } }
 
--- the next entry that it applies is refused
+-- the next entry that it applies is refused, unless it is down
 abbrev pub refusing_node : NodeState → NodeState
-refusing_node n = record n { replica = record n.replica { refused = true } }
+refusing_node n = cond n.replica.down n (record n { replica = record n.replica { refused = true } })
 
 -- whether an entry is due
 abbrev pub is_due : NodeState → Bool

@@ -50,6 +50,13 @@ impl<B: LogName> Offer<B> {
     }
 }
 
+impl<B: LogName> Offer<B> {
+    /// How many keys its server has: [`Offer::keys`](nr_replica::Offer::keys).
+    pub fn keys(&self) -> u64 {
+        self.server.keys()
+    }
+}
+
 /// Why a node didn't come back.
 #[derive(Clone, Copy, Debug, PartialEq, Eq)]
 pub enum ReviveError {

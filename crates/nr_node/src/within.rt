@@ -1,7 +1,8 @@
 // What all workers of a node share.
-ghost use Rattle.std.specs.Prelude.{◌≡◌, ◌≢◌, ◌↔◌, ◌⊎◌, ◌+◌, ◌++◌, ◌<◌, ◌≤◌, [], ℕ, List, length, true, false, is_some, Ok, Err, Some, None, IfOk, IfErr, IfSome, IfNone, OnOk, OnErr, slice_index_or};
+ghost use Rattle.std.specs.Prelude.{◌≡◌, ◌≢◌, ◌↔◌, ◌⊎◌, ◌+◌, ◌++◌, ◌<◌, ◌≤◌, [], ℕ, List, length, true, false, cond, is_some, Ok, Err, Some, None, IfOk, IfErr, IfSome, IfNone, OnOk, OnErr, slice_index_or};
 ghost use Rattle.std.specs.FinMap as finmap;
-ghost use Rattle.std.specs.List.{AllByRecursion};
+ghost use Rattle.std.specs.List.{AllByRecursion, range_with_len};
+ghost use Rattle.nr_accounts.specs.Held.{is_unended, numbers_in, ComesAfter};
 ghost use Rattle.nr_entry.specs.Jobs.{connection_of, items_of};
 ghost use Rattle.nr_entry.specs.declared.entry.Entry.{Entry};
 ghost use Rattle.nr_entry.specs.declared.job.Job.{Job};
@@ -9,9 +10,9 @@ ghost use Rattle.nr_blob.specs.declared.memory.Memory.{Memory};
 ghost use Rattle.nr_log_end.specs.Standings.{opened_of, passed_of};
 ghost use Rattle.nr_log_end.specs.Tries.{IsFull, IsLost};
 ghost use Rattle.nr_oplog.specs.Rule.{opening_view};
-ghost use Rattle.nr_replica.specs.Members.{next_ready};
+ghost use Rattle.nr_replica.specs.Members.{next_ready, worker_of};
 ghost use Rattle.nr_replica.specs.declared.offer.OfferError.TheVariants as offers;
-ghost use Rattle.nr_node.specs.Level.{connection_at, queue_at, is_closed_at, worker_at, workers_of, IsLevel};
+ghost use Rattle.nr_node.specs.Level.{all_jobs, connection_at, queue_at, is_closed_at, worker_at, workers_of, IsLevel};
 ghost use Rattle.nr_node.specs.Advanced.{HasStopped};
 ghost use Rattle.nr_node.specs.Batches.{AreSame, refusal, is_cut_at, IsOpened, IsPiece};
 ghost use Rattle.nr_node.specs.Collected.{IsHanded};
@@ -28,7 +29,7 @@ use crate::next::Next;
 use crate::reading::read;
 use crate::reserving::{put_in, take_shares};
 use crate::reviving::{Offer, ReviveError, come_back, is_busy, reach};
-use nr_accounts::Accounts;
+use nr_accounts::{Accounts, Unended};
 use nr_blob::Memory;
 use nr_entry::{Batch, ConnId, Outcome};
 use nr_log_end::{LogEnd, Look};
@@ -365,6 +366,34 @@ impl<B: LogName> Core<B> {
         }
     }
 
+    /// A node that is down stays where it is: it loads the tail, and passes nothing, so that a copy of another node's server is at no place before its own. It goes on
+    /// by [`Core::look`], or comes back. One load.
+    pub fn stand_by(&mut self) -> Looked
+        requires down { self.old.replica.down ≡ true }
+        ensures goes { (tail : ℕ) × GoesOnBy [] [] tail self.old self.new × (result.is_behind ≡ false → tail ≤ passed_of self.new.seat.standing) × (result.is_behind ≡ true → passed_of self.new.seat.standing < tail) }
+        ensures down { result.round ≡ Ok Round.Down }
+        ensures still { (self.new.replica ≡ self.old.replica) × (self.new.book ≡ self.old.book) × (self.new.next ≡ self.old.next) }
+    {
+        let tail = self.end.tail();
+        Looked {
+            round: Ok(Round::Down),
+            is_behind: self.end.passed() < tail,
+        }
+    }
+
+    /// The first connection of the node after one, by serial, that this worker serves, and of which a job was taken, but not its end: with the number of its next job,
+    /// which is how many of it are in the record, or have still to be passed, to be reserved or to be run. Its cost is that of [`Accounts::next_unended`].
+    pub fn next_unended(&self, worker: usize, last: Option<u64>) -> Option<Unended>
+        ensures found { IfSome result (λ one. ComesAfter last one.serial × (is_unended worker (finmap.get self.now.book.held one.serial) ≡ true)) }
+        ensures served { IfSome result (λ one. (one.serial < length self.now.replica.members) × (worker_of self.now.replica.members (connection_at self.now.book.node one.serial) ≡ worker)) }
+        ensures numbered { IfSome result (λ one. numbers_in (connection_at self.now.book.node one.serial) (all_jobs self.now.seat.standing self.now.next self.now.replica.waiting) ≡ range_with_len 0 one.next) }
+        ensures some { IfSome result (λ one. 0 < one.next) }
+        ensures between { IfSome result (λ one. (other : ℕ) → ComesAfter last other → other < one.serial → is_unended worker (finmap.get self.now.book.held other) ≡ false) }
+        ensures none { IfNone result ((other : ℕ) → ComesAfter last other → is_unended worker (finmap.get self.now.book.held other) ≡ false) }
+    {
+        self.accounts.next_unended(worker, last)
+    }
+
     /// Hands out at most so many of the first bytes that wait for a connection, and at least one, with a token that keeps of which record they are; or `None`
     /// where nothing waits, or the connection isn't the node's. Linear in them. Where memory runs out nothing changes.
     pub fn take_piece(
@@ -413,7 +442,7 @@ impl<B: LogName> Core<B> {
     }
 
     /// How many connections were ever opened.
-    pub(crate) fn connections(&self) -> u64
+    pub fn connections(&self) -> u64
         ensures { result ≡ length self.now.replica.members }
     {
         self.replica.connections() as u64
@@ -478,11 +507,11 @@ impl<B: LogName> Core<B> {
         self.replica.leads_update()
     }
 
-    /// The next entry that it applies is refused, as where memory runs out: then the replica falls.
+    /// The next entry that it applies is refused, as where memory runs out: then the replica falls. Where it is down, nothing is done.
     pub fn refuse(&mut self)
         ensures { self.new ≡ refusing_node self.old }
     {
-        self.replica.refuse();
+        refuse_next(&mut self.replica);
     }
 
     /// A copy of its server, with which another node of the log that is down comes back: see [`Core::revive`]. Linear in what is stored and remembered.
@@ -509,8 +538,7 @@ impl<B: LogName> Core<B> {
     }
 
     /// A node that is down comes back with what another one of the log offered. It passes the entries up to the offer's place, and no further, and is up then, with
-    /// the server of the offer. Nothing more comes to wait for the connections that it has. Where [`Core::refuse`] was called while it was down, the next entry is
-    /// refused. It costs the passing of these entries, and is linear in the workers and in the connections that aren't closed. It takes no memory.
+    /// the server of the offer. Nothing more comes to wait for the connections that it has. It costs the passing of these entries, and is linear in the workers and in the connections that aren't closed. It takes no memory.
     ///
     /// # Errors
     ///
@@ -578,6 +606,16 @@ impl<B: LogName> Core<B> {
         }
         Some(Outcome::Executed)
     }
+}
+
+// The next entry that a replica applies is refused, unless it is down.
+fn refuse_next(replica: &mut Replica)
+    ensures { replica.new ≡ cond replica.old.down replica.old (record replica.old { refused = true }) }
+{
+    if replica.is_down() {
+        return;
+    }
+    replica.refuse();
 }
 
 // What going on came to.

@@ -1,6 +1,6 @@
 -- A worker that had posted nothing serves one connection, step by step.
 use Rattle.std.proofs.Common.{◌≡◌, ℕ, ◌+◌, inr, List, [], ◌∷◌, ◌++◌, length, drop, refl, ap, sym}
-use Rattle.std.proofs.Common.{◌∙◌, subst, append_assoc}
+use Rattle.std.proofs.Common.{◌∙◌, subst, append-nil, append_assoc}
 use Rattle.std.specs.Prelude.{suc, false, Contains, Option, Some, None, option_to_list, IfSome}
 use Rattle.std.specs.List.{AllByRecursion}
 use Rattle.nr_model.specs.Bytes.{Bytes}
@@ -30,7 +30,7 @@ use Rattle.nr_combiner.specs.declared.answering.Turned.{Turned}
 use Rattle.nr_taps.specs.Marks.{Adopts}
 use Rattle.nr_taps.specs.Sequence.{AreAllOfOneLog}
 use Rattle.nr_taps.specs.Taps.{HaveMet}
-use Rattle.nr_worker.specs.Desk.{CountsFrom, DeskState, IsLed, Served, asked_of}
+use Rattle.nr_worker.specs.Desk.{CountsFrom, DeskState, IsLed, Served, all_asked, asked_of}
 use Rattle.nr_worker.specs.Law.{AreAnswered, HoldsOfDesks}
 use Rattle.nr_worker.specs.Moves.{fresh_desk}
 use Rattle.nr_node_tests.specs.Answered.{HasGotFirst, HasOpened, desk_of_one, served_one}
@@ -125,7 +125,7 @@ module _ (law : HoldsOfDesks) (w : WorkerState) (c : Connection) (sent : Bytes) 
   at posted heard mark one = record { node = w.node; worker = w.seat.worker; posted = posted; heard = heard; mark = mark; served = one ∷ [] }
 
   abbrev new_one : Served
-  new_one = record { connection = c; fed = []; closing = None; handed = [] }
+  new_one = record { connection = c; fed = []; closing = None; handed = []; ends = [] }
 
   abbrev asks : Served
   asks = served_one c sent []
@@ -156,6 +156,7 @@ module _ (law : HoldsOfDesks) (w : WorkerState) (c : Connection) (sent : Bytes) 
     one = new_one;
     back = [];
     there = refl;
+    live = refl;
     counted = subst (CountsFrom 0) (sym (asked_once c sent [])) (counts c 0 0 (deeds_by served sent));
     posted = tt;
     changed = refl;
@@ -166,8 +167,9 @@ module _ (law : HoldsOfDesks) (w : WorkerState) (c : Connection) (sent : Bytes) 
       let items = items_of batch.jobs.items in
       let mine = subst (λ (jobs : Jobs). AllByRecursion (λ (job : Item). job.connection ≡ c) jobs) (sym (is ∙ asked_once c sent []))
       (own c 0 0 (deeds_by served sent)) in
+      let there = subst (λ (all : Jobs). AreAmong c all (asked_of asks)) (sym (append-nil (asked_of asks))) (each_there c [] (asked_of asks)) in
       (law.posted batch (at [] h m asks) (at (batch ∷ []) h m asks) led record {
-        asked = (subst (AreAmong c (asked_of asks)) (sym is) (each_there c [] (asked_of asks)), tt);
+        asked = (subst (AreAmong c (all_asked asks)) (sym is) there, tt);
         known = each_known asks items mine;
         posted = refl;
       }).0
@@ -184,7 +186,7 @@ module _ (law : HoldsOfDesks) (w : WorkerState) (c : Connection) (sent : Bytes) 
         sound = g.sound;
         adopted = g.adopted;
         met = g.met;
-        got = (inr (g.one, there, g.named, g.from, ap (served_one c sent) (sym g.bytes)), tt);
+        got = (inr (g.one, refl, there, g.named, g.from, ap (served_one c sent) (sym g.bytes)), tt);
         same = refl;
       }).0
 

@@ -16,7 +16,7 @@ use Rattle.nr_worker.specs.Desk.{DeskState, Served}
 
 -- a connection that was fed these bytes at the first moment, and for which those were handed out
 abbrev pub served_one : Connection → Bytes → Bytes → Served
-served_one c sent got = record { connection = c; fed = record { connection = c; moment = 0; bytes = sent } ∷ []; closing = None; handed = got }
+served_one c sent got = record { connection = c; fed = record { connection = c; moment = 0; bytes = sent } ∷ []; closing = None; handed = got; ends = [] }
 
 -- a worker that has had this connection alone
 abbrev pub desk_of_one : ℕ → ℕ → List Batch → Desk → Option Standing → Connection → Bytes → Bytes → DeskState

@@ -9,6 +9,7 @@ use crate::desk::Act::{
     IsLost, IsTold, Opens, OpensNone, Refuses, Reopens, Sends, SendsEach, SendsMany,
 };
 use crate::desk::{Act, Desk};
+use crate::reviving::{come_back, come_back_in_turn, drop_late_ones};
 use nr_blob::int_text;
 use nr_combiner::{Lifts, OpenError, OpenedSlots, Plan, ServerName, open_slots};
 use nr_held::{Client, Offered, Turn, stations};
@@ -47,6 +48,23 @@ const TWO_NODES: Layout = Layout {
 const TWO_PLACES: Layout = Layout {
     places: 2,
     ..TWO_NODES
+};
+
+/// The same, where two connections of each are open at most.
+const TWO_EACH: Layout = Layout {
+    nodes: 2,
+    places: 4,
+    plan: Plan {
+        workers: 1,
+        connections: 2,
+        limit: 1 << 20,
+    },
+};
+
+/// The same of three nodes.
+const THREE_NODES: Layout = Layout {
+    nodes: 3,
+    ..TWO_EACH
 };
 
 /// The same, where one connection of each is open at most.
@@ -132,6 +150,12 @@ enum Play<'a> {
     ManyAtOnce,
     /// One of two nodes falls.
     OneFalls,
+    /// One of two nodes falls, and comes back.
+    OneComesBack,
+    /// The same, and its worker hasn't heard of that.
+    LateOnesAreDropped,
+    /// Two of three nodes fall, and come back.
+    TwoComeBack,
     /// Those connections are told whose queues are cut.
     CutsAreTold,
     /// Turns tell which other workers are to be woken.
@@ -183,6 +207,9 @@ fn perform<B: ServerName, R: Wait + Abort>(
         Play::TurnsHandOut => hand_out(rt, desks),
         Play::ManyAtOnce => hand_out_to_many(rt, alloc, desks),
         Play::OneFalls => one_falls(rt, desks),
+        Play::OneComesBack => one_comes_back(rt, desks),
+        Play::LateOnesAreDropped => late_ones_are_dropped(rt, desks),
+        Play::TwoComeBack => two_come_back(rt, desks),
         Play::CutsAreTold => tell_cuts(rt, alloc, desks),
         Play::OthersAreTold => tell_others(rt, desks),
     }
@@ -395,6 +422,25 @@ fn one_falls<B: ServerName, R: Wait + Abort>(rt: &R, desks: Vec<Desk<B>>) {
         fallen.does(rt, Combines(Round::Down));
     }
     other.does(rt, Asks(b"GET n\r\n", b"$2\r\n40\r\n"));
+}
+
+// The second of two nodes falls and comes back.
+fn one_comes_back<B: ServerName, R: Wait + Abort>(rt: &R, desks: Vec<Desk<B>>) {
+    let (first, second) = both(rt, desks);
+    come_back(rt, first, second);
+}
+
+// The same, and its worker hasn't heard of that.
+fn late_ones_are_dropped<B: ServerName, R: Wait + Abort>(rt: &R, desks: Vec<Desk<B>>) {
+    let (first, second) = both(rt, desks);
+    drop_late_ones(rt, first, second);
+}
+
+// The second and the third of three nodes fall and come back.
+fn two_come_back<B: ServerName, R: Wait + Abort>(rt: &R, mut desks: Vec<Desk<B>>) {
+    let third = desks.pop().expect(rt, "there are three workers");
+    let (first, second) = both(rt, desks);
+    come_back_in_turn(rt, first, second, third);
 }
 
 // A turn of the worker tells whether a queue of its connections was cut.
@@ -649,6 +695,22 @@ fn twenty_are_handed_out_at_once(rt: HostRuntime) {
 #[test]
 fn one_of_two_nodes_falls(rt: HostRuntime) {
     play_at(&rt, rt.alloc(), ONE_EACH, Play::OneFalls);
+}
+
+// A node that fell comes back with the other's server. Its subscriber gets what waited, and counts until its end is put.
+#[test]
+fn a_fallen_node_comes_back(rt: HostRuntime) {
+    play_at(&rt, rt.alloc(), TWO_EACH, Play::OneComesBack);
+}
+
+#[test]
+fn late_batches_are_dropped(rt: HostRuntime) {
+    play_at(&rt, rt.alloc(), TWO_EACH, Play::LateOnesAreDropped);
+}
+
+#[test]
+fn two_of_three_nodes_come_back(rt: HostRuntime) {
+    play_at(&rt, rt.alloc(), THREE_NODES, Play::TwoComeBack);
 }
 
 #[test]

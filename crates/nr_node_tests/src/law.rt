@@ -40,7 +40,7 @@ fn open_one<B: ServerName, R: Wait + Abort>(rt: &R, worker: &mut Worker<B>) -> (
     ensures opened { HasOpened worker.old (connection_of result.0) result.1.standing }
     ensures heard { worker.new ≡ told_of worker.new.seat.noted worker.old }
 {
-    let Ok((conn, token)) = worker.open(rt) else {
+    let Ok((conn, token)) = worker.open(rt, 0) else {
         panic!(rt; "a connection is opened");
     };
     let mut mark = Mark::new();

@@ -15,7 +15,7 @@ use Rattle.nr_log_end.specs.Numbers.{AreRising}
 use Rattle.nr_log_end.specs.Standings.{own_entries, logged, reservation, reserved_as}
 use Rattle.nr_oplog.specs.declared.view.LogView.{LogView}
 use Rattle.nr_oplog.specs.Layout.{passed_word, stamp_word}
-use Rattle.nr_oplog.specs.Rule.{Share, Phase, Owns, OwnerOk, NodeOk, CellOk, FillerOk, SeatOk, RisesAlong, LogRule}
+use Rattle.nr_oplog.specs.Rule.{Share, Owns, NodeOk, SeatOk, RisesAlong, LogRule}
 use Rattle.nr_oplog.specs.Plays.{claimed}
 use Rattle.nr_oplog.specs.Seats.{IsOfNode}
 use Rattle.nr_oplog.proofs.Fronts.{begins_more, begins_length, own_same, own_other}

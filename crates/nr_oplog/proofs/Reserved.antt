@@ -1,15 +1,11 @@
 -- Each number below the tail was reserved by one node, once.
-use Rattle.std.proofs.Common.{◌≡◌, ◌≢◌, ℕ, zero, suc, ◌+◌, ◌<◌, ◌≤◌, ◌==◌, Bool, true, false, cond, List, [], ◌∷◌, length, refl, sym, ap, ◌∙◌, subst, arith, eq-eqb, ne_eqb}
+use Rattle.std.proofs.Common.{◌≡◌, ◌≢◌, ℕ, zero, suc, ◌+◌, ◌<◌, ◌==◌, Bool, true, false, cond, List, [], ◌∷◌, length, refl, sym, ap, ◌∙◌, subst, arith, eq-eqb, ne_eqb}
 use Rattle.std.specs.Prelude.{filter}
 use mathlib.Core.Option.{some, some-injective, some-ne-none}
-use mathlib.Core.Logic.{dite}
-use native.Mathlib.Decide.{ℕ_discrete}
 use lib.ListN.{get_elem?}
 use Rattle.nr_entry.specs.declared.entry.Entry.{Entry}
 use Rattle.nr_log_end.specs.Standings.{own_entries, own_from}
-use Rattle.nr_oplog.specs.declared.view.LogView.{LogView}
-use Rattle.nr_oplog.specs.Rule.{LogRule}
-use Rattle.nr_oplog.specs.Law.{reserved_at, IsReservedOnce, HoldsOfEntries}
+use Rattle.nr_oplog.specs.Law.{HoldsOfEntries}
 
 abbrev of_number : ℕ → List (ℕ × Entry) → List (ℕ × Entry)
 of_number number rs = filter (λ (r : ℕ × Entry). r.0 == number) rs

@@ -1,5 +1,6 @@
 // A copy of a replica's server, with which another replica comes back.
 use nr_blob::Memory;
+use nr_keyspace::Db;
 use nr_machine::Machine;
 use std::marker::Model;
 
@@ -21,6 +22,18 @@ impl Model for Offer {
     ghost view = { λ o. o.machine.state };
 
     ghost invariant = { λ o. o.machine.failed ≡ false };
+}
+
+impl Offer {
+    /// How many keys it has, in all databases: what an operator is told. It looks at each deadline that has passed and whose key was not yet taken out.
+    pub fn keys(&self) -> u64 {
+        let mut keys: u64 = 0;
+        for database in Db::all() {
+            let more = self.machine.keyspace().len(0, database) as u64;
+            keys = keys.saturating_add(more);
+        }
+        keys
+    }
 }
 
 /// Why there is no copy.

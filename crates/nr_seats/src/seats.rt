@@ -1,5 +1,5 @@
 // What a worker keeps of its connections.
-ghost use Rattle.std.specs.Prelude.{◌≡◌, ◌≤◌, ◌+◌, ◌∷◌, [], true, None, Some, map, length, is_some, IfOk, OnOk, OnErr};
+ghost use Rattle.std.specs.Prelude.{◌≡◌, ◌==◌, ◌≤◌, ◌+◌, ◌∷◌, [], true, None, Some, map, length, is_some, IfOk, OnOk, OnErr};
 ghost use Rattle.std.specs.Option.{option_map};
 ghost use Rattle.nr_model.specs.Keyspace.{last_moment};
 ghost use Rattle.nr_entry.specs.Jobs.{connection_of, item_of, items_of};
@@ -78,6 +78,13 @@ impl Seats {
     {
         let seat = Seat::new(self.alloc, conn);
         open_at(&mut self.by_serial, conn.serial, seat)
+    }
+
+    /// Whether no connection is open here. Constant.
+    pub fn is_empty(&self) -> bool
+        ensures { result ≡ (length self.now == 0) }
+    {
+        self.by_serial.is_empty()
     }
 
     /// Whether a connection is open here. Logarithmic.

@@ -10,6 +10,9 @@ use Rattle.nr_server.specs.declared.notice.Notice.TheVariants as notices
 
 abbrev pub notice_text : Notice → Bytes
 notice_text (notices.Down node connections) = codes "node " ++ (decimal node ++ (codes " is down: " ++ (decimal connections ++ codes " connections closed")))
+notice_text (notices.Back node keys milliseconds) =
+    codes "node " ++ (decimal node ++ (codes " is up again: " ++ (decimal keys ++ (codes " keys copied in " ++ (decimal milliseconds ++ codes " milliseconds")))))
+notice_text (notices.NoCopy node tries) = codes "no memory to bring node " ++ (decimal node ++ (codes " back: " ++ (decimal tries ++ codes " tries")))
 notice_text (notices.TurnedAway count) = codes "connections turned away: " ++ decimal count
 notice_text (notices.Short count) = codes "no descriptor or memory for connections that wait: " ++ (decimal count ++ codes " tries")
 notice_text notices.Ended = codes "ended in order"

@@ -11,6 +11,7 @@ pub use script::play_on;
 pub use serve::{Remains, listen_on, serve_by_tcp, serve_on};
 pub use settings::{settings_on, with_words};
 
+mod attempts;
 mod bytes;
 mod fault;
 mod joined;

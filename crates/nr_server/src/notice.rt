@@ -13,7 +13,21 @@ const BETWEEN: u64 = 60_000;
 #[derive(Clone, Copy, Debug, PartialEq, Eq)]
 pub enum Notice {
     /// A node is down, from 0 on, by which so many connections are closed.
-    Down { node: usize, connections: usize },
+    Down {
+        node: usize,
+        connections: usize,
+    },
+    /// A node is up again, from 0 on, with so many keys, which were copied in so many milliseconds.
+    Back {
+        node: usize,
+        keys: u64,
+        milliseconds: u64,
+    },
+    /// So many tries to bring this node back found no memory since that was told last.
+    NoCopy {
+        node: usize,
+        tries: u64,
+    },
     /// So many connections were turned away since that was told last: every node that is up has as many as it takes.
     TurnedAway(u64),
     /// So often the system had no descriptor or no memory for a connection that waits since that was told last.
@@ -34,6 +48,17 @@ impl fmt::Display for Notice {
         match self {
             Notice::Down { node, connections } => {
                 write!(f, "node {node} is down: {connections} connections closed")
+            }
+            Notice::Back {
+                node,
+                keys,
+                milliseconds,
+            } => write!(
+                f,
+                "node {node} is up again: {keys} keys copied in {milliseconds} milliseconds"
+            ),
+            Notice::NoCopy { node, tries } => {
+                write!(f, "no memory to bring node {node} back: {tries} tries")
             }
             Notice::TurnedAway(count) => write!(f, "connections turned away: {count}"),
             Notice::Short(count) => write!(

@@ -1,14 +1,18 @@
 // The thread that takes connections, as it tells an operator what there is to know.
 ghost use Rattle.std.specs.Prelude.{◌≡◌};
 
+use crate::attempts::Attempts;
 use crate::fault::Fault;
 use crate::notice::{Notice, Repeated, notice_of_end};
 use jiff::Timestamp;
-use nr_service::{Accepts, Ends, Moments};
+use nr_service::{Accepts, Ends, Moments, Revival};
 use nr_sockets::Listener;
 use std::io::{self, Write};
 use std::rt::Clock;
 use std::sync::Wait;
+
+/// How many nodes a server has at most.
+const MOST_NODES: usize = 8;
 
 /// What is told as the server begins to serve: by how many threads, how many processors there are, how many descriptors may be open, and how many it would take
 /// where each node had all its connections.
@@ -68,6 +72,11 @@ pub(crate) struct Reception<L, M, O, E> {
     turned_away: Repeated,
     short: Repeated,
     ends: Ends,
+    // Whether nodes that are down are brought back, when that is tried of each, and how often one of these tries found no memory.
+    revives: bool,
+    attempts: [Attempts; MOST_NODES],
+    no_copies: u64,
+    no_copy: Repeated,
 }
 
 // Tells by how many threads it serves, and where there are fewer processors, or fewer descriptors than it may want, also that.
@@ -109,7 +118,14 @@ fn tell<E: Write>(errors: &mut E, moment: u64, notice: Notice) -> io::Result<()>
 
 impl<L: Receives, M: Moments, O, E: Write> Reception<L, M, O, E> {
     /// Nothing was told yet.
-    pub(crate) fn new(listener: L, clock: M, out: O, errors: E, begins: Begins) -> Self
+    pub(crate) fn new(
+        listener: L,
+        clock: M,
+        out: O,
+        errors: E,
+        begins: Begins,
+        revives: bool,
+    ) -> Self
         ensures { result.listener ≡ listener }
     {
         Reception {
@@ -123,6 +139,10 @@ impl<L: Receives, M: Moments, O, E: Write> Reception<L, M, O, E> {
             turned_away: Repeated::new(),
             short: Repeated::new(),
             ends: Ends::Not,
+            revives,
+            attempts: [Attempts::new(); MOST_NODES],
+            no_copies: 0,
+            no_copy: Repeated::new(),
         }
     }
 
@@ -164,6 +184,42 @@ impl<L: Receives, M: Moments, O, E: Write> Reception<L, M, O, E> {
         self.moment = self.clock.now().unwrap_or(self.moment);
         self.tell_of_turned_away();
         self.tell_of_shortage();
+    }
+
+    // A try to bring a node back failed.
+    fn note_failure(&mut self, node: usize)
+        ensures { self.new.listener ≡ self.old.listener }
+    {
+        self.moment = self.clock.now().unwrap_or(self.moment);
+        if let Some(attempts) = self.attempts.get_mut(node) {
+            attempts.fail(self.moment);
+        }
+    }
+
+    // Tells that a try to bring a node back found no memory, where it is time to.
+    fn tell_of_no_copy(&mut self, node: usize)
+        ensures { self.new.listener ≡ self.old.listener }
+    {
+        self.no_copies = self.no_copies.saturating_add(1);
+        if let Some(tries) = self.no_copy.take(self.no_copies, self.moment) {
+            self.tell(Notice::NoCopy { node, tries });
+        }
+    }
+
+    // Tells that a node is up again, with so many keys: it is tried at once where it falls again.
+    fn tell_of_return(&mut self, node: usize, keys: u64)
+        ensures { self.new.listener ≡ self.old.listener }
+    {
+        let began = self.moment;
+        let ended = self.clock.now().unwrap_or(began);
+        if let Some(attempts) = self.attempts.get_mut(node) {
+            *attempts = Attempts::new();
+        }
+        self.tell(Notice::Back {
+            node,
+            keys,
+            milliseconds: ended.saturating_sub(began),
+        });
     }
 
     /// Whether it was told to end, and did so in time.
@@ -214,5 +270,24 @@ impl<L: Receives, M: Moments, O: Write, E: Write> Accepts for Reception<L, M, O,
 
     fn hear_of_fall(&mut self, node: usize, connections: usize) {
         self.tell(Notice::Down { node, connections });
+    }
+
+    fn is_time_to_revive(&mut self, node: usize) -> bool {
+        self.moment = self.clock.now().unwrap_or(self.moment);
+        match self.attempts.get(node) {
+            Some(attempts) => self.revives && attempts.is_due(self.moment),
+            None => false,
+        }
+    }
+
+    fn hear_of_revival(&mut self, node: usize, revival: Revival) {
+        match revival {
+            Revival::Back(keys) => self.tell_of_return(node, keys),
+            Revival::Memory(_) => {
+                self.note_failure(node);
+                self.tell_of_no_copy(node);
+            }
+            Revival::NotYet => self.note_failure(node),
+        }
     }
 }

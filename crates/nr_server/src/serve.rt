@@ -306,8 +306,9 @@ fn ended_by(ended: Result<(), ServeError>, is_mute: bool) -> Result<(), Fault>
 /// Serves the connections that come where this listens, by the settings, until the gate stops all workers, or, where it lasts until its input ends, that has ended:
 /// then nothing more is taken or read, and it ends once all that was read is executed and all that was answered is written, or `shutdown_seconds` are over. Clients that are left then are let go of as ones that have
 /// finished, and for a second what they still send is read and dropped, so that nothing that was written is taken back. On `out`
-/// stands where it listens, a line for each address, once all workers serve; on `errors` by how many threads, and then a line for each node that falls, for
-/// connections that are turned away or find no descriptor, at most one a minute each, and for the end of the input, unless it fails.
+/// stands where it listens, a line for each address, once all workers serve; on `errors` by how many threads, and then a line for each node that falls or comes back,
+/// for connections that are turned away or find no descriptor, and nodes that find no memory to come back, at most one a minute each, and for the end of the input,
+/// unless it fails.
 ///
 /// # Errors
 ///
@@ -346,7 +347,7 @@ where
     let listener = Listener::new(alloc, listening, rt, &entrance, terms);
     let clock = MachineClock { runtime: rt };
     let begins = begins_of(rt, settings);
-    let reception = Reception::new(listener, clock, out, errors, begins);
+    let reception = Reception::new(listener, clock, out, errors, begins, settings.revive);
     let (mut served, mut reception) = serve_on::<
         R,
         Socket,

@@ -1,5 +1,5 @@
 -- Which clients are over, and how they are let go of.
-use Rattle.std.specs.Prelude.{◌≡◌, ◌≢◌, ℕ, ◌<◌, Bool, true, false, cond, ◌⊎◌, List, [], ◌∷◌, ◌++◌, length, map, slice_index_or, Option, None, Some, All, IsPermutation}
+use Rattle.std.specs.Prelude.{◌≡◌, ◌≢◌, ℕ, ◌+◌, ◌<◌, ◌≤◌, Bool, true, false, cond, ◌⊎◌, List, [], ◌∷◌, ◌++◌, length, map, slice_index_or, Option, None, Some, All, IsPermutation}
 use Rattle.nr_model.specs.Bytes.{Bytes}
 use Rattle.nr_model.specs.Items.{Connection}
 use Rattle.nr_service.specs.Readings.{IsClosedAt}
@@ -23,7 +23,11 @@ kept_for keeps client = kept_bytes (keeps (connection client))
 abbrev pub TakesNone : (Connection → Standing → Type 0) → Connection → Type 0
 TakesNone stands c = (standing : Standing) × stands c standing × (standing ≢ standings.Open)
 
--- How a client ends by these bounds. It is lost where its stream failed or more waits for it than may; else, where nothing waits for it and what answers
+-- what answers it is down, and it took no byte, and gave none, for a second
+abbrev pub IsStuck : {S : Type 0} → (Connection → Standing → Type 0) → Bounds → Client S → Type 0
+IsStuck stands bounds client = (client.heard + 1000 ≤ bounds.now) × stands (connection client) standings.Down
+
+-- How a client ends by these bounds. It is lost where its stream failed or more waits for it than may, and where some does and it is stuck; else, where nothing waits for it and what answers
 -- isn't busy, it has finished where its input has ended or its connection takes no more bytes, and else it is silent where it was so for too long; and
 -- else it goes on.
 abbrev pub IsEnding : {S : Type 0} → Kept → (Connection → Standing → Type 0) → Bool → Bounds → Client S → Option Ending → Type 0
@@ -37,7 +41,8 @@ IsEnding keeps stands busy bounds client (Some endings.Finished) =
 IsEnding keeps stands busy bounds client (Some endings.Silent) =
     IsWithin keeps bounds.limit client × (kept_for keeps client ≡ []) × (busy ≡ false) × (client.is_ending ≡ false)
     × stands (connection client) standings.Open × IsSilent bounds client
-IsEnding keeps stands busy bounds client (Some endings.Lost) = (client.is_broken ≡ true) ⊎ (bounds.limit < length (kept_for keeps client))
+IsEnding keeps stands busy bounds client (Some endings.Lost) =
+    (client.is_broken ≡ true) ⊎ ((bounds.limit < length (kept_for keeps client)) ⊎ ((0 < length (kept_for keeps client)) × IsStuck stands bounds client))
 
 -- A client that was let go, how it ended, and whether its connection was closed by that: else it took no room any more. And what answers before and
 -- behind that.

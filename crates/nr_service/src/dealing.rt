@@ -2,6 +2,8 @@
 ghost use Rattle.std.specs.Prelude.{◌≡◌, ◌∷◌, ◌++◌, [], Some, None};
 ghost use Rattle.nr_service.specs.Dealt.{Deals};
 
+use nr_blob::Memory;
+
 /// Whether the threads of a server go on, as the one that deals connections out is told.
 #[derive(Clone, Copy, Debug, PartialEq, Eq)]
 pub enum Ends {
@@ -11,6 +13,17 @@ pub enum Ends {
     InOrder,
     /// They end at once.
     AtOnce,
+}
+
+/// What became of a try to bring a node back that was down.
+#[derive(Clone, Copy, Debug, PartialEq, Eq)]
+pub enum Revival {
+    /// It is up again, with so many keys.
+    Back(u64),
+    /// There was no memory for a copy of another node's server.
+    Memory(Memory),
+    /// No node is up that could give one, or it is to be tried again.
+    NotYet,
 }
 
 /// Where connections come from, for the thread that deals them out to those that serve them: the lanes, numbered from 0 on.
@@ -52,6 +65,18 @@ pub trait Accepts {
 
     /// Hears that a node is down, by which so many of its connections are closed.
     fn hear_of_fall(&mut self, _: usize, _: usize)
+        ensures { dealt self.new ≡ dealt self.old }
+    {}
+
+    /// Whether it is time to try to bring a node back, which is down. It is asked behind each wait.
+    fn is_time_to_revive(&mut self, _: usize) -> bool
+        ensures { dealt self.new ≡ dealt self.old }
+    {
+        false
+    }
+
+    /// Hears what became of such a try.
+    fn hear_of_revival(&mut self, _: usize, _: Revival)
         ensures { dealt self.new ≡ dealt self.old }
     {}
 }

@@ -1,17 +1,20 @@
 // Letting go of the clients that are over.
 ghost use Rattle.std.specs.Prelude.{◌≡◌, ◌<◌, ◌↔◌, false, [], ◌∷◌, IsTrue, OnOk, OnErr, length};
-ghost use Rattle.nr_service.specs.Leaving.{IsEnding, LetsGo, LetsGoOne, Loses, parting};
+ghost use Rattle.nr_service.specs.Leaving.{IsEnding, IsStuck, LetsGo, LetsGoOne, Loses, parting};
 ghost use Rattle.nr_service.specs.Devices.{PartsWith};
 ghost use Rattle.nr_service.specs.Silence.{IsSilent};
 ghost use Rattle.nr_service.specs.Sweeps.{GoesOnAt, GoOn};
 
-use crate::answers::Answers;
+use crate::answers::{Answers, Standing};
 use crate::client::{Client, Ending};
 use crate::device::Device;
 use crate::reading::is_open;
 use crate::signs::Signs;
 use crate::stream::Stream;
 use nr_blob::Memory;
+
+/// After how many milliseconds without a byte a client is let go of where what answers it is down, and something waits for it.
+const STUCK_FOR: u64 = 1_000;
 
 /// By what clients are judged: how many bytes may wait for one, and, in milliseconds, for how long one may be silent, where that is bounded at all,
 /// and what the moment is.
@@ -30,12 +33,25 @@ fn is_silent<S>(client: &Client<S>, bounds: Bounds) -> bool
     bounds.timeout > 0 && bounds.timeout <= bounds.now.saturating_sub(client.heard)
 }
 
+// Whether what answers a client is down, and the client took no byte, and gave none, for a second.
+fn is_stuck<A: Answers, S>(answers: &A, client: &Client<S>, bounds: Bounds) -> bool
+    ensures { IsTrue result → IsStuck (A.stands answers.now) bounds client.now }
+{
+    if bounds.now.saturating_sub(client.heard) < STUCK_FOR {
+        return false;
+    }
+    answers.standing(client.conn) == Standing::Down
+}
+
 // How a client ends that is over, `None` where it is served further.
 fn ending_of<A: Answers, S>(answers: &A, client: &Client<S>, bounds: Bounds) -> Option<Ending>
     ensures { IsEnding (A.kept answers.now) (A.stands answers.now) (A.busy answers.now) bounds client.now result }
 {
     let waiting = answers.pending(client.conn).len();
     if client.is_broken || waiting > bounds.limit {
+        return Some(Ending::Lost);
+    }
+    if waiting > 0 && is_stuck(answers, client, bounds) {
         return Some(Ending::Lost);
     }
     if waiting > 0 || answers.is_busy() {

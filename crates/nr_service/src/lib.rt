@@ -4,7 +4,7 @@
 
 pub use answers::{Answers, Standing};
 pub use client::{Client, Ending};
-pub use dealing::{Accepts, Ends, Rings, Silent};
+pub use dealing::{Accepts, Ends, Revival, Rings, Silent};
 pub use device::{Device, Nowhere, Ready};
 pub use ended::Ended;
 pub use gate::{Gate, Go, Open};

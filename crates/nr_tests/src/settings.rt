@@ -8,11 +8,12 @@ use std::test::Fail;
 
 // Settings files. The settings are shown in the order of the struct, a fault by its line, with the reason behind
 // it where there is one: a range, or the line and the column.
-static FILES: [&str; 22] = [
-    "127.0.0.1:6379 2 1024 2 256 67108864 300 0 5||# all as it is\n|nodes = 2|tcp_keepalive = 300\ntimeout = 0\nshutdown_seconds = 5",
-    "[::]:1 1 2 1 1 1024 0 0 0|listen = \"[::]:1\"\nnodes = 1\nplaces = 2\nworkers = 1\nconnections = 1\nqueue_limit = 1024\ntcp_keepalive = 0\nshutdown_seconds = 0|listen = ['[::]:1']\nnodes = 1\nplaces = 2\nworkers = 1\nconnections = 1\nqueue_limit = 1024\ntcp_keepalive = 0\nshutdown_seconds = 0",
-    "é 8 65536 16 1024 1073741824 86400 2147483 3600|queue_limit = 1_073_741_824\nconnections = 1024\r\nworkers = 0x10\nplaces = +65536\nnodes = 8\nlisten = 'é'\ntcp_keepalive = 86_400\ntimeout = 2147483\nshutdown_seconds = 3600",
-    "a:1,unix:/b 2 1024 2 256 67108864 300 0 5|listen = ['a:1', 'unix:/b']",
+static FILES: [&str; 24] = [
+    "127.0.0.1:6379 2 1024 2 256 67108864 300 0 5 true||# all as it is\n|nodes = 2|tcp_keepalive = 300\ntimeout = 0\nshutdown_seconds = 5",
+    "[::]:1 1 2 1 1 1024 0 0 0 true|listen = \"[::]:1\"\nnodes = 1\nplaces = 2\nworkers = 1\nconnections = 1\nqueue_limit = 1024\ntcp_keepalive = 0\nshutdown_seconds = 0|listen = ['[::]:1']\nnodes = 1\nplaces = 2\nworkers = 1\nconnections = 1\nqueue_limit = 1024\ntcp_keepalive = 0\nshutdown_seconds = 0",
+    "é 8 65536 16 1024 1073741824 86400 2147483 3600 true|queue_limit = 1_073_741_824\nconnections = 1024\r\nworkers = 0x10\nplaces = +65536\nnodes = 8\nlisten = 'é'\ntcp_keepalive = 86_400\ntimeout = 2147483\nshutdown_seconds = 3600",
+    "a:1,unix:/b 2 1024 2 256 67108864 300 0 5 true|listen = ['a:1', 'unix:/b']",
+    "127.0.0.1:6379 2 1024 2 256 67108864 300 0 5 false|revive = false",
     "settings: bad value nodes\n  from 1 to 8|nodes = 0|nodes = 9|port = 1\nnodes = 0|nodes = \"2\"|nodes = 2.0|nodes = -1|nodes = 9223372036854775807|[nodes]|nodes.x = 1",
     "settings: bad value places\n  from 2 to 65536|places = 1|places = 65537|workers = 17\nplaces = 65537",
     "settings: bad value workers\n  from 1 to 16|workers = 0|workers = 17",
@@ -22,6 +23,7 @@ static FILES: [&str; 22] = [
     "settings: bad value tcp_keepalive\n  from 0 to 86400|tcp_keepalive = -1|tcp_keepalive = 86401",
     "settings: bad value timeout\n  from 0 to 2147483|timeout = -1|timeout = 2147484|tcp_keepalive = 0\ntimeout = true\nworkers = 0",
     "settings: bad value shutdown_seconds\n  from 0 to 3600|shutdown_seconds = 3601|shutdown_seconds = '5'",
+    "settings: bad value revive\n  true or false|revive = 1|revive = 'true'|revive = []|shutdown_seconds = -1\nrevive = \"no\"",
     "settings: unknown key port|port = 1|workers = 0\nport = 1\nnodes = 8",
     "settings: unknown key Nodes|Nodes = 1\nnodes = 9",
     "settings: unknown key server|[server]\nnodes = 1|server.nodes = 1",
@@ -48,9 +50,9 @@ static LINES: [&str; 8] = [
 
 // Words in the place of settings, behind a file that has nodes, workers and an address.
 static PLACED: [&str; 7] = [
-    "a:1,c:3 3 1024 4 256 67108864 300 7 5|",
-    "a:1,c:3 1 1024 4 256 67108864 300 7 5|--nodes 1|--nodes 01|--nodes +1",
-    "b:2 8 1024 16 1024 67108864 300 7 5|--listen b:2 --nodes 8 --workers 16 --connections 1024",
+    "a:1,c:3 3 1024 4 256 67108864 300 7 5 true|",
+    "a:1,c:3 1 1024 4 256 67108864 300 7 5 true|--nodes 1|--nodes 01|--nodes +1",
+    "b:2 8 1024 16 1024 67108864 300 7 5 true|--listen b:2 --nodes 8 --workers 16 --connections 1024",
     "settings: bad value nodes\n  from 1 to 8|--nodes 0|--nodes 9|--nodes two|--nodes 2.0|--nodes=-1|--nodes=|--nodes 18446744073709551617|--workers 17 --nodes 9",
     "settings: bad value workers\n  from 1 to 16|--workers 0|--nodes 2 --workers 17",
     "settings: bad value connections\n  from 1 to 1024|--connections 1025|--nodes 9 --workers 0 --connections 0",
@@ -79,8 +81,8 @@ fn settings(alloc: Global, read: Result<Settings, ConfigError>) -> Result<String
                 s.nodes, s.places, s.workers, s.connections, s.queue_limit
             )?;
             Ok(format!(in alloc;
-                "{listen} {size} {keepalive} {timeout} {}",
-                s.shutdown_seconds
+                "{listen} {size} {keepalive} {timeout} {} {}",
+                s.shutdown_seconds, s.revive
             )?)
         }
         Err(error) => Ok(format!(in alloc; "{error}")?),

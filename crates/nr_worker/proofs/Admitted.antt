@@ -23,7 +23,7 @@ use Rattle.nr_seats.specs.Seated.{SeatState, fresh_seat}
 use Rattle.nr_seats.specs.Placed.{IsPut, SeatsState, seat_at}
 use Rattle.nr_seats.specs.Portions.{EachSeat, seat_of}
 use Rattle.nr_seats.proofs.Putting.{each_put, named, seat_here, seat_others}
-use Rattle.nr_worker.specs.Desk.{AllPosted, DeskState, IsAskedBy, IsLed, Served, asked_of}
+use Rattle.nr_worker.specs.Desk.{AllPosted, DeskState, IsAskedBy, IsLed, Served, all_asked}
 use Rattle.nr_worker.specs.Moves.{HaveGot, Opens, Turns}
 use Rattle.nr_worker.specs.Working.{AreAccountedFor, AreApart, Goes, IsBelow, IsSeatOf, IsSeated, IsServed, IsToPost, LeadsTo, MayHaveClosed, OpensAt, Reflects, WorkState, connections_of, one_opened, unchanged}
 use Rattle.nr_worker.proofs.Batched.{closed_too, stays}
@@ -32,7 +32,7 @@ use Rattle.nr_worker.proofs.Lists.{all_at, all_weaker, posted_weaker}
 use Rattle.nr_worker.proofs.Nourished.{false_differs}
 
 abbrev new_one : Connection → Served
-new_one c = record { connection = c; fed = []; closing = None; handed = [] }
+new_one c = record { connection = c; fed = []; closing = None; handed = []; ends = [] }
 
 -- at first
 fresh_is : (c : Connection) → IsSeatOf (fresh_seat c) (new_one c)
@@ -40,6 +40,7 @@ fresh_is c =
     let s = sessions.fresh_session 0 0 c in
     record {
       unclosed = refl;
+      live = refl;
       handed = refl;
       own = refl;
       session = λ uncut. record { mode = s.mode; ended = s.ended; next = s.next; rest = s.rest };
@@ -97,7 +98,7 @@ module _ (v : WorkState) (desk : Desk) (seats : SeatsState) (mark : Option Stand
   to_post_still : (job : Item) → IsToPost d.served job → IsToPost served job
   to_post_still job t = record {
     known = known_still d.served (new_one c) job.connection t.known;
-    asked = All-append (λ (y : Served). job.connection ≡ y.connection → Contains (asked_of y) job) d.served (new_one c ∷ []) t.asked
+    asked = All-append (λ (y : Served). job.connection ≡ y.connection → Contains (all_asked y) job) d.served (new_one c ∷ []) t.asked
         (λ same. absurd (all_at (λ (x : Served). x.connection ≢ c) d.served t.known.one new t.known.there (t.known.connection ∙ same)), tt);
   }
 
@@ -186,7 +187,7 @@ opened_goes v desk seats mark conn s is later knows sound adopted met put =
           (subst (λ (m : Option Standing). Adopts m s mark) (sym r.mark) adopted) (subst (λ (m : Option Standing). HaveMet m (Some s)) (sym r.mark) met);
     })
 
-none_there : (o : Option SeatState) → is_some o ≡ false → o ≡ None
+pub none_there : (o : Option SeatState) → is_some o ≡ false → o ≡ None
 none_there None absent = refl
 none_there (Some s) absent = absurd (cc absent)
 
@@ -218,7 +219,7 @@ got_none [] = tt
 got_none (x ∷ xs) = (inl refl, got_none xs)
 
 -- what was heard, and the mark that adopted the token, stand for the same worker of the law
-heard_goes : (v : WorkState) (desk : Desk) (mark : Option Standing) (s : Standing) → Knows v.worker.seat.worker desk s v.worker.seat.lane
+pub heard_goes : (v : WorkState) (desk : Desk) (mark : Option Standing) (s : Standing) → Knows v.worker.seat.worker desk s v.worker.seat.lane
     → IsSound s × (s.node ≡ v.worker.node) → Adopts v.mark s mark → HaveMet v.mark (Some s)
     → Goes unchanged v (record v { worker = told_of desk v.worker; mark = mark })
 heard_goes v desk mark s knows sound adopted met = record {

@@ -73,7 +73,7 @@ pub written_by : (v u : WorkState) (seats : SeatsState) (serial count : ℕ) →
     → IsPut serial (option_map (with_written count) (seat_at serial u.seats)) u.seats seats → Goes unchanged v (record u { seats = seats })
 written_by v u seats serial count =
     altered_by (with_written count)
-    (λ s x is. record { unclosed = is.unclosed; handed = is.handed; own = is.own; session = is.session; counted = is.counted; few = is.few })
+    (λ s x is. record { unclosed = is.unclosed; live = is.live; handed = is.handed; own = is.own; session = is.session; counted = is.counted; few = is.few })
     (λ s. refl) (λ s takes. takes) v u seats serial
 
 pub stopped_by : (v u : WorkState) (seats : SeatsState) (serial : ℕ) → u ≡ v
@@ -82,6 +82,7 @@ stopped_by =
     altered_by cut_off
     (λ s x is. record {
       unclosed = is.unclosed;
+      live = is.live;
       handed = is.handed;
       own = is.own;
       session = λ takes. absurd (cc takes);

@@ -27,10 +27,11 @@ use Rattle.nr_worker.proofs.Apart.{serve_apart, split}
 use Rattle.nr_worker.proofs.Lists.{no_front, all_own, all_weaker, are_asked, posted_at}
 
 -- each item of a connection in a record comes from what the connection asked for
-comes_from : (d : DeskState) (x : Served) (job : Item) → IsServedAt d x → job.connection ≡ x.connection → IsPosted d.posted job → ComesFrom job (asked_of x)
+comes_from : (d : DeskState) (x : Served) (job : Item) (k : IsServedAt d x) → job.connection ≡ x.connection → IsPosted k.before job → ComesFrom job (asked_of x)
 comes_from d x job k own p = record {
   item = p.has.item;
-  there = posted_at (λ (j : Item). j.connection ≡ x.connection → Contains (asked_of x) j) d.posted p.batch p.has.item k.posted p.there p.has.there (p.has.connection ∙ own);
+  there = posted_at (λ (j : Item). j.connection ≡ x.connection → Contains (asked_of x) j) k.before p.batch p.has.item k.posted p.there p.has.there
+      (p.has.connection ∙ own);
   connection = p.has.connection;
   number = p.has.number;
   deed = p.has.deed;
@@ -50,8 +51,9 @@ AreNumbered taken = (node : ℕ) → AreRising node (sequence_of taken)
 
 -- by a mark
 answered_by : (taken : List Taken) (d : DeskState) (x : Served) (s : Standing) (history : List Turn) → AreRun taken → AreNumbered taken
-    → IsExplainedBy taken s → IsSound s → s.node ≡ d.node → IsServedAt d x → IsBeginningOf history s.history → IsBeginningOf x.handed (emitted_for x.connection (record_of history))
-    → ArePosted d.posted x.connection (record_of history) → IsAnswered taken x
+    → IsExplainedBy taken s → IsSound s → s.node ≡ d.node → (k : IsServedAt d x) → IsBeginningOf history s.history
+    → IsBeginningOf x.handed (emitted_for x.connection (record_of history))
+    → ArePosted k.before x.connection (record_of history) → IsAnswered taken x
 answered_by taken d x s history run rising explained sound node k kept begins jobs =
     let c = x.connection in
     let done = record_of history in
@@ -76,7 +78,7 @@ answered_by taken d x s history run rising explained sound node k kept begins jo
       first = subst (IsBeginningOf (own_jobs c done)) (own_in_part c applied taken run none) (begins_filter own done (part_from c.node applied taken) part);
       asked = are_asked 0 (length (numbers_in c done)) (own_jobs c done) (asked_of x) counts k.counted
           (all_own (λ (job : Item). ComesFrom job (asked_of x)) c done
-          (all_weaker (λ (job : Item). job.connection ≡ c → IsPosted d.posted job) (λ (job : Item). job.connection ≡ c → ComesFrom job (asked_of x))
+          (all_weaker (λ (job : Item). job.connection ≡ c → IsPosted k.before job) (λ (job : Item). job.connection ≡ c → ComesFrom job (asked_of x))
           (λ job p is. comes_from d x job k is (p is)) done jobs));
     }
 

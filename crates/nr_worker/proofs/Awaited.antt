@@ -15,11 +15,12 @@ use Rattle.nr_slots.specs.Names.{IsBackOf}
 use Rattle.nr_combiner.specs.Workers.{HasCollected, WorkerState}
 use Rattle.nr_combiner.specs.declared.worker.TheConstants.{MOST_JOBS}
 use Rattle.nr_seats.specs.Portions.{EachSeat}
-use Rattle.nr_worker.specs.Desk.{AllPosted, DeskState, IsAskedBy, IsLed, IsServedAt, Served, asked_of}
+use Rattle.nr_worker.specs.Desk.{AllPosted, DeskState, IsAskedBy, IsLed, IsServedAt, Served, all_asked}
 use Rattle.nr_worker.specs.Settling.{AreOfBatches, IsOfBatch, back_of, down_of, late_of, left_of, settled_work}
 use Rattle.nr_worker.specs.Working.{AreAccountedFor, Goes, IsAccountedFor, IsBelow, IsSeated, IsToPost, WorkState, unchanged}
 use Rattle.nr_worker.proofs.Accounted.{accounted_settled}
 use Rattle.nr_worker.proofs.Batched.{goes_nowhere, late_too}
+use Rattle.nr_worker.proofs.Desks.{posted_any}
 use Rattle.nr_worker.proofs.Lists.{all_weaker, posted_at}
 use Rattle.nr_worker.proofs.Portioned.{all_of}
 
@@ -29,8 +30,10 @@ to_post_again d led job of =
     let by = posted_at (IsAskedBy d.served) d.posted of.batch job led.known of.there of.has in
     record {
       known = record { one = by.one; there = by.there; connection = by.connection };
-      asked = all_weaker (IsServedAt d) (λ (x : Served). job.connection ≡ x.connection → Contains (asked_of x) job)
-          (λ x at same. posted_at (λ (j : Item). j.connection ≡ x.connection → Contains (asked_of x) j) d.posted of.batch job at.posted of.there of.has same) d.served led.each;
+      asked = all_weaker (IsServedAt d) (λ (x : Served). job.connection ≡ x.connection → Contains (all_asked x) job)
+          (λ x at same.
+          posted_at (λ (j : Item). j.connection ≡ x.connection → Contains (all_asked x) j) d.posted of.batch job (posted_any d x at) of.there
+          of.has same) d.served led.each;
     }
 
 goes_settled : (v : WorkState) (worker : WorkerState) (back left : List Job) (down : Bool) → worker.node ≡ v.worker.node
@@ -112,7 +115,7 @@ collected_goes outcome v worker c =
     accounted_settled v.worker.seat.lane worker.seat.lane c.answer c.last (ap (λ (w : WorkerState). w.seat.lane.posted) c.collected)
     (ap (λ (w : WorkerState). w.seat.lane.collected) c.collected) e n MOST_JOBS outcome v.down v.jobs c.says))
 
-none_left : {A : Type 0} (xs : List A) → length xs ≡ 0 → xs ≡ []
+pub none_left : {A : Type 0} (xs : List A) → length xs ≡ 0 → xs ≡ []
 none_left [] none = refl
 none_left (x ∷ xs) none = absurd (cc none)
 

@@ -13,7 +13,7 @@ use Rattle.nr_slots.specs.Seats.{with_posted}
 use Rattle.nr_combiner.specs.Counts.{next_generation}
 use Rattle.nr_combiner.specs.Workers.{HasPosted, WorkerState, with_more}
 use Rattle.nr_combiner.specs.Workers as workers
-use Rattle.nr_worker.specs.Desk.{DeskState, IsLed, Served, asked_of}
+use Rattle.nr_worker.specs.Desk.{DeskState, IsLed, Served, all_asked}
 use Rattle.nr_worker.specs.Law.{GoesTo}
 use Rattle.nr_worker.specs.Moves.{Posts}
 use Rattle.nr_worker.specs.Working.{Goes, IsBelow, IsToPost, LeadsTo, Reflects, WorkState, unchanged}
@@ -86,7 +86,7 @@ for_each R (x ∷ xs) ys all = (
 )
 
 abbrev AsksFor : Served → Item → Type 0
-AsksFor x job = job.connection ≡ x.connection → Contains (asked_of x) job
+AsksFor x job = job.connection ≡ x.connection → Contains (all_asked x) job
 
 -- jobs that were asked for may be posted
 may_post : (d : DeskState) (batch : Batch) → AllByRecursion (IsToPost d.served) (items_of batch.jobs.items)

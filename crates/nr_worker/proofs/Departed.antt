@@ -4,7 +4,7 @@ use Rattle.std.specs.Prelude.{◌≢◌, option_to_list}
 use Rattle.std.specs.List.{AllByRecursion}
 use Rattle.std.specs.Option.{option_map}
 use Rattle.std.proofs.lemmas.List.{take-append-drop}
-use Rattle.std.proofs.lemmas.List.Elements.{Contains-append_left}
+use Rattle.std.proofs.lemmas.List.Elements.{Contains-append_cases, Contains-append_left, Contains-append_right}
 use Rattle.nr_model.specs.Items.{Connection, End, Item, same_connection}
 use Rattle.nr_model.specs.Entries.{Jobs}
 use Rattle.nr_model.specs.Asked.{cut_by, jobs_of_feeds}
@@ -20,12 +20,12 @@ use Rattle.nr_seats.specs.Placed.{IsPut, SeatsState, closed_seen, seat_at}
 use Rattle.nr_seats.specs.Portions.{EachSeat, seat_of}
 use Rattle.nr_seats.specs.declared.seats.Closed.{Closed}
 use Rattle.nr_seats.proofs.Putting.{each_put, named, seat_here, seat_others}
-use Rattle.nr_worker.specs.Desk.{AllPosted, CountsFrom, DeskState, IsLed, IsServedAt, Served, asked_of}
+use Rattle.nr_worker.specs.Desk.{AllPosted, CountsFrom, DeskState, IsLed, IsServedAt, Served, all_asked, asked_of}
 use Rattle.nr_worker.specs.Moves.{Asks}
 use Rattle.nr_worker.specs.Working.{AreAccountedFor, AreApart, Closes, Goes, IsAccountedFor, IsBelow, IsSeatOf, IsSeated, IsToPost, LeadsTo, Reflects, WorkState, all_closed, closed_with, connections_of, last_here, last_seen}
 use Rattle.nr_worker.proofs.Accounted.{accounted_more}
 use Rattle.nr_worker.proofs.Batched.{closed_too, goes_nowhere, late_too}
-use Rattle.nr_worker.proofs.Desks.{asked_led}
+use Rattle.nr_worker.proofs.Desks.{asked_led, posted_live}
 use Rattle.nr_worker.proofs.Lists.{above, all_at, all_both, all_weaker, posted_both, posted_weaker}
 use Rattle.nr_worker.proofs.Nourished.{behind, counts_both, differ_false, false_differs, one_changes, parts_of}
 use Rattle.nr_worker.proofs.Portioned.{all_map, all_of, known_more, same_connections}
@@ -135,14 +135,22 @@ module _ (v : WorkState) (seats : SeatsState) (jobs : List Job) (serial moment :
         | false ↦ λ other. subst (λ (y : Served). Contains (asked_of y) j) (sym (other_stays x other)) has
       ] refl
 
+  -- also among its ends
+  had_any : (x : Served) → Contains d.served x → (j : Item) → (x.connection ≡ c → j.number < was.session.next) → Contains (all_asked x) j
+      → Contains (all_asked (change x)) j
+  had_any x within j below has = elim (Contains-append_cases (asked_of x) x.ends j has) [
+    | inl asked ↦ Contains-append_left (asked_of (change x)) x.ends j (had_each x within j below asked)
+    | inr end ↦ Contains-append_right (asked_of (change x)) x.ends j end
+  ]
+
   old_to_post : (j : Item) → IsToPost d.served j × (j.connection ≡ c → j.number < was.session.next) → IsToPost (map change d.served) j
   old_to_post j (t, below) = record {
     known = known_more change (λ x. refl) d.served j.connection t.known;
-    asked = all_map (λ (y : Served). j.connection ≡ y.connection → Contains (asked_of y) j) change d.served
-        (all_of (λ (x : Served). j.connection ≡ x.connection → Contains (asked_of (change x)) j) d.served
+    asked = all_map (λ (y : Served). j.connection ≡ y.connection → Contains (all_asked y) j) change d.served
+        (all_of (λ (x : Served). j.connection ≡ x.connection → Contains (all_asked (change x)) j) d.served
         (λ x within same.
-        had_each x within j (λ mine. below (same ∙ mine))
-        (all_at (λ (y : Served). j.connection ≡ y.connection → Contains (asked_of y) j) d.served x t.asked within same)));
+        had_any x within j (λ mine. below (same ∙ mine))
+        (all_at (λ (y : Served). j.connection ≡ y.connection → Contains (all_asked y) j) d.served x t.asked within same)));
   }
 
   last_to_post : IsToPost (map change d.served) job
@@ -150,9 +158,9 @@ module _ (v : WorkState) (seats : SeatsState) (jobs : List Job) (serial moment :
       let k = at_seat.known in
       record {
         known = known_more change (λ x. refl) d.served job.connection (record { one = k.one; there = k.there; connection = k.connection ∙ sym job_own });
-        asked = all_map (λ (y : Served). job.connection ≡ y.connection → Contains (asked_of y) job) change d.served
-            (all_of (λ (x : Served). job.connection ≡ x.connection → Contains (asked_of (change x)) job) d.served
-            (λ x within same. has_last moment was x (seat_at_own x within (sym same ∙ job_own))));
+        asked = all_map (λ (y : Served). job.connection ≡ y.connection → Contains (all_asked y) job) change d.served
+            (all_of (λ (x : Served). job.connection ≡ x.connection → Contains (all_asked (change x)) job) d.served
+            (λ x within same. Contains-append_left (asked_of (change x)) x.ends job (has_last moment was x (seat_at_own x within (sym same ∙ job_own)))));
       }
 
   no_seat : (P : SeatState → Type 0) (t : SeatState) → seat_of v.worker.node seats c ≡ Some t → P t
@@ -209,11 +217,13 @@ module _ (v : WorkState) (seats : SeatsState) (jobs : List Job) (serial moment :
         one = one;
         back = split.1;
         there = split.2;
+        live = seat.live;
         counted = subst (λ (y : Served). CountsFrom 0 (asked_of y)) is_new (counts_so moment was one seat at.counted);
         posted = posted_weaker (λ (j : Item). Asked j × Below j) (λ (j : Item). j.connection ≡ one.connection → Contains (asked_of new) j)
             (λ j both mine.
             subst (λ (y : Served). Contains (asked_of y) j) is_new
-            (had_each one k.there j (λ same. both.1 (mine ∙ k.connection)) (both.0 mine))) d.posted (posted_both Asked Below d.posted at.posted below);
+            (had_each one k.there j (λ same. both.1 (mine ∙ k.connection)) (both.0 mine))) d.posted
+            (posted_both Asked Below d.posted (posted_live d one at seat.live) below);
         changed = ap (λ (l : List Served). record d { served = l })
             (ap (map change) split.2
             ∙ one_changes change one (λ y differs. stay y (λ same. differs (same ∙ sym k.connection))) split.0 split.1 apart

@@ -1,17 +1,17 @@
 -- What holds of a worker goes on to hold, whatever step it takes.
-use Rattle.std.proofs.Common.{◌≡◌, ℕ, Bool, ◌+◌, ◌<◌, inl, inr, List, [], ◌∷◌, ◌++◌, length, drop, get_or, Contains, Option, Some, None, refl, ap, sym, ◌∙◌, subst, arith}
+use Rattle.std.proofs.Common.{◌≡◌, ℕ, Bool, true, false, cond, ◌<◌, inl, inr, List, [], ◌∷◌, ◌++◌, map, length, drop, get_or, Contains, Option, Some, None, refl, ap, sym, ◌∙◌, subst, arith, append_assoc}
 use Rattle.std.specs.Prelude.{◌≢◌, IfSome}
 use Rattle.std.specs.List.{AllByRecursion}
 use Rattle.std.proofs.lemmas.List.{append-nil, get_or_append_left, length-append}
 use Rattle.std.proofs.lemmas.List.Elements.{Contains-append_cases, Contains-append_left, Contains-append_right}
 use Rattle.nr_model.specs.Bytes.{Bytes, IsBeginningOf}
-use Rattle.nr_model.specs.Items.{Connection, Item, Sequence}
+use Rattle.nr_model.specs.Items.{Connection, Item, Sequence, same_connection}
 use Rattle.nr_model.specs.Connections.{Feeding}
 use Rattle.nr_model.specs.Entries.{Jobs}
 use Rattle.nr_model.specs.Sequential.{emitted_for}
 use Rattle.nr_model.proofs.JobLists.{All-append}
 use Rattle.nr_model.proofs.NodesExecutedGrows.{begins_flat_map}
-use Rattle.nr_model.proofs.NodesExecutedLists.{first_in, in_cases, in_middle, later_in}
+use Rattle.nr_model.proofs.NodesExecutedLists.{first_in, in_cases, in_middle, later_in, some_in}
 use Rattle.nr_model.proofs.NodesPartsEmitted.{begins_on, none_begins}
 use Rattle.nr_entry.specs.Jobs.{connection_of, items_of}
 use Rattle.nr_entry.specs.declared.batch.Answer.{Answer}
@@ -32,9 +32,9 @@ use Rattle.nr_taps.specs.Marks.{Adopts}
 use Rattle.nr_taps.specs.Taps.{HaveMet}
 use Rattle.nr_taps.proofs.Explains.{begins_emitted}
 use Rattle.nr_taps.proofs.Marks.{adopts_begins, adopts_has, history_in, still_sound}
-use Rattle.nr_worker.specs.Desk.{AllPosted, ArePosted, asked_of, DeskState, HasItsOwn, IsAskedBy, IsHandedOut, IsLed, IsOpenedFor, IsPosted, IsServedAt, Served, history_of}
+use Rattle.nr_worker.specs.Desk.{AllPosted, all_asked, ArePosted, asked_of, DeskState, HasItsOwn, IsAskedBy, IsHandedOut, IsLed, IsOpenedFor, IsPosted, IsServedAt, Served, history_of}
 use Rattle.nr_worker.specs.Law.{GoesTo}
-use Rattle.nr_worker.specs.Moves.{Asks, HasGot, HaveGot, Opens, Posts, Turns, fresh_desk}
+use Rattle.nr_worker.specs.Moves.{Asks, Ends, HasGot, HaveGot, Opens, Posts, Turns, ended_with, fresh_desk}
 use Rattle.nr_worker.proofs.Lists.{no_front, all_at, all_both, all_weaker, piece_on, posted_both, posted_weaker}
 
 pub fresh_led : (node worker : ℕ) → IsLed (fresh_desk node worker)
@@ -148,15 +148,47 @@ module _ (d : DeskState) (s : Standing) (now : Option Standing) (led : IsLed d) 
   goes_now e node worker mark =
       record { node = node; worker = worker; mark = subst (λ (m : Option Standing). IsBeginningOf (history_of d.mark) (history_of m)) (sym mark) marks_begin.0 }
 
+-- Of a connection that got no end all that was posted counts.
+all_before : (d : DeskState) (x : Served) (k : IsServedAt d x) → x.ends ≡ [] → k.before ≡ d.posted
+all_before d x k none = sym (k.split ∙ ap (λ (bs : List Batch). k.before ++ bs) (k.live none) ∙ append-nil k.before)
+
+handed_before : (d : DeskState) (x : Served) → IsServedAt d x → x.ends ≡ [] → IsHandedOut d.mark d.posted x.connection x.handed
+handed_before d x k none = subst (λ (bs : List Batch). IsHandedOut d.mark bs x.connection x.handed) (all_before d x k none) k.handed
+
+-- so each job that was posted is one that it asked for
+pub posted_live : (d : DeskState) (x : Served) (k : IsServedAt d x) → x.ends ≡ []
+    → AllPosted (λ (job : Item). job.connection ≡ x.connection → Contains (asked_of x) job) d.posted
+posted_live d x k none = subst (AllPosted (λ (job : Item). job.connection ≡ x.connection → Contains (asked_of x) job)) (all_before d x k none) k.posted
+
+-- of any it is one that it asked for, or an end
+pub posted_any : (d : DeskState) (x : Served) → IsServedAt d x → AllPosted (λ (job : Item). job.connection ≡ x.connection → Contains (all_asked x) job) d.posted
+posted_any d x k =
+    let asked = λ (job : Item). job.connection ≡ x.connection → Contains (asked_of x) job in
+    let any = λ (job : Item). job.connection ≡ x.connection → Contains (all_asked x) job in
+    subst (AllPosted any) (sym k.split)
+    (All-append (λ (batch : Batch). AllByRecursion any (items_of batch.jobs.items)) k.before k.after
+    (posted_weaker asked any (λ job asks same. Contains-append_left (asked_of x) x.ends job (asks same)) k.before k.posted) k.later)
+
 -- ---- a connection is opened
 abbrev no_jobs : Jobs
 no_jobs = []
 
 still_at : (d : DeskState) (served : List Served) (y : Served) → IsServedAt d y → IsServedAt (record d { served = served }) y
-still_at d served y s = record { node = s.node; opened = s.opened; counted = s.counted; posted = s.posted; handed = s.handed }
+still_at d served y s = record {
+  node = s.node;
+  opened = s.opened;
+  counted = s.counted;
+  before = s.before;
+  after = s.after;
+  split = s.split;
+  live = s.live;
+  posted = s.posted;
+  later = s.later;
+  handed = s.handed;
+}
 
 abbrev new_one : Connection → Served
-new_one c = record { connection = c; fed = []; closing = None; handed = [] }
+new_one c = record { connection = c; fed = []; closing = None; handed = []; ends = [] }
 
 none_asked : (served : List Served) (c : Connection) (job : Item) → AllByRecursion (λ (x : Served). x.connection ≢ c) served → IsAskedBy served job → job.connection ≡ c
     → Contains no_jobs job
@@ -183,8 +215,13 @@ module _ (c : Connection) (s : Standing) (lane : Lane) (d e : DeskState) (led : 
     node = k.node;
     opened = opened_on d.mark e.mark d.node d.worker y.connection led.sound sound_then first.0 k.opened;
     counted = k.counted;
+    before = k.before;
+    after = k.after;
+    split = k.split;
+    live = k.live;
     posted = k.posted;
-    handed = marked_on d.mark e.mark d.posted y.connection y.handed first.0 k.handed;
+    later = k.later;
+    handed = marked_on d.mark e.mark k.before y.connection y.handed first.0 k.handed;
   }
 
   pub opened_led : IsLed e × GoesTo d e
@@ -199,7 +236,12 @@ module _ (c : Connection) (s : Standing) (lane : Lane) (d e : DeskState) (led : 
           node = o.serves.node ∙ o.sound.1;
           opened = opened_for e.mark d.node d.worker c s sound_then o.sound.1 first.1 o.serves;
           counted = tt;
+          before = d.posted;
+          after = [];
+          split = sym (append-nil d.posted);
+          live = λ _. refl;
           posted = posted_weaker (IsAskedBy d.served) (λ (job : Item). job.connection ≡ c → Contains no_jobs job) (λ job by. none_asked d.served c job o.new by) d.posted led.known;
+          later = tt;
           handed = record { history = []; kept = none_begins (history_of e.mark); begins = none_begins (emitted_for c (record_of [])); jobs = tt };
         },
         tt,
@@ -217,7 +259,7 @@ asked_there front back one now job named (by, own) =
       | inr after ↦ elim (in_cases by.one one back after) [
         | inl is ↦
             let same : one.connection ≡ job.connection = ap (λ (x : Served). x.connection) is ∙ by.connection in
-            record { one = now; there = in_middle now front back; connection = named ∙ same; asked = own (sym same) }
+            record { one = now; there = in_middle now front back; connection = named ∙ same; asked = Contains-append_left (asked_of now) now.ends job (own (sym same)) }
         | inr behind ↦ record {
           one = by.one;
           there = Contains-append_right front (now ∷ back) by.one (later_in by.one now back behind);
@@ -244,7 +286,18 @@ asked_led fed closing d e led a =
             (λ job. asked_there a.front a.back a.one now job refl) d.posted known;
         each = All-append (IsServedAt f) a.front (now ∷ a.back)
             (all_weaker (IsServedAt d) (IsServedAt f) (still_at d served) a.front (all_front (IsServedAt d) a.front (a.one ∷ a.back) each)) (
-              record { node = here.node; opened = here.opened; counted = a.counted; posted = a.posted; handed = here.handed },
+              record {
+                node = here.node;
+                opened = here.opened;
+                counted = a.counted;
+                before = d.posted;
+                after = [];
+                split = sym (append-nil d.posted);
+                live = λ _. refl;
+                posted = a.posted;
+                later = tt;
+                handed = handed_before d a.one here a.live;
+              },
               all_weaker (IsServedAt d) (IsServedAt f) (still_at d served) a.back (all_back (IsServedAt d) a.front (a.one ∷ a.back) each).1,
             );
       },
@@ -264,35 +317,64 @@ own_posted : (d : DeskState) (batch : Batch) (mark : Option Standing) → IfSome
 own_posted d batch None own = tt
 own_posted d batch (Some s) own = λ c serves. all_posted_on d.posted batch c (record_of s.history) (own c serves)
 
-served_posted : (d : DeskState) (batch : Batch) (x : Served) → IsServedAt d x
-    × AllByRecursion (λ (job : Item). job.connection ≡ x.connection → Contains (asked_of x) job) (items_of batch.jobs.items)
+-- a connection with ends gets no more, and one with none goes on
+posted_by : (d : DeskState) (batch : Batch) (x : Served) (ends : List Item) → x.ends ≡ ends → IsServedAt d x
+    → AllByRecursion (λ (job : Item). job.connection ≡ x.connection → Contains (asked_of x ++ ends) job) (items_of batch.jobs.items)
     → IsServedAt (record d { posted = d.posted ++ batch ∷ [] }) x
-served_posted d batch x (s, new) = record {
-  node = s.node;
-  opened = s.opened;
-  counted = s.counted;
-  posted = All-append (λ (b : Batch). AllByRecursion (λ (job : Item). job.connection ≡ x.connection → Contains (asked_of x) job) (items_of b.jobs.items)) d.posted (batch ∷ [])
-      s.posted (new, tt);
-  handed = record {
-    history = s.handed.history;
-    kept = s.handed.kept;
-    begins = s.handed.begins;
-    jobs = all_posted_on d.posted batch x.connection (record_of s.handed.history) s.handed.jobs;
-  };
-}
+posted_by d batch x [] is k new =
+    let asked = λ (job : Item). job.connection ≡ x.connection → Contains (asked_of x) job in
+    let h = handed_before d x k is in
+    record {
+      node = k.node;
+      opened = k.opened;
+      counted = k.counted;
+      before = d.posted ++ batch ∷ [];
+      after = [];
+      split = sym (append-nil (d.posted ++ batch ∷ []));
+      live = λ _. refl;
+      posted = All-append (λ (b : Batch). AllByRecursion asked (items_of b.jobs.items)) d.posted (batch ∷ []) (posted_live d x k is) (
+        subst (λ (js : Jobs). AllByRecursion (λ (job : Item). job.connection ≡ x.connection → Contains js job) (items_of batch.jobs.items)) (append-nil (asked_of x)) new,
+        tt,
+      );
+      later = tt;
+      handed = record { history = h.history; kept = h.kept; begins = h.begins; jobs = all_posted_on d.posted batch x.connection (record_of h.history) h.jobs };
+    }
+posted_by d batch x (end ∷ ends) is k new =
+    let asked = λ (job : Item). job.connection ≡ x.connection → Contains (all_asked x) job in
+    record {
+      node = k.node;
+      opened = k.opened;
+      counted = k.counted;
+      before = k.before;
+      after = k.after ++ batch ∷ [];
+      split = ap (λ (bs : List Batch). bs ++ batch ∷ []) k.split ∙ append_assoc k.before k.after (batch ∷ []);
+      live = λ none. absurd (cc (sym none ∙ is));
+      posted = k.posted;
+      later = All-append (λ (b : Batch). AllByRecursion asked (items_of b.jobs.items)) k.after (batch ∷ []) k.later (
+        subst (λ (es : List Item). AllByRecursion (λ (job : Item). job.connection ≡ x.connection → Contains (asked_of x ++ es) job) (items_of batch.jobs.items)) (sym is) new,
+        tt,
+      );
+      handed = k.handed;
+    }
 
-known_jobs : (served : List Served) (all jobs : Jobs) → AllByRecursion (λ (x : Served). AllByRecursion (λ (job : Item). job.connection ≡ x.connection → Contains (asked_of x) job) all) served
+served_posted : (d : DeskState) (batch : Batch) (x : Served) → IsServedAt d x
+    × AllByRecursion (λ (job : Item). job.connection ≡ x.connection → Contains (all_asked x) job) (items_of batch.jobs.items)
+    → IsServedAt (record d { posted = d.posted ++ batch ∷ [] }) x
+served_posted d batch x (k, new) = posted_by d batch x x.ends refl k new
+
+known_jobs : (served : List Served) (all jobs : Jobs)
+    → AllByRecursion (λ (x : Served). AllByRecursion (λ (job : Item). job.connection ≡ x.connection → Contains (all_asked x) job) all) served
     → AllByRecursion (λ (job : Item). Contains all job) jobs
     → AllByRecursion (λ (job : Item). (x : Served) × Contains served x × (x.connection ≡ job.connection)) jobs → AllByRecursion (IsAskedBy served) jobs
 known_jobs served all [] asked within known = tt
 known_jobs served all (job ∷ jobs) asked within known =
     let x = known.0.0 in
-    let mine = all_at (λ (y : Served). AllByRecursion (λ (j : Item). j.connection ≡ y.connection → Contains (asked_of y) j) all) served x asked known.0.1 in (
+    let mine = all_at (λ (y : Served). AllByRecursion (λ (j : Item). j.connection ≡ y.connection → Contains (all_asked y) j) all) served x asked known.0.1 in (
       record {
         one = x;
         there = known.0.1;
         connection = known.0.2;
-        asked = all_at (λ (j : Item). j.connection ≡ x.connection → Contains (asked_of x) j) all job mine within.0 (sym known.0.2);
+        asked = all_at (λ (j : Item). j.connection ≡ x.connection → Contains (all_asked x) j) all job mine within.0 (sym known.0.2);
       },
       known_jobs served all jobs asked within.1 known.1,
     )
@@ -301,14 +383,14 @@ each_there : (front jobs : Jobs) → AllByRecursion (λ (job : Item). Contains (
 each_there front [] = tt
 each_there front (job ∷ jobs) = (
   in_middle job front jobs,
-  subst (λ (all : Jobs). AllByRecursion (λ (j : Item). Contains all j) jobs) (Rattle.std.proofs.Common.append_assoc front (job ∷ []) jobs) (each_there (front ++ job ∷ []) jobs),
+  subst (λ (all : Jobs). AllByRecursion (λ (j : Item). Contains all j) jobs) (append_assoc front (job ∷ []) jobs) (each_there (front ++ job ∷ []) jobs),
 )
 
 pub posted_led : (batch : Batch) (d e : DeskState) → IsLed d → Posts batch d e → IsLed e × GoesTo d e
 posted_led batch d e led p =
     let items = items_of batch.jobs.items in
     let f : DeskState = record d { posted = d.posted ++ batch ∷ [] } in
-    let new = λ (x : Served). AllByRecursion (λ (job : Item). job.connection ≡ x.connection → Contains (asked_of x) job) items in (
+    let new = λ (x : Served). AllByRecursion (λ (job : Item). job.connection ≡ x.connection → Contains (all_asked x) job) items in (
       subst IsLed (sym p.posted) record {
         sound = led.sound;
         own = own_posted d batch d.mark led.own;
@@ -323,18 +405,18 @@ posted_led batch d e led p =
 -- ---- a turn
 -- a connection asked for what it asked for
 got_there : (pieces : List Handed) (xs ys : List Served) (x : Served) → HaveGot pieces xs ys → Contains xs x
-    → (y : Served) × Contains ys y × (y.connection ≡ x.connection) × (asked_of y ≡ asked_of x)
-got_there pieces [] [] x got there = absurd (Rattle.nr_model.proofs.NodesExecutedLists.some_in [] x refl there)
+    → (y : Served) × Contains ys y × (y.connection ≡ x.connection) × (all_asked y ≡ all_asked x)
+got_there pieces [] [] x got there = absurd (some_in [] x refl there)
 got_there pieces [] (y ∷ ys) x got there = absurd got
 got_there pieces (a ∷ xs) [] x got there = absurd got
 got_there pieces (a ∷ xs) (y ∷ ys) x (here, more) there = elim (in_cases x a xs there) [
   | inl is ↦ elim here [
-    | inl same ↦ (y, first_in y ys, ap (λ (z : Served). z.connection) (same ∙ is), ap asked_of (same ∙ is))
-    | inr (one, in_pieces, named, from, got) ↦ (
+    | inl same ↦ (y, first_in y ys, ap (λ (z : Served). z.connection) (same ∙ is), ap all_asked (same ∙ is))
+    | inr (one, live, in_pieces, named, from, got) ↦ (
       y,
       first_in y ys,
       ap (λ (z : Served). z.connection) got ∙ ap (λ (z : Served). z.connection) is,
-      ap asked_of got ∙ ap asked_of is,
+      ap all_asked got ∙ ap all_asked is,
     )
   ]
   | inr behind ↦ let on = got_there pieces xs ys x more behind in (on.0, later_in on.0 y ys on.1, on.2, on.3)
@@ -375,10 +457,15 @@ module _ (most : ℕ) (down : Bool) (s : Standing) (lane : Lane) (old new : List
     node = k.node;
     opened = opened_on d.mark e.mark d.node d.worker x.connection led.sound sound_after begins.0 k.opened;
     counted = k.counted;
+    before = k.before;
+    after = k.after;
+    split = k.split;
+    live = k.live;
     posted = k.posted;
-    handed = marked_on d.mark e.mark d.posted x.connection x.handed begins.0 k.handed;
+    later = k.later;
+    handed = marked_on d.mark e.mark k.before x.connection x.handed begins.0 k.handed;
   }
-  served_on x y (inr (one, there, named, from, got)) k =
+  served_on x y (inr (one, live, there, named, from, got)) k =
       let added = t.heard.added in
       let piece = (all_at (λ (h : Handed). IsHandedOf most down h s) pieces one added.all there).piece in
       let jobs = handed_in d.posted lane.posted e.heard.answered (connection_of one.piece.conn) (record_of s.history) t.posted (all_at _ pieces one added.own there) in
@@ -387,11 +474,17 @@ module _ (most : ℕ) (down : Bool) (s : Standing) (lane : Lane) (old new : List
         node = k.node;
         opened = opened_on d.mark e.mark d.node d.worker x.connection led.sound sound_after begins.0 k.opened;
         counted = k.counted;
-        posted = k.posted;
+        before = d.posted;
+        after = [];
+        split = sym (append-nil d.posted);
+        live = λ _. refl;
+        posted = posted_live d x k live;
+        later = tt;
         handed = got_piece d.mark e.mark d.posted x.connection x.handed bytes s begins.0 begins.1
             (subst (λ (n : ℕ). IsBeginningOf bytes (drop n (emitted_for x.connection (record_of s.history)))) from
             (subst (λ (c : Connection). IsBeginningOf bytes (drop one.piece.from (emitted_for c (record_of s.history)))) named piece.emitted))
-            piece.some (subst (λ (c : Connection). AllByRecursion (λ (job : Item). job.connection ≡ c → IsPosted d.posted job) (record_of s.history)) named jobs) k.handed;
+            piece.some (subst (λ (c : Connection). AllByRecursion (λ (job : Item). job.connection ≡ c → IsPosted d.posted job) (record_of s.history)) named jobs)
+            (handed_before d x k live);
       }
 
   all_served_on : (xs ys : List Served) → HaveGot pieces xs ys → AllByRecursion (IsServedAt d) xs → AllByRecursion (IsServedAt after) ys
@@ -410,4 +503,75 @@ module _ (most : ℕ) (down : Bool) (s : Standing) (lane : Lane) (old new : List
       each = all_served_on d.served e.served t.got led.each;
     },
     goes_now d s e.mark led t.sound t.met t.adopted e (ap (λ (f : DeskState). f.node) t.same) (ap (λ (f : DeskState). f.worker) t.same) refl,
+  )
+
+-- ---- an end came
+-- more ends are more
+ended_none : (b : Bool) (ends : List Item) (job : Item) → cond b (ends ++ job ∷ []) ends ≡ [] → ends ≡ []
+ended_none true ends job none = no_front ends (job ∷ []) none
+ended_none false ends job none = none
+
+pub ended_asked : (b : Bool) (asked ends : Jobs) (job one : Item) → Contains (asked ++ ends) one → Contains (asked ++ cond b (ends ++ job ∷ []) ends) one
+ended_asked true asked ends job one there =
+    subst (λ (js : Jobs). Contains js one) (append_assoc asked ends (job ∷ [])) (Contains-append_left (asked ++ ends) (job ∷ []) one there)
+ended_asked false asked ends job one there = there
+
+ended_there : (job : Item) (served : List Served) (x : Served) → Contains served x → Contains (map (ended_with job) served) (ended_with job x)
+ended_there job [] x there = absurd (some_in [] x refl there)
+ended_there job (y ∷ ys) x there = elim (in_cases x y ys there) [
+  | inl is ↦
+      subst (λ (z : Served). Contains (ended_with job y ∷ map (ended_with job) ys) (ended_with job z)) is (first_in (ended_with job y) (map (ended_with job) ys))
+  | inr behind ↦ later_in (ended_with job x) (ended_with job y) (map (ended_with job) ys) (ended_there job ys x behind)
+]
+
+ended_by : (job : Item) (served : List Served) (one : Item) → IsAskedBy served one → IsAskedBy (map (ended_with job) served) one
+ended_by job served one by = record {
+  one = ended_with job by.one;
+  there = ended_there job served by.one by.there;
+  connection = by.connection;
+  asked = ended_asked (same_connection job.connection by.one.connection) (asked_of by.one) by.one.ends job one by.asked;
+}
+
+all_map : {A : Type 0} (P Q : A → Type 0) (f : A → A) → ((x : A) → P x → Q (f x)) → (xs : List A) → AllByRecursion P xs → AllByRecursion Q (map f xs)
+all_map P Q f on [] all = tt
+all_map P Q f on (x ∷ xs) all = (on x all.0, all_map P Q f on xs all.1)
+
+module _ (job : Item) (s : Standing) (lane : Lane) (d e : DeskState) (led : IsLed d) (end : Ends job s lane d e) where
+  abbrev ahead : IsBeginningOf (history_of d.mark) (history_of e.mark) × IsBeginningOf s.history (history_of e.mark)
+  ahead = marks_begin d s e.mark led end.sound end.met end.adopted
+
+  abbrev ended_sound : IfSome e.mark (λ (m : Standing). IsSound m × (m.node ≡ d.node))
+  ended_sound = sound_now d s e.mark led end.sound end.met end.adopted
+
+  abbrev ended_desk : DeskState
+  ended_desk = record d { heard = e.heard; mark = e.mark; served = map (ended_with job) d.served }
+
+  ended_on : (x : Served) → IsServedAt d x → IsServedAt ended_desk (ended_with job x)
+  ended_on x k =
+      let own = same_connection job.connection x.connection in
+      record {
+        node = k.node;
+        opened = opened_on d.mark e.mark d.node d.worker x.connection led.sound ended_sound ahead.0 k.opened;
+        counted = k.counted;
+        before = k.before;
+        after = k.after;
+        split = k.split;
+        live = λ none. k.live (ended_none own x.ends job none);
+        posted = k.posted;
+        later = posted_weaker (λ (one : Item). one.connection ≡ x.connection → Contains (all_asked x) one)
+            (λ (one : Item). one.connection ≡ x.connection → Contains (all_asked (ended_with job x)) one)
+            (λ one asked is. ended_asked own (asked_of x) x.ends job one (asked is)) k.after k.later;
+        handed = marked_on d.mark e.mark k.before x.connection x.handed ahead.0 k.handed;
+      }
+
+  pub ended_led : IsLed e × GoesTo d e
+  ended_led = (
+    subst IsLed (sym end.ended) record {
+      sound = ended_sound;
+      own = own_now d s e.mark led end.sound end.met end.adopted e.heard lane end.knows.knows end.posted;
+      executed = executed_now d s e.mark led end.sound end.met end.adopted e.heard end.knows.knows.executed;
+      known = posted_weaker (IsAskedBy d.served) (IsAskedBy ended_desk.served) (ended_by job d.served) d.posted led.known;
+      each = all_map (IsServedAt d) (IsServedAt ended_desk) (ended_with job) ended_on d.served led.each;
+    },
+    goes_now d s e.mark led end.sound end.met end.adopted e (ap (λ (f : DeskState). f.node) end.ended) (ap (λ (f : DeskState). f.worker) end.ended) refl,
   )

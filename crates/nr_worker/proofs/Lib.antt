@@ -12,4 +12,5 @@ mod Awaited
 mod Admitted
 mod Departed
 mod Altered
+mod Returned
 pub mod Rested

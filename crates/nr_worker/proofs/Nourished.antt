@@ -6,7 +6,7 @@ use Rattle.std.proofs.Math.Seq.{drop-append_seam}
 use Rattle.std.proofs.lemmas.Bool.{eqb-true}
 use Rattle.std.proofs.lemmas.List.{length-append, map-append, take-append-drop}
 use Rattle.std.proofs.lemmas.List.Elements.{filter-append}
-use Rattle.std.proofs.lemmas.List.Elements.{Contains-append_left, Contains-append_right}
+use Rattle.std.proofs.lemmas.List.Elements.{Contains-append_cases, Contains-append_left, Contains-append_right}
 use Rattle.nr_model.specs.Bytes.{Bytes}
 use Rattle.nr_model.specs.Commands.{served}
 use Rattle.nr_model.specs.Items.{Connection, Deed, Item, is_end, same_connection}
@@ -28,12 +28,12 @@ use Rattle.nr_seats.specs.Seated.{HasFed, HasStopped, SeatState, takes}
 use Rattle.nr_seats.specs.Placed.{FeedsSeat, IsPut, SeatsState, StopsSeat, seat_at, takes_here}
 use Rattle.nr_seats.specs.Portions.{EachSeat, seat_of}
 use Rattle.nr_seats.proofs.Putting.{each_put, named, seat_here, seat_others}
-use Rattle.nr_worker.specs.Desk.{CountsFrom, DeskState, IsLed, IsServedAt, Served, asked_of}
+use Rattle.nr_worker.specs.Desk.{CountsFrom, DeskState, IsLed, IsServedAt, Served, all_asked, asked_of}
 use Rattle.nr_worker.specs.Moves.{Asks}
 use Rattle.nr_worker.specs.Working.{AreAccountedFor, AreApart, Goes, IsAccountedFor, IsBelow, IsSeatOf, IsSeated, IsSession, IsToPost, LeadsTo, Reflects, WorkState, all_fed, connections_of, fed_more, takes_from}
 use Rattle.nr_worker.proofs.Accounted.{accounted_fed, accounted_more}
 use Rattle.nr_worker.proofs.Batched.{late_too}
-use Rattle.nr_worker.proofs.Desks.{asked_led}
+use Rattle.nr_worker.proofs.Desks.{asked_led, posted_live}
 use Rattle.nr_worker.proofs.Lists.{all_at, all_weaker, posted_weaker}
 use Rattle.nr_worker.proofs.Portioned.{all_map, all_of, known_more, map_has, same_connections}
 
@@ -247,6 +247,7 @@ module _ (c : Connection) (moment : ℕ) (bytes : Bytes) (was is : SeatState) (m
   seat_fed : IsSeatOf is (fed_more f x)
   seat_fed = record {
     unclosed = seat.unclosed;
+    live = seat.live;
     handed = gone.handed ∙ seat.handed;
     own = gone.own ∙ seat.own;
     session = λ uncut. subst (IsSession is.session) (sym feeds_text) (gone.session uncut text (seat.session parts.1));
@@ -307,12 +308,19 @@ module _ (v : WorkState) (seats : SeatsState) (jobs : List Job) (serial moment :
     | false ↦ λ other. subst (λ (y : Served). Contains (asked_of y) job) (sym (other_fed (feeding_of c moment bytes) x other)) has
   ] refl
 
+  -- also among its ends
+  had_any : (x : Served) → Contains d.served x → (job : Item) → Contains (all_asked x) job → Contains (all_asked (change x)) job
+  had_any x within job has = elim (Contains-append_cases (asked_of x) x.ends job has) [
+    | inl asked ↦ Contains-append_left (asked_of (change x)) x.ends job (had_each x within job asked)
+    | inr end ↦ Contains-append_right (asked_of (change x)) x.ends job end
+  ]
+
   old_to_post : (job : Item) → IsToPost d.served job → IsToPost (map change d.served) job
   old_to_post job t = record {
     known = known_more change (λ x. refl) d.served job.connection t.known;
-    asked = all_map (λ (y : Served). job.connection ≡ y.connection → Contains (asked_of y) job) change d.served
-        (all_of (λ (x : Served). job.connection ≡ x.connection → Contains (asked_of (change x)) job) d.served
-        (λ x within same. had_each x within job (all_at (λ (y : Served). job.connection ≡ y.connection → Contains (asked_of y) job) d.served x t.asked within same)));
+    asked = all_map (λ (y : Served). job.connection ≡ y.connection → Contains (all_asked y) job) change d.served
+        (all_of (λ (x : Served). job.connection ≡ x.connection → Contains (all_asked (change x)) job) d.served
+        (λ x within same. had_any x within job (all_at (λ (y : Served). job.connection ≡ y.connection → Contains (all_asked y) job) d.served x t.asked within same)));
   }
 
   is_own : (job : Item) → Contains (new_jobs was moment bytes) job → job.connection ≡ c
@@ -330,10 +338,11 @@ module _ (v : WorkState) (seats : SeatsState) (jobs : List Job) (serial moment :
       let k = at_seat.known in
       record {
         known = known_more change (λ x. refl) d.served job.connection (record { one = k.one; there = k.there; connection = k.connection ∙ sym mine });
-        asked = all_map (λ (y : Served). job.connection ≡ y.connection → Contains (asked_of y) job) change d.served
-            (all_of (λ (x : Served). job.connection ≡ x.connection → Contains (asked_of (change x)) job) d.served
+        asked = all_map (λ (y : Served). job.connection ≡ y.connection → Contains (all_asked y) job) change d.served
+            (all_of (λ (x : Served). job.connection ≡ x.connection → Contains (all_asked (change x)) job) d.served
             (λ x within same.
-            has_new c moment bytes was is more taken gone x (sym same ∙ mine) (seat_at_own x within (sym same ∙ mine)) job here));
+            Contains-append_left (asked_of (change x)) x.ends job
+            (has_new c moment bytes was is more taken gone x (sym same ∙ mine) (seat_at_own x within (sym same ∙ mine)) job here)));
       }
 
   seated_now : EachSeat (IsSeated (map change d.served)) v.worker.node seats
@@ -434,11 +443,13 @@ module _ (v : WorkState) (seats : SeatsState) (jobs : List Job) (serial moment :
         one = one;
         back = split.1;
         there = split.2;
+        live = seat.live;
         counted = subst (λ (y : Served). CountsFrom 0 (asked_of y)) is_new
             (counts_fed c moment bytes was is more taken gone one k.connection seat served_at.counted);
         posted = posted_weaker (λ (job : Item). job.connection ≡ one.connection → Contains (asked_of one) job)
             (λ (job : Item). job.connection ≡ one.connection → Contains (asked_of new) job)
-            (λ job asks mine. subst (λ (y : Served). Contains (asked_of y) job) is_new (had_each one k.there job (asks mine))) d.posted served_at.posted;
+            (λ job asks mine. subst (λ (y : Served). Contains (asked_of y) job) is_new (had_each one k.there job (asks mine))) d.posted
+            (posted_live d one served_at seat.live);
         changed = ap (λ (l : List Served). record d { served = l })
             (ap (map change) split.2
             ∙ one_changes change one (λ y differs. stay y (λ same. differs (same ∙ sym k.connection))) split.0 split.1 apart
@@ -471,7 +482,7 @@ module _ (v : WorkState) (seats : SeatsState) (jobs : List Job) (serial moment :
         served = refl;
       }
 
-both_hold : (a b : Bool) → (a && b) ≡ true → (a ≡ true) × (b ≡ true)
+pub both_hold : (a b : Bool) → (a && b) ≡ true → (a ≡ true) × (b ≡ true)
 both_hold true b is = (refl, is)
 both_hold false b is = absurd (cc is)
 

@@ -30,7 +30,7 @@ use Rattle.nr_seats.specs.Seated.{SeatState}
 use Rattle.nr_seats.specs.Placed.{SeatsState, seat_at}
 use Rattle.nr_seats.specs.Portions.{Accepts, AreOfNode, Arrival, EachSeat, Grows, GrowsHere, Portion, arrivals_at, bytes_of, cuts, follow, handed_by, handed_of, kept_of, portion_of}
 use Rattle.nr_seats.proofs.Handing.{each_accepted, hands_out}
-use Rattle.nr_worker.specs.Desk.{DeskState, IsLed, IsServedAt, Served, asked_of}
+use Rattle.nr_worker.specs.Desk.{DeskState, IsLed, IsServedAt, Served, all_asked, asked_of}
 use Rattle.nr_worker.specs.Moves.{HasGot, HaveGot, Turns}
 use Rattle.nr_worker.specs.Working.{AreApart, HandsOn, IsBelow, IsKept, IsSeatOf, IsSeated, IsServed, IsSession, IsToPost, LeadsTo, Reflects, WorkState, all_handed, connections_of, handed_more, TakesPieces, TakesTurn}
 use Rattle.nr_worker.proofs.Accounted.{accounted_grown}
@@ -170,36 +170,38 @@ handed_none x handed none = λ i. record x { handed = (ap (λ (b : Bytes). x.han
 follows_first : (n m : ℕ) → ((n == m) && true) ≡ true → n ≡ m
 follows_first n m is = eqb-true n m (elim (n == m) as (λ b. (b && true) ≡ true → b ≡ true) [ true ↦ λ e. refl | false ↦ λ e. absurd (cc e) ] is)
 
--- the seat of a piece that was kept had as many
-kept_at : (limit : ℕ) (a : Arrival) (o n : Option SeatState) (count : ℕ) → a.kept ≡ true → GrowsHere limit (a ∷ []) o n
-    → ((s : SeatState) → o ≡ Some s → s.handed ≡ count) → a.portion.from ≡ count
-kept_at limit a None None count kept grows had =
+-- the seat of a piece that was kept is there, and had as many
+kept_at : (limit : ℕ) (a : Arrival) (o n : Option SeatState) (count : ℕ) (live : Type 0) → a.kept ≡ true → GrowsHere limit (a ∷ []) o n
+    → ((s : SeatState) → o ≡ Some s → (s.handed ≡ count) × live) → (a.portion.from ≡ count) × live
+kept_at limit a None None count live kept grows had =
     let none : a.portion ∷ [] ≡ [] = sym (ap (λ k. cond k (a.portion ∷ []) []) kept) ∙ grows in absurd (cc none)
-kept_at limit a None (Some t) count kept grows had = absurd grows
-kept_at limit a (Some s) None count kept grows had = absurd grows
-kept_at limit a (Some s) (Some t) count kept grows had =
-    follows_first a.portion.from s.handed (sym (ap (λ k. follow s.handed (cond k (a.portion ∷ []) [])) kept) ∙ grows.follows) ∙ had s refl
+kept_at limit a None (Some t) count live kept grows had = absurd grows
+kept_at limit a (Some s) None count live kept grows had = absurd grows
+kept_at limit a (Some s) (Some t) count live kept grows had =
+    let seat = had s refl in
+    (follows_first a.portion.from s.handed (sym (ap (λ k. follow s.handed (cond k (a.portion ∷ []) [])) kept) ∙ grows.follows) ∙ seat.0, seat.1)
 
 has_got : (pieces : List Handed) (limit : ℕ) (xs : List Arrival) (old new : SeatsState) (x : Served)
     → map (λ (a : Arrival). a.portion) xs ≡ map portion_of pieces
     → ((q : ℕ) → GrowsHere limit (arrivals_at q xs) (seat_at q old) (seat_at q new))
-    → ((s : SeatState) → seat_at x.connection.serial old ≡ Some s → s.handed ≡ length x.handed)
+    → ((s : SeatState) → seat_at x.connection.serial old ≡ Some s → (s.handed ≡ length x.handed) × (x.ends ≡ []))
     → Comes x.connection xs → HasGot pieces x (handed_more (handed_by xs) x)
 has_got pieces limit xs old new x are at had (inl none) = inl (handed_none x (handed_by xs) none.1)
 has_got pieces limit xs old new x are at had (inr (a, only)) = elim a.kept as (λ k. a.kept ≡ k → HasGot pieces x (handed_more (handed_by xs) x)) [
   | false ↦ λ lost. inl (handed_none x (handed_by xs) (only.handed ∙ ap (λ k. bytes_of (cond k (a.portion ∷ []) [])) lost))
   | true ↦ λ kept.
       let q = x.connection.serial in
-      let from = kept_at limit a (seat_at q old) (seat_at q new) (length x.handed) kept
+      let from = kept_at limit a (seat_at q old) (seat_at q new) (length x.handed) (x.ends ≡ []) kept
       (subst (λ (l : List Arrival). GrowsHere limit l (seat_at q old) (seat_at q new)) only.at (at q)) had in
       let one = map_from portion_of pieces a.portion (subst (λ (l : List Portion). Contains l a.portion) are (map_has (λ (b : Arrival). b.portion) xs a only.there)) in
       let bytes : handed_to x.connection (handed_by xs) ≡ one.0.piece.bytes.items =
       only.handed ∙ ap (λ k. bytes_of (cond k (a.portion ∷ []) [])) kept ∙ append-nil a.portion.bytes ∙ ap (λ (p : Portion). p.bytes) (sym one.2) in
       inr (
         one.0,
+        from.1,
         one.1,
         ap (λ (p : Portion). p.connection) one.2 ∙ only.named,
-        ap (λ (p : Portion). p.from) one.2 ∙ from,
+        ap (λ (p : Portion). p.from) one.2 ∙ from.0,
         λ i. record x { handed = x.handed ++ bytes i },
       )
 ] refl
@@ -222,6 +224,7 @@ seat_grows : (limit : ℕ) (handed : List connections.Handed) (xs : List Arrival
     → handed_to x.connection handed ≡ bytes_of (kept_of xs) → IsSeatOf s x → IsSeatOf t (handed_more handed x)
 seat_grows limit handed xs s t x g is was = record {
   unclosed = was.unclosed;
+  live = was.live;
   handed =
       g.handed ∙ (λ i. was.handed i + length (sym is i))
       ∙ sym (Rattle.std.proofs.lemmas.List.length-append x.handed (handed_to x.connection handed));
@@ -273,7 +276,7 @@ same_connections f same (x ∷ xs) = λ i. same x i ∷ same_connections f same 
 more_to_post : (handed : List connections.Handed) (served : List Served) (job : Item) → IsToPost served job → IsToPost (map (handed_more handed) served) job
 more_to_post handed served job t = record {
   known = known_more (handed_more handed) (λ x. refl) served job.connection t.known;
-  asked = all_map (λ (y : Served). job.connection ≡ y.connection → Contains (asked_of y) job) (handed_more handed) served t.asked;
+  asked = all_map (λ (y : Served). job.connection ≡ y.connection → Contains (all_asked y) job) (handed_more handed) served t.asked;
 }
 
 -- ---- a turn
@@ -312,8 +315,9 @@ module _ (v : WorkState) (desk : Desk) (seats : SeatsState) (mark : Option Stand
         let node : x.connection.node ≡ v.worker.node = (all_at (IsServedAt d) d.served x led.each there).node ∙ r.node in
         has_got heard.added.pieces v.limit a.arrivals v.seats seats x (a.are ∙ ap (map portion_of) heard.added.behind) a.at
         (λ t is.
-        (all_at (λ (y : Served). y.connection ≡ x.connection → IsSeatOf t y) d.served x
-        (r.seats x.connection t (ap (λ b. cond b (seat_at x.connection.serial v.seats) None) (eq-eqb x.connection.node v.worker.node node) ∙ is)).seat there refl).handed)
+        let seat = all_at (λ (y : Served). y.connection ≡ x.connection → IsSeatOf t y) d.served x
+        (r.seats x.connection t (ap (λ b. cond b (seat_at x.connection.serial v.seats) None) (eq-eqb x.connection.node v.worker.node node) ∙ is)).seat there refl in
+        (seat.handed, seat.live))
         (come x.connection node)
 
     turns : Turns most down s v.worker.seat.lane [] pieces d (then_of d)

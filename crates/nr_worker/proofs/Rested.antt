@@ -20,19 +20,21 @@ use Rattle.nr_worker.specs.Desk.{DeskState, IsLed, IsServedAt, Served, asked_of,
 use Rattle.nr_worker.specs.Resting.{AreAllExecuted, AreExecutedOf, IsDone, WasExecuted}
 use Rattle.nr_worker.specs.Working.{IsSeatOf, IsUnderway, Reflects, WorkState}
 use Rattle.nr_worker.proofs.Accounted.{answer_at, below_end, same_number}
+use Rattle.nr_worker.proofs.Desks.{posted_live}
 use Rattle.nr_worker.proofs.Lists.{all_at, posted_at}
 use Rattle.nr_worker.proofs.Portioned.{all_of}
 
-told_executed : (v : WorkState) (d : DeskState) (x : Served) (job : Item) → Reflects v d → IsServedAt d x → Contains (asked_of x) job
+told_executed : (v : WorkState) (d : DeskState) (x : Served) (job : Item) → Reflects v d → IsServedAt d x → x.ends ≡ [] → Contains (asked_of x) job
     → length v.worker.seat.lane.posted ≡ length v.worker.seat.lane.collected → IsUnderway v.worker.seat.lane x.connection job.number
     → WasExecuted v.worker.seat.lane job
-told_executed v d x job r k asked all u =
+told_executed v d x job r k live asked all u =
     let lane = v.worker.seat.lane in
     let long = ap length u.posted ∙ length-append u.before (u.batch ∷ u.after) in
     let answer = answer_at lane.collected (length u.before) (omega (arith, long, all)) u.answered in
     let there : Contains d.posted u.batch =
     subst (λ (bs : List Batch). Contains bs u.batch) (sym (r.posted ∙ u.posted)) (in_middle u.batch u.before u.after) in
-    let of = posted_at (λ (j : Item). j.connection ≡ x.connection → Contains (asked_of x) j) d.posted u.batch u.has.job k.posted there u.has.there u.has.own in
+    let of = posted_at (λ (j : Item). j.connection ≡ x.connection → Contains (asked_of x) j) d.posted u.batch u.has.job
+    (posted_live d x k live) there u.has.there u.has.own in
     let same = same_number 0 (asked_of x) u.has.job job k.counted of asked u.has.numbered in
     record {
       before = u.before;
@@ -114,7 +116,7 @@ told_each v d x led r k within none all told few answered up s at uncut =
       | inl down ↦ absurd (cc (sym down ∙ up))
       | inr (inl waits) ↦ absurd (some_in [] waits.job refl (subst (λ (js : List Job). Contains (items_of js) waits.job) none waits.there))
       | inr (inr underway) ↦
-          let was = told_executed v d x job r k asked all underway in
+          let was = told_executed v d x job r k seat.live asked all underway in
           record { told = was; there = in_record v d job led r told few answered was }
     ])
 

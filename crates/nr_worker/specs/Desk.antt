@@ -1,5 +1,5 @@
 -- What a worker knows of all connections that were ever opened at it.
-use Rattle.std.specs.Prelude.{◌≡◌, ℕ, ◌+◌, ◌≤◌, false, List, [], ◌∷◌, Contains, Option, Some, None, IfSome}
+use Rattle.std.specs.Prelude.{◌≡◌, ℕ, ◌+◌, ◌≤◌, false, List, [], ◌∷◌, ◌++◌, Contains, Option, Some, None, IfSome}
 use Rattle.std.specs.List.{AllByRecursion}
 use Rattle.nr_model.specs.Bytes.{Bytes, IsBeginningOf}
 use Rattle.nr_model.specs.Items.{Connection, Item, Sequence, is_update}
@@ -16,17 +16,22 @@ use Rattle.nr_node.specs.Sound.{IsSound, Serves}
 use Rattle.nr_slots.specs.declared.view.Desk.{Desk}
 use Rattle.nr_combiner.specs.Served.{AreExecuted, ComesFrom}
 
--- a connection that was opened, and may be gone: the bytes that were fed to it and when, the job that its close put, if it was closed and put one, and the bytes that
--- were handed out for it
+-- a connection that was opened, and may be gone: the bytes that were fed to it and when, the job that its close put, if it was closed and put one, the bytes that were
+-- handed out for it, and the ends that it got as its node came back from a fall
 pub record Served : Type 0 where
   pub connection : Connection
   pub fed : List Feeding
   pub closing : Option Item
   pub handed : Bytes
+  pub ends : List Item
 
 -- the jobs that its bytes and its close asked for, those of each feed at its moment
 abbrev pub asked_of : Served → Jobs
 asked_of x = cut_by x.closing (jobs_of_feeds x.connection [] x.fed)
+
+-- the same with those ends
+abbrev pub all_asked : Served → Jobs
+all_asked x = asked_of x ++ x.ends
 
 -- a worker: its node and its number there, the batches that it posted, what its node's combiner had done at its slot as it heard last, the standing of its mark, and all
 -- connections that were ever opened at it
@@ -47,12 +52,12 @@ CountsFrom n (job ∷ jobs) = (job.number ≡ n) × CountsFrom (n + 1) jobs
 abbrev pub AllPosted : (Item → Type 0) → List Batch → Type 0
 AllPosted P batches = AllByRecursion (λ (batch : Batch). AllByRecursion P (items_of batch.jobs.items)) batches
 
--- one of these connections asked for the job
+-- one of these connections asked for the job, or got it as its end
 pub record IsAskedBy (served : List Served) (job : Item) : Type 0 where
   pub one : Served
   pub there : Contains served one
   pub connection : one.connection ≡ job.connection
-  pub asked : Contains (asked_of one) job
+  pub asked : Contains (all_asked one) job
 
 -- a job of a record is one that was posted, at its moment or, an update, at a later one
 pub record IsPosted (posted : List Batch) (job : Item) : Type 0 where
@@ -82,20 +87,28 @@ pub record IsHandedOut (mark : Option Standing) (posted : List Batch) (c : Conne
   pub begins : IsBeginningOf handed (emitted_for c (record_of history))
   pub jobs : ArePosted posted c (record_of history)
 
--- a connection of the node, which was opened for this worker: its jobs count up from 0, each that was posted is one that it asked for, and what was handed out is so
+-- A connection of the node, which was opened for this worker: its jobs count up from 0. Each that was posted until it got an end as its node came back is one that it
+-- asked for, and of these are the jobs of the record along which was emitted what was handed out. Behind that it got nothing, and each that was posted is one that it asked
+-- for, or such an end.
 pub record IsServedAt (d : DeskState) (x : Served) : Type 0 where
   pub node : x.connection.node ≡ d.node
   pub opened : IsOpenedFor d.worker x.connection d.mark
   pub counted : CountsFrom 0 (asked_of x)
-  pub posted : AllPosted (λ (job : Item). job.connection ≡ x.connection → Contains (asked_of x) job) d.posted
-  pub handed : IsHandedOut d.mark d.posted x.connection x.handed
+  pub before : List Batch
+  pub after : List Batch
+  pub split : d.posted ≡ before ++ after
+  pub live : x.ends ≡ [] → after ≡ []
+  pub posted : AllPosted (λ (job : Item). job.connection ≡ x.connection → Contains (asked_of x) job) before
+  pub later : AllPosted (λ (job : Item). job.connection ≡ x.connection → Contains (all_asked x) job) after
+  pub handed : IsHandedOut d.mark before x.connection x.handed
 
 -- what a worker posted is what the standing's record has of its connections
 abbrev pub HasItsOwn : DeskState → Standing → Type 0
 HasItsOwn d s = (c : Connection) → Serves s d.worker c → ArePosted d.posted c (record_of s.history)
 
 -- What holds of a worker: its mark is a sound standing of its node, whose record has no job of a connection that was opened for the worker but those that it posted, and the
--- jobs of each batch that was answered as executed as it heard last; each job that it posted is one that a connection asked for; and so it serves each connection.
+-- jobs of each batch that was answered as executed as it heard last; each job that it posted is one that a connection asked for, or got as its end; and so it serves each
+-- connection.
 pub record IsLed (d : DeskState) : Type 0 where
   pub sound : IfSome d.mark (λ (s : Standing). IsSound s × (s.node ≡ d.node))
   pub own : IfSome d.mark (HasItsOwn d)

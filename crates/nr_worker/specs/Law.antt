@@ -16,8 +16,8 @@ use Rattle.nr_node.specs.declared.collecting.Handed.{Handed}
 use Rattle.nr_combiner.specs.Served.{ComesFrom}
 use Rattle.nr_node.specs.Sound.{IsSound}
 use Rattle.nr_taps.specs.Sequence.{AreAllOfOneLog, AreReadsOf, AreRun, IsExplainedBy, IsLogOf, reads_by, sequence_of}
-use Rattle.nr_worker.specs.Desk.{AreAsked, DeskState, IsLed, Served, asked_of, history_of}
-use Rattle.nr_worker.specs.Moves.{Asks, Opens, Posts, Turns, fresh_desk}
+use Rattle.nr_worker.specs.Desk.{AreAsked, DeskState, IsLed, Served, all_asked, asked_of, history_of}
+use Rattle.nr_worker.specs.Moves.{Asks, Ends, Opens, Posts, Turns, fresh_desk}
 
 -- What was handed out for a connection begins what one sequential Redis emits for it along the sequence. It begins what is emitted along a beginning of its node's part of
 -- that already, and the connection's items there are its first in the sequence, and the first that its bytes asked for. The numbers of all its items rise along
@@ -42,12 +42,12 @@ pub record GoesTo (d e : DeskState) : Type 0 where
   pub worker : e.worker ≡ d.worker
   pub mark : IsBeginningOf (history_of d.mark) (history_of e.mark)
 
--- a job comes from what one of these connections asked for
+-- a job comes from what one of these connections asked for, or is an end that it got as its node came back
 pub record IsFedTo (served : List Served) (job : Item) : Type 0 where
   pub one : Served
   pub there : Contains served one
   pub connection : one.connection ≡ job.connection
-  pub asked : ComesFrom job (asked_of one)
+  pub asked : ComesFrom job (all_asked one)
 
 -- What a worker's mark knew stands in front of all that it knows later. Each job there of a connection that is served later was fed before: so what is fed behind the
 -- moment at which a job was handed out, or told as executed, stands behind that job.
@@ -83,6 +83,7 @@ pub record HoldsOfDesks : Type 0 where
   pub fresh : (node worker : ℕ) → IsLed (fresh_desk node worker)
   pub opened : (c : Connection) (s : Standing) (lane : Lane) (d e : DeskState) → IsLed d → Opens c s lane d e → IsLed e × GoesTo d e
   pub asked : (fed : List Feeding) (closing : Option Item) (d e : DeskState) → IsLed d → Asks fed closing d e → IsLed e × GoesTo d e
+  pub ended : (job : Item) (s : Standing) (lane : Lane) (d e : DeskState) → IsLed d → Ends job s lane d e → IsLed e × GoesTo d e
   pub posted : (batch : Batch) (d e : DeskState) → IsLed d → Posts batch d e → IsLed e × GoesTo d e
   pub turned : (most : ℕ) (down : Bool) (s : Standing) (lane : Lane) (old new : List Handed) (d e : DeskState) → IsLed d
       → Turns most down s lane old new d e → IsLed e × GoesTo d e

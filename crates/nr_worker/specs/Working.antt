@@ -1,12 +1,12 @@
 -- What contracts see of a worker's desk, and the law's worker that it stands for.
-use Rattle.std.specs.Prelude.{◌≡◌, ◌≢◌, ◌==◌, ◌&&◌, ℕ, ◌+◌, ◌<◌, ◌≤◌, Bool, true, false, cond, IfSome, List, [], ◌∷◌, ◌++◌, ◌⊎◌, map, length, take, drop, Contains, option_to_list, Option, None, Some, refl}
+use Rattle.std.specs.Prelude.{◌≡◌, ◌≢◌, ◌==◌, ◌&&◌, ◌||◌, not, filter, ℕ, ◌+◌, ◌<◌, ◌≤◌, Bool, true, false, cond, IfSome, List, [], ◌∷◌, ◌++◌, ◌⊎◌, map, length, take, drop, Contains, option_to_list, Option, None, Some, refl}
 use Rattle.std.specs.Coded.{Coded, code_by, coded×, coded_ℕ, coded_bool, coded_list, coded_option}
 use Rattle.std.specs.List.{AllByRecursion, slice_get}
 use Rattle.std.specs.Option.{option_map}
 use Rattle.nr_model.specs.Bytes.{Bytes}
 use Rattle.nr_model.specs.Commands.{served}
 use Rattle.nr_model.specs.Connections as connections
-use Rattle.nr_model.specs.Items.{Connection, Item, same_connection}
+use Rattle.nr_model.specs.Items.{Connection, End, Item, same_connection}
 use Rattle.nr_model.specs.Modes.{Conversation, framed_conversation, plain, deeds_by}
 use Rattle.nr_model.specs.Requests.{framing_of}
 use Rattle.nr_entry.specs.Jobs.{items_of}
@@ -22,7 +22,8 @@ use Rattle.nr_slots.specs.declared.view.Lane.{Lane}
 use Rattle.nr_node.specs.declared.collecting.Handed.{Handed}
 use Rattle.nr_taps.specs.Marks.{Adopts}
 use Rattle.nr_session.specs.SessionState.{SessionState}
-use Rattle.nr_combiner.specs.Behind.{CollectsBehind, TurnsBehind}
+use Rattle.nr_accounts.specs.declared.account.Unended.{Unended}
+use Rattle.nr_combiner.specs.Behind.{CollectsBehind, EndsBehind, TurnsBehind}
 use Rattle.nr_combiner.specs.declared.answering.Collected.{Collected}
 use Rattle.nr_combiner.specs.declared.answering.Lifts.{Lifts}
 use Rattle.nr_combiner.specs.declared.answering.Turned.{Turned}
@@ -32,12 +33,13 @@ use Rattle.nr_combiner.specs.Workers as workers
 use Rattle.nr_seats.specs.Seated.{SeatState, cut_off, fresh_seat, last_job, with_written}
 use Rattle.nr_seats.specs.Placed.{FeedsSeat, IsPut, SeatsState, StopsSeat, coded_seats, listens_here, seat_at, takes_here}
 use Rattle.nr_seats.specs.Portions.{Accepts, EachSeat, HandsOut, portion_of}
-use Rattle.nr_worker.specs.Desk.{AllPosted, DeskState, IsLed, Served, asked_of}
+use Rattle.nr_worker.specs.Desk.{AllPosted, DeskState, IsLed, Served, all_asked, asked_of}
 use Rattle.nr_worker.specs.Law.{GoesTo}
 
 -- its worker, and what it keeps of its connections; the serials below `next` may have been opened here; the jobs that were asked for and wait to be posted,
--- in order, and how many of them, the first, were handed back; its mark; whether a batch's answer wasn't collected, and whether its node is down; how many bytes wait for a connection at
--- most; and how many of these jobs, the last, found no room among the others yet
+-- in order, and how many of them, the first, were handed back; its mark; whether a batch's answer wasn't collected, and whether its node is down; how many bytes wait for a
+-- connection at most; how many of these jobs, the last, found no room among the others yet; how many connections its node had as it came back last, as far as was heard;
+-- and whether ends are to be put for those, and behind which serial
 pub record WorkState : Type 0 where
   pub worker : WorkerState
   pub seats : SeatsState
@@ -49,16 +51,21 @@ pub record WorkState : Type 0 where
   pub down : Bool
   pub limit : ℕ
   pub late : ℕ
+  pub since : ℕ
+  pub ending : Bool
+  pub ended : Option ℕ
 
 abbrev pub coded_work : Coded WorkState
 coded_work =
-    code_by (WorkerState × (SeatsState × (ℕ × (List Job × (ℕ × (Option Standing × (Bool × (Bool × (ℕ × ℕ)))))))))
+    code_by (WorkerState × (SeatsState × (ℕ × (List Job × (ℕ × (Option Standing × (Bool × (Bool × (ℕ × (ℕ × (ℕ × (Bool × Option ℕ))))))))))))
     (coded× coded_worker
     (coded× coded_seats
     (coded× coded_ℕ
     (coded× (coded_list of_job.the_row.coded)
-    (coded× coded_ℕ (coded× (coded_option of_standing.the_row.coded) (coded× coded_bool (coded× coded_bool (coded× coded_ℕ coded_ℕ)))))))))
-    (λ v. (v.worker, (v.seats, (v.next, (v.jobs, (v.returned, (v.mark, (v.waiting, (v.down, (v.limit, v.late)))))))))) (λ p. record {
+    (coded× coded_ℕ
+    (coded× (coded_option of_standing.the_row.coded)
+    (coded× coded_bool (coded× coded_bool (coded× coded_ℕ (coded× coded_ℕ (coded× coded_ℕ (coded× coded_bool (coded_option coded_ℕ)))))))))))))
+    (λ v. (v.worker, (v.seats, (v.next, (v.jobs, (v.returned, (v.mark, (v.waiting, (v.down, (v.limit, (v.late, (v.since, (v.ending, v.ended))))))))))))) (λ p. record {
       worker = p.0;
       seats = p.1.0;
       next = p.1.1.0;
@@ -68,7 +75,10 @@ coded_work =
       waiting = p.1.1.1.1.1.1.0;
       down = p.1.1.1.1.1.1.1.0;
       limit = p.1.1.1.1.1.1.1.1.0;
-      late = p.1.1.1.1.1.1.1.1.1;
+      late = p.1.1.1.1.1.1.1.1.1.0;
+      since = p.1.1.1.1.1.1.1.1.1.1.0;
+      ending = p.1.1.1.1.1.1.1.1.1.1.1.0;
+      ended = p.1.1.1.1.1.1.1.1.1.1.1.1;
     }) (λ _. refl)
 
 -- It has counted its batches, by their numbers and as they were posted, waits for an answer where one wasn't collected, and then none are handed back, of which there is at most a batch; and its mark is of
@@ -83,7 +93,22 @@ pub record IsKept (batches : ℕ) (v : WorkState) : Type 0 where
 
 -- at first
 abbrev pub fresh_work : WorkerState → ℕ → WorkState
-fresh_work worker limit = record { worker = worker; seats = []; next = 0; jobs = []; returned = 0; mark = None; waiting = false; down = false; limit = limit; late = 0 }
+fresh_work worker limit =
+    record {
+      worker = worker;
+      seats = [];
+      next = 0;
+      jobs = [];
+      returned = 0;
+      mark = None;
+      waiting = false;
+      down = false;
+      limit = limit;
+      late = 0;
+      since = 0;
+      ending = false;
+      ended = None;
+    }
 
 -- its mark was taken
 abbrev pub without_mark : WorkState → WorkState
@@ -100,10 +125,11 @@ pub record IsSession (session : SessionState) (text : Bytes) : Type 0 where
   pub next : session.next ≡ length (deeds_by served text)
   pub rest : session.ended ≡ false → session.rest ≡ (framing_of text).rest
 
--- A seat is that of a connection that is served: not closed, as many bytes were handed out as it counts, and its session is as the bytes that were fed
--- leave it, unless it is cut.
+-- A seat is that of a connection that is served: not closed, with no end of its node's fall, as many bytes were handed out as it counts, and its session is as the bytes
+-- that were fed leave it, unless it is cut.
 pub record IsSeatOf (s : SeatState) (x : Served) : Type 0 where
   pub unclosed : x.closing ≡ None
+  pub live : x.ends ≡ []
   pub handed : s.handed ≡ length x.handed
   pub own : s.session.connection ≡ x.connection
   pub session : s.cut ≡ false → IsSession s.session (connections.fed_to x.connection x.fed)
@@ -121,10 +147,10 @@ pub record IsSeated (served : List Served) (c : Connection) (s : SeatState) : Ty
   pub known : IsServed served c
   pub seat : AllByRecursion (λ (x : Served). x.connection ≡ c → IsSeatOf s x) served
 
--- a job is one that its connection asked for
+-- a job is one that its connection asked for, or got as its end
 pub record IsToPost (served : List Served) (job : Item) : Type 0 where
   pub known : IsServed served job.connection
-  pub asked : AllByRecursion (λ (x : Served). job.connection ≡ x.connection → Contains (asked_of x) job) served
+  pub asked : AllByRecursion (λ (x : Served). job.connection ≡ x.connection → Contains (all_asked x) job) served
 
 -- the jobs of a connection that were posted or wait have numbers below this
 pub record IsBelow (batches : List Batch) (jobs : List Item) (c : Connection) (next : ℕ) : Type 0 where
@@ -216,7 +242,7 @@ all_fed feeding served = map (fed_more feeding) served
 
 -- one was opened
 abbrev pub one_opened : Connection → List Served → List Served
-one_opened c served = served ++ record { connection = c; fed = []; closing = None; handed = [] } ∷ []
+one_opened c served = served ++ record { connection = c; fed = []; closing = None; handed = []; ends = [] } ∷ []
 
 -- A connection of the node with a serial that none had here has a new seat, and nothing else changed but what the worker heard last, and the mark.
 pub record OpensAt (c : Connection) (v w : WorkState) : Type 0 where
@@ -231,6 +257,10 @@ pub record MayHaveClosed (v w : WorkState) : Type 0 where
   pub worker : workers.MayHaveClosed (told_of w.worker.seat.noted v.worker) w.worker
   pub changed : w ≡ record v { worker = w.worker; mark = w.mark }
 
+-- the job that ends a connection of which a node expects this next, at the first moment: it is executed at that of the entry in which it stands
+abbrev pub end_of : ℕ → Unended → Item
+end_of node one = record { connection = record { node = node; serial = one.serial }; number = one.next; moment = 0; deed = End None }
+
 -- it was closed with this last job, where it is the job's
 abbrev pub closed_with : Item → Served → Served
 closed_with job x = record x { closing = cond (same_connection job.connection x.connection) (Some job) x.closing }
@@ -239,6 +269,45 @@ closed_with job x = record x { closing = cond (same_connection job.connection x.
 abbrev pub all_closed : Option Item → List Served → List Served
 all_closed None served = served
 all_closed (Some job) served = map (closed_with job) served
+
+-- these ends came to their connections as the node came back
+abbrev pub ended_more : List Item → Served → Served
+ended_more ends x = record x { ends = x.ends ++ filter (λ (job : Item). same_connection job.connection x.connection) ends }
+
+abbrev pub all_ended : List Item → List Served → List Served
+all_ended ends served = map (ended_more ends) served
+
+-- no answer is awaited, and no connection is open
+abbrev pub is_bare : WorkState → Bool
+is_bare v = not v.waiting && (length v.seats == 0)
+
+-- its node, which had so many connections as it came back last, is taken for down, or came back since that was heard
+abbrev pub is_away : ℕ → WorkState → Bool
+is_away since v = v.down || not (since == v.since)
+
+-- no jobs wait any more: those that were asked for are lost with the connections of before, for which ends are to be put, from the first serial on
+abbrev pub back_work : ℕ → WorkState → WorkState
+back_work since v = record v { jobs = []; returned = 0; late = 0; down = false; since = since; ending = true; ended = None }
+
+-- it is taken for down, and no jobs wait any more
+abbrev pub fallen_work : WorkState → WorkState
+fallen_work v = record v { jobs = []; returned = 0; late = 0; down = true }
+
+-- What its node told is taken in: it is taken for down where it is down; and where it is up again until nothing is left here of before.
+abbrev pub heard_work : Bool → ℕ → WorkState → WorkState
+heard_work true since v = fallen_work v
+heard_work false since v = cond (is_away since v) (cond (is_bare v) (back_work since v) (fallen_work v)) v
+
+-- The end of the next connection of before stands behind the other jobs, with the number that the node expects of it, as it told behind its lock. What was heard last, and
+-- the mark, changed by that, and the next to be asked for is the one behind it.
+pub record EndsNext (v w : WorkState) : Type 0 where
+  pub one : Unended
+  pub standing : Standing
+  pub note : NoteView
+  pub behind : EndsBehind v.worker.node v.worker.seat.worker v.worker.generation v.ended one standing note
+  pub adopted : Adopts v.mark standing w.mark
+  pub jobs : items_of w.jobs ≡ items_of v.jobs ++ end_of v.worker.node one ∷ []
+  pub changed : w ≡ record v { worker = told_of w.worker.seat.noted v.worker; mark = w.mark; jobs = w.jobs; late = 0; ended = Some one.serial }
 
 -- the last job of a connection that is closed, where there is a seat
 abbrev pub last_here : ℕ → Option SeatState → Option Item

@@ -39,6 +39,10 @@ pub struct Desk<'a, R, B: ServerName> {
     pub(crate) spares: Spares,
     pub(crate) is_down: bool,
     pub(crate) limit: usize,
+    // How many connections its node had as it came back last, as far as was heard; and whether ends are to be put for those, and behind which serial.
+    pub(crate) since: u64,
+    pub(crate) is_ending: bool,
+    pub(crate) ended: Option<u64>,
 }
 
 impl<'a, R, B: ServerName> Model for Desk<'a, R, B> {
@@ -49,9 +53,9 @@ impl<'a, R, B: ServerName> Model for Desk<'a, R, B> {
 
     ghost coded = { coded_work };
 
-    ghost view = { λ d. record { worker = d.worker; seats = d.seats; next = d.next; jobs = d.returned.items ++ d.due.jobs; returned = length d.returned.items; mark = d.mark.standing; waiting = d.is_waiting; down = d.is_down; limit = d.limit; late = d.due.late } };
+    ghost view = { λ d. record { worker = d.worker; seats = d.seats; next = d.next; jobs = d.returned.items ++ d.due.jobs; returned = length d.returned.items; mark = d.mark.standing; waiting = d.is_waiting; down = d.is_down; limit = d.limit; late = d.due.late; since = d.since; ending = d.is_ending; ended = d.ended } };
 
-    ghost invariant = { λ d. IsKept d.batches (record { worker = d.worker; seats = d.seats; next = d.next; jobs = d.returned.items ++ d.due.jobs; returned = length d.returned.items; mark = d.mark.standing; waiting = d.is_waiting; down = d.is_down; limit = d.limit; late = d.due.late }) × (d.pieces.items ≡ []) × (length d.seats ≤ d.due.room) };
+    ghost invariant = { λ d. IsKept d.batches (record { worker = d.worker; seats = d.seats; next = d.next; jobs = d.returned.items ++ d.due.jobs; returned = length d.returned.items; mark = d.mark.standing; waiting = d.is_waiting; down = d.is_down; limit = d.limit; late = d.due.late; since = d.since; ending = d.is_ending; ended = d.ended }) × (d.pieces.items ≡ []) × (length d.seats ≤ d.due.room) };
 }
 
 impl<'a, R: Wait, B: ServerName> Desk<'a, R, B> {
@@ -76,6 +80,9 @@ impl<'a, R: Wait, B: ServerName> Desk<'a, R, B> {
             spares: Spares::new(alloc),
             is_down: false,
             limit,
+            since: 0,
+            is_ending: false,
+            ended: None,
         }
     }
 

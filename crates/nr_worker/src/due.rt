@@ -2,7 +2,7 @@
 ghost use Rattle.std.specs.Prelude.{◌≡◌, ◌<◌, ◌≤◌, ◌==◌, ◌+◌, ◌++◌, ◌∷◌, [], true, length, take, drop, IsOk, IfOk, OnOk, OnErr};
 ghost use Rattle.std.specs.Vec.{vec_len, vec_capacity};
 ghost use Rattle.nr_model.specs.Keyspace.{last_moment};
-ghost use Rattle.nr_entry.specs.Jobs.{items_of};
+ghost use Rattle.nr_entry.specs.Jobs.{item_of, items_of};
 ghost use Rattle.nr_seats.specs.Placed.{seat_at, takes_here, FeedsSeat, StopsSeat};
 ghost use Rattle.nr_worker.specs.Due.{emptied, fresh_due, with_room};
 
@@ -83,6 +83,22 @@ impl DueJobs {
     {
         self.room -= 1;
         self.lasts.push_reserved(job);
+    }
+
+    /// Puts a job behind the others, those that are late among them. Constant over many, and linear in the late ones.
+    ///
+    /// # Errors
+    ///
+    /// `Memory` where there is none: then the same jobs wait.
+    pub(crate) fn push(&mut self, job: Job) -> Result<(), Memory>
+        ensures pushed { OnOk result (items_of self.new.jobs ≡ items_of self.old.jobs ++ item_of job ∷ []) }
+        ensures late { OnOk result (self.new.late ≡ 0) }
+        ensures same { OnErr result (self.new.jobs ≡ self.old.jobs) }
+        ensures room { self.new.room ≡ self.old.room }
+    {
+        gather(&mut self.jobs, &mut self.lasts)?;
+        self.jobs.push(job)?;
+        Ok(())
     }
 
     /// Feeds a connection at its seat, as [`Seats::feed`] does: its jobs wait behind the others, those that are late among them. Logarithmic, and linear in the bytes

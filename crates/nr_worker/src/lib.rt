@@ -14,6 +14,7 @@ mod feeding;
 mod law;
 mod opening;
 mod posting;
+mod returning;
 mod stopping;
 mod working;
 mod writing;

@@ -67,14 +67,19 @@ fn take_in(seats: &mut Seats, due: &mut DueJobs, next: u64, conn: ConnId) -> Res
 
 impl<'a, R: Wait, B: ServerName> Desk<'a, R, B> {
     /// Opens a connection of its node, which this worker serves, with a seat here, and room for its last job: [`Worker::open`](nr_combiner::Worker::open), three
-    /// loads and an entry by serial. Where it isn't opened nothing changes here, but what was heard of the node, and that it may have closed it again. Logarithmic.
+    /// loads and an entry by serial. None is opened while its node is taken for down ([`Desk::hear_of_node`]). Where it isn't opened nothing changes here, but what was heard of
+    /// the node, and that it may have closed it again. Logarithmic.
     pub fn open(&mut self) -> Result<ConnId, SeatError>
         ensures opened { IfOk result (λ conn. OpensAt (connection_of conn) self.old self.new) }
         ensures goes { IfOk result (λ conn. Goes (one_opened (connection_of conn)) self.old self.new) }
         ensures unopened { OnErr result (MayHaveClosed self.old self.new) }
         ensures stands { OnErr result (Goes unchanged self.old self.new) }
+        ensures up { OnOk result (self.old.down ≡ false) }
     {
-        let (conn, token) = match self.worker.open(self.rt) {
+        if self.is_down {
+            return Err(SeatError::Unopened(OpenError::Down));
+        }
+        let (conn, token) = match self.worker.open(self.rt, self.since) {
             Ok(opened) => opened,
             Err(why) => return Err(SeatError::Unopened(why)),
         };

@@ -84,7 +84,7 @@ is_revival (Revive n f) = true
 is_revival _ = false
 
 -- What is refused for memory is what a step does: it falls by an entry that it passes, a queue of what it delivers doesn't grow, and a copy is none where a
--- node would come back. In any other step, and where a step is idle, nothing is refused but a copy.
+-- node would come back. In any other step nothing is refused, and a step that is idle refuses at most that copy.
 pub record AreRefused (world : World) (step : Step) (outcome : Outcome) (refused : Refused) : Type 0 where
   pub falls : (x : ℕ) → refused.falls ≡ Some x → (is_done outcome ≡ true) × IsPassed world step x
   pub cuts : (cut : Cut) → Contains refused.cuts cut → (is_done outcome ≡ true) × IsDelivered world step cut × IsGrowth world refused cut

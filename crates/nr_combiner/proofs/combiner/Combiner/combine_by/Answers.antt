@@ -2,7 +2,7 @@ use Rattle.std.proofs.Common.{◌≡◌, ℕ, length, ap, sym, ◌∙◌, subst,
 use Rattle.nr_accounts.specs.Book.{Book}
 use Rattle.nr_combiner.specs.Served.{CombinerState}
 use Rattle.nr_combiner.specs.Steps.{HasLiftedBy, HasAnsweredAll, outcome_of}
-use Rattle.nr_combiner.proofs.Turns.{tried_served, tried_book, looked_served, looked_by, down_looked}
+use Rattle.nr_combiner.proofs.Turns.{tried_served, tried_book, looked_served, down_looked}
 use Rattle.nr_combiner.proofs.Rounds.{lifted_by_long, answered_all_down}
 use Rattle.nr_combiner.proofs.combiner.Combiner.combine_by.Goals as goal
 
@@ -11,13 +11,11 @@ invariant_of-self g c =
     let inside = c.self-2.inside in
     let keeps = c.self-2.invariant in
     let tried = c.try_to_reserve-tried.new.core in
-    let looked = c.look-looked.new.self in
-    let goes = c.look-looked.ensures.goes in
-    let node : looked.book.node ≡ inside.core.book.node = goes.1.1.1.closed.node
+    let looked = c.look-looked.new.core in
+    let goes = c.look-looked.ensures in
+    let node : looked.book.node ≡ inside.core.book.node = goes.1.1.1.by.closed.node
     ∙ ap (λ (b : Book). b.node) (tried_book g.B.LogName.places c.try_to_reserve-tried.result inside.core tried c.try_to_reserve-tried.ensures.comes) in (
-      looked_served c.look-looked.result.round c.look-looked.result.is_behind goes.0 goes.1.0 goes.1.1.0 tried looked inside.seat inside.numbers.items
-          (looked_by c.look-looked.result.round c.look-looked.result.is_behind tried looked goes c.look-looked.ensures.not_yet c.look-looked.ensures.waiting c.look-looked.ensures.again
-          c.look-looked.ensures.never_full c.look-looked.ensures.down)
+      looked_served c.look-looked.result.round c.look-looked.result.is_behind goes.0 goes.1.0 goes.1.1.0 tried looked inside.seat inside.numbers.items goes.1.1.1
           (tried_served g.B.LogName.places c.try_to_reserve-tried.result inside.core tried inside.seat inside.numbers.items c.try_to_reserve-tried.ensures.comes keeps.0),
       keeps.1,
       keeps.2 ∙ sym node,
@@ -49,7 +47,7 @@ returns-clause-combined g c =
     let before : c.len-workers.result ≡ length c.args.self.now.seat.desks =
     count ∙ served.numbered ∙ sym served.workers ∙ ap (λ (x : CombinerState). length x.seat.desks) c.self.view_is in
     let lifted : CombinerState = record { node = c.self-2.inside.core; seat = c.self-2.inside.seat; counts = c.self-2.inside.counts } in
-    let goes = c.look-looked.ensures.goes in
+    let goes = c.look-looked.ensures in
     record {
       lifted = lifted;
       has_lifted = subst (λ (x : CombinerState). HasLiftedBy c.args.lifts c.args.worker c.args.self.now x) (sym c.self-2.view_is) c.lift_by-handed_back.ensures;
@@ -57,22 +55,21 @@ returns-clause-combined g c =
       tried = c.try_to_reserve-tried.new.core;
       has_tried = c.try_to_reserve-tried.ensures;
       look_is = c.look-looked.result.round;
-      looked = c.look-looked.new.self;
+      looked = c.look-looked.new.core;
       entries = goes.0;
       ran = goes.1.0;
       tail = goes.1.1.0;
-      has_looked = looked_by c.look-looked.result.round c.look-looked.result.is_behind c.try_to_reserve-tried.new.core c.look-looked.new.self goes c.look-looked.ensures.not_yet
-          c.look-looked.ensures.waiting
-          c.look-looked.ensures.again c.look-looked.ensures.never_full c.look-looked.ensures.down;
+      has_looked = goes.1.1.1;
       round_is = c.outcome.ensures;
-      has_answered = subst (λ (k : ℕ). HasAnsweredAll k (record { node = c.look-looked.new.self; seat = lifted.seat; counts = lifted.counts }) c.answer_all-answered.new.combiner) before
+      has_answered = subst (λ (k : ℕ). HasAnsweredAll k (record { node = c.look-looked.new.core; seat = lifted.seat; counts = lifted.counts }) c.answer_all-answered.new.combiner) before
           c.answer_all-answered.ensures;
     }
 
 pub returns-clause-down : goal.returns-clause-down
 returns-clause-down g c =
-    let looked : CombinerState = record { node = c.look-looked.new.self; seat = c.self-2.inside.seat; counts = c.self-2.inside.counts } in
+    let looked : CombinerState = record { node = c.look-looked.new.core; seat = c.self-2.inside.seat; counts = c.self-2.inside.counts } in
+    let down = c.look-looked.ensures.1.1.1.down in
     let same = answered_all_down c.len-workers.result looked c.answer_all-answered.new.combiner c.answer_all-answered.ensures in (
-      λ e. same ∙ c.look-looked.ensures.down.0 (down_looked c.try_to_reserve-tried.result c.look-looked.result.round (sym c.outcome.ensures ∙ e)),
-      λ e. c.outcome.ensures ∙ ap (outcome_of c.try_to_reserve-tried.result) (c.look-looked.ensures.down.1 (sym same ∙ e)),
+      λ e. same ∙ down.0 (down_looked c.try_to_reserve-tried.result c.look-looked.result.round (sym c.outcome.ensures ∙ e)),
+      λ e. c.outcome.ensures ∙ ap (outcome_of c.try_to_reserve-tried.result) (down.1 (sym same ∙ e)),
     )

@@ -1,8 +1,8 @@
-use Rattle.std.proofs.Common.{◌<◌, inl, inr, length, refl, ap, sym, ◌∙◌, subst}
+use Rattle.std.proofs.Common.{◌≡◌, ℕ, ◌<◌, inl, inr, None, length, refl, ap, sym, ◌∙◌, subst}
 use Rattle.nr_slots.specs.Seats.{CombinerView}
 use Rattle.nr_node.specs.Level.{NodeState}
 use Rattle.nr_combiner.specs.Served.{CombinerState}
-use Rattle.nr_combiner.specs.Steps.{HasLifted}
+use Rattle.nr_combiner.specs.Steps.{refusal_at, HasLifted, IsRefusedFor}
 use Rattle.nr_combiner.proofs.Due.{idle_at, lifted_served, back_kept, hands_back, none_kept, found_slots}
 use Rattle.nr_combiner.proofs.combiner.Combiner.lift.Goals as goal
 
@@ -34,7 +34,7 @@ invariant_of-self-in_default-take_in g c =
     let idle = idle_at inside.core inside.seat c.lift.new.self inside.numbers.items c.args.worker c.in-Some.batch near c.in-Some.ensures.lifted
     c.in-Some.ensures.unanswered c.self.invariant.0 in
     let taken = c.in_default-take_in.ensures.taken in (
-      lifted_served inside.core c.take_in.new.core inside.seat c.lift.new.self inside.numbers.items c.args.worker c.in-Some.batch near idle
+      lifted_served inside.core c.take_in.new.core inside.seat c.lift.new.self inside.numbers.items c.args.worker c.since-since.result c.in-Some.batch near idle
           c.in_default-take_in.ensures.due c.in_default-take_in.ensures.served taken c.in-Some.ensures.lifted c.self.invariant.0,
       ap (λ (v : CombinerView). v.slots) c.in-Some.ensures.lifted ∙ c.self.invariant.1,
       c.self.invariant.2 ∙ sym (ap (λ (n : NodeState). n.book.node) taken),
@@ -45,9 +45,10 @@ pub returns-in_default-take_in : goal.returns-in_default-take_in
 returns-in_default-take_in g c =
     let inside = c.self.inside in
     let new : CombinerState = record { node = c.take_in.new.core; seat = c.lift.new.self; counts = inside.counts } in
+    let due = subst (λ (k : ℕ). refusal_at c.args.worker k inside.core c.in-Some.batch ≡ None) c.since-since.ensures c.in_default-take_in.ensures.due in
     record {
       lifted = subst (λ (x : CombinerState). HasLifted c.args.worker x new) c.self.view_is
-          (inr (inl (c.in-Some.batch, record { due = c.in_default-take_in.ensures.due; node = c.in_default-take_in.ensures.taken; seat = c.in-Some.ensures.lifted; counts = refl })));
+          (inr (inl (c.in-Some.batch, record { due = due; node = c.in_default-take_in.ensures.taken; seat = c.in-Some.ensures.lifted; counts = refl })));
     }
 
 pub invariant_of-self-2 : goal.invariant_of-self-2
@@ -71,13 +72,14 @@ returns g c =
     let told = c.hand_back.ensures in
     let old : CombinerState = record { node = inside.core; seat = inside.seat; counts = inside.counts } in
     let new : CombinerState = record { node = c.take_in.new.core; seat = c.hand_back.new.seat; counts = inside.counts } in
+    let refused = subst (λ (k : ℕ). IsRefusedFor c.args.worker k inside.core c.in-Some.batch c.in-Err.why) c.since-since.ensures c.in-Err.ensures.refused in
     record {
       lifted = subst (λ (x : CombinerState). HasLifted c.args.worker x new) c.self.view_is
           (inr (inr (
             c.in-Some.batch,
             told.0,
             c.in-Err.why,
-            hands_back old new c.lift.new.self c.args.worker c.in-Some.batch c.in-Err.batch c.in-Err.why told.0 c.in-Err.ensures.refused c.in-Err.ensures.back
+            hands_back old new c.lift.new.self c.args.worker c.in-Some.batch c.in-Err.batch c.in-Err.why told.0 refused c.in-Err.ensures.back
                 c.in-Err.ensures.unchanged c.in-Some.ensures.lifted told.3 refl told.1 told.2,
           )));
     }

@@ -8,7 +8,7 @@ returns-clause-handed g c =
     let before : c.deref-2.result.now ≡ c.deref_mut.result.now = search rules in
     let after : c.deref-3.result.now ≡ c.collect_pieces-told.new.self = search rules in
     collects_behind _ _ _ _ _ _ _ _ _ _ _ c.collect_pieces-told.ensures.handed (search rules) c.collect_pieces-told.ensures.node c.collect_pieces-told.ensures.down c.collect_pieces-told.ensures.answered
-    c.collect_pieces-told.ensures.served (subst StandsLevel before c.level.ensures.level) (subst StandsLevel after c.level-2.ensures.level)
+    c.collect_pieces-told.ensures.since c.collect_pieces-told.ensures.served (subst StandsLevel before c.level.ensures.level) (subst StandsLevel after c.level-2.ensures.level)
     (search rules)
 
 pub returns-clause-added : goal.returns-clause-added

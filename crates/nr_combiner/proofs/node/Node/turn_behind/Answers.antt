@@ -4,8 +4,8 @@ use Rattle.nr_combiner.proofs.node.Node.turn_behind.Goals as goal
 
 pub returns-clause-turned : goal.returns-clause-turned
 returns-clause-turned g c =
-    turns_behind _ _ _ _ _ _ _ _ _ _ _ _ _ c.turn-told.ensures.turned (search rules) c.turn-told.ensures.node c.turn-told.ensures.down c.turn-told.ensures.answered c.turn-told.ensures.served
-    c.level.ensures.level c.level-2.ensures.level (search rules)
+    turns_behind _ _ _ _ _ _ _ _ _ _ _ _ _ c.turn-told.ensures.turned (search rules) c.turn-told.ensures.node c.turn-told.ensures.down c.turn-told.ensures.answered c.turn-told.ensures.since
+    c.turn-told.ensures.served c.level.ensures.level c.level-2.ensures.level (search rules)
 
 pub returns-clause-added : goal.returns-clause-added
 returns-clause-added g c = turned_added _ _ _ _ _ _ _ _ _ _ _ (returns-clause-turned g c)

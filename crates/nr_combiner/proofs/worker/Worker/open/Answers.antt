@@ -32,8 +32,8 @@ returns-clause-behind g c =
     let at : TableId → NodeView =
     λ id. record { node = shared.node; slots = record { id = id; workers = shared.slots.workers }; connections = shared.connections; limit = shared.limit } in (
       told.note,
-      subst (λ (w : WorkerState). OpensBehind (shared_of w) w.seat.worker w.generation told.conn s told.note) c.self.view_is
-          (subst (λ (id : TableId). OpensBehind (at id) inside.seat.worker inside.generation told.conn s told.note) (sym c.self.invariant.0)
-          (subst (λ (k : ℕ). OpensBehind shared k inside.generation told.conn s told.note) c.self.invariant.1
-          (subst (λ (v : NodeView). OpensBehind v inside.worker inside.generation told.conn s told.note) c.deref.ensures c.in_ok-conn.ensures.opened))),
+      subst (λ (w : WorkerState). OpensBehind (shared_of w) w.seat.worker w.generation c.args.since told.conn s told.note) c.self.view_is
+          (subst (λ (id : TableId). OpensBehind (at id) inside.seat.worker inside.generation c.args.since told.conn s told.note) (sym c.self.invariant.0)
+          (subst (λ (k : ℕ). OpensBehind shared k inside.generation c.args.since told.conn s told.note) c.self.invariant.1
+          (subst (λ (v : NodeView). OpensBehind v inside.worker inside.generation c.args.since told.conn s told.note) c.deref.ensures c.in_ok-conn.ensures.opened))),
     )

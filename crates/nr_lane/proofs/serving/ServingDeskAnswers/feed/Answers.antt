@@ -10,8 +10,8 @@ use Rattle.nr_lane.proofs.serving.ServingDeskAnswers.feed.Goals as goal
 pub returns-clause-fed : goal.returns-clause-fed
 returns-clause-fed g c =
     let conn = connection_of c.args.conn in
-    let old : ServingState = record { desk = c.self.inside.desk; busy = c.self.inside.is_busy; down = c.self.inside.is_down } in
-    let new : ServingState = record { desk = c.feed-is_whole.new.self; busy = c.self.inside.is_busy; down = c.self.inside.is_down } in
+    let old : ServingState = record { desk = c.self.inside.desk; busy = c.self.inside.is_busy } in
+    let new : ServingState = record { desk = c.feed-is_whole.new.self; busy = c.self.inside.is_busy } in
     subst (λ (v : ServingState). IsFed conn c.args.moment c.args.bytes.now (HasLedTo v) (HasLedTo new) (kept_at v) (kept_at new)) c.self.view_is
     (is_fed c.feed-is_whole.result old new conn c.args.moment c.capped.result c.args.bytes.now
     (subst (λ (v : ServingState). standings.Open ≡ standing_of v conn) (sym c.self.view_is) c.requires) c.capped.ensures.value

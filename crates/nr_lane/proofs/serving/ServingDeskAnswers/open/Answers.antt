@@ -9,14 +9,14 @@ use Rattle.nr_lane.proofs.serving.ServingDeskAnswers.open.Goals as goal
 pub returns-in-Ok-clause-opened : goal.returns-in-Ok-clause-opened
 returns-in-Ok-clause-opened g c =
     let conn = connection_of c.in-Ok.conn in
-    let old : ServingState = record { desk = c.self.inside.desk; busy = c.self.inside.is_busy; down = c.self.inside.is_down } in
-    let new : ServingState = record { desk = c.open.new.self; busy = c.self.inside.is_busy; down = c.self.inside.is_down } in
+    let old : ServingState = record { desk = c.self.inside.desk; busy = c.self.inside.is_busy } in
+    let new : ServingState = record { desk = c.open.new.self; busy = c.self.inside.is_busy } in
     subst (λ (v : ServingState). IsOpened conn (HasLedTo v) (HasLedTo new) (kept_at v) (kept_at new)) c.self.view_is
     (is_opened old new conn c.in-Ok.ensures.opened c.in-Ok.ensures.goes)
 
 pub returns-clause-none : goal.returns-clause-none
 returns-clause-none g c =
-    let old : ServingState = record { desk = c.self.inside.desk; busy = c.self.inside.is_busy; down = c.self.inside.is_down } in
-    let new : ServingState = record { desk = c.open.new.self; busy = c.self.inside.is_busy; down = c.self.inside.is_down } in
+    let old : ServingState = record { desk = c.self.inside.desk; busy = c.self.inside.is_busy } in
+    let new : ServingState = record { desk = c.open.new.self; busy = c.self.inside.is_busy } in
     subst (λ (v : ServingState). Keeps (HasLedTo v) (HasLedTo new) (kept_at v) (kept_at new)) c.self.view_is
     (keeps_unopened old new c.in_default.ensures.unopened c.in_default.ensures.stands)

@@ -1,5 +1,4 @@
 use Rattle.std.proofs.Common.{subst}
-use Rattle.std.specs.Prelude.{◌||◌}
 use Rattle.nr_service.specs.Stories.{HasWorked}
 use Rattle.nr_worker.specs.Working.{WorkState}
 use Rattle.nr_lane.specs.Serving.{ServingState, kept_at}
@@ -11,7 +10,7 @@ use Rattle.nr_lane.proofs.serving.ServingDeskAnswers.work.Goals as goal
 pub returns-clause-worked : goal.returns-clause-worked
 returns-clause-worked g c =
     let worked = c.work_on-worked in
-    let old : ServingState = record { desk = c.self.inside.desk; busy = c.self.inside.is_busy; down = c.self.inside.is_down } in
-    let new : ServingState = record { desk = worked.new.desk; busy = worked.result.is_busy; down = c.self.inside.is_down || worked.result.is_down } in
+    let old : ServingState = record { desk = c.self.inside.desk; busy = c.self.inside.is_busy } in
+    let new : ServingState = record { desk = worked.new.desk; busy = worked.result.is_busy } in
     subst (λ (v : ServingState). HasWorked (HasLedTo v) (HasLedTo new) (IsAtRest g.B.LogName.places new) (kept_at v) (kept_at new)) c.self.view_is
     (has_worked g.B.LogName.places old new (subst (λ (d : WorkState). Works d worked.new.desk) c.forget_told.ensures worked.ensures.works) worked.ensures.rest)

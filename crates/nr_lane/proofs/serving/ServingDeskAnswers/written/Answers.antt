@@ -9,7 +9,7 @@ use Rattle.nr_lane.proofs.serving.ServingDeskAnswers.written.Goals as goal
 pub returns-then-conn-node : goal.returns-then-conn-node
 returns-then-conn-node g c =
     let conn = connection_of c.args.conn in
-    let old : ServingState = record { desk = c.self.inside.desk; busy = c.self.inside.is_busy; down = c.self.inside.is_down } in
-    let new : ServingState = record { desk = c.written.new.self; busy = c.self.inside.is_busy; down = c.self.inside.is_down } in
+    let old : ServingState = record { desk = c.self.inside.desk; busy = c.self.inside.is_busy } in
+    let new : ServingState = record { desk = c.written.new.self; busy = c.self.inside.is_busy } in
     subst (λ (v : ServingState). IsWritten conn c.args.count (HasLedTo v) (HasLedTo new) (IsAtRest g.B.LogName.places v) (IsAtRest g.B.LogName.places new) (kept_at v) (kept_at new)) c.self.view_is
     (is_written g.B.LogName.places old new conn c.args.count (c.if-conn-node.true ∙ c.node.ensures) c.written.ensures.written c.written.ensures.goes refl)
