@@ -4,10 +4,6 @@
 #[cfg(test)]
 mod asserted;
 #[cfg(test)]
-mod callers;
-#[cfg(test)]
-mod directing;
-#[cfg(test)]
 mod doors;
 #[cfg(test)]
 mod falling;
@@ -15,10 +11,6 @@ mod falling;
 mod line;
 #[cfg(test)]
 mod places;
-#[cfg(test)]
-mod returning;
-#[cfg(test)]
-mod reviving;
 #[cfg(test)]
 mod sizes;
 #[cfg(test)]

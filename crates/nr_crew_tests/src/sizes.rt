@@ -4,9 +4,8 @@ ghost use Rattle.nr_oplog.specs.Opening.{name_of, nodes_of, places_of};
 ghost use Rattle.nr_combiner.specs.Opened.{AreNamed, AreOfWorkers};
 
 use crate::asserted::holds;
-use crate::returning::come_back;
-use nr_combiner::{Node, OpenedSlots, Plan, ServerName, Worker, build, open_slots};
-use nr_crew::{Lane, Place, StartError, lanes_of, share_nodes};
+use nr_combiner::{OpenedSlots, Plan, ServerName, Worker, build, open_slots};
+use nr_crew::{Lane, Place, StartError, lanes_of};
 use nr_entry::ConnId;
 use nr_lane::{Crew, ServingDesk};
 use nr_oplog::Opened;
@@ -16,8 +15,8 @@ use std::hash::RandomState;
 use std::marker::Brand;
 use std::process::Abort;
 use std::random::RandomSource;
+use std::sync::Wait;
 use std::sync::atomic::{AtomicU64, Ordering};
-use std::sync::{Arc, Wait};
 
 /// How many works are done at most until something came.
 const MOST_WORKS: u32 = 100_000;
@@ -50,8 +49,6 @@ enum Task {
     Cuts(u32),
     /// Node 0 falls, and so many entries come behind that.
     Falls(u32),
-    /// Node 0 falls and comes back, of which its second worker hears late.
-    ComesBack,
 }
 
 /// Servers of so many nodes, of so many workers each, with so many places, and what is done there.
@@ -80,11 +77,11 @@ const STORE: (&[u8], &[u8]) = (b"SETRANGE v 999 x\r\n", b":1000\r\n");
 
 const TWICE: &[u8] = b"GET v\r\nGET v\r\n";
 
-pub(crate) const PING: (&[u8], &[u8]) = (b"PING\r\n", b"+PONG\r\n");
+const PING: (&[u8], &[u8]) = (b"PING\r\n", b"+PONG\r\n");
 
-pub(crate) const SET: (&[u8], &[u8]) = (b"SET k v\r\n", b"+OK\r\n");
+const SET: (&[u8], &[u8]) = (b"SET k v\r\n", b"+OK\r\n");
 
-pub(crate) const SUBSCRIBE: (&[u8], &[u8]) = (
+const SUBSCRIBE: (&[u8], &[u8]) = (
     b"SUBSCRIBE c\r\n",
     b"*3\r\n$9\r\nsubscribe\r\n$1\r\nc\r\n:1\r\n",
 );
@@ -96,7 +93,7 @@ const AROUND_MESSAGE: usize = 36;
 
 // Counts how often each lane was rung.
 #[derive(Drop)]
-pub(crate) struct Bells {
+struct Bells {
     counts: Vec<AtomicU64>,
 }
 
@@ -128,10 +125,10 @@ impl Bells {
 
 // The desks of all workers, those of node 0 first, and what they share.
 #[derive(Drop)]
-pub(crate) struct Server<'c, A> {
+struct Server<'c, A> {
     nodes: usize,
     workers: usize,
-    pub(crate) crew: &'c Crew<Bells>,
+    crew: &'c Crew<Bells>,
     desks: Vec<A>,
 }
 
@@ -141,25 +138,25 @@ impl<A: Answers> Server<'_, A> {
         node.saturating_mul(self.workers).saturating_add(worker)
     }
 
-    pub(crate) fn desk<R: Abort>(&mut self, rt: &R, node: usize, worker: usize) -> &mut A {
+    fn desk<R: Abort>(&mut self, rt: &R, node: usize, worker: usize) -> &mut A {
         let lane = self.lane(node, worker);
         self.desks.get_mut(lane).expect(rt, "a desk")
     }
 
     // A connection of a worker of a node.
-    pub(crate) fn opens<R: Abort>(&mut self, rt: &R, node: usize, worker: usize) -> ConnId {
+    fn opens<R: Abort>(&mut self, rt: &R, node: usize, worker: usize) -> ConnId {
         holds(rt, "there is room", self.crew.admit(node));
         opens(rt, self.desk(rt, node, worker))
     }
 }
 
-pub(crate) fn opens<R: Abort, A: Answers>(rt: &R, desk: &mut A) -> ConnId {
+fn opens<R: Abort, A: Answers>(rt: &R, desk: &mut A) -> ConnId {
     let opened = desk.open(0).ok().expect(rt, "memory");
     opened.expect(rt, "it is opened")
 }
 
 // A connection sends this.
-pub(crate) fn sends<R: Abort, A: Answers>(rt: &R, desk: &mut A, conn: ConnId, bytes: &[u8]) {
+fn sends<R: Abort, A: Answers>(rt: &R, desk: &mut A, conn: ConnId, bytes: &[u8]) {
     match desk.standing(conn) {
         Standing::Open => {
             let fed = desk.feed(conn, 0, bytes);
@@ -170,7 +167,7 @@ pub(crate) fn sends<R: Abort, A: Answers>(rt: &R, desk: &mut A, conn: ConnId, by
 }
 
 // A work, behind which others are told.
-pub(crate) fn works<R: Abort, A: Answers>(rt: &R, desk: &mut A) {
+fn works<R: Abort, A: Answers>(rt: &R, desk: &mut A) {
     holds(rt, "it works", desk.work().is_ok());
     desk.pass_on();
 }
@@ -206,19 +203,14 @@ fn gets_length<R: Abort, A: Answers>(rt: &R, desk: &mut A, conn: ConnId, wanted:
 }
 
 // A connection asks this, and gets that.
-pub(crate) fn asks<R: Abort, A: Answers>(
-    rt: &R,
-    desk: &mut A,
-    conn: ConnId,
-    (sent, wanted): (&[u8], &[u8]),
-) {
+fn asks<R: Abort, A: Answers>(rt: &R, desk: &mut A, conn: ConnId, (sent, wanted): (&[u8], &[u8])) {
     sends(rt, desk, conn, sent);
     works_for(rt, desk, conn, wanted.len());
     gets(rt, desk, conn, wanted);
 }
 
 // A connection of a worker of a node, which has asked this, and got that.
-pub(crate) fn opens_and_asks<R: Abort, A: Answers>(
+fn opens_and_asks<R: Abort, A: Answers>(
     rt: &R,
     server: &mut Server<'_, A>,
     (node, worker): (usize, usize),
@@ -467,13 +459,7 @@ fn falls<R: Abort, A: Answers>(rt: &R, server: &mut Server<'_, A>, count: u32) {
     holds(rt, "it is down", standing == Standing::Down);
 }
 
-fn does<B: ServerName, R: Wait + Abort, A: Answers>(
-    rt: &R,
-    alloc: Global,
-    server: &mut Server<'_, A>,
-    nodes: &[Arc<Node<B>, Global>],
-    task: Task,
-) {
+fn does<R: Abort, A: Answers>(rt: &R, alloc: Global, server: &mut Server<'_, A>, task: Task) {
     match task {
         Task::EachAlone => each_alone(rt, server),
         Task::Woken => woken(rt, alloc, server),
@@ -485,7 +471,6 @@ fn does<B: ServerName, R: Wait + Abort, A: Answers>(
         Task::Subscribers(count) => subscribers(rt, alloc, server, count),
         Task::Cuts(count) => cuts(rt, alloc, server, count),
         Task::Falls(count) => falls(rt, server, count),
-        Task::ComesBack => come_back(rt, server, nodes),
     }
 }
 
@@ -561,7 +546,6 @@ where
     if let Task::Falls(_) = task {
         refuse_first(rt, &built);
     }
-    let shared = share_nodes(alloc, &built)?;
     let places = no_places(rt, alloc, lanes);
     let lanes = lanes_of(alloc, built, workers, places)?;
     let desks = desks_of(rt, alloc, lanes, &crew, limit_of(task));
@@ -571,7 +555,7 @@ where
         crew: &crew,
         desks,
     };
-    does(rt, alloc, &mut server, &shared, task);
+    does(rt, alloc, &mut server, task);
     Ok(())
 }
 
@@ -593,11 +577,6 @@ fn does_row<R: RandomSource + Wait + Abort>(
         .expect(rt, "slots are opened");
     let done = does_named::<Brand, R>(rt, alloc, keys, opened, slots, nodes, workers, task);
     holds(rt, "there is memory for it", done.is_ok());
-}
-
-#[test]
-fn a_desk_hears_late(rt: HostRuntime) {
-    does_row(&rt, rt.alloc(), (2, 2, 64, Task::ComesBack));
 }
 
 #[test]
