@@ -12,6 +12,8 @@ mod line;
 #[cfg(test)]
 mod places;
 #[cfg(test)]
+mod returning;
+#[cfg(test)]
 mod sizes;
 #[cfg(test)]
 mod streams;

@@ -4,8 +4,9 @@ ghost use Rattle.nr_oplog.specs.Opening.{name_of, nodes_of, places_of};
 ghost use Rattle.nr_combiner.specs.Opened.{AreNamed, AreOfWorkers};
 
 use crate::asserted::holds;
+use crate::returning::{Falling, Nodes, come_back};
 use nr_combiner::{OpenedSlots, Plan, ServerName, Worker, build, open_slots};
-use nr_crew::{Lane, Place, StartError, lanes_of};
+use nr_crew::{Lane, Place, StartError, lanes_of, share_nodes};
 use nr_entry::ConnId;
 use nr_lane::{Crew, ServingDesk};
 use nr_oplog::Opened;
@@ -49,6 +50,8 @@ enum Task {
     Cuts(u32),
     /// Node 0 falls, and so many entries come behind that.
     Falls(u32),
+    /// Node 0 falls and comes back, of which its second worker hears late.
+    ComesBack,
 }
 
 /// Servers of so many nodes, of so many workers each, with so many places, and what is done there.
@@ -77,11 +80,11 @@ const STORE: (&[u8], &[u8]) = (b"SETRANGE v 999 x\r\n", b":1000\r\n");
 
 const TWICE: &[u8] = b"GET v\r\nGET v\r\n";
 
-const PING: (&[u8], &[u8]) = (b"PING\r\n", b"+PONG\r\n");
+pub(crate) const PING: (&[u8], &[u8]) = (b"PING\r\n", b"+PONG\r\n");
 
-const SET: (&[u8], &[u8]) = (b"SET k v\r\n", b"+OK\r\n");
+pub(crate) const SET: (&[u8], &[u8]) = (b"SET k v\r\n", b"+OK\r\n");
 
-const SUBSCRIBE: (&[u8], &[u8]) = (
+pub(crate) const SUBSCRIBE: (&[u8], &[u8]) = (
     b"SUBSCRIBE c\r\n",
     b"*3\r\n$9\r\nsubscribe\r\n$1\r\nc\r\n:1\r\n",
 );
@@ -93,7 +96,7 @@ const AROUND_MESSAGE: usize = 36;
 
 // Counts how often each lane was rung.
 #[derive(Drop)]
-struct Bells {
+pub(crate) struct Bells {
     counts: Vec<AtomicU64>,
 }
 
@@ -125,10 +128,10 @@ impl Bells {
 
 // The desks of all workers, those of node 0 first, and what they share.
 #[derive(Drop)]
-struct Server<'c, A> {
+pub(crate) struct Server<'c, A> {
     nodes: usize,
     workers: usize,
-    crew: &'c Crew<Bells>,
+    pub(crate) crew: &'c Crew<Bells>,
     desks: Vec<A>,
 }
 
@@ -138,25 +141,25 @@ impl<A: Answers> Server<'_, A> {
         node.saturating_mul(self.workers).saturating_add(worker)
     }
 
-    fn desk<R: Abort>(&mut self, rt: &R, node: usize, worker: usize) -> &mut A {
+    pub(crate) fn desk<R: Abort>(&mut self, rt: &R, node: usize, worker: usize) -> &mut A {
         let lane = self.lane(node, worker);
         self.desks.get_mut(lane).expect(rt, "a desk")
     }
 
     // A connection of a worker of a node.
-    fn opens<R: Abort>(&mut self, rt: &R, node: usize, worker: usize) -> ConnId {
+    pub(crate) fn opens<R: Abort>(&mut self, rt: &R, node: usize, worker: usize) -> ConnId {
         holds(rt, "there is room", self.crew.admit(node));
         opens(rt, self.desk(rt, node, worker))
     }
 }
 
-fn opens<R: Abort, A: Answers>(rt: &R, desk: &mut A) -> ConnId {
+pub(crate) fn opens<R: Abort, A: Answers>(rt: &R, desk: &mut A) -> ConnId {
     let opened = desk.open(0).ok().expect(rt, "memory");
     opened.expect(rt, "it is opened")
 }
 
 // A connection sends this.
-fn sends<R: Abort, A: Answers>(rt: &R, desk: &mut A, conn: ConnId, bytes: &[u8]) {
+pub(crate) fn sends<R: Abort, A: Answers>(rt: &R, desk: &mut A, conn: ConnId, bytes: &[u8]) {
     match desk.standing(conn) {
         Standing::Open => {
             let fed = desk.feed(conn, 0, bytes);
@@ -167,7 +170,7 @@ fn sends<R: Abort, A: Answers>(rt: &R, desk: &mut A, conn: ConnId, bytes: &[u8])
 }
 
 // A work, behind which others are told.
-fn works<R: Abort, A: Answers>(rt: &R, desk: &mut A) {
+pub(crate) fn works<R: Abort, A: Answers>(rt: &R, desk: &mut A) {
     holds(rt, "it works", desk.work().is_ok());
     desk.pass_on();
 }
@@ -203,14 +206,19 @@ fn gets_length<R: Abort, A: Answers>(rt: &R, desk: &mut A, conn: ConnId, wanted:
 }
 
 // A connection asks this, and gets that.
-fn asks<R: Abort, A: Answers>(rt: &R, desk: &mut A, conn: ConnId, (sent, wanted): (&[u8], &[u8])) {
+pub(crate) fn asks<R: Abort, A: Answers>(
+    rt: &R,
+    desk: &mut A,
+    conn: ConnId,
+    (sent, wanted): (&[u8], &[u8]),
+) {
     sends(rt, desk, conn, sent);
     works_for(rt, desk, conn, wanted.len());
     gets(rt, desk, conn, wanted);
 }
 
 // A connection of a worker of a node, which has asked this, and got that.
-fn opens_and_asks<R: Abort, A: Answers>(
+pub(crate) fn opens_and_asks<R: Abort, A: Answers>(
     rt: &R,
     server: &mut Server<'_, A>,
     (node, worker): (usize, usize),
@@ -459,7 +467,13 @@ fn falls<R: Abort, A: Answers>(rt: &R, server: &mut Server<'_, A>, count: u32) {
     holds(rt, "it is down", standing == Standing::Down);
 }
 
-fn does<R: Abort, A: Answers>(rt: &R, alloc: Global, server: &mut Server<'_, A>, task: Task) {
+fn does<R: Wait + Abort, A: Answers, N: Falling>(
+    rt: &R,
+    alloc: Global,
+    server: &mut Server<'_, A>,
+    nodes: &N,
+    task: Task,
+) {
     match task {
         Task::EachAlone => each_alone(rt, server),
         Task::Woken => woken(rt, alloc, server),
@@ -471,6 +485,7 @@ fn does<R: Abort, A: Answers>(rt: &R, alloc: Global, server: &mut Server<'_, A>,
         Task::Subscribers(count) => subscribers(rt, alloc, server, count),
         Task::Cuts(count) => cuts(rt, alloc, server, count),
         Task::Falls(count) => falls(rt, server, count),
+        Task::ComesBack => come_back(rt, server, nodes),
     }
 }
 
@@ -546,6 +561,9 @@ where
     if let Task::Falls(_) = task {
         refuse_first(rt, &built);
     }
+    let shared = Nodes {
+        all: share_nodes(alloc, &built)?,
+    };
     let places = no_places(rt, alloc, lanes);
     let lanes = lanes_of(alloc, built, workers, places)?;
     let desks = desks_of(rt, alloc, lanes, &crew, limit_of(task));
@@ -555,7 +573,7 @@ where
         crew: &crew,
         desks,
     };
-    does(rt, alloc, &mut server, task);
+    does(rt, alloc, &mut server, &shared, task);
     Ok(())
 }
 
@@ -577,6 +595,11 @@ fn does_row<R: RandomSource + Wait + Abort>(
         .expect(rt, "slots are opened");
     let done = does_named::<Brand, R>(rt, alloc, keys, opened, slots, nodes, workers, task);
     holds(rt, "there is memory for it", done.is_ok());
+}
+
+#[test]
+fn a_desk_hears_late(rt: HostRuntime) {
+    does_row(&rt, rt.alloc(), (2, 2, 64, Task::ComesBack));
 }
 
 #[test]
