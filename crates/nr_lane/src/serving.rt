@@ -111,7 +111,7 @@ impl<'a, R: Wait, B: ServerName, K: Rings> ServingDesk<'a, R, B, K> {
 }
 
 impl<'a, R: Wait, B: ServerName, K: Rings> Answers for ServingDesk<'a, R, B, K> {
-    ghost use Rattle.std.specs.Prelude.{◌≡◌, true, None};
+    ghost use Rattle.std.specs.Prelude.{◌≡◌, ◌&&◌, not, true, None};
     ghost use Rattle.nr_seats.specs.Portions.{seat_of};
     ghost use Rattle.nr_lane.specs.Led.{HasLedTo, IsAtRest};
     ghost use Rattle.nr_lane.specs.Serving.{kept_at, standing_of};
@@ -140,7 +140,8 @@ impl<'a, R: Wait, B: ServerName, K: Rings> Answers for ServingDesk<'a, R, B, K> 
 
     ghost is_gone = { λ d c. seat_of d.desk.worker.node d.desk.seats c ≡ None };
 
-    ghost listens = { λ d c is_listening. is_listening ≡ listens_to c d.desk };
+    // No message comes while its node is taken for down.
+    ghost listens = { λ d c is_listening. is_listening ≡ (not d.desk.down && listens_to c d.desk) };
 
     /// A connection of its node. `None` where the node is down, has no room, or memory runs out. Where the number came from says nothing here.
     fn open(&mut self, _: u64) -> Result<Option<ConnId>, Memory> {
@@ -214,7 +215,7 @@ impl<'a, R: Wait, B: ServerName, K: Rings> Answers for ServingDesk<'a, R, B, K> 
     }
 
     fn is_listening(&self, conn: ConnId) -> bool {
-        self.desk.is_listening(conn)
+        !self.desk.is_down() && self.desk.is_listening(conn)
     }
 
     fn told(&self, place: usize) -> Option<ConnId> {
