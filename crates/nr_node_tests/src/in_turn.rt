@@ -9,6 +9,10 @@ use crate::desk::Act::{
     IsLost, IsTold, Opens, OpensNone, Refuses, Reopens, Sends, SendsEach, SendsMany,
 };
 use crate::desk::{Act, Desk};
+use crate::layouts::{
+    Layout, MANY_WORKERS, NARROW, NARROW_PAIR, ONE_EACH, THREE_NODES, TWO_EACH, TWO_NODES,
+    TWO_PLACES, TWO_WORKERS, WIDE,
+};
 use crate::reviving::{come_back, come_back_in_turn, drop_late_ones};
 use nr_blob::int_text;
 use nr_combiner::{Lifts, OpenError, OpenedSlots, Plan, ServerName, open_slots};
@@ -24,114 +28,6 @@ use std::marker::Brand;
 use std::process::Abort;
 use std::random::RandomSource;
 use std::sync::Wait;
-
-/// The nodes of a log, and how many places it has.
-#[derive(Clone, Copy)]
-struct Layout {
-    nodes: usize,
-    places: usize,
-    plan: Plan,
-}
-
-/// Two nodes of a worker each, and a megabyte for each connection.
-const TWO_NODES: Layout = Layout {
-    nodes: 2,
-    places: 4,
-    plan: Plan {
-        workers: 1,
-        connections: 4,
-        limit: 1 << 20,
-    },
-};
-
-/// The same, where the log has two places.
-const TWO_PLACES: Layout = Layout {
-    places: 2,
-    ..TWO_NODES
-};
-
-/// The same, where two connections of each are open at most.
-const TWO_EACH: Layout = Layout {
-    nodes: 2,
-    places: 4,
-    plan: Plan {
-        workers: 1,
-        connections: 2,
-        limit: 1 << 20,
-    },
-};
-
-/// The same of three nodes.
-const THREE_NODES: Layout = Layout {
-    nodes: 3,
-    ..TWO_EACH
-};
-
-/// The same, where one connection of each is open at most.
-const ONE_EACH: Layout = Layout {
-    nodes: 2,
-    places: 4,
-    plan: Plan {
-        workers: 1,
-        connections: 1,
-        limit: 1 << 20,
-    },
-};
-
-/// Two nodes of a worker each, which has many connections, and sixteen megabytes for each. No entry of some 200 waits for its place.
-const WIDE: Layout = Layout {
-    nodes: 2,
-    places: 256,
-    plan: Plan {
-        workers: 1,
-        connections: 32,
-        limit: 1 << 24,
-    },
-};
-
-/// A node of one worker, of which one connection is open at most, for which at most a kilobyte waits.
-const NARROW: Layout = Layout {
-    nodes: 1,
-    places: 64,
-    plan: Plan {
-        workers: 1,
-        connections: 1,
-        limit: 1024,
-    },
-};
-
-/// The same with two workers, and a connection for each.
-const NARROW_PAIR: Layout = Layout {
-    nodes: 1,
-    places: 64,
-    plan: Plan {
-        workers: 2,
-        connections: 2,
-        limit: 1024,
-    },
-};
-
-/// Sixteen workers of three nodes.
-const MANY_WORKERS: Layout = Layout {
-    nodes: 3,
-    places: 64,
-    plan: Plan {
-        workers: 16,
-        connections: 16,
-        limit: 1 << 30,
-    },
-};
-
-/// Two workers of one node.
-const TWO_WORKERS: Layout = Layout {
-    nodes: 1,
-    places: 4,
-    plan: Plan {
-        workers: 2,
-        connections: 3,
-        limit: 1 << 20,
-    },
-};
 
 /// What is done at the nodes of a log, each worker of which has a client.
 #[derive(Clone, Copy)]

@@ -12,6 +12,8 @@ mod in_turn;
 #[cfg(test)]
 mod law;
 #[cfg(test)]
+mod layouts;
+#[cfg(test)]
 mod reviving;
 #[cfg(test)]
 mod seated;
