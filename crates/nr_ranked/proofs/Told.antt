@@ -1,5 +1,5 @@
 -- The members of a range, as places among all and as windows of them.
-use Rattle.std.proofs.Common.{◌≡◌, ℕ, ◌-◌, ◌≤◌, min, ℤ, pos, negsuc, Bool, true, List, [], Option, None, Some, false, length, take, drop, refl, ap, sym, ◌∙◌, arith}
+use Rattle.std.proofs.Common.{◌≡◌, ℕ, ◌-◌, ◌≤◌, min, ℤ, pos, negsuc, Bool, true, List, [], Option, None, Some, false, length, take, drop, refl, ap, sym, ◌∙◌, arith, length-take, length-drop}
 use Rattle.std.proofs.lemmas.List.{length-reverse, nil_from_length}
 use Rattle.std.proofs.Math.Seq.{take-nil, drop-nil}
 use Rattle.std.specs.FinMap as finmap
@@ -19,7 +19,7 @@ use Rattle.nr_model.specs.Strings.{range, range_start, range_end}
 use Rattle.nr_model.specs.declared.command.Direction.{Direction}
 use Rattle.nr_model.specs.declared.command.Direction.TheVariants.{Ascending, Descending}
 use Rattle.nr_zsets.specs.Lists.{part}
-use Rattle.nr_zsets.proofs.Parts.{part_is, length-part}
+use Rattle.nr_zsets.proofs.Parts.{part_is}
 use Rattle.nr_zsets.proofs.Ranked.{length-ranked}
 
 pub length_told : (direction : Direction) (scores : Scores) → length (told_in direction (ranked scores)) ≡ finmap.len scores
@@ -40,7 +40,9 @@ pub count_places : (scores : Scores) (len from to : ℕ) (first last : ℤ) → 
     → to - from ≡ length (range first last (ranked scores))
 count_places scores len from to first last all starts ends within =
     let least : min to (length (ranked scores)) ≡ to = omega (arith, within, all, length-ranked scores) in
-    sym (ap (λ n. n - from) least) ∙ sym (length-part from to (ranked scores)) ∙ ap length (told_places Ascending scores len from to first last all starts ends)
+    let size : length (part from to (ranked scores)) ≡ min to (length (ranked scores)) - from =
+    omega (arith, length-drop from (take to (ranked scores)), length-take to (ranked scores)) in
+    sym (ap (λ n. n - from) least) ∙ sym size ∙ ap length (told_places Ascending scores len from to first last all starts ends)
 
 pub end_within : (len to : ℕ) (last : ℤ) → to ≡ range_end len last → to ≤ len
 end_within len to (pos n) is = omega (arith, is)

@@ -57,7 +57,7 @@ fn direction_of(reversed: bool) -> Direction
 // Members, each with its score behind it where they are asked for.
 fn items_of<'k>(
     alloc: Global,
-    told: &[(&'k Blob, i64)],
+    told: &[(&'k [u8], i64)],
     with_scores: bool,
 ) -> Result<Vec<Item<'k>>, Memory>
     ensures { IfOk result (λ items. replies.array (map item_reply items.items) ≡ sorted_sets.members_array with_scores (map shown told.now)) }
@@ -69,22 +69,22 @@ fn items_of<'k>(
     }
 }
 
-fn members_of<'k>(alloc: Global, told: &[(&'k Blob, i64)]) -> Result<Vec<Item<'k>>, Memory>
+fn members_of<'k>(alloc: Global, told: &[(&'k [u8], i64)]) -> Result<Vec<Item<'k>>, Memory>
     ensures { IfOk result (λ items. map item_reply items.items ≡ map (λ scored. replies.Bulk scored.0) (map shown told.now)) }
 {
     let mut items = Vec::with_capacity(alloc, told.len())?;
     for (member, _) in told {
-        items.push(Item::Bulk(member.bytes()))?;
+        items.push(Item::Bulk(member))?;
     }
     Ok(items)
 }
 
-fn pairs_of<'k>(alloc: Global, told: &[(&'k Blob, i64)]) -> Result<Vec<Item<'k>>, Memory>
+fn pairs_of<'k>(alloc: Global, told: &[(&'k [u8], i64)]) -> Result<Vec<Item<'k>>, Memory>
     ensures { IfOk result (λ items. map item_reply items.items ≡ flat_map sorted_sets.with_score (map shown told.now)) }
 {
     let mut items = Vec::with_capacity(alloc, 2 * told.len())?;
     for (member, score) in told {
-        items.push(Item::Bulk(member.bytes()))?;
+        items.push(Item::Bulk(member))?;
         items.push(Item::Number(*score))?;
     }
     Ok(items)

@@ -113,7 +113,7 @@ impl<'k> SortedSetEdit for RangeRemoval<'k> {
 
     fn edit(self, zset: &mut Zset) -> Result<Result<Change, Refused>, Memory> {
         let before = zset.len();
-        take_out(zset, &self.ends);
+        take_out(zset, &self.ends)?;
         Ok(Ok(loss(before.saturating_sub(zset.len()))))
     }
 }

@@ -1,10 +1,8 @@
 pub mod Bools
-pub mod Heights
 pub mod Mapped
-pub mod Places
-pub mod Parted
 pub mod Parts
 pub mod Sorted
 pub mod Ranked
 pub mod Ranges
+pub mod Moves
 pub mod Crossing

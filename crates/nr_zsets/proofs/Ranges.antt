@@ -6,7 +6,7 @@ use Rattle.std.specs.declared.cmp.Ordering.TheVariants.{Less, Equal, Greater}
 use Rattle.std.specs.Ordering.{is_lt, int_cmp, ordering_then, ordering_reverse}
 use Rattle.std.specs.Cmp.{IsTotalOrder, int_cmp_total, alike_right, tied_itself}
 use Rattle.std.specs.Cmp.Lexicographic.{nat_list_cmp_total}
-use Rattle.std.specs.List.{AllByRecursion, remove, slice_get}
+use Rattle.std.specs.List.{AllByRecursion, slice_get}
 use Rattle.std.specs.Option.{option_to_list}
 use Rattle.std.specs.FinMap as finmap
 use Rattle.std.proofs.lemmas.List.{drop_all, take_all, reverse-append}
@@ -16,17 +16,19 @@ use Rattle.std.proofs.lemmas.List.Elements.{filter-append}
 use Rattle.std.proofs.lemmas.Map.Lookups.{exact_signed}
 use Rattle.nr_model.specs.Keyspace.{byte_cmp}
 use Rattle.nr_model.specs.SortedSets as model
-use Rattle.nr_model.specs.SortedSets.{Scored, Scores, scored_cmp, ranked, Bound, Lowest, Highest, Including, Excluding, Bounds, ByScore, ByBytes, is_between, between, without, told_in}
+use Rattle.nr_model.specs.SortedSets.{Scored, Scores, scored_cmp, ranked, Bound, Lowest, Highest, Including, Excluding, Bounds, ByScore, ByBytes, is_between, between, told_in}
 use Rattle.nr_model.specs.declared.command.Direction.{Direction}
 use Rattle.nr_model.specs.declared.command.Direction.TheVariants.{Ascending, Descending}
 use Rattle.nr_zbounds.specs.Ranges.{is_from, is_up_to}
-use Rattle.nr_zsets.specs.Lists.{IsParted, part, at_most, fewest, told_place, told_ends}
+use Rattle.nr_ordered.specs.Lists.{IsParted, part, told_place}
+use Rattle.nr_ordered.proofs.Places.{same_Some}
+use Rattle.nr_ordered.proofs.Parts.{length-told, told_at, got}
+use Rattle.nr_zsets.specs.Lists.{at_most, fewest, told_ends}
 use Rattle.nr_zsets.specs.Scores.{HaveOneScore, StandTogether, held, held_at, before}
 use Rattle.nr_zsets.proofs.Bools.{less_is, is_false, twice, untwice, not_not}
-use Rattle.nr_zsets.proofs.Places.{same_Some}
-use Rattle.nr_zsets.proofs.Parts.{drop_at, drop_removed, told_at, got, length-told, fewest_is, take_none, window, told_part}
+use Rattle.nr_zsets.proofs.Parts.{drop_at, fewest_is, take_none, window, told_part}
 use Rattle.nr_zsets.proofs.Sorted.{Rises, parted_where, all_such, all_at}
-use Rattle.nr_zsets.proofs.Ranked.{rising, length-ranked}
+use Rattle.nr_zsets.proofs.Ranked.{rising}
 
 -- those that pass one test and not another, where fronts pass both
 module _ {A : Type 0} (f g : A → Bool) where
@@ -208,31 +210,6 @@ pub held_there : (bounds : Bounds) (xs ys : List Scored) (place : ℕ) (x : Scor
 held_there bounds xs ys place x holds is at own =
     ap (λ zs. held_at bounds place zs) (sym is) ∙ ap (held bounds) (sym at) ∙ ap (λ b. cond b (Some x) None) (sym own)
 
--- one is passed over, or goes
-pub passed_over : (bounds : Bounds) (scores : Scores) (place : ℕ) → place < length (ranked scores) → None ≡ held_at bounds place (ranked scores)
-    → without (between bounds (drop (place + 1) (ranked scores))) scores ≡ without (between bounds (drop place (ranked scores))) scores
-passed_over bounds scores place low none =
-    sym (ap (λ xs. without xs scores) (next_between bounds (ranked scores) place low
-    ∙ ap (λ o. option_to_list o ++ between bounds (drop (place + 1) (ranked scores))) (sym none)))
-
-pub goes : (bounds : Bounds) (old new : Scores) (place : ℕ) (x y : Scored) → slice_get (ranked old) place ≡ Some x → Some y ≡ held_at bounds place (ranked old)
-    → new ≡ finmap.remove old x.0 → ranked new ≡ remove (ranked old) place
-    → without (between bounds (drop place (ranked new))) new ≡ without (between bounds (drop place (ranked old))) old
-goes bounds old new place x y at found is left =
-    let low = slice_get_within (ranked old) place x at in
-    let more : suc place ≡ place + 1 = omega arith in
-    let same : y ≡ x = held_same bounds x y (found ∙ ap (held bounds) at) in
-    sym (ap (λ xs. without xs old) (next_between bounds (ranked old) place low
-    ∙ ap (λ o. option_to_list o ++ between bounds (drop (place + 1) (ranked old))) (sym found ∙ ap Some same))
-    ∙ ap (λ m. without (between bounds (drop (place + 1) (ranked old))) m) (sym is)
-    ∙ ap (λ xs. without (between bounds xs) new) (ap (λ n. drop n (ranked old)) (sym more) ∙ sym (drop_removed (ranked old) place low) ∙ ap (drop place) (sym left)))
-  where
-    held_same : (bounds : Bounds) (x y : Scored) → Some y ≡ held bounds (Some x) → y ≡ x
-    held_same bounds x y is = elim (is_between bounds x) as (λ b. Some y ≡ cond b (Some x) None → y ≡ x) [
-      | true ↦ λ h. same_Some y x h
-      | false ↦ λ h. absurd (cc)
-    ] is
-
 told_between : (direction : Direction) (bounds : Bounds) (xs : List Scored) → told_in direction (between bounds xs) ≡ between bounds (told_in direction xs)
 told_between Ascending bounds xs = refl
 told_between Descending bounds xs = reversed xs where
@@ -319,10 +296,6 @@ lent_between direction bounds xs low high len offset from most count ends is siz
     window ends.0 ends.1 offset from most count (told_in direction xs) start few
     ∙ ap (λ (e : ℕ × ℕ). at_most count (drop offset (part e.0 e.1 (told_in direction xs)))) told
     ∙ ap (λ ys. at_most count (drop offset ys)) (told_part direction low high len xs size within ∙ ap (told_in direction) (sym is))
-
-pub gone_all : (bounds : Bounds) (scores : Scores) (place : ℕ) → finmap.len scores ≤ place → without (between bounds (drop place (ranked scores))) scores ≡ scores
-gone_all bounds scores place past =
-    ap (λ xs. without (between bounds xs) scores) (drop_all place (ranked scores) (omega (arith, past, length-ranked scores)))
 
 pub last_place : (xs ys : List Scored) (len : ℕ) → xs ≡ ys → len ≡ length xs → (x : Scored) → Some x ≡ slice_get xs 0 → suc (len - 1) ≡ length ys
 last_place xs ys len is size x at =

@@ -21,12 +21,11 @@ use Rattle.nr_model.specs.SortedSets.{Scored, Scores, scored_cmp, ranked, rank_o
 use Rattle.nr_model.specs.declared.command.Direction.{Direction}
 use Rattle.nr_model.specs.declared.command.Direction.TheVariants.{Ascending, Descending}
 use Rattle.nr_model.proofs.Ordered.{has, ordered-in_order, ordered-put, has-in_order, has-put, same_ordered, equal_from}
-use Rattle.nr_zsets.specs.Lists.{IsParted, part, told_place}
+use Rattle.nr_ordered.specs.Lists.{IsParted, told_place}
+use Rattle.nr_ordered.proofs.Parts.{told-descending}
 use Rattle.nr_zsets.specs.Scores.{is_before, place_in}
 use Rattle.nr_zsets.proofs.Sorted.{Rises, rises, parted_front, inserted_put, inserted_at, removed_again, place_of_item, has_at, stands, length-put, passing, length-front, any-front, any-reverse, first_passing, no_position}
 use Rattle.nr_zsets.proofs.Bools.{and_false, and_true, or_false, or_true, is_false, first_holds, second_holds}
-use Rattle.nr_zsets.proofs.Places.{same_Some}
-use Rattle.nr_zsets.proofs.Parts.{told-descending, part_first}
 
 pub scored_total : IsTotalOrder scored_cmp
 scored_total = then_total (on_total (λ (x : Scored). x.1) int_cmp_total) (on_total (λ (x : Scored). x.0) nat_list_cmp_total)
@@ -51,7 +50,7 @@ both_equal Less s = refl
 both_equal Equal s = refl
 both_equal Greater s = refl
 
-not_None : {A : Type 0} (x : A) → Some x ≡ None → ⊥
+pub not_None : {A : Type 0} (x : A) → Some x ≡ None → ⊥
 not_None x e = true≢false (ap is_some e)
 
 unequal : (r : Ordering) → T (is_lt r) → is_eq r ≡ false
@@ -206,20 +205,9 @@ pub low_there : (xs : List Scored) (scores : Scores) (x : Scored) (place : ℕ) 
     → finmap.get scores x.0 ≡ Some x.1 → place < length xs
 low_there xs scores x place is here at = rw (here, is) (within scores x at)
 
-pub item_there : (xs : List Scored) (scores : Scores) (x y : Scored) (place : ℕ) → xs ≡ ranked scores → place ≡ place_in (ranked scores) x
-    → finmap.get scores x.0 ≡ Some x.1 → slice_get xs place ≡ Some y → y ≡ x
-item_there xs scores x y place is here at found =
-    same_Some y x (sym found ∙ ap (slice_get xs) here ∙ ap (λ ys. slice_get ys (place_in (ranked scores) x)) is ∙ standing scores x at)
-
 pub taken_at : (scores : Scores) (k : ℕ) (x : Scored) → slice_get (ranked scores) k ≡ Some x
     → remove (ranked scores) k ≡ ranked (finmap.remove scores x.0)
 taken_at scores k x at = ap (remove (ranked scores)) (sym (placed scores k x at)) ∙ taken scores x (score_at scores k x at)
-
--- a member taken out and put in with another score
-pub moved_there : (xs new : List Scored) (scores : Scores) (x y : Scored) (place : ℕ) → xs ≡ ranked (finmap.remove scores x.0)
-    → place ≡ place_in (ranked (finmap.remove scores x.0)) x → y ≡ x → new ≡ insert xs place y → new ≡ ranked (finmap.insert scores x.0 x.1)
-moved_there xs new scores x y place is here same put =
-    added_there xs new (finmap.remove scores x.0) x y place is here same (without_it scores x.0) put ∙ ap ranked (anew scores x.0 x.1)
 
 pub fewer_by_one : (scores : Scores) (x : Scored) → finmap.get scores x.0 ≡ Some x.1 → finmap.len (finmap.remove scores x.0) + 1 ≡ finmap.len scores
 fewer_by_one scores x at =
@@ -254,10 +242,10 @@ length-ranked scores =
     length-puts (finmap.entries scores) [] (finmap.entries_sorted scores) (λ q _. refl) ∙ omega (arith, finmap.len-entries scores)
 
 -- what a search for a cut finds, at the tree that is kept beside the map
-pub found_place : (xs : List Scored) (scores : Scores) (x : Scored) (place : ℕ) → xs ≡ ranked scores
-    → (IsParted (is_before x) xs → place ≡ place_in xs x) → place ≡ place_in (ranked scores) x
-found_place xs scores x place is at =
-    at (subst (IsParted (is_before x)) (sym is) (parted_ranked scores x)) ∙ ap (λ ys. place_in ys x) is
+pub found_place : (xs : List Scored) (scores : Scores) (x y : Scored) (place : ℕ) → xs ≡ ranked scores → y ≡ x
+    → (IsParted (is_before y) xs → place ≡ place_in xs y) → place ≡ place_in (ranked scores) x
+found_place xs scores x y place is same at =
+    at (subst (IsParted (is_before y)) (sym is) (parted_ranked scores y)) ∙ (λ i. place_in (is i) (same i))
 
 -- whether one is of this member
 abbrev pub is_named : Bytes → Scored → Bool
@@ -299,14 +287,3 @@ rank_missing Descending scores member none =
 pub told_within : (direction : Direction) (place len : ℕ) → place < len → told_place direction place len < len
 told_within Ascending place len low = low
 told_within Descending place len low = omega (arith, low)
-
--- one of the members from a place on is gone, and so many are left to go
-pub goes_on : (old new : Scores) (x : Scored) (from gone counter : ℕ) → counter < gone → slice_get (ranked old) from ≡ Some x → new ≡ finmap.remove old x.0
-    → ranked new ≡ remove (ranked old) from
-    → without (part from (from + (gone - (counter + 1))) (ranked new)) new ≡ without (part from (from + (gone - counter)) (ranked old)) old
-goes_on old new x from gone counter more at is left =
-    let rest = gone - (counter + 1) in
-    let one : gone - counter ≡ suc rest = omega (arith, more) in
-    sym (ap (λ n. without (part from (from + n) (ranked old)) old) one
-    ∙ ap (λ ys. without ys old) (part_first (ranked old) from rest x at)
-    ∙ (λ i. without (part from (from + rest) (sym left i)) (sym is i)))

@@ -14,9 +14,9 @@ use Rattle.std.proofs.lemmas.List.Edits.{remove-append_right}
 use Rattle.std.proofs.lemmas.Bool.{lt-ltb, le-ltb}
 use Rattle.nr_model.specs.Names.{put}
 use Rattle.nr_model.proofs.Ordered.{has, IsOrdered, equal_from}
-use Rattle.nr_zsets.specs.Lists.{IsParted}
+use Rattle.nr_ordered.specs.Lists.{IsParted}
 use Rattle.nr_zsets.proofs.Bools.{first_holds, second_holds, less_is, in_tail, neither, is_false}
-use Rattle.nr_zsets.proofs.Places.{same_Some, seam_at}
+use Rattle.nr_ordered.proofs.Places.{same_Some, seam_at}
 
 less_from : (r : Ordering) → T (is_lt r) → r ≡ Less
 less_from Less h = refl

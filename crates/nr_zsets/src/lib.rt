@@ -1,10 +1,8 @@
-//! Sorted sets, as keys hold them: a map from member to score, beside a balanced tree of the same in order.
+//! Sorted sets, as keys hold them: a map from member to score, beside the same in order, in a balanced tree of small blocks.
 #![tactic(auto)]
 
-pub use ticks::Ticks;
+pub use nr_ordered::Ticks;
 pub use zset::Zset;
 
 mod order;
-mod ticks;
-mod tree;
 mod zset;

@@ -3,8 +3,8 @@ ghost use Rattle.std.specs.Prelude.{◌≡◌, ◌↔◌, ◌<◌, ◌^◌, IsTr
 ghost use Rattle.std.specs.FinMap as finmap;
 ghost use Rattle.nr_zsets.specs.Scores.{scores_of};
 
-use crate::tree::Tree;
 use nr_blob::{Blob, Memory};
+use nr_ordered::Tree;
 use std::alloc::Global;
 use std::collections::HashMap;
 use std::hash::RandomState;
@@ -18,7 +18,7 @@ mod ranges;
 /// A sorted set, as a key holds it. It is seen as a finite map from members to scores. To drop it is linear in its members.
 #[derive(Drop)]
 pub struct Zset {
-    // Nodes and copies are made with it: neither map nor tree hands its own out.
+    // Copies, and what is put into the tree, are made with it: neither map nor tree hands its own out.
     alloc: Global,
     scores: HashMap<Blob, i64, RandomState>,
     tree: Tree,

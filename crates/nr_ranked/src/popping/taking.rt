@@ -55,7 +55,8 @@ fn take_first(
 {
     let mut replies = Vec::with_capacity(alloc, 2 * count)?;
     for _ in 0..count {
-        let Some((member, score)) = zset.pop_first(direction) else {
+        let popped = zset.pop_first(direction)?;
+        let Some((member, score)) = popped else {
             return Ok(replies);
         };
         push_scored(alloc, &mut replies, member, score)?;

@@ -1,5 +1,5 @@
 // The members of a range, told in a direction, counted, or taken out.
-ghost use Rattle.std.specs.Prelude.{◌≡◌, ◌<◌, ◌^◌, None, IfOk, length, map};
+ghost use Rattle.std.specs.Prelude.{◌≡◌, ◌<◌, ◌^◌, None, IfOk, OnOk, OnErr, length, map};
 ghost use Rattle.std.specs.Option.{option_map};
 ghost use Rattle.nr_model.specs.SortedSets.{ranked, told_range, without};
 ghost use Rattle.nr_model.specs.SortedSets as model;
@@ -12,7 +12,7 @@ ghost use Rattle.nr_ranked.specs.Reading.{ends_of, most_of};
 
 use crate::ranges::ends::Ends;
 use crate::ranges::options::Limit;
-use nr_blob::{Blob, Memory, end_of, start_of};
+use nr_blob::{Memory, end_of, start_of};
 use nr_model::command::Direction;
 use nr_zbounds::Bounds;
 use nr_zsets::Zset;
@@ -25,7 +25,7 @@ pub(super) fn told_in<'k>(
     ends: &Ends<'_>,
     direction: Direction,
     limit: Option<Limit>,
-) -> Result<Vec<(&'k Blob, i64)>, Memory>
+) -> Result<Vec<(&'k [u8], i64)>, Memory>
     ensures { IfOk result (λ told. map shown told.items ≡ told_range (ends_of ends.now) direction (option_map limit_of limit) zset.now) }
 {
     match ends {
@@ -51,7 +51,7 @@ fn told_within<'k>(
     bounds: &Bounds<'_>,
     direction: Direction,
     limit: Option<Limit>,
-) -> Result<Vec<(&'k Blob, i64)>, Memory>
+) -> Result<Vec<(&'k [u8], i64)>, Memory>
     ensures { IfOk result
         (λ told. map shown told.items ≡ told_range (model.Within (seen_bounds bounds.now)) direction (option_map limit_of limit) zset.now) }
 {
@@ -88,17 +88,20 @@ pub(super) fn count_in(zset: &Zset, ends: &Ends<'_>) -> usize
     }
 }
 
-/// Takes the members of a range out.
-pub(crate) fn take_out(zset: &mut Zset, ends: &Ends<'_>)
-    ensures { zset.new ≡ without (told_range (ends_of ends.now) Ascending None zset.old) zset.old }
+/// Takes the members of a range out. Where memory runs out nothing is changed.
+pub(crate) fn take_out(zset: &mut Zset, ends: &Ends<'_>) -> Result<(), Memory>
+    ensures removed { OnOk result (zset.new ≡ without (told_range (ends_of ends.now) Ascending None zset.old) zset.old) }
+    ensures err { OnErr result (zset.new ≡ zset.old) }
 {
     match ends {
         Ends::Places(first, last) => {
             let (from, to) = places(zset.len(), *first, *last);
-            zset.remove_by_place(from, to);
+            zset.remove_by_place(from, to)?;
+            Ok(())
         }
         Ends::Within(bounds) => {
-            zset.remove_between(bounds);
+            zset.remove_between(bounds)?;
+            Ok(())
         }
     }
 }

@@ -108,12 +108,12 @@ fn gather_all<'k>(
     sums: &mut BTreeMap<&'k [u8], i128>,
     aggregate: Aggregate,
     weight: i64,
-    members: &[(&'k Blob, i64)],
+    members: &[(&'k [u8], i64)],
 ) -> Result<(), Memory>
     ensures { OnOk result (sums_of sums.new ≡ fold (gathered_one aggregate weight) (sums_of sums.old) (map shown members.now)) }
 {
     for (member, score) in members {
-        gather_one(sums, aggregate, weight, member.bytes(), *score)?;
+        gather_one(sums, aggregate, weight, member, *score)?;
     }
     Ok(())
 }

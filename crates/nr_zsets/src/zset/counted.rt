@@ -5,13 +5,13 @@ ghost use Rattle.std.specs.FinMap as finmap;
 ghost use Rattle.nr_model.specs.SortedSets.{ranked, rank_of};
 ghost use Rattle.nr_model.specs.declared.command.Direction.TheVariants.{Ascending};
 ghost use Rattle.nr_zbounds.specs.Seen.{seen_score};
-ghost use Rattle.nr_zsets.specs.Lists.{shown};
+ghost use Rattle.nr_ordered.specs.Lists.{shown};
 ghost use Rattle.nr_zsets.specs.Scores.{before};
 
 use super::Zset;
 use crate::order::{Before, LowerEnd};
-use crate::ticks::Ticks;
 use nr_blob::Blob;
+use nr_ordered::Ticks;
 use nr_zbounds::{Bound, Bounds, ScoreBound};
 use std::sync::ledger::Ledger;
 
@@ -24,11 +24,12 @@ impl Zset {
         let Some(score) = self.score(member) else {
             return None;
         };
+        let member = member.bytes();
         Some(self.tree.place_of(&Before { member, score }, ticks))
     }
 
     /// The member at a place from the least score on, with its score, as `by_place` finds it.
-    pub fn at<L: Ledger>(&self, place: usize, ticks: &mut Ticks<L>) -> Option<(&Blob, i64)>
+    pub fn at<L: Ledger>(&self, place: usize, ticks: &mut Ticks<L>) -> Option<(&[u8], i64)>
         ensures item { option_map shown result ≡ slice_get (ranked self.now) place }
         ensures cost { (d : ℕ) → finmap.len self.now < 2 ^ d → ticks.new ≤ ticks.old + 2 * d }
     {

@@ -1,35 +1,37 @@
 // Members put in, scored anew and taken out.
-ghost use Rattle.std.specs.Prelude.{◌≡◌, ◌+◌, ◌-◌, ◌<◌, ◌++◌, None, Some, true, length, slice_get, IfOk, IsOk, OnOk, OnErr, IsSome, IfSome, IfNone};
+ghost use Rattle.std.specs.Prelude.{◌≡◌, ◌+◌, ◌-◌, ◌≤◌, ◌<◌, ◌++◌, ◌^◌, None, Some, true, length, map, fold, slice_get, IfOk, IsOk, OnOk, OnErr, IfSome, IfNone};
 ghost use Rattle.std.specs.List.{remove};
-ghost use Rattle.std.specs.Option.{option_to_list};
+ghost use Rattle.std.specs.Option.{option_map, option_to_list};
 ghost use Rattle.std.specs.FinMap as finmap;
 ghost use Rattle.nr_model.specs.SortedSets.{ranked, told_in, without};
-ghost use Rattle.nr_zsets.specs.Lists.{part};
+ghost use Rattle.nr_ordered.specs.Lists.{part, shown};
+ghost use Rattle.nr_zsets.specs.Lists.{moved};
 ghost use Rattle.nr_zsets.specs.Scores.{scores_of};
 
 use super::Zset;
 use super::places::told;
 use crate::order::Before;
-use crate::tree::Node;
 use nr_blob::{Blob, Memory};
 use nr_model::command::Direction;
+use nr_ordered::Tree;
+use std::alloc::Global;
 use std::collections::HashMap;
 use std::hash::RandomState;
 
 impl Zset {
     /// Gives a member this score, and says what its score was before, if it was there. Logarithmic. Where memory runs out nothing is changed;
-    /// a member that is there takes none.
+    /// a member that has this score takes none.
     pub fn insert(&mut self, member: Blob, score: i64) -> Result<Option<i64>, Memory>
         ensures before { IfOk result (λ before. before ≡ finmap.get self.old member) }
         ensures ok { OnOk result (self.new ≡ finmap.insert self.old member score) }
         ensures err { OnErr result (self.new ≡ self.old) }
-        ensures there { IsSome (finmap.get self.old member) → IsOk result }
+        ensures same { finmap.get self.old member ≡ Some score → IsOk result }
     {
         let Some(before) = self.score(&member) else {
             self.add(member, score)?;
             return Ok(None);
         };
-        self.rescore(&member, before, score);
+        self.rescore(&member, before, score)?;
         Ok(Some(before))
     }
 
@@ -39,36 +41,44 @@ impl Zset {
         ensures ok { OnOk result (self.new ≡ finmap.insert self.old member score) }
         ensures err { OnErr result (self.new ≡ self.old) }
     {
-        // Each member takes memory, so that their number fits.
-        let few = self.len() < usize::MAX;
-        prove!(few);
-        let node = Node::new(self.alloc, member.copy()?, score)?;
+        let bytes = member.bytes();
         let place = self.tree.find(&Before {
-            member: &member,
+            member: bytes,
             score,
         });
-        self.scores.insert(member, score)?;
-        self.tree.put(place, node);
+        self.tree.insert(self.alloc, place, bytes, score)?;
+        if let Err(why) = self.scores.insert(member, score) {
+            self.tree.remove(place);
+            return Err(Memory::from(why));
+        }
         Ok(())
     }
 
-    // Gives a member that is there this score: its node moves where it had another.
-    fn rescore(&mut self, member: &Blob, before: i64, score: i64)
+    // Gives a member that is there this score.
+    fn rescore(&mut self, member: &Blob, before: i64, score: i64) -> Result<(), Memory>
         requires { finmap.get self.old member.now ≡ Some before }
-        ensures { self.new ≡ finmap.insert self.old member.now score }
+        ensures ok { OnOk result (self.new ≡ finmap.insert self.old member.now score) }
+        ensures err { OnErr result (self.new ≡ self.old) }
+        ensures same { before ≡ score → IsOk result }
     {
         if score == before {
-            return;
+            return Ok(());
         }
-        let place = self.tree.find(&Before {
-            member,
+        // Each member takes memory, so that their number fits.
+        let few = self.len() < usize::MAX;
+        prove!(few);
+        let bytes = member.bytes();
+        let from = self.tree.find(&Before {
+            member: bytes,
             score: before,
         });
-        let mut node = self.tree.take(place);
-        node.score = score;
-        let place = self.tree.find(&Before { member, score });
-        self.tree.put(place, node);
+        let to = self.tree.find(&Before {
+            member: bytes,
+            score,
+        });
+        move_item(self.alloc, &mut self.tree, from, to, bytes, score)?;
         write(&mut self.scores, member, score);
+        Ok(())
     }
 
     /// Takes a member out, and gives its score, if it was there. Logarithmic.
@@ -77,50 +87,120 @@ impl Zset {
         ensures removed { self.new ≡ finmap.remove self.old member.now }
     {
         let score = self.scores.remove(member)?;
-        let place = self.tree.find(&Before { member, score });
-        self.tree.take(place);
+        let bytes = member.bytes();
+        let place = self.tree.find(&Before {
+            member: bytes,
+            score,
+        });
+        self.tree.remove(place);
         Some(score)
     }
 
-    // Takes the member at a place out.
-    pub(super) fn take_at(&mut self, place: usize) -> (Blob, i64)
-        requires { place < finmap.len self.old }
-        ensures item { slice_get (ranked self.old) place ≡ Some result }
-        ensures removed { self.new ≡ finmap.remove self.old result.0 }
-        ensures left { ranked self.new ≡ remove (ranked self.old) place }
-        ensures fewer { finmap.len self.new + 1 ≡ finmap.len self.old }
+    // Takes members out, and says how many were there.
+    pub(super) fn remove_each(&mut self, members: &[Blob]) -> usize
+        ensures removed { self.new ≡ fold finmap.remove self.old members.now }
+        ensures gone { result ≡ finmap.len self.old - finmap.len self.new }
     {
-        let node = self.tree.take(place);
-        self.scores.remove(&node.member);
-        Node::into_item(node)
+        let before = self.len();
+        for member in members {
+            self.remove(member);
+        }
+        before.saturating_sub(self.len())
     }
 
-    /// Takes the member out that is told first in a direction, with its score, if there is one. Logarithmic.
-    pub fn pop_first(&mut self, direction: Direction) -> Option<(Blob, i64)>
-        ensures told { told_in direction (ranked self.old) ≡ option_to_list result ++ told_in direction (ranked self.new) }
-        ensures removed { IfSome result (λ popped. self.new ≡ finmap.remove self.old popped.0) }
-        ensures none { IfNone result (self.old ≡ finmap.empty) }
-        ensures unchanged { IfNone result (self.new ≡ self.old) }
+    // Takes the member at a place out, of which a copy is made first.
+    fn take_at(&mut self, place: usize) -> Result<(Blob, i64), Memory>
+        requires { place < finmap.len self.old }
+        ensures item { IfOk result (λ taken. slice_get (ranked self.old) place ≡ Some taken) }
+        ensures removed { IfOk result (λ taken. self.new ≡ finmap.remove self.old taken.0) }
+        ensures left { OnOk result (ranked self.new ≡ remove (ranked self.old) place) }
+        ensures err { OnErr result (self.new ≡ self.old) }
+    {
+        let Some((bytes, score)) = self.tree.get(place) else {
+            unreachable!()
+        };
+        let member = Blob::from_slice(self.alloc, bytes)?;
+        self.scores.remove(&member);
+        self.tree.remove(place);
+        Ok((member, score))
+    }
+
+    /// Takes the member out that is told first in a direction, with its score, if there is one. Logarithmic. Where memory runs out nothing is
+    /// changed.
+    pub fn pop_first(&mut self, direction: Direction) -> Result<Option<(Blob, i64)>, Memory>
+        ensures told { IfOk result (λ popped. told_in direction (ranked self.old) ≡ option_to_list popped ++ told_in direction (ranked self.new)) }
+        ensures removed { IfOk result (λ popped. IfSome popped (λ item. self.new ≡ finmap.remove self.old item.0)) }
+        ensures none { IfOk result (λ popped. IfNone popped (self.old ≡ finmap.empty)) }
+        ensures unchanged { IfOk result (λ popped. IfNone popped (self.new ≡ self.old)) }
+        ensures err { OnErr result (self.new ≡ self.old) }
     {
         let len = self.len();
         if len == 0 {
-            return None;
+            return Ok(None);
         }
-        Some(self.take_at(told(direction, 0, len)))
+        let popped = self.take_at(told(direction, 0, len))?;
+        Ok(Some(popped))
     }
 
-    /// Takes the members from one place to another out, and says how many they are. Logarithmic for each.
-    pub fn remove_by_place(&mut self, from: usize, to: usize) -> usize
-        ensures removed { self.new ≡ without (part from to (ranked self.old)) self.old }
-        ensures count { result ≡ length (part from to (ranked self.old)) }
-        ensures gone { result ≡ finmap.len self.old - finmap.len self.new }
+    /// Takes the members from one place to another out, and says how many they are. Logarithmic for each. Copies of those members are made first:
+    /// where memory runs out nothing is changed.
+    pub fn remove_by_place(&mut self, from: usize, to: usize) -> Result<usize, Memory>
+        ensures removed { OnOk result (self.new ≡ without (part from to (ranked self.old)) self.old) }
+        ensures count { IfOk result (λ count. count ≡ length (part from to (ranked self.old))) }
+        ensures gone { IfOk result (λ gone. gone ≡ finmap.len self.old - finmap.len self.new) }
+        ensures err { OnErr result (self.new ≡ self.old) }
     {
-        let gone = to.min(self.len()).saturating_sub(from);
-        for _ in 0..gone {
-            self.take_at(from);
-        }
-        gone
+        let members = self.members_from(from, to)?;
+        Ok(self.remove_each(&members))
     }
+
+    // Copies of the members from one place to another.
+    fn members_from(&self, from: usize, to: usize) -> Result<Vec<Blob>, Memory>
+        ensures { IfOk result (λ members. members.items ≡ map (λ scored. scored.0) (part from to (ranked self.now))) }
+    {
+        let lent = self.by_place(Direction::Ascending, from, to)?;
+        members_of(self.alloc, &lent)
+    }
+}
+
+// Copies of members that are lent.
+pub(super) fn members_of(alloc: Global, lent: &[(&[u8], i64)]) -> Result<Vec<Blob>, Memory>
+    ensures { IfOk result (λ members. members.items ≡ map (λ scored. scored.0) (map shown lent.now)) }
+{
+    let mut members = Vec::with_capacity(alloc, lent.len())?;
+    for (bytes, _) in lent {
+        members.push(Blob::from_slice(alloc, bytes)?)?;
+    }
+    Ok(members)
+}
+
+// Gives the member at a place another score, and brings it to another place, which is counted as the member stands now. It is put in there before it
+// is taken out here; where no other stands between the two places it stays, and takes no memory. Where that runs out nothing is changed.
+fn move_item(
+    alloc: Global,
+    tree: &mut Tree,
+    from: usize,
+    to: usize,
+    member: &[u8],
+    score: i64,
+) -> Result<(), Memory>
+    requires stands { option_map (λ item. item.0) (slice_get tree.old.0 from) ≡ Some member.now }
+    requires within { to ≤ length tree.old.0 }
+    requires fits { length tree.old.0 < 2 ^ 64 }
+    ensures moved { OnOk result (tree.new.0 ≡ moved tree.old.0 from to (member.now, score)) }
+    ensures err { OnErr result (tree.new ≡ tree.old) }
+{
+    if from <= to && to <= from + 1 {
+        tree.set(from, score);
+        return Ok(());
+    }
+    tree.insert(alloc, to, member, score)?;
+    if from < to {
+        tree.remove(from);
+        return Ok(());
+    }
+    tree.remove(from + 1);
+    Ok(())
 }
 
 // Writes another score to a member that is there.

@@ -1,7 +1,7 @@
 // Members by their places in the order.
-ghost use Rattle.std.specs.Prelude.{◌≡◌, ◌<◌, ◌^◌, length, map, IfSome, IfOk};
+ghost use Rattle.std.specs.Prelude.{◌≡◌, ◌<◌, ◌^◌, map, IfSome, IfOk};
 ghost use Rattle.nr_model.specs.SortedSets.{ranked, rank_of, told_in};
-ghost use Rattle.nr_zsets.specs.Lists.{part, shown, told_place};
+ghost use Rattle.nr_ordered.specs.Lists.{part, shown, told_place};
 
 use super::Zset;
 use crate::order::Before;
@@ -29,6 +29,7 @@ impl Zset {
         let Some(score) = self.score(member) else {
             return None;
         };
+        let member = member.bytes();
         let place = self.tree.find(&Before { member, score });
         Some(told(direction, place, self.len()))
     }
@@ -39,7 +40,7 @@ impl Zset {
         direction: Direction,
         from: usize,
         to: usize,
-    ) -> Result<Vec<(&Blob, i64)>, Memory>
+    ) -> Result<Vec<(&[u8], i64)>, Memory>
         ensures { IfOk result (λ lent. map shown lent.items ≡ part from to (told_in direction (ranked self.now))) }
     {
         let most = to.min(self.len()).saturating_sub(from);

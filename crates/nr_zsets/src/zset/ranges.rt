@@ -1,15 +1,17 @@
 // Members between bounds. Those stand behind one another, unless bounds of bytes are set where scores differ: then every member is looked at.
-ghost use Rattle.std.specs.Prelude.{◌≡◌, ◌+◌, ◌-◌, ◌≤◌, ◌<◌, ◌^◌, true, min, drop, length, map, IfSome, IfNone, IfOk};
+ghost use Rattle.std.specs.Prelude.{◌≡◌, ◌-◌, ◌≤◌, ◌<◌, ◌^◌, true, drop, length, map, IfSome, IfNone, IfOk, OnOk, OnErr};
 ghost use Rattle.std.specs.Option.{option_map};
 ghost use Rattle.std.specs.FinMap as finmap;
 ghost use Rattle.nr_model.specs.SortedSets.{ranked, told_in, between, without};
 ghost use Rattle.nr_zbounds.specs.Ranges.{seen_bounds};
-ghost use Rattle.nr_zsets.specs.Lists.{part, shown, at_most, fewest, told_ends};
+ghost use Rattle.nr_ordered.specs.Lists.{part, shown};
+ghost use Rattle.nr_zsets.specs.Lists.{at_most, fewest, told_ends};
 ghost use Rattle.nr_zsets.specs.Scores.{HaveOneScore, StandTogether, held_at};
 
 use super::Zset;
+use super::edits::members_of;
 use super::places::told;
-use crate::order::{LowerEnd, UpperEnd};
+use crate::order::{Between, LowerEnd, UpperEnd};
 use nr_blob::{Blob, Memory};
 use nr_model::command::Direction;
 use nr_zbounds::Bounds;
@@ -81,13 +83,13 @@ impl Zset {
     }
 
     // The member at a place, if there is one and it is between the bounds.
-    fn held_at(&self, bounds: &Bounds<'_>, place: usize) -> Option<(&Blob, i64)>
+    fn held_at(&self, bounds: &Bounds<'_>, place: usize) -> Option<(&[u8], i64)>
         ensures { option_map shown result ≡ held_at (seen_bounds bounds.now) place (ranked self.now) }
     {
         let Some((member, score)) = self.tree.get(place) else {
             return None;
         };
-        if bounds.holds(member.bytes(), score) {
+        if bounds.holds(member, score) {
             Some((member, score))
         } else {
             None
@@ -104,7 +106,7 @@ impl Zset {
         prove!(len < 1 << 63);
         match self.ends(bounds) {
             Some((low, high)) => high.saturating_sub(low),
-            None => self.tree.count(bounds),
+            None => self.tree.count(&Between { bounds }),
         }
     }
 
@@ -116,7 +118,7 @@ impl Zset {
         direction: Direction,
         offset: usize,
         count: Option<usize>,
-    ) -> Result<Vec<(&Blob, i64)>, Memory>
+    ) -> Result<Vec<(&[u8], i64)>, Memory>
         ensures { IfOk result (λ lent. map shown lent.items
             ≡ at_most count (drop offset (told_in direction (between (seen_bounds bounds.now) (ranked self.now))))) }
     {
@@ -136,7 +138,7 @@ impl Zset {
         direction: Direction,
         offset: usize,
         count: Option<usize>,
-    ) -> Result<Vec<(&Blob, i64)>, Memory>
+    ) -> Result<Vec<(&[u8], i64)>, Memory>
         ensures { IfOk result (λ lent. map shown lent.items
             ≡ at_most count (drop offset (told_in direction (between (seen_bounds bounds.now) (ranked self.now))))) }
     {
@@ -162,44 +164,21 @@ impl Zset {
     }
 
     /// Takes the members between the bounds out, and says how many they are. Logarithmic for each, but where bounds of bytes are set and scores
-    /// differ: then O(n log n) in all members.
-    pub fn remove_between(&mut self, bounds: &Bounds<'_>) -> usize
-        ensures removed { self.new ≡ without (between (seen_bounds bounds.now) (ranked self.old)) self.old }
-        ensures gone { result ≡ finmap.len self.old - finmap.len self.new }
+    /// differ: then O(n log n) in all members. Copies of those members are made first: where memory runs out nothing is changed.
+    pub fn remove_between(&mut self, bounds: &Bounds<'_>) -> Result<usize, Memory>
+        ensures removed { OnOk result (self.new ≡ without (between (seen_bounds bounds.now) (ranked self.old)) self.old) }
+        ensures gone { IfOk result (λ gone. gone ≡ finmap.len self.old - finmap.len self.new) }
+        ensures err { OnErr result (self.new ≡ self.old) }
     {
-        match self.ends(bounds) {
-            Some((low, high)) => self.remove_by_place(low, high),
-            None => self.sift_out(bounds),
-        }
+        let members = self.members_between(bounds)?;
+        Ok(self.remove_each(&members))
     }
 
-    // The same by a look at every member.
-    fn sift_out(&mut self, bounds: &Bounds<'_>) -> usize
-        ensures removed { self.new ≡ without (between (seen_bounds bounds.now) (ranked self.old)) self.old }
-        ensures gone { result ≡ finmap.len self.old - finmap.len self.new }
+    // Copies of the members between the bounds.
+    fn members_between(&self, bounds: &Bounds<'_>) -> Result<Vec<Blob>, Memory>
+        ensures { IfOk result (λ members. members.items ≡ map (λ scored. scored.0) (between (seen_bounds bounds.now) (ranked self.now))) }
     {
-        let before = self.len();
-        let mut place = 0;
-        while place < self.len() {
-            place = self.pass(bounds, place);
-        }
-        before - self.len()
-    }
-
-    // Takes the member at a place out, if it is between the bounds, and gives the place of the next one.
-    fn pass(&mut self, bounds: &Bounds<'_>, place: usize) -> usize
-        requires within { place < finmap.len self.old }
-        requires fits { place + 1 < 2 ^ 64 }
-        ensures left { without (between (seen_bounds bounds.now) (drop result (ranked self.new))) self.new
-            ≡ without (between (seen_bounds bounds.now) (drop place (ranked self.old))) self.old }
-        ensures next { finmap.len self.new - result + 1 ≡ finmap.len self.old - place }
-        ensures within { result ≤ finmap.len self.new }
-        ensures fewer { finmap.len self.new ≤ finmap.len self.old }
-    {
-        let Some(_) = self.held_at(bounds, place) else {
-            return place + 1;
-        };
-        self.take_at(place);
-        place
+        let lent = self.between(bounds, Direction::Ascending, 0, None)?;
+        members_of(self.alloc, &lent)
     }
 }

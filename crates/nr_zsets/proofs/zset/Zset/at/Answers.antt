@@ -1,6 +1,6 @@
 use Rattle.std.proofs.Common.{◌∙◌, ap, length}
 use Rattle.nr_model.specs.SortedSets.{ranked}
-use Rattle.nr_zsets.proofs.Heights.{few_ticks}
+use Rattle.nr_ordered.proofs.Heights.{few_ticks}
 use Rattle.nr_zsets.proofs.Ranked.{length-ranked}
 use Rattle.nr_zsets.proofs.zset.Zset.at.Goals as goal
 

@@ -1,7 +1,7 @@
 use Rattle.std.proofs.Common.{◌∙◌, ap, length}
 use Rattle.nr_model.specs.SortedSets.{ranked, Highest}
 use Rattle.nr_zbounds.specs.Seen.{seen_score}
-use Rattle.nr_zsets.proofs.Heights.{few_ticks}
+use Rattle.nr_ordered.proofs.Heights.{few_ticks}
 use Rattle.nr_zsets.proofs.Ranges.{before_counted}
 use Rattle.nr_zsets.proofs.Ranked.{length-ranked}
 use Rattle.nr_zsets.proofs.zset.Zset.below.Goals as goal

@@ -1,6 +1,6 @@
 use Rattle.std.proofs.Common.{ap, ◌∙◌, arith, length}
 use Rattle.nr_model.specs.SortedSets.{ranked, told_in}
-use Rattle.nr_zsets.proofs.Parts.{length-told, length-part}
+use Rattle.nr_ordered.proofs.Parts.{length-told, length-part}
 use Rattle.nr_zsets.proofs.Ranked.{length-ranked}
 use Rattle.nr_zsets.proofs.zset.Zset.by_place.Goals as goal
 

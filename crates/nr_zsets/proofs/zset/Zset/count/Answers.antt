@@ -1,6 +1,6 @@
 use Rattle.std.proofs.Common.{ap, ◌∙◌, arith, length}
 use Rattle.nr_model.specs.SortedSets.{ranked}
-use Rattle.nr_zsets.proofs.Parts.{length-part}
+use Rattle.nr_ordered.proofs.Parts.{length-part}
 use Rattle.nr_zsets.proofs.Ranked.{length-ranked}
 use Rattle.nr_zsets.proofs.zset.Zset.count.Goals as goal
 

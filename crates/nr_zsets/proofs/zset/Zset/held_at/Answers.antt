@@ -10,9 +10,8 @@ returns-then-holds c =
     let bounds = seen_bounds c.args.bounds.now in
     let x : Scored = (c.in-Some.member.now, c.in-Some.score) in
     let at : Some x ≡ slice_get c.self.inside.tree.0 c.args.place = search (rules, c.in-Some.ensures) in
-    let bytes : c.holds.result ≡ is_between bounds (c.bytes.result.now, c.in-Some.score) = search (rules, c.holds.ensures) in
-    let is = held_there bounds c.self.inside.tree.0 (ranked c.args.self.now) c.args.place x c.holds.result (c.self.invariant ∙ ap ranked c.self.view_is) at
-    (bytes ∙ ap (λ m. is_between bounds (m, c.in-Some.score)) c.bytes.ensures) in
+    let own : c.holds.result ≡ is_between bounds x = search (rules, c.holds.ensures) in
+    let is = held_there bounds c.self.inside.tree.0 (ranked c.args.self.now) c.args.place x c.holds.result (c.self.invariant ∙ ap ranked c.self.view_is) at own in
     let found = sym (is ∙ ap (λ b. cond b (Some x) None) c.if-holds.true) in
     search (rules, found)
 
@@ -21,7 +20,6 @@ returns-else-holds c =
     let bounds = seen_bounds c.args.bounds.now in
     let x : Scored = (c.in-Some.member.now, c.in-Some.score) in
     let at : Some x ≡ slice_get c.self.inside.tree.0 c.args.place = search (rules, c.in-Some.ensures) in
-    let bytes : c.holds.result ≡ is_between bounds (c.bytes.result.now, c.in-Some.score) = search (rules, c.holds.ensures) in
-    let is = held_there bounds c.self.inside.tree.0 (ranked c.args.self.now) c.args.place x c.holds.result (c.self.invariant ∙ ap ranked c.self.view_is) at
-    (bytes ∙ ap (λ m. is_between bounds (m, c.in-Some.score)) c.bytes.ensures) in
+    let own : c.holds.result ≡ is_between bounds x = search (rules, c.holds.ensures) in
+    let is = held_there bounds c.self.inside.tree.0 (ranked c.args.self.now) c.args.place x c.holds.result (c.self.invariant ∙ ap ranked c.self.view_is) at own in
     sym (is ∙ ap (λ b. cond b (Some x) None) c.if-holds.false)

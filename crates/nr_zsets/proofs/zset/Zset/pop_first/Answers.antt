@@ -11,6 +11,6 @@ returns-then-len-eq0-clause-none c = finmap.empty_of_len c.args.self.now (omega 
 pub returns-clause-told : goal.returns-clause-told
 returns-clause-told c =
     let xs = ranked c.args.self.now in
-    told_first c.args.direction xs c.take_at.result c.len-len.result c.told.result (c.len-len.ensures.len ∙ sym (length-ranked c.args.self.now))
-    (omega (arith, c.if-len-eq0.false)) c.told.ensures.place c.take_at.ensures.item
-    ∙ ap (λ ys. c.take_at.result ∷ told_in c.args.direction ys) (sym c.take_at.ensures.left)
+    told_first c.args.direction xs c.in_ok-popped.popped c.len-len.result c.told.result (c.len-len.ensures.len ∙ sym (length-ranked c.args.self.now))
+    (omega (arith, c.if-len-eq0.false)) c.told.ensures.place c.in_ok-popped.ensures.item
+    ∙ ap (λ ys. c.in_ok-popped.popped ∷ told_in c.args.direction ys) (sym c.in_ok-popped.ensures.left)

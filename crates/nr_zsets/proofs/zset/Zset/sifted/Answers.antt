@@ -2,9 +2,9 @@ use Rattle.std.proofs.Common.{◌+◌, ◌++◌, [], ◌∷◌, take, drop, map,
 use Rattle.std.proofs.lemmas.List.{map-append}
 use Rattle.nr_model.specs.SortedSets.{ranked, told_in, between}
 use Rattle.nr_zbounds.specs.Ranges.{seen_bounds}
-use Rattle.nr_zsets.specs.Lists.{shown}
+use Rattle.nr_ordered.specs.Lists.{shown}
 use Rattle.nr_zsets.specs.Scores.{held_at}
-use Rattle.nr_zsets.proofs.Parts.{length-told}
+use Rattle.nr_ordered.proofs.Parts.{length-told}
 use Rattle.nr_zsets.proofs.Ranges.{sift_begins, sift_skips, sift_finds, sift_passes, sift_lends, sift_ends}
 use Rattle.nr_zsets.proofs.Ranked.{length-ranked}
 use Rattle.nr_zsets.proofs.zset.Zset.sifted.Goals as goal

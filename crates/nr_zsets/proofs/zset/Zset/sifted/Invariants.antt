@@ -1,7 +1,8 @@
 use Rattle.std.proofs.Common.{◌≡◌, ◌++◌, take, drop, map}
 use Rattle.nr_model.specs.SortedSets.{ranked, told_in, between}
 use Rattle.nr_zbounds.specs.Ranges.{seen_bounds}
-use Rattle.nr_zsets.specs.Lists.{shown, at_most}
+use Rattle.nr_ordered.specs.Lists.{shown}
+use Rattle.nr_zsets.specs.Lists.{at_most}
 use Rattle.nr_zsets.proofs.zset.Zset.sifted.Given as goal
 
 -- what was lent and what is left to lend are all
