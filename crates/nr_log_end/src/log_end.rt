@@ -65,7 +65,8 @@ pub trait LogEnd {
     fn tail(&mut self) -> u64
         ensures tail { result ≡ (standing self.new).seen }
         ensures standing { LooksOn (standing self.old) (standing self.new) }
-        ensures looks { looks self.new ≡ looks self.old ++ Look.Tail result ∷ [] };
+        ensures looks { looks self.new ≡ looks self.old ++ Look.Tail result ∷ [] }
+        ensures in_log { StandsInLog (standing self.new) };
 
     /// Notes that this node's replica has run these reads, in this order, behind the entries that were passed so far. Their numbers go on rising.
     fn note(&mut self, jobs: &[Job])

@@ -11,11 +11,12 @@ use Rattle.nr_log_end.specs.declared.standing.Turn.{Turn}
 use Rattle.nr_log_end.specs.Standings.{applied_of}
 use Rattle.nr_oplog.specs.declared.view.LogView.{LogView}
 use Rattle.nr_oplog.specs.Layout.{passed_word}
-use Rattle.nr_oplog.specs.Rule.{Share, Owns, SeatOk, RisesAlong, LogRule}
+use Rattle.nr_oplog.specs.Rule.{Share, Owns, OwnerOk, SeatOk, RisesAlong, LogRule}
 use Rattle.nr_oplog.specs.Plays.{MayFollow, with_tail, with_done, with_passed, saw_tail, saw_tail_and_did, saw_passed, compared}
 use Rattle.nr_oplog.specs.Seats.{IsOfNode}
 use Rattle.nr_oplog.specs.Law.{HoldsOfCounts}
-use Rattle.nr_oplog.proofs.Rises.{rises_before, rises_done}
+use Rattle.nr_oplog.proofs.Claims.{has_own}
+use Rattle.nr_oplog.proofs.Rises.{each_rises, rises_before, rises_done}
 use Rattle.nr_oplog.proofs.Fronts.{begins_more, begins_both, passed_still}
 use Rattle.nr_entry.proofs.Changes.{change, at_change, change_here, change_else}
 use Rattle.nr_oplog.proofs.Seats.{each_set, apart_set, unmoved}
@@ -27,11 +28,18 @@ module _ (nodes places : ℕ) where
   abbrev Sat : Type 0
   Sat = Me (Option Share) LogView
 
-  pub sees_tail : (slots id : ℕ) (m : Sat) → Allows (LogRule nodes places) slots id m 0 (λ k. k) (saw_tail m)
-  sees_tail slots id m s r wide at small =
+  pub sees_tail : (slots id : ℕ) (m : Sat) → IsOfNode m.0 nodes places → Allows (LogRule nodes places) slots id m 0 (λ k. k) (saw_tail m)
+  sees_tail slots id m own s r wide at small =
       let k = r.each_seat id m.0 at in let n : ℕ = get_or s.words 0 0 in
       let mine : SeatOk nodes places r.log r.past r.applied r.phase (with_tail n m.0) = record { part = k.part; told = k.told; seen = le_of_eq r.tail_is; met = k.met; owns = k.owns; fills = k.fills } in
-      (with_tail n m.0, keeps, tt, unmoved nodes places s r 0 id m.1 m.0 (with_tail n m.0) at mine (λ node o. o), (refl, refl, subst (λ z. m.0.standing.seen ≤ z) (sym r.tail_is) k.seen))
+      let is : OwnerOk nodes places r.log r.past r.applied r.phase (m.0.standing.nodes, m.0.places) m.0.standing.history m.0.standing.reservations m.0.standing.held m.0.standing.node =
+      k.owns m.0.standing.node (has_own nodes places m.0 own) in (
+        with_tail n m.0,
+        keeps,
+        tt,
+        unmoved nodes places s r 0 id m.1 m.0 (with_tail n m.0) at mine (λ node o. o),
+        (refl, refl, subst (λ z. m.0.standing.seen ≤ z) (sym r.tail_is) k.seen, (r.log, k.part.0, le_of_eq r.tail_is, is.own, each_rises r.log r.past r.rising)),
+      )
 
   pub compares : (slots id : ℕ) (m : Sat) → Allows (LogRule nodes places) slots id m 0 (λ k. k) (compared m)
   compares slots id m s r wide at small =

@@ -38,7 +38,7 @@ abbrev pub with_passed : ℕ → ℕ → LogView → LogView
 with_passed node n v = record v { met = slice_set v.met node n; looks = v.looks ++ Passed node n ∷ [] }
 
 abbrev pub saw_tail : Sat → ℕ → Sat → Type 0
-saw_tail m n m' = (m'.1 ≡ m.1) × (m'.0 ≡ with_tail n m.0) × (m.0.standing.seen ≤ n)
+saw_tail m n m' = (m'.1 ≡ m.1) × (m'.0 ≡ with_tail n m.0) × (m.0.standing.seen ≤ n) × StandsInLog m'.0.standing
 
 abbrev pub saw_tail_and_did : List Turn → Sat → ℕ → Sat → Type 0
 saw_tail_and_did turns m n m' = (m'.1 ≡ m.1) × (m'.0 ≡ with_done turns n m.0) × (m.0.standing.seen ≤ n)

@@ -1,6 +1,6 @@
 // A seat with its log.
-ghost use Rattle.std.specs.Prelude.{◌≡◌};
-ghost use Rattle.nr_log_end.specs.Standings.{passed_of};
+ghost use Rattle.std.specs.Prelude.{◌≡◌, ◌↔◌, IsTrue, length};
+ghost use Rattle.nr_log_end.specs.Standings.{known_of, passed_of};
 ghost use Rattle.nr_oplog.specs.Calls.{LoadsCounts, IsLeastOf};
 ghost use Rattle.nr_oplog.specs.Plays.{AreOfOneLog};
 
@@ -10,6 +10,7 @@ use crate::token::Token;
 use nr_entry::{Entry, Job, Shares};
 use nr_log_end::{LogEnd, Reserve};
 use std::alloc::Global;
+use std::cmp::Ordering;
 use std::marker::Model;
 use std::sync::Arc;
 
@@ -63,6 +64,17 @@ impl<B: LogName> End<B> {
     {
         let mut own = self.seat.token(&self.log);
         own.order(&self.log, token);
+    }
+
+    /// Whether a token of the log knows as many entries as this node: then they know the same ones. It takes four loads of the tail.
+    pub fn is_as_far(&mut self, token: &mut Token<B>) -> bool
+        ensures as_many { IsTrue result ↔ (length (known_of self.old.standing) ≡ length (known_of token.old.standing)) }
+        ensures of_one_log { AreOfOneLog self.old.standing token.old.standing }
+        ensures standing { self.new ≡ self.old }
+        ensures token { token.new ≡ token.old }
+    {
+        let mut own = self.seat.token(&self.log);
+        own.order(&self.log, token) == Ordering::Equal
     }
 }
 

@@ -167,6 +167,7 @@ impl<B: LogName> LogSeat<B> {
     pub fn tail(&mut self, log: &Oplog<B>) -> u64
         ensures tail { result ≡ self.new.standing.seen }
         ensures looks { LooksAtTail self.old self.new }
+        ensures in_log { StandsInLog self.new.standing }
     {
         self.seen = log.load_tail(&mut self.seat);
         self.seen

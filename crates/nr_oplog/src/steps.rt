@@ -43,10 +43,11 @@ impl<B: LogName> Oplog<B> {
 
     // Loads the tail.
     pub(crate) fn load_tail(&self, seat: &mut LogSlotSeat) -> u64
-        requires { seat.old.table_id ≡ B.log }
+        requires { (seat.old.table_id ≡ B.log) × IsOfNode seat.old.me.0 self.now.table.shared.key.nodes self.now.table.shared.key.places }
         ensures seat { IsSameSeat seat.old seat.new }
         ensures view { seat.new.me ≡ (with_tail result seat.old.me.0, seat.old.me.1) }
         ensures greater { seat.old.me.0.standing.seen ≤ result }
+        ensures in_log { StandsInLog seat.new.me.0.standing }
     {
         self.table.shared.load::<SeeTail>(seat, 0)
     }
