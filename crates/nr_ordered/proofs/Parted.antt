@@ -1,6 +1,7 @@
 -- Lists of which a front passes a test.
-use Rattle.std.proofs.Common.{◌≡◌, ℕ, zero, suc, ◌+◌, ◌<◌, ◌≤◌, ◌⊎◌, inl, inr, Bool, true, false, cond, Some, List, [], ◌∷◌, ◌++◌, length, drop, refl, sym, ap, subst, ◌∙◌, arith, length-append}
-use Rattle.std.specs.Prelude.{filter}
+use Rattle.std.proofs.Common.{◌≡◌, ℕ, zero, suc, ◌+◌, ◌<◌, ◌≤◌, ◌⊎◌, inl, inr, Bool, true, false, cond, Option, Some, None, List, [], ◌∷◌, ◌++◌, length, drop, refl, sym, ap, subst, ◌∙◌, arith, length-append}
+use Rattle.std.specs.Prelude.{filter, find}
+use Rattle.std.specs.Option.{option_or}
 use Rattle.std.specs.List.{slice_get}
 use Rattle.std.proofs.lemmas.List.{drop_all}
 use Rattle.std.proofs.lemmas.List.Elements.{filter-append}
@@ -171,3 +172,44 @@ module _ {A : Type 0} (test : A → Bool) where
   front_all xs k n len size low high is =
       let none = ap (front test) (drop_all k xs (omega (arith, size, low))) in
       omega (arith, is, none, low, high)
+
+  -- the first that passes, among those that are left
+  pub found_first : (xs : List A) (k : ℕ) (x : A) (found : Option A) → slice_get xs k ≡ Some x → test x ≡ true → find test (drop k xs) ≡ found → Some x ≡ found
+  found_first xs k x found at passes is =
+      sym (ap (find test) (drop_at xs k x at) ∙ ap (λ t. cond t (Some x) (find test (drop (suc k) xs))) passes) ∙ is
+
+  pub found_later : (xs : List A) (k : ℕ) (x : A) (found : Option A) → slice_get xs k ≡ Some x → test x ≡ false → find test (drop k xs) ≡ found
+      → find test (drop (k + 1) xs) ≡ found
+  found_later xs k x found at fails is =
+      let next : k + 1 ≡ suc k = omega arith in
+      ap (λ i. find test (drop i xs)) next
+      ∙ sym (ap (find test) (drop_at xs k x at) ∙ ap (λ t. cond t (Some x) (find test (drop (suc k) xs))) fails) ∙ is
+
+  pub found_none : (xs : List A) (k : ℕ) (found : Option A) → length xs ≤ k → find test (drop k xs) ≡ found → None ≡ found
+  found_none xs k found ended is = sym (ap (find test) (drop_all k xs ended)) ∙ is
+
+  find-append : (a b : List A) → find test (a ++ b) ≡ option_or (find test a) (find test b)
+  find-append [] b = refl
+  find-append (x ∷ a) b =
+      elim (test x) as (λ t. cond t (Some x) (find test (a ++ b)) ≡ option_or (cond t (Some x) (find test a)) (find test b)) [
+        | true ↦ refl
+        | false ↦ find-append a b
+      ]
+
+  -- of three parts
+  module _ (all l m r : List A) (is : all ≡ l ++ (m ++ r)) where
+    three_parts : find test all ≡ option_or (find test l) (option_or (find test m) (find test r))
+    three_parts = ap (find test) is ∙ find-append l (m ++ r) ∙ ap (option_or (find test l)) (find-append m r)
+
+    pub first_in_left : (x : A) → Some x ≡ find test l → Some x ≡ find test all
+    first_in_left x own = sym (three_parts ∙ ap (λ (o : Option A). option_or o (option_or (find test m) (find test r))) (sym own))
+
+    pub first_in_middle : (x : A) → None ≡ find test l → Some x ≡ find test m → Some x ≡ find test all
+    first_in_middle x none own =
+        sym (three_parts ∙ ap (λ (o : Option A). option_or o (option_or (find test m) (find test r))) (sym none)
+        ∙ ap (λ (o : Option A). option_or o (find test r)) (sym own))
+
+    pub first_in_right : (found : Option A) → None ≡ find test l → None ≡ find test m → found ≡ find test r → found ≡ find test all
+    first_in_right found none none_here own =
+        own ∙ sym (three_parts ∙ ap (λ (o : Option A). option_or o (option_or (find test m) (find test r))) (sym none)
+        ∙ ap (λ (o : Option A). option_or o (find test r)) (sym none_here))

@@ -1,5 +1,5 @@
 // A block: a few items in three pieces of memory.
-ghost use Rattle.std.specs.Prelude.{◌≡◌, ◌+◌, ◌-◌, ◌≤◌, ◌<◌, ◌^◌, ◌++◌, ◌∷◌, [], cond, length, take, drop, map, filter, slice_get, slice_range, slice_set, vec_len, vec_capacity, Some, IfOk, OnOk, OnErr};
+ghost use Rattle.std.specs.Prelude.{◌≡◌, ◌+◌, ◌-◌, ◌≤◌, ◌<◌, ◌^◌, ◌++◌, ◌∷◌, [], cond, length, take, drop, map, filter, find, slice_get, slice_range, slice_set, vec_len, vec_capacity, Some, IfOk, OnOk, OnErr};
 ghost use Rattle.std.specs.List.{insert};
 ghost use Rattle.std.specs.Option.{option_map};
 ghost use Rattle.nr_model.specs.SortedSets.{told_in};
@@ -111,6 +111,13 @@ impl Block {
         ensures within { result ≤ length self.now }
     {
         count_in(&self.lens, &self.bytes, &self.numbers, test)
+    }
+
+    /// The first item that passes a test.
+    pub(crate) fn first<T: Test>(&self, test: &T) -> Option<(&[u8], i64)>
+        ensures { option_map shown result ≡ find (T.passing test.now) self.now }
+    {
+        first_in(&self.lens, &self.bytes, &self.numbers, test)
     }
 
     /// Puts an item in at a place. Linear in the bytes behind it. Where memory runs out nothing is changed.
@@ -242,6 +249,28 @@ fn count_in<T: Test>(lens: &Lens, bytes: &[u8], numbers: &[i64], test: &T) -> us
         rest = behind;
     }
     count
+}
+
+// The first item that passes a test.
+fn first_in<'a, T: Test>(
+    lens: &Lens,
+    bytes: &'a [u8],
+    numbers: &[i64],
+    test: &T,
+) -> Option<(&'a [u8], i64)>
+    requires { IsWhole (lens_in lens.now) bytes.now numbers.now }
+    ensures { option_map shown result ≡ find (T.passing test.now) (items_in (lens_in lens.now) bytes.now numbers.now) }
+{
+    let mut rest = bytes;
+    for place in 0..numbers.len() {
+        let (item, behind) = rest.split_at(lens.at(place));
+        let number = number_at(numbers, place);
+        if test.passes(item, number) {
+            return Some((item, number));
+        }
+        rest = behind;
+    }
+    None
 }
 
 // So many, and one more where it passes.

@@ -3,6 +3,7 @@ pub mod Mapped
 pub mod Parts
 pub mod Sorted
 pub mod Ranked
+pub mod Indexed
 pub mod Ranges
 pub mod Moves
 pub mod Crossing

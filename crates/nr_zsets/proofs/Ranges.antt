@@ -8,7 +8,6 @@ use Rattle.std.specs.Cmp.{IsTotalOrder, int_cmp_total, alike_right, tied_itself}
 use Rattle.std.specs.Cmp.Lexicographic.{nat_list_cmp_total}
 use Rattle.std.specs.List.{AllByRecursion, slice_get}
 use Rattle.std.specs.Option.{option_to_list}
-use Rattle.std.specs.FinMap as finmap
 use Rattle.std.proofs.lemmas.List.{drop_all, take_all, reverse-append}
 use Rattle.std.proofs.lemmas.List.Filters.{length-filter_both}
 use Rattle.std.proofs.lemmas.Option.{slice_get_within}

@@ -1,5 +1,5 @@
 -- The members of a sorted set in order: what is put in, taken out, and where a member stands.
-use Rattle.std.proofs.Common.{◌≡◌, ℕ, ℤ, suc, ◌+◌, ◌-◌, ◌≤◌, ◌<◌, Bool, true, false, cond, not, ◌||◌, ◌&&◌, T, Option, Some, None, is_some, List, [], ◌∷◌, length, take, drop, refl, ap, sym, ◌∙◌, subst, arith, length-append, true≢false}
+use Rattle.std.proofs.Common.{◌≡◌, ℕ, ℤ, suc, ◌+◌, ◌≤◌, ◌<◌, Bool, true, false, cond, not, ◌||◌, ◌&&◌, T, Option, Some, None, is_some, List, [], ◌∷◌, length, take, drop, refl, ap, sym, ◌∙◌, subst, arith, length-append, true≢false}
 use Rattle.std.specs.Prelude.{fold, reverse, bytes_eq}
 use Rattle.std.specs.declared.cmp.Ordering.{Ordering}
 use Rattle.std.specs.declared.cmp.Ordering.TheVariants.{Less, Equal, Greater}
@@ -17,7 +17,7 @@ use Rattle.std.proofs.lemmas.Option.{slice_get_within}
 use Rattle.nr_model.specs.Bytes.{Bytes}
 use Rattle.nr_model.specs.Keyspace.{byte_cmp}
 use Rattle.nr_model.specs.Names.{put}
-use Rattle.nr_model.specs.SortedSets.{Scored, Scores, scored_cmp, ranked, rank_of, without}
+use Rattle.nr_model.specs.SortedSets.{Scored, Scores, scored_cmp, ranked, rank_of}
 use Rattle.nr_model.specs.declared.command.Direction.{Direction}
 use Rattle.nr_model.specs.declared.command.Direction.TheVariants.{Ascending, Descending}
 use Rattle.nr_model.proofs.Ordered.{has, ordered-in_order, ordered-put, has-in_order, has-put, same_ordered, equal_from}

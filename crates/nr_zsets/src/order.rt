@@ -1,5 +1,5 @@
 // The order of members, by their scores and of equal scores by their bytes, the cuts through it, and what is between bounds.
-ghost use Rattle.std.specs.Prelude.{not};
+ghost use Rattle.std.specs.Prelude.{not, bytes_eq};
 ghost use Rattle.nr_model.specs.SortedSets.{is_between};
 ghost use Rattle.nr_zbounds.specs.Ranges.{seen_bounds, is_from, is_up_to};
 ghost use Rattle.nr_zsets.specs.Scores.{is_before};
@@ -64,5 +64,19 @@ impl<'a, 'b> Test for Between<'a, 'b> {
 
     fn passes(&self, member: &[u8], score: i64) -> bool {
         self.bounds.holds(member, score)
+    }
+}
+
+/// What has these bytes as its member.
+#[derive(Clone, Copy)]
+pub(crate) struct Named<'a> {
+    pub(crate) member: &'a [u8],
+}
+
+impl<'a> Test for Named<'a> {
+    ghost passing = { λ named scored. bytes_eq named.member.now scored.0 };
+
+    fn passes(&self, member: &[u8], _: i64) -> bool {
+        self.member == member
     }
 }

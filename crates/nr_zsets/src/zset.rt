@@ -1,12 +1,11 @@
-// A sorted set: a hashed map from member to score, beside a tree of the same in order, kept in step.
+// A sorted set: a tree of members with scores in order, and beside it, once there are many, a hashed map of the same, kept in step.
 ghost use Rattle.std.specs.Prelude.{◌≡◌, ◌↔◌, ◌<◌, ◌^◌, IsTrue, IfOk};
 ghost use Rattle.std.specs.FinMap as finmap;
-ghost use Rattle.nr_zsets.specs.Scores.{scores_of};
 
+use crate::index::Index;
 use nr_blob::{Blob, Memory};
 use nr_ordered::Tree;
 use std::alloc::Global;
-use std::collections::HashMap;
 use std::hash::RandomState;
 use std::marker::Model;
 
@@ -15,27 +14,27 @@ mod edits;
 mod places;
 mod ranges;
 
-/// A sorted set, as a key holds it. It is seen as a finite map from members to scores. To drop it is linear in its members.
+/// A sorted set, as a key holds it. It is seen as a finite map from members to scores. Up to 128 members stand in a tree alone, and one is found by
+/// a look at each of them. One more makes a map beside it, which stays. To drop the set is linear in its members.
 #[derive(Drop)]
 pub struct Zset {
-    // Copies, and what is put into the tree, are made with it: neither map nor tree hands its own out.
+    // Copies, the map, and what is put into the tree are made with it: the tree hands its own out to nobody.
     alloc: Global,
-    scores: HashMap<Blob, i64, RandomState>,
+    index: Index,
     tree: Tree,
 }
 
 impl Model for Zset {
-    ghost use Rattle.std.specs.Prelude.{◌≡◌};
-    ghost use Rattle.nr_model.specs.SortedSets.{Scores, coded_scores, ranked};
-    ghost use Rattle.nr_zsets.specs.Scores.{scores_of};
+    ghost use Rattle.nr_model.specs.SortedSets.{Scores, coded_scores};
+    ghost use Rattle.nr_zsets.specs.Scores.{scores_of, IsSorted};
 
     ghost Value = { Scores };
 
     ghost coded = { coded_scores };
 
-    ghost view = { λ z. scores_of z.scores.entries };
+    ghost view = { λ z. scores_of z.tree.0 };
 
-    ghost invariant = { λ z. z.tree.0 ≡ ranked (scores_of z.scores.entries) };
+    ghost invariant = { λ z. IsSorted z.index z.tree.0 };
 }
 
 impl Zset {
@@ -45,7 +44,7 @@ impl Zset {
     {
         Zset {
             alloc,
-            scores: HashMap::with_hasher(alloc, keys),
+            index: Index::new(keys),
             tree: Tree::new(),
         }
     }
@@ -55,7 +54,7 @@ impl Zset {
         ensures len { result ≡ finmap.len self.now }
         ensures small { result < 2 ^ 63 }
     {
-        self.scores.len()
+        self.index.len(&self.tree)
     }
 
     pub fn is_empty(&self) -> bool
@@ -64,11 +63,11 @@ impl Zset {
         self.len() == 0
     }
 
-    /// The score of a member. Constant.
+    /// The score of a member. Linear in at most 128 members, and constant where there are more, or were.
     pub fn score(&self, member: &Blob) -> Option<i64>
         ensures { result ≡ finmap.get self.now member.now }
     {
-        self.scores.get(member).copied()
+        self.index.score(&self.tree, member)
     }
 
     /// The same members and scores once more, found by the same keys. Linear in the members and their bytes.
@@ -77,21 +76,8 @@ impl Zset {
     {
         Ok(Zset {
             alloc: self.alloc,
-            scores: copy_scores(self.alloc, &self.scores)?,
+            index: self.index.copy(self.alloc)?,
             tree: self.tree.copy(self.alloc)?,
         })
     }
-}
-
-fn copy_scores(
-    alloc: Global,
-    scores: &HashMap<Blob, i64, RandomState>,
-) -> Result<HashMap<Blob, i64, RandomState>, Memory>
-    ensures { IfOk result (λ copied. scores_of copied.entries ≡ scores_of scores.now.entries) }
-{
-    let mut copied = HashMap::with_capacity_and_hasher(alloc, scores.len(), *scores.hasher())?;
-    for (member, score) in scores.iter() {
-        copied.insert(member.copy()?, *score)?;
-    }
-    Ok(copied)
 }

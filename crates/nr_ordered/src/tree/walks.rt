@@ -1,5 +1,5 @@
 // What stands where: at a place, in front of a cut, and from one place to another.
-ghost use Rattle.std.specs.Prelude.{◌≡◌, ◌+◌, ◌-◌, ◌≤◌, ◌<◌, ◌++◌, Bool, length, map, filter, slice_get, vec_len, vec_capacity};
+ghost use Rattle.std.specs.Prelude.{◌≡◌, ◌+◌, ◌-◌, ◌≤◌, ◌<◌, ◌++◌, Bool, length, map, filter, find, slice_get, vec_len, vec_capacity};
 ghost use Rattle.std.specs.Option.{option_map};
 ghost use Rattle.nr_model.specs.SortedSets.{told_in};
 ghost use Rattle.nr_ordered.specs.Lists.{Item, IsParted, part, shown};
@@ -105,6 +105,23 @@ impl Tree {
         let node: &Node = node;
         let own = node.block.count(test);
         node.left.count(test) + own + node.right.count(test)
+    }
+
+    /// The first item that passes a test. Linear.
+    pub fn first<T: Test>(&self, test: &T) -> Option<(&[u8], i64)>
+        ensures { option_map shown result ≡ find (T.passing test.now) self.now.0 }
+    {
+        let Link::Fork { node, .. } = &self.root else {
+            return None;
+        };
+        let node: &Node = node;
+        if let Some(item) = node.left.first(test) {
+            return Some(item);
+        }
+        if let Some(item) = node.block.first(test) {
+            return Some(item);
+        }
+        node.right.first(test)
     }
 
     /// Lends the items from one place to another, both counted as they are told in a direction, into a vector with room for them. Logarithmic,

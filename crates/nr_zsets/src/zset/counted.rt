@@ -16,7 +16,7 @@ use nr_zbounds::{Bound, Bounds, ScoreBound};
 use std::sync::ledger::Ledger;
 
 impl Zset {
-    /// The place of a member from the least score on, as `rank` finds it.
+    /// The place of a member from the least score on, as `rank` finds it. The look for its score is not counted.
     pub fn place<L: Ledger>(&self, member: &Blob, ticks: &mut Ticks<L>) -> Option<usize>
         ensures place { result ≡ rank_of Ascending self.now member.now }
         ensures cost { (d : ℕ) → finmap.len self.now < 2 ^ d → ticks.new ≤ ticks.old + 2 * d }

@@ -1,12 +1,11 @@
 // Members put in, scored anew and taken out.
-ghost use Rattle.std.specs.Prelude.{◌≡◌, ◌+◌, ◌-◌, ◌≤◌, ◌<◌, ◌++◌, ◌^◌, None, Some, true, length, map, fold, slice_get, IfOk, IsOk, OnOk, OnErr, IfSome, IfNone};
+ghost use Rattle.std.specs.Prelude.{◌≡◌, ◌+◌, ◌-◌, ◌≤◌, ◌<◌, ◌++◌, ◌^◌, None, Some, length, map, fold, slice_get, IfOk, IsOk, OnOk, OnErr, IfSome, IfNone};
 ghost use Rattle.std.specs.List.{remove};
 ghost use Rattle.std.specs.Option.{option_map, option_to_list};
 ghost use Rattle.std.specs.FinMap as finmap;
 ghost use Rattle.nr_model.specs.SortedSets.{ranked, told_in, without};
 ghost use Rattle.nr_ordered.specs.Lists.{part, shown};
 ghost use Rattle.nr_zsets.specs.Lists.{moved};
-ghost use Rattle.nr_zsets.specs.Scores.{scores_of};
 
 use super::Zset;
 use super::places::told;
@@ -15,12 +14,10 @@ use nr_blob::{Blob, Memory};
 use nr_model::command::Direction;
 use nr_ordered::Tree;
 use std::alloc::Global;
-use std::collections::HashMap;
-use std::hash::RandomState;
 
 impl Zset {
-    /// Gives a member this score, and says what its score was before, if it was there. Logarithmic. Where memory runs out nothing is changed;
-    /// a member that has this score takes none.
+    /// Gives a member this score, and says what its score was before, if it was there. Logarithmic, and linear in at most 128 members where there is
+    /// no map, and where it is made. Where memory runs out nothing is changed; a member that has this score takes none.
     pub fn insert(&mut self, member: Blob, score: i64) -> Result<Option<i64>, Memory>
         ensures before { IfOk result (λ before. before ≡ finmap.get self.old member) }
         ensures ok { OnOk result (self.new ≡ finmap.insert self.old member score) }
@@ -41,15 +38,16 @@ impl Zset {
         ensures ok { OnOk result (self.new ≡ finmap.insert self.old member score) }
         ensures err { OnErr result (self.new ≡ self.old) }
     {
+        self.index.make_room(self.alloc, &self.tree)?;
         let bytes = member.bytes();
         let place = self.tree.find(&Before {
             member: bytes,
             score,
         });
         self.tree.insert(self.alloc, place, bytes, score)?;
-        if let Err(why) = self.scores.insert(member, score) {
+        if let Err(why) = self.index.insert(member, score) {
             self.tree.remove(place);
-            return Err(Memory::from(why));
+            return Err(why);
         }
         Ok(())
     }
@@ -77,16 +75,16 @@ impl Zset {
             score,
         });
         move_item(self.alloc, &mut self.tree, from, to, bytes, score)?;
-        write(&mut self.scores, member, score);
+        self.index.write(member, score);
         Ok(())
     }
 
-    /// Takes a member out, and gives its score, if it was there. Logarithmic.
+    /// Takes a member out, and gives its score, if it was there. Logarithmic, and linear in at most 128 members where there is no map.
     pub fn remove(&mut self, member: &Blob) -> Option<i64>
         ensures was { result ≡ finmap.get self.old member.now }
         ensures removed { self.new ≡ finmap.remove self.old member.now }
     {
-        let score = self.scores.remove(member)?;
+        let score = self.index.take(&self.tree, member)?;
         let bytes = member.bytes();
         let place = self.tree.find(&Before {
             member: bytes,
@@ -120,7 +118,7 @@ impl Zset {
             unreachable!()
         };
         let member = Blob::from_slice(self.alloc, bytes)?;
-        self.scores.remove(&member);
+        self.index.remove(&member);
         self.tree.remove(place);
         Ok((member, score))
     }
@@ -142,8 +140,8 @@ impl Zset {
         Ok(Some(popped))
     }
 
-    /// Takes the members from one place to another out, and says how many they are. Logarithmic for each. Copies of those members are made first:
-    /// where memory runs out nothing is changed.
+    /// Takes the members from one place to another out, and says how many they are. Each goes as by `remove`. Copies of those members are made
+    /// first: where memory runs out nothing is changed.
     pub fn remove_by_place(&mut self, from: usize, to: usize) -> Result<usize, Memory>
         ensures removed { OnOk result (self.new ≡ without (part from to (ranked self.old)) self.old) }
         ensures count { IfOk result (λ count. count ≡ length (part from to (ranked self.old))) }
@@ -201,14 +199,4 @@ fn move_item(
     }
     tree.remove(from + 1);
     Ok(())
-}
-
-// Writes another score to a member that is there.
-fn write(scores: &mut HashMap<Blob, i64, RandomState>, member: &Blob, score: i64)
-    requires { finmap.contains_key (scores_of scores.old.entries) member.now ≡ true }
-    ensures { scores_of scores.new.entries ≡ finmap.insert (scores_of scores.old.entries) member.now score }
-{
-    if let Some(held) = scores.get_mut(member) {
-        *held = score;
-    }
 }

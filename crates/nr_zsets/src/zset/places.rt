@@ -21,7 +21,7 @@ pub(super) fn told(direction: Direction, place: usize, len: usize) -> usize
 }
 
 impl Zset {
-    /// The place of a member in a direction, from 0. Logarithmic.
+    /// The place of a member in a direction, from 0. Logarithmic, once the member is found as by `score`.
     pub fn rank(&self, direction: Direction, member: &Blob) -> Option<usize>
         ensures rank { result ≡ rank_of direction self.now member.now }
         ensures small { IfSome result (λ place. place < 2 ^ 63) }

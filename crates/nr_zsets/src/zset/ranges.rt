@@ -163,7 +163,7 @@ impl Zset {
         Ok(lent)
     }
 
-    /// Takes the members between the bounds out, and says how many they are. Logarithmic for each, but where bounds of bytes are set and scores
+    /// Takes the members between the bounds out, and says how many they are. Each goes as by `remove`, but where bounds of bytes are set and scores
     /// differ: then O(n log n) in all members. Copies of those members are made first: where memory runs out nothing is changed.
     pub fn remove_between(&mut self, bounds: &Bounds<'_>) -> Result<usize, Memory>
         ensures removed { OnOk result (self.new ≡ without (between (seen_bounds bounds.now) (ranked self.old)) self.old) }

@@ -7,4 +7,4 @@ use Rattle.nr_zsets.proofs.zset.Zset.at.Goals as goal
 pub returns-clause-cost : goal.returns-clause-cost
 returns-clause-cost g c = λ d.
     few_ticks _ _ _ d _ _ c.at.ensures.full
-    (ap length (c.self.invariant ∙ ap ranked c.self.view_is) ∙ length-ranked c.args.self.now) c.at.ensures.cost
+    (ap length (c.self.invariant.ordered ∙ ap ranked c.self.view_is) ∙ length-ranked c.args.self.now) c.at.ensures.cost

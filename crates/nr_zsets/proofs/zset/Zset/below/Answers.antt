@@ -9,9 +9,9 @@ use Rattle.nr_zsets.proofs.zset.Zset.below.Goals as goal
 pub returns-clause-count : goal.returns-clause-count
 returns-clause-count g c =
     before_counted (seen_score c.args.min) Highest c.self.inside.tree.0 c.args.self.now c.place_of.result
-    (c.self.invariant ∙ ap ranked c.self.view_is) c.place_of.ensures.place
+    (c.self.invariant.ordered ∙ ap ranked c.self.view_is) c.place_of.ensures.place
 
 pub returns-clause-cost : goal.returns-clause-cost
 returns-clause-cost g c = λ d.
     few_ticks _ _ _ d _ _ c.place_of.ensures.full
-    (ap length (c.self.invariant ∙ ap ranked c.self.view_is) ∙ length-ranked c.args.self.now) c.place_of.ensures.cost
+    (ap length (c.self.invariant.ordered ∙ ap ranked c.self.view_is) ∙ length-ranked c.args.self.now) c.place_of.ensures.cost

@@ -14,5 +14,5 @@ returns-in-Some-clause-small c = omega (arith, c.saturating_sub.ensures, c.in-So
 
 pub returns-in-None-clause-small : goal.returns-in-None-clause-small
 returns-in-None-clause-small c =
-    let size = ap length (c.self.invariant ∙ ap ranked c.self.view_is) ∙ length-ranked c.args.self.now in
+    let size = ap length (c.self.invariant.ordered ∙ ap ranked c.self.view_is) ∙ length-ranked c.args.self.now in
     omega (arith, size, c.count.ensures.within, c.len-len.ensures.len, c.len-len.ensures.small)

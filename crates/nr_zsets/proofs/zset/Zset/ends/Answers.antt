@@ -9,14 +9,14 @@ pub returns-clause-between : goal.returns-clause-between
 returns-clause-between c =
     let together : c.stand_together.result ≡ true = search (c.if-not-stand_together.false) in
     between_part (seen_bounds c.args.bounds.now) c.self.inside.tree.0 c.args.self.now c.find-low.result c.find-high.result
-    (c.self.invariant ∙ ap ranked c.self.view_is) (c.stand_together.ensures.they_do together) c.find-low.ensures.place c.find-high.ensures.place
+    (c.self.invariant.ordered ∙ ap ranked c.self.view_is) (c.stand_together.ensures.they_do together) c.find-low.ensures.place c.find-high.ensures.place
 
 pub returns-clause-low : goal.returns-clause-low
 returns-clause-low c =
-    let size = ap length (c.self.invariant ∙ ap ranked c.self.view_is) ∙ length-ranked c.args.self.now in
+    let size = ap length (c.self.invariant.ordered ∙ ap ranked c.self.view_is) ∙ length-ranked c.args.self.now in
     omega (arith, size, c.find-low.ensures.within)
 
 pub returns-clause-high : goal.returns-clause-high
 returns-clause-high c =
-    let size = ap length (c.self.invariant ∙ ap ranked c.self.view_is) ∙ length-ranked c.args.self.now in
+    let size = ap length (c.self.invariant.ordered ∙ ap ranked c.self.view_is) ∙ length-ranked c.args.self.now in
     omega (arith, size, c.find-high.ensures.within)

@@ -8,7 +8,7 @@ use Rattle.nr_zsets.proofs.zset.Zset.has_one_score.Goals as goal
 pub returns-clause-one : goal.returns-clause-one
 returns-clause-one c = λ same.
     let xs = c.self.inside.tree.0 in
-    let is = c.self.invariant ∙ ap ranked c.self.view_is in
+    let is = c.self.invariant.ordered ∙ ap ranked c.self.view_is in
     let first = c.in-Some.first in
     let last = c.in-Some-get.last in
     let bits = (unsigned_Decides (of_z w64 first) (of_z w64 last)).0 same in
@@ -24,7 +24,7 @@ returns-clause-one c = λ same.
 pub returns-clause-all : goal.returns-clause-all
 returns-clause-all c = λ one.
     let xs = c.self.inside.tree.0 in
-    let is = c.self.invariant ∙ ap ranked c.self.view_is in
+    let is = c.self.invariant.ordered ∙ ap ranked c.self.view_is in
     let first = c.in-Some.first in
     let last = c.in-Some-get.last in
     let at_first : Some (c.in-Some.field-0-0.now, first) ≡ slice_get xs 0 = search (rules, c.in-Some.ensures) in

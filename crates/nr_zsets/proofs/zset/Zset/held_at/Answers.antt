@@ -11,7 +11,7 @@ returns-then-holds c =
     let x : Scored = (c.in-Some.member.now, c.in-Some.score) in
     let at : Some x ≡ slice_get c.self.inside.tree.0 c.args.place = search (rules, c.in-Some.ensures) in
     let own : c.holds.result ≡ is_between bounds x = search (rules, c.holds.ensures) in
-    let is = held_there bounds c.self.inside.tree.0 (ranked c.args.self.now) c.args.place x c.holds.result (c.self.invariant ∙ ap ranked c.self.view_is) at own in
+    let is = held_there bounds c.self.inside.tree.0 (ranked c.args.self.now) c.args.place x c.holds.result (c.self.invariant.ordered ∙ ap ranked c.self.view_is) at own in
     let found = sym (is ∙ ap (λ b. cond b (Some x) None) c.if-holds.true) in
     search (rules, found)
 
@@ -21,5 +21,5 @@ returns-else-holds c =
     let x : Scored = (c.in-Some.member.now, c.in-Some.score) in
     let at : Some x ≡ slice_get c.self.inside.tree.0 c.args.place = search (rules, c.in-Some.ensures) in
     let own : c.holds.result ≡ is_between bounds x = search (rules, c.holds.ensures) in
-    let is = held_there bounds c.self.inside.tree.0 (ranked c.args.self.now) c.args.place x c.holds.result (c.self.invariant ∙ ap ranked c.self.view_is) at own in
+    let is = held_there bounds c.self.inside.tree.0 (ranked c.args.self.now) c.args.place x c.holds.result (c.self.invariant.ordered ∙ ap ranked c.self.view_is) at own in
     sym (is ∙ ap (λ b. cond b (Some x) None) c.if-holds.false)

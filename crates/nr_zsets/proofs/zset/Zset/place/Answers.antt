@@ -14,10 +14,10 @@ returns-clause-place g c =
     let x : Scored = (c.args.member.now, c.in-Some.score) in
     let same = ap (λ (m : Bytes). let named : Scored = (m, c.in-Some.score) in named) c.bytes-member.ensures in
     let place = found_place c.self.inside.tree.0 c.args.self.now x (c.bytes-member.result.now, c.in-Some.score) c.place_of.result
-    (c.self.invariant ∙ ap ranked c.self.view_is) same (search (rules, c.place_of.ensures.place)) in
+    (c.self.invariant.ordered ∙ ap ranked c.self.view_is) same (search (rules, c.place_of.ensures.place)) in
     rank_there Ascending c.args.self.now x c.place_of.result (length (ranked c.args.self.now)) (sym c.in-Some.ensures) place refl
 
 pub returns-clause-cost : goal.returns-clause-cost
 returns-clause-cost g c = λ d.
     few_ticks _ _ _ d _ _ c.place_of.ensures.full
-    (ap length (c.self.invariant ∙ ap ranked c.self.view_is) ∙ length-ranked c.args.self.now) c.place_of.ensures.cost
+    (ap length (c.self.invariant.ordered ∙ ap ranked c.self.view_is) ∙ length-ranked c.args.self.now) c.place_of.ensures.cost

@@ -12,7 +12,7 @@ told-requires c =
     let x : Scored = (c.args.member.now, c.in-Some.score) in
     let same = ap (λ (m : Bytes). let named : Scored = (m, c.in-Some.score) in named) c.bytes-member.ensures in
     let place = found_place c.self.inside.tree.0 c.args.self.now x (c.bytes-member.result.now, c.in-Some.score) c.find-place.result
-    (c.self.invariant ∙ ap ranked c.self.view_is) same (search (rules, c.find-place.ensures.place)) in
+    (c.self.invariant.ordered ∙ ap ranked c.self.view_is) same (search (rules, c.find-place.ensures.place)) in
     rw (place, c.len.ensures.len, ← length-ranked c.args.self.now) (within c.args.self.now x (sym c.in-Some.ensures))
 
 pub returns-clause-rank : goal.returns-clause-rank
@@ -20,7 +20,7 @@ returns-clause-rank c =
     let x : Scored = (c.args.member.now, c.in-Some.score) in
     let same = ap (λ (m : Bytes). let named : Scored = (m, c.in-Some.score) in named) c.bytes-member.ensures in
     let place = found_place c.self.inside.tree.0 c.args.self.now x (c.bytes-member.result.now, c.in-Some.score) c.find-place.result
-    (c.self.invariant ∙ ap ranked c.self.view_is) same (search (rules, c.find-place.ensures.place)) in
+    (c.self.invariant.ordered ∙ ap ranked c.self.view_is) same (search (rules, c.find-place.ensures.place)) in
     ap Some c.told.ensures.place
     ∙ rank_there c.args.direction c.args.self.now x c.find-place.result c.len.result (sym c.in-Some.ensures) place
     (c.len.ensures.len ∙ sym (length-ranked c.args.self.now))

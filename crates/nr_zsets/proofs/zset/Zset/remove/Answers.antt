@@ -1,51 +1,61 @@
-use Rattle.std.proofs.Common.{None, Some, rules, refl, ap, sym, ◌∙◌}
+use Rattle.std.proofs.Common.{◌≡◌, Some, rules, ap, sym, ◌∙◌}
 use Rattle.std.specs.FinMap as finmap
 use Rattle.nr_model.specs.Bytes.{Bytes}
-use Rattle.nr_model.specs.SortedSets.{Scored, ranked}
+use Rattle.nr_model.specs.SortedSets.{Scored}
 use Rattle.nr_zsets.specs.Scores.{scores_of}
-use Rattle.nr_zsets.proofs.Mapped.{found, removed}
 use Rattle.nr_zsets.proofs.Ranked.{found_place, low_there, taken_there}
+use Rattle.nr_zsets.proofs.Indexed.{seen_as, nothing_gone, sorted_without, sorted_untaken}
 use Rattle.nr_zsets.proofs.zset.Zset.remove.Goals as goal
+
+pub invariant_of-self : goal.invariant_of-self
+invariant_of-self c =
+    sorted_untaken c.self.inside.index c.take.new.self c.self.inside.tree.0 c.args.member.now c.self.invariant c.in_err-score.ensures.removed
+    (sym c.in_err-score.ensures.was)
 
 pub returns-in_err-score-clause-was : goal.returns-in_err-score-clause-was
 returns-in_err-score-clause-was c =
-    c.from_residual.ensures ∙ found c.self.inside.scores.entries c.args.self.now c.args.member.now None c.self.view_is c.in_err-score.ensures.value
+    c.from_residual.ensures ∙ c.in_err-score.ensures.was ∙ ap (λ m. finmap.get m c.args.member.now) c.self.view_is
 
 pub returns-in_err-score-clause-removed : goal.returns-in_err-score-clause-removed
 returns-in_err-score-clause-removed c =
-    let changes = c.in_err-score.ensures.updates in
-    removed c.self.inside.scores.entries c.remove.new.self.entries c.args.member.now changes.1 changes.3
+    sym (nothing_gone (scores_of c.self.inside.tree.0) c.args.member.now (sym c.in_err-score.ensures.was))
     ∙ ap (λ m. finmap.remove m c.args.member.now) c.self.view_is
 
-pub remove-requires-2 : goal.remove-requires-2
-remove-requires-2 c =
-    let scores = scores_of c.self.inside.scores.entries in
+pub remove-requires : goal.remove-requires
+remove-requires c =
+    let xs = c.self.inside.tree.0 in
     let x : Scored = (c.args.member.now, c.in_ok-score.score) in
-    let here = sym (found c.self.inside.scores.entries scores c.args.member.now (Some c.in_ok-score.score) refl c.in_ok-score.ensures.value) in
     let same = ap (λ (m : Bytes). let named : Scored = (m, c.in_ok-score.score) in named) c.bytes-bytes.ensures in
-    let place = found_place c.self.inside.tree.0 scores x (c.bytes-bytes.result.now, c.in_ok-score.score) c.find-place.result c.self.invariant same
+    let place = found_place xs (scores_of xs) x (c.bytes-bytes.result.now, c.in_ok-score.score) c.find-place.result c.self.invariant.ordered same
     (search (rules, c.find-place.ensures.place)) in
-    low_there c.self.inside.tree.0 scores x c.find-place.result c.self.invariant place here
+    low_there xs (scores_of xs) x c.find-place.result c.self.invariant.ordered place (sym c.in_ok-score.ensures.was)
 
 pub invariant_of-self-2 : goal.invariant_of-self-2
 invariant_of-self-2 c =
-    let scores = scores_of c.self.inside.scores.entries in
+    let xs = c.self.inside.tree.0 in
     let x : Scored = (c.args.member.now, c.in_ok-score.score) in
-    let here = sym (found c.self.inside.scores.entries scores c.args.member.now (Some c.in_ok-score.score) refl c.in_ok-score.ensures.value) in
     let same = ap (λ (m : Bytes). let named : Scored = (m, c.in_ok-score.score) in named) c.bytes-bytes.ensures in
-    let place = found_place c.self.inside.tree.0 scores x (c.bytes-bytes.result.now, c.in_ok-score.score) c.find-place.result c.self.invariant same
+    let place = found_place xs (scores_of xs) x (c.bytes-bytes.result.now, c.in_ok-score.score) c.find-place.result c.self.invariant.ordered same
     (search (rules, c.find-place.ensures.place)) in
-    let changes = c.in_ok-score.ensures.updates in
-    taken_there c.self.inside.tree.0 c.remove-2.new.self.0 scores x c.find-place.result c.self.invariant place here c.remove-2.ensures.items
-    ∙ ap ranked (sym (removed c.self.inside.scores.entries c.remove.new.self.entries c.args.member.now changes.1 changes.3))
+    let here = sym c.in_ok-score.ensures.was in
+    sorted_without c.self.inside.index c.take.new.self xs c.remove.new.self.0 c.self.invariant.ordered x here c.self.invariant.indexed
+    c.in_ok-score.ensures.removed
+    (taken_there xs c.remove.new.self.0 (scores_of xs) x c.find-place.result c.self.invariant.ordered place here c.remove.ensures.items)
 
 pub returns-clause-was : goal.returns-clause-was
 returns-clause-was c =
-    let is = found c.self.inside.scores.entries c.args.self.now c.args.member.now (Some c.in_ok-score.score) c.self.view_is c.in_ok-score.ensures.value in
+    let is : Some c.in_ok-score.score ≡ finmap.get c.args.self.now c.args.member.now =
+    c.in_ok-score.ensures.was ∙ ap (λ m. finmap.get m c.args.member.now) c.self.view_is in
     search (rules, is)
 
 pub returns-clause-removed : goal.returns-clause-removed
 returns-clause-removed c =
-    let changes = c.in_ok-score.ensures.updates in
-    removed c.self.inside.scores.entries c.remove.new.self.entries c.args.member.now changes.1 changes.3
+    let xs = c.self.inside.tree.0 in
+    let x : Scored = (c.args.member.now, c.in_ok-score.score) in
+    let same = ap (λ (m : Bytes). let named : Scored = (m, c.in_ok-score.score) in named) c.bytes-bytes.ensures in
+    let place = found_place xs (scores_of xs) x (c.bytes-bytes.result.now, c.in_ok-score.score) c.find-place.result c.self.invariant.ordered same
+    (search (rules, c.find-place.ensures.place)) in
+    seen_as c.remove.new.self.0 (finmap.remove (scores_of xs) c.args.member.now)
+    (taken_there xs c.remove.new.self.0 (scores_of xs) x c.find-place.result c.self.invariant.ordered place (sym c.in_ok-score.ensures.was)
+    c.remove.ensures.items)
     ∙ ap (λ m. finmap.remove m c.args.member.now) c.self.view_is

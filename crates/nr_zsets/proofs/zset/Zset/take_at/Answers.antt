@@ -1,40 +1,46 @@
 use Rattle.std.proofs.Common.{◌≡◌, Some, rules, ap, sym, ◌∙◌, arith, length}
 use Rattle.std.specs.FinMap as finmap
 use Rattle.std.specs.List as lists
+use Rattle.std.specs.Option.{option_map}
 use Rattle.nr_model.specs.Bytes.{Bytes}
-use Rattle.nr_model.specs.SortedSets.{Scored, ranked}
+use Rattle.nr_model.specs.SortedSets.{Scored, Scores, ranked}
 use Rattle.nr_ordered.proofs.Parts.{got}
 use Rattle.nr_zsets.specs.Scores.{scores_of}
-use Rattle.nr_zsets.proofs.Mapped.{removed}
-use Rattle.nr_zsets.proofs.Ranked.{length-ranked, taken_at, not_None}
+use Rattle.nr_zsets.proofs.Ranked.{length-ranked, taken_at, score_at, not_None}
+use Rattle.nr_zsets.proofs.Indexed.{seen_as, sorted_without}
 use Rattle.nr_zsets.proofs.zset.Zset.take_at.Goals as goal
 
 pub unreachable-requires : goal.unreachable-requires
 unreachable-requires c =
-    let size = ap length (c.self.invariant ∙ ap ranked c.self.view_is) ∙ length-ranked c.args.self.now in
+    let size = ap length (c.self.invariant.ordered ∙ ap ranked c.self.view_is) ∙ length-ranked c.args.self.now in
     let one = got c.self.inside.tree.0 c.args.place (omega (arith, size, c.requires)) in
     not_None one.0 (sym one.1 ∙ sym c.in_default.ensures)
 
 pub remove-requires-2 : goal.remove-requires-2
 remove-requires-2 c =
-    let size = ap length (c.self.invariant ∙ ap ranked c.self.view_is) ∙ length-ranked c.args.self.now in
+    let size = ap length (c.self.invariant.ordered ∙ ap ranked c.self.view_is) ∙ length-ranked c.args.self.now in
     omega (arith, size, c.requires)
 
 pub invariant_of-self : goal.invariant_of-self
 invariant_of-self c =
-    let scores = scores_of c.self.inside.scores.entries in
+    let xs = c.self.inside.tree.0 in
     let x : Scored = (c.in-Some.bytes.now, c.in-Some.score) in
-    let at : Some x ≡ lists.slice_get c.self.inside.tree.0 c.args.place = search (rules, c.in-Some.ensures) in
-    let changes = c.remove.ensures.updates in
-    c.remove-2.ensures.items ∙ ap (λ xs. lists.remove xs c.args.place) c.self.invariant
-    ∙ taken_at scores c.args.place x (ap (λ xs. lists.slice_get xs c.args.place) (sym c.self.invariant) ∙ sym at)
-    ∙ ap ranked (sym (removed c.self.inside.scores.entries c.remove.new.self.entries c.in_ok-member.member changes.1 changes.3
-    ∙ ap (λ (m : Bytes). finmap.remove scores m) c.in_ok-member.ensures.copied))
+    let at : Some x ≡ lists.slice_get xs c.args.place = search (rules, c.in-Some.ensures) in
+    let stands = ap (λ ys. lists.slice_get ys c.args.place) (sym c.self.invariant.ordered) ∙ sym at in
+    let out = c.remove-2.ensures.items ∙ ap (λ ys. lists.remove ys c.args.place) c.self.invariant.ordered ∙ taken_at (scores_of xs) c.args.place x stands in
+    sorted_without c.self.inside.index c.remove.new.self xs c.remove-2.new.self.0 c.self.invariant.ordered x (score_at (scores_of xs) c.args.place x stands)
+    c.self.invariant.indexed
+    (c.remove.ensures ∙ ap (λ (m : Bytes). option_map (λ (scores : Scores). finmap.remove scores m) c.self.inside.index) c.in_ok-member.ensures.copied) out
 
 pub returns-clause-removed : goal.returns-clause-removed
 returns-clause-removed c =
-    let changes = c.remove.ensures.updates in
-    removed c.self.inside.scores.entries c.remove.new.self.entries c.in_ok-member.member changes.1 changes.3
+    let xs = c.self.inside.tree.0 in
+    let x : Scored = (c.in-Some.bytes.now, c.in-Some.score) in
+    let at : Some x ≡ lists.slice_get xs c.args.place = search (rules, c.in-Some.ensures) in
+    let stands = ap (λ ys. lists.slice_get ys c.args.place) (sym c.self.invariant.ordered) ∙ sym at in
+    let out = c.remove-2.ensures.items ∙ ap (λ ys. lists.remove ys c.args.place) c.self.invariant.ordered ∙ taken_at (scores_of xs) c.args.place x stands in
+    seen_as c.remove-2.new.self.0 (finmap.remove (scores_of xs) x.0) out
+    ∙ ap (λ (m : Bytes). finmap.remove (scores_of xs) m) (sym c.in_ok-member.ensures.copied)
     ∙ ap (λ m. finmap.remove m c.in_ok-member.member) c.self.view_is
 
 pub returns-clause-left : goal.returns-clause-left
@@ -42,4 +48,4 @@ returns-clause-left c =
     let x : Scored = (c.in-Some.bytes.now, c.in-Some.score) in
     let at : Some x ≡ lists.slice_get c.self.inside.tree.0 c.args.place = search (rules, c.in-Some.ensures) in
     ap ranked (returns-clause-removed c ∙ ap (λ (m : Bytes). finmap.remove c.args.self.now m) c.in_ok-member.ensures.copied)
-    ∙ sym (taken_at c.args.self.now c.args.place x (ap (λ xs. lists.slice_get xs c.args.place) (sym (c.self.invariant ∙ ap ranked c.self.view_is)) ∙ sym at))
+    ∙ sym (taken_at c.args.self.now c.args.place x (ap (λ xs. lists.slice_get xs c.args.place) (sym (c.self.invariant.ordered ∙ ap ranked c.self.view_is)) ∙ sym at))

@@ -3,7 +3,7 @@ use Rattle.std.specs.Str.{bytes_eq}
 use Rattle.std.specs.Map.{lookup}
 use Rattle.nr_zsets.specs.Scores.{scores_of}
 use Rattle.nr_zsets.proofs.Mapped.{inserted, found}
-use Rattle.nr_zsets.proofs.zset.edits.write.Goals as goal
+use Rattle.nr_zsets.proofs.index.write_to.Goals as goal
 
 pub returns-in-Some : goal.returns-in-Some
 returns-in-Some c =

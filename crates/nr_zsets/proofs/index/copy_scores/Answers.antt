@@ -7,7 +7,7 @@ use Rattle.std.proofs.lemmas.Map.Iter.{rest_more, rest_all}
 use Rattle.nr_model.specs.Bytes.{Bytes}
 use Rattle.nr_zsets.specs.Scores.{scores_of}
 use Rattle.nr_zsets.proofs.Mapped.{IsCopied, copied_none, copied_more, copied_all, inserted}
-use Rattle.nr_zsets.proofs.zset.copy_scores.Goals as goal
+use Rattle.nr_zsets.proofs.index.copy_scores.Goals as goal
 
 pub loop-member-init : goal.loop-member-init
 loop-member-init c = copied_none c.args.scores.now.entries _ _ c.iter-member-items.ensures.unique c.in_ok-copied.ensures.empty
