@@ -26,17 +26,17 @@ use Rattle.nr_replica.specs.declared.fall.Fall.{Fall}
 use Rattle.nr_replica.specs.declared.fall.Fall.TheVariants.{Refused}
 use Rattle.nr_replica.specs.Replicas.{ReplicaState, IsApplied, owed_from}
 use Rattle.nr_node.specs.declared.next.Next.{Next}
-use Rattle.nr_node.specs.Level.{unpassed, jobs_reserved, IsInOrder}
+use Rattle.nr_node.specs.Level.{unpassed, jobs_reserved, IsInOrder, IsLevel}
 use Rattle.nr_node.specs.Keeping.{AreAhead}
 use Rattle.nr_node.specs.Next.{jobs_next}
 use Rattle.nr_node.specs.Owing.{IsOwing, awaited, unexecuted}
-use Rattle.nr_node.specs.Advanced.{IsTakenIn, HasPassed, GoesOn, HasClosed, HasLost, HaveGot, MeetsNoTail, HasStopped, jobs_of_own, jobs_of_all}
+use Rattle.nr_node.specs.Advanced.{IsTakenIn, HasPassed, GoesOn, HasAsked, HasClosed, HasLost, HaveGot, MeetsNoTail, HasStopped, jobs_of_own, jobs_of_all}
 use Rattle.nr_node.proofs.Lists.{record-append, applied-append, still_in_log, still_ahead, reserved_passed}
 use Rattle.nr_node.proofs.Queues.{delivered_length}
-use Rattle.nr_node.proofs.Levels.{passed_level, same_level}
+use Rattle.nr_node.proofs.Levels.{lent_level, passed_level, same_level}
 use Rattle.nr_node.proofs.Got.{got_itself, got_on, got_received}
 use Rattle.nr_node.proofs.Owed.{workers_owing, passed_owing, received_workers, still_awaited_if}
-use Rattle.nr_node.proofs.Orders.{passed_order, passed_fallen, met_order}
+use Rattle.nr_node.proofs.Orders.{lent_order, passed_order, passed_fallen, met_order}
 use Rattle.nr_node.proofs.Closing.{still_closed, closed_then, back_closed, entry_in, counted_record, all_closed}
 
 apart : (b : Bool) → b ≡ false → b ≡ true → ⊥
@@ -92,6 +92,7 @@ goes_none s replica next book = record {
   fell = λ up down. absurd (apart replica.down up down);
   cause = λ up down. absurd (apart replica.down up down);
   still = λ _. refl;
+  lent = λ l. l;
   ahead = λ some. absurd (some refl);
   after_is = inr refl;
 }
@@ -210,6 +211,7 @@ goes_then es fs s t u a b c n m k x y z first last = record {
   still = λ down.
       let same = first.still down in
       last.still (ap (λ (r : ReplicaState). r.down) same ∙ down) ∙ same;
+  lent = λ l. first.lent (last.lent l);
   ahead = ahead_then es fs t u last.passed first.ahead last.ahead;
   after_is = elim last.after_is [
     | inl none ↦ inl none
@@ -231,6 +233,7 @@ record Leaves (old new : ReplicaState) : Type 0 where
   pub fell : old.down ≡ false → new.down ≡ true → (new.waiting ≡ []) × (new.server ≡ fresh) × (new.refused ≡ false)
   pub cause : old.down ≡ false → new.down ≡ true → new.fell ≡ Some Refused → old.refused ≡ true
   pub still : old.down ≡ true → new ≡ old
+  pub lent : new.lent ≡ true → old.lent ≡ true
 
 leaves : (e : Entry) (old new : ReplicaState) → IsTakenIn e old new → Leaves old new
 leaves e old new taken = elim taken [
@@ -244,6 +247,7 @@ leaves e old new taken = elim taken [
     fell = λ up _. absurd (apart old.down up down.0);
     cause = λ up _. absurd (apart old.down up down.0);
     still = λ _. down.1;
+    lent = λ l. ap (λ (r : ReplicaState). r.lent) (sym down.1) ∙ l;
   }
   | inr up ↦ elim up.1 [
     | inl applied ↦
@@ -258,6 +262,7 @@ leaves e old new taken = elim taken [
           fell = λ _ gone. absurd (apart new.down (ap (λ (r : ReplicaState). r.down) applied.state ∙ up.0) gone);
           cause = λ _ gone. absurd (apart new.down (ap (λ (r : ReplicaState). r.down) applied.state ∙ up.0) gone);
           still = λ gone. absurd (apart old.down up.0 gone);
+          lent = λ l. ap (λ (r : ReplicaState). r.lent) (sym applied.state) ∙ l;
         }
     | inr falls ↦ let fell = falls.1 in record {
       members = ap (λ (r : ReplicaState). length r.members) fell;
@@ -269,6 +274,7 @@ leaves e old new taken = elim taken [
       fell = λ _ _. (ap (λ (r : ReplicaState). r.waiting) fell, ap (λ (r : ReplicaState). r.server) fell, ap (λ (r : ReplicaState). r.refused) fell);
       cause = λ _ _ is. falls.2 (same_some falls.0 Refused (sym (ap (λ (r : ReplicaState). r.fell) fell) ∙ is));
       still = λ gone. absurd (apart old.down up.0 gone);
+      lent = λ l. ap (λ (r : ReplicaState). r.lent) (sym fell) ∙ l;
     }
   ]
 ]
@@ -398,6 +404,7 @@ goes_by_entry s held t e old new next after book mid later idle fetched passed s
       fell = λ up down. let by = l.fell up down in (λ none_is. absurd (cc none_is), by.0, (drops up down).0, by.1, by.2);
       cause = l.cause;
       still = l.still;
+      lent = l.lent;
       ahead = λ _. subst AreAhead (sym is) (still_ahead (passed_on (fetched_with e s)) (still_in_log s e log) refl);
       after_is = after_by e old new next after book mid taken stays drops;
     }
@@ -432,9 +439,38 @@ goes_tail s t replica next book looks = record {
   fell = λ up down. absurd (apart replica.down up down);
   cause = λ up down. absurd (apart replica.down up down);
   still = λ _. refl;
+  lent = λ l. l;
   ahead = λ some. absurd (some refl);
   after_is = inr refl;
 }
+
+-- behind a tail that was met it was asked whether the server is lent
+pub goes_asked : (s t : Standing) (old new : ReplicaState) (next : Option Next) (book : Book) → LooksOn s t → HasAsked old new → GoesOn [] s t old new next next book book
+goes_asked s t old new next book looks asked =
+    let g = goes_tail s t old next book looks in
+    let down : new.down ≡ old.down = ap (λ (r : ReplicaState). r.down) asked.replica in
+    record {
+      passed = g.passed;
+      own = g.own;
+      level = λ l. subst (IsLevel t) (sym asked.replica) (lent_level t old new.lent (g.level l));
+      order = λ o. subst (λ (r : ReplicaState). IsInOrder t r book (jobs_next next)) (sym asked.replica) (lent_order t old new.lent book (jobs_next next) (g.order o));
+      closed = g.closed;
+      ended = λ _. refl;
+      lost = λ up gone. absurd (apart old.down up (sym down ∙ gone));
+      owing = λ l up o. subst (λ (r : ReplicaState). IsOwing r.members r.owed (unexecuted t (jobs_next next) r.waiting)) (sym asked.replica) (g.owing l (sym down ∙ up) o);
+      members = ap (λ (r : ReplicaState). length r.members) asked.replica;
+      workers = λ c. ap (λ (r : ReplicaState). worker_of r.members c) asked.replica;
+      owed = ap (λ (r : ReplicaState). awaited r.owed) asked.replica;
+      got = subst (λ (r : ReplicaState). HaveGot old.members r.members) (sym asked.replica) (got_itself old.members);
+      refused = λ up. ap (λ (r : ReplicaState). r.refused) asked.replica;
+      up = λ up. (sym down ∙ up, refl, ap (λ (r : ReplicaState). r.waiting) asked.replica);
+      fell = λ up gone. absurd (apart old.down up (sym down ∙ gone));
+      cause = λ up gone. absurd (apart old.down up (sym down ∙ gone));
+      still = asked.still;
+      lent = asked.was;
+      ahead = λ some. absurd (some refl);
+      after_is = inr refl;
+    }
 
 -- the log stands behind an entry that was passed
 pub log_passed : (s held t : Standing) (e : Entry) → held ≡ fetched_with e s → t ≡ passed_on held → StandsInLog held → StandsInLog t

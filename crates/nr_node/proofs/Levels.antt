@@ -1,5 +1,5 @@
 -- A replica stays level with its end of the log: it takes an entry in, runs reads, opens and closes connections, and hands out what waits.
-use Rattle.std.proofs.Common.{◌≡◌, ℕ, zero, suc, ◌<◌, ◌+◌, inl, inr, true, false, List, [], ◌∷◌, ◌++◌, length, map, refl, ap, sym, ◌∙◌, subst, arith, slice_set}
+use Rattle.std.proofs.Common.{Bool, ◌≡◌, ℕ, zero, suc, ◌<◌, ◌+◌, inl, inr, true, false, List, [], ◌∷◌, ◌++◌, length, map, refl, ap, sym, ◌∙◌, subst, arith, slice_set}
 use Rattle.std.specs.Prelude.{slice_index_or, Option}
 use Rattle.std.proofs.lemmas.Bool.Decides.{eqb_tells}
 use Rattle.std.proofs.lemmas.List.{append-nil, length-append, length-set, map-append, get_or_append_left, get_or_at, get_or-set_same, get_or-set_other}
@@ -174,6 +174,18 @@ same_level s t old new node history same members down server applied l = record 
       let text : emitted_to t serial ≡ emitted_to s serial = λ i. emitted_for (connection_at (node i) serial) (record_of (history i)) in
       subst (λ (ms : List Member). IsWhole (queue_at serial ms) (emitted_to t serial)) (sym members)
       (subst (IsWhole (queue_at serial old.members)) (sym text) (l.whole (sym down ∙ up) serial before));
+}
+
+-- nothing changed but whether the server is lent
+pub lent_level : (s : Standing) (r : ReplicaState) (lent : Bool) → IsLevel s r → IsLevel s (record r { lent = lent })
+lent_level s r lent l = record {
+  node = l.node;
+  named = l.named;
+  opened = l.opened;
+  server = l.server;
+  applied = l.applied;
+  behind = l.behind;
+  whole = l.whole;
 }
 
 -- a connection more, for which nothing was emitted

@@ -13,6 +13,7 @@ mod Filled
 mod Taking
 mod Caught
 mod Revived
+mod Loans
 mod Due
 pub mod Ready
 mod Collected

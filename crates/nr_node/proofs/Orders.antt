@@ -1,5 +1,5 @@
 -- The jobs of a node's connections stay in their order, wherever they are.
-use Rattle.std.proofs.Common.{◌≡◌, ℕ, zero, suc, ◌<◌, ◌≤◌, ◌+◌, List, [], ◌∷◌, ◌++◌, length, refl, ap, sym, ◌∙◌, subst, arith, append_assoc}
+use Rattle.std.proofs.Common.{Bool, ◌≡◌, ℕ, zero, suc, ◌<◌, ◌≤◌, ◌+◌, List, [], ◌∷◌, ◌++◌, length, refl, ap, sym, ◌∙◌, subst, arith, append_assoc}
 use Rattle.std.specs.Prelude.{Option, Some, None, option_map}
 use Rattle.std.specs.List.{AllByRecursion, range_with_len}
 use Rattle.std.specs.FinMap as finmap
@@ -291,6 +291,21 @@ met_order s t old book next met o =
     (further s.seen t.seen s.reservations met.seen o.met))
     (subst (λ (h : List Turn). EachRises (applied_of h)) (sym (ap (λ (x : Standing). x.history) met.standing)) o.entries)
     o
+
+-- nothing changed but whether the server is lent
+pub lent_order : (s : Standing) (r : ReplicaState) (lent : Bool) (book : Book) (next : List Job) → IsInOrder s r book next → IsInOrder s (record r { lent = lent }) book next
+lent_order s r lent book next o = record {
+  book_is = o.book_is;
+  own = o.own;
+  numbered = o.numbered;
+  taken = o.taken;
+  unopened = o.unopened;
+  closed = o.closed;
+  reads = o.reads;
+  entries = o.entries;
+  passed = o.passed;
+  met = o.met;
+}
 
 -- it was noted at the end of the log that a connection was opened
 ran_opened : (n : ℕ) (turns : List Turn) (worker : ℕ) → ran_from n (turns ++ Opened worker ∷ []) ≡ ran_from n turns

@@ -44,11 +44,18 @@ IsTakenIn entry old new =
 abbrev pub MeetsNoTail : LogView → LogView → Type 0
 MeetsNoTail v w = (w.standing.seen ≡ v.standing.seen) × ((more : List Look) × (w.looks ≡ v.looks ++ more))
 
--- why a node stops before the tail: much waits for a connection of its replica, which isn't down, or it loaded the stamp of the next entry's cell last, which wasn't filled
+-- why a node stops before the tail: much waits for a connection of its replica, which isn't down, or its server is lent; or it loaded the stamp of the next entry's cell last,
+-- which wasn't filled
 abbrev pub HasStopped : List Look → LogView → ReplicaState → Type 0
 HasStopped looks v replica =
-    ((replica.down ≡ false) × HasBacklog replica.members)
+    ((replica.down ≡ false) × (HasBacklog replica.members ⊎ (replica.lent ≡ true)))
     ⊎ ((more : List Look) × (v.looks ≡ looks ++ (more ++ Unfilled (passed_of v.standing) ∷ [])))
+
+-- it was asked of a replica that isn't down whether its server is lent: nothing else changed of it
+pub record HasAsked (old new : ReplicaState) : Type 0 where
+  pub replica : new ≡ record old { lent = new.lent }
+  pub was : new.lent ≡ true → old.lent ≡ true
+  pub still : old.down ≡ true → new ≡ old
 
 -- these entries were passed, and a tail was met that is no less: nothing else changed at the end of the log
 pub record HasPassed (entries : List Entry) (s t : Standing) : Type 0 where
@@ -110,7 +117,7 @@ pub record HasLost (entries : List Entry) (dropped : Jobs) (old new : Book) : Ty
   pub ended : new ≡ without_ended (jobs_of_all (over ∷ behind)) back
 
 -- A node went on by these entries: it is level, in order and owing if it was, and what waits is what waited unless it is down; none goes down without one. The
--- accounts that ended go, whether it is up or down, and where it falls all go back by what it drops.
+-- accounts that ended go, whether it is up or down, and where it falls all go back by what it drops. Its server isn't lent anew.
 pub record GoesOn (entries : List Entry) (s t : Standing) (old new : ReplicaState) (next after : Option Next) (book later : Book) : Type 0 where
   pub passed : HasPassed entries s t
   pub own : jobs_reserved (unpassed s) ≡ jobs_of_own s.node entries ++ jobs_reserved (unpassed t)
@@ -130,5 +137,6 @@ pub record GoesOn (entries : List Entry) (s t : Standing) (old new : ReplicaStat
   pub fell : old.down ≡ false → new.down ≡ true → (entries ≢ []) × (new.waiting ≡ []) × (after ≡ None) × (new.server ≡ fresh) × (new.refused ≡ false)
   pub cause : old.down ≡ false → new.down ≡ true → new.fell ≡ Some Refused → old.refused ≡ true
   pub still : old.down ≡ true → new ≡ old
+  pub lent : new.lent ≡ true → old.lent ≡ true
   pub ahead : entries ≢ [] → AreAhead t
   pub after_is : (after ≡ None) ⊎ (after ≡ next)

@@ -10,3 +10,4 @@ pub mod Kept
 pub mod Collected
 pub mod Keeping
 pub mod Revived
+pub mod Lending

@@ -31,7 +31,7 @@ abbrev pub fresh_node : LogView → ℕ → ℕ → NodeState
 fresh_node seat node workers =
     record {
       seat = seat;
-      replica = record { node = node; members = []; owed = replicate workers None; waiting = []; applied = 0; server = fresh; down = false; refused = false; fell = None };
+      replica = record { node = node; members = []; owed = replicate workers None; waiting = []; applied = 0; server = fresh; down = false; refused = false; fell = None; lent = false };
       book = record { node = node; held = finmap.empty; last = replicate workers None };
       next = [];
     }

@@ -8,7 +8,7 @@ ghost use Rattle.nr_replica.specs.Backlogs.{HasBacklog};
 ghost use Rattle.nr_node.specs.Keeping.{Frees};
 ghost use Rattle.nr_node.specs.Level.{IsLevel};
 ghost use Rattle.nr_node.specs.Next.{jobs_next, HasFirst};
-ghost use Rattle.nr_node.specs.Advanced.{IsTakenIn, GoesOn, MeetsNoTail, HasStopped};
+ghost use Rattle.nr_node.specs.Advanced.{IsTakenIn, GoesOn, MeetsNoTail, HasAsked, HasStopped};
 
 use crate::falling::drop_lifted;
 use crate::keeping::OwnEntries;
@@ -18,18 +18,24 @@ use nr_entry::Entry;
 use nr_log_end::{LogEnd, Look};
 use nr_oplog::{End, LogName};
 use nr_replica::Replica;
+use std::hint;
+
+// How many times it is asked whether a server is still lent: with the pauses between some 20 microseconds.
+const MOST_ASKED: u64 = 400;
 
 /// Lets go of the shares that are kept of entries which all nodes have passed. Takes all entries in that there are when it begins, and passes them, and the next
 /// one where that is there. It stops, and answers false, where one isn't there yet, or where the replica holds the others back, since much waits for a connection:
-/// see [`Replica::holds_back`](nr_replica::Replica::holds_back). The account of each connection whose end is among them goes. A replica that is down passes them
+/// see [`Replica::holds_back`](nr_replica::Replica::holds_back). While its server is lent it takes none in: where there are some it waits for the loans to end, some
+/// 20 microseconds at most, and stops where one is still out. The account of each connection whose end is among them goes. A replica that is down passes them
 /// too, executes none, and holds none back. Where the replica falls over one of them, what waits and the next entry of its own are dropped, and the accounts go
-/// back by that: see [`drop_lifted`].
+/// back by that: see [`drop_lifted`]. Whether entries wait for a loan to end stands in `wanted` then.
 pub(crate) fn catch_up<B: LogName>(
     end: &mut End<B>,
     kept: &mut OwnEntries,
     replica: &mut Replica,
     accounts: &mut Accounts,
     next: &mut Option<Next>,
+    wanted: &mut bool,
 ) -> bool
     requires idle { end.old.standing.held ≡ None }
     requires level { IsLevel end.old.standing replica.old }
@@ -43,15 +49,51 @@ pub(crate) fn catch_up<B: LogName>(
     ensures behind { result ≡ false → passed_of end.new.standing < end.new.standing.seen }
     ensures stopped { result ≡ false → HasStopped end.old.looks end.new replica.new }
     ensures few { passed_of end.new.standing ≤ (passed_of end.old.standing + (end.new.standing.seen - passed_of end.old.standing)) + 1 }
+    ensures lent { replica.new.lent ≡ true → replica.new.down ≡ false → passed_of end.new.standing ≡ passed_of end.old.standing }
 {
     let tail = end.tail();
     kept.let_go(end);
     let count = tail.saturating_sub(end.passed());
+    if is_lent_out(replica, count) {
+        *wanted = count > 0;
+        return count == 0;
+    }
+    *wanted = false;
     if !advance_by(end, replica, accounts, next, count) {
         return false;
     }
     advance_further(end, replica, accounts, next, count);
     true
+}
+
+// Whether a replica's server is lent, so that it takes no entry in. Where entries wait for that, so many, the loans have some time to end. One that is down isn't asked.
+fn is_lent_out(replica: &mut Replica, count: u64) -> bool
+    ensures lent { result ≡ true → (replica.new.down ≡ false) × (replica.new.lent ≡ true) }
+    ensures back { result ≡ false → replica.new.down ≡ false → replica.new.lent ≡ false }
+    ensures asked { HasAsked replica.old replica.new }
+{
+    if replica.is_down() {
+        return false;
+    }
+    if count == 0 {
+        return replica.is_lent();
+    }
+    outlasts(replica)
+}
+
+// Whether a loan of a replica's server is still out after some 20 microseconds.
+fn outlasts(replica: &mut Replica) -> bool
+    ensures lent { result ≡ replica.new.lent }
+    ensures was { result ≡ true → replica.old.lent ≡ true }
+    ensures replica { replica.new ≡ record replica.old { lent = result } }
+{
+    for _ in 0..MOST_ASKED {
+        if !replica.is_lent() {
+            return false;
+        }
+        hint::spin_loop();
+    }
+    replica.is_lent()
 }
 
 /// Takes so many entries in, one after the other. False where one isn't there yet, or is held back.

@@ -14,7 +14,7 @@ pub enum Round {
     Full,
     /// Another node reserved in between, or updates that led found no place before. They go on waiting.
     Again,
-    /// An entry that was reserved isn't filled yet, or much waits for a connection, which is handed out first. All before it were applied.
+    /// An entry that was reserved isn't filled yet, or much waits for a connection, which is handed out first, or the server is lent. All before it were applied.
     NotYet,
     /// The replica is down: it goes on passing entries, and executes nothing.
     Down,
@@ -24,8 +24,8 @@ pub enum Round {
 #[derive(Clone, Copy, Debug, PartialEq, Eq)]
 pub struct Looked {
     pub round: Result<Round, Memory>,
-    /// Whether an entry that was reserved before wasn't filled yet, or was held back for what waits. Else all those entries were passed, also by a replica that is
-    /// down.
+    /// Whether an entry that was reserved before wasn't filled yet, or was held back for what waits or for a loan of the server. Else all those entries were passed, also by
+    /// a replica that is down.
     pub is_behind: bool,
 }
 

@@ -3,6 +3,7 @@
 
 pub use answers::{Looked, OpenError, Round, TakeError};
 pub use collecting::Handed;
+pub use lending::{Loan, Prepared};
 pub use reviving::{Offer, ReviveError};
 pub use within::{Core, Shape};
 
@@ -11,6 +12,7 @@ mod answers;
 mod collecting;
 mod falling;
 mod keeping;
+mod lending;
 mod next;
 mod reading;
 mod reserving;

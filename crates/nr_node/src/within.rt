@@ -3,6 +3,7 @@ ghost use Rattle.std.specs.Prelude.{◌≡◌, ◌≢◌, ◌↔◌, ◌⊎◌, 
 ghost use Rattle.std.specs.FinMap as finmap;
 ghost use Rattle.std.specs.List.{AllByRecursion, range_with_len};
 ghost use Rattle.nr_accounts.specs.Held.{is_unended, numbers_in, ComesAfter};
+ghost use Rattle.nr_model.specs.Entries.{read_jobs};
 ghost use Rattle.nr_entry.specs.Jobs.{connection_of, items_of};
 ghost use Rattle.nr_entry.specs.declared.entry.Entry.{Entry};
 ghost use Rattle.nr_entry.specs.declared.job.Job.{Job};
@@ -16,6 +17,7 @@ ghost use Rattle.nr_node.specs.Level.{all_jobs, connection_at, queue_at, is_clos
 ghost use Rattle.nr_node.specs.Advanced.{HasStopped};
 ghost use Rattle.nr_node.specs.Batches.{AreSame, refusal, is_cut_at, IsOpened, IsPiece};
 ghost use Rattle.nr_node.specs.Collected.{IsHanded};
+ghost use Rattle.nr_node.specs.Lending.{AreReadyFor, HasLent, LooksAtTail};
 ghost use Rattle.nr_node.specs.Owing.{answer_of, answered_node, IsServedBy, HasAllExecuted};
 ghost use Rattle.nr_node.specs.Revived.{IsOffered, HasRevived, IsNotYet, revive_refusal};
 ghost use Rattle.nr_node.specs.Sound.{IsSound};
@@ -25,6 +27,7 @@ use crate::advancing::catch_up;
 use crate::answers::{Looked, OpenError, Round, TakeError, take_error};
 use crate::collecting::Handed;
 use crate::keeping::{OwnEntries, Put};
+use crate::lending::{Loan, Prepared, lend};
 use crate::next::Next;
 use crate::reading::read;
 use crate::reserving::{put_in, take_shares};
@@ -59,6 +62,8 @@ pub struct Core<B: LogName> {
     replica: Replica,
     accounts: Accounts,
     next: Option<Next>,
+    // Whether entries wait for a loan of the server to end.
+    wanted: bool,
 }
 
 impl<B: LogName> Model for Core<B> {
@@ -99,6 +104,7 @@ impl<B: LogName> Core<B> {
             next: None,
             end,
             kept: OwnEntries::new(alloc),
+            wanted: false,
         })
     }
 
@@ -287,7 +293,8 @@ impl<B: LogName> Core<B> {
     }
 
     /// Applies and passes all entries that there are when it begins, and the next one where that is there, and runs no read. It stops where one isn't filled yet,
-    /// and where much waits for a connection, until that was handed out: see [`Replica::holds_back`](nr_replica::Replica::holds_back). A node that is down passes
+    /// and where much waits for a connection, until that was handed out: see [`Replica::holds_back`](nr_replica::Replica::holds_back). While its server is lent it takes
+    /// none in: it waits some 20 microseconds for the loans to end, where there are entries, and stops where one is still out. A node that is down passes
     /// them too, and stops for nothing that waits. The account of each connection whose end is among them goes. Where the node falls over one of them, what it has
     /// lifted and not reserved is dropped, and the account of each connection that has a job there goes back to the first of these: linear in the accounts, times
     /// the runs of jobs that wait and the jobs of an entry. It is never an error for want of memory.
@@ -305,6 +312,7 @@ impl<B: LogName> Core<B> {
             &mut self.replica,
             &mut self.accounts,
             &mut self.next,
+            &mut self.wanted,
         );
         let is_behind = !reached;
         Looked {
@@ -326,12 +334,43 @@ impl<B: LogName> Core<B> {
         ensures again { result.round ≡ Ok Round.Again → self.old.next ≢ [] }
         ensures never_full { result.round ≢ Ok Round.Full }
     {
+        let mut spares = Spares::new(self.alloc);
+        self.look_by(None, &mut spares)
+    }
+
+    /// [`Core::look`], where the replies to the reads that lead were prepared. They are taken where the node has passed as many entries as the one that prepared them had
+    /// then; else the reads are run. Queues that give their buffers away take spare ones.
+    pub fn look_with(&mut self, prepared: Prepared<B>, spares: &mut Spares) -> Looked
+        requires ready { AreReadyFor (read_jobs (items_of self.old.replica.waiting)) prepared }
+        ensures goes { (entries : List Entry) × ((ran : List Job) × ((tail : ℕ) × GoesOnBy entries ran tail self.old self.new × (result.round ≡ Ok Round.Done → HasRead ran tail self.old self.new) × (result.round ≢ Ok Round.Done → ran ≡ []) × (result.is_behind ≡ false → tail ≤ passed_of self.new.seat.standing) × (result.is_behind ≡ true → passed_of self.new.seat.standing < tail))) }
+        ensures not_yet { (result.round ≡ Ok Round.NotYet) ↔ ((result.is_behind ≡ true) × (self.new.replica.down ≡ false)) }
+        ensures down { (result.round ≡ Ok Round.Down) ↔ (self.new.replica.down ≡ true) }
+        ensures stopped { result.is_behind ≡ true → HasStopped self.old.seat.looks self.new.seat self.new.replica }
+        ensures waiting { result.round ≢ Ok Round.Done → self.new.replica.down ≡ false → (self.new.replica.waiting ≡ self.old.replica.waiting) × (self.new.next ≡ self.old.next) }
+        ensures again { result.round ≡ Ok Round.Again → self.old.next ≢ [] }
+        ensures never_full { result.round ≢ Ok Round.Full }
+    {
+        self.look_by(Some(prepared), spares)
+    }
+
+    // A look, where replies to the reads that lead may have been prepared.
+    fn look_by(&mut self, prepared: Option<Prepared<B>>, spares: &mut Spares) -> Looked
+        requires ready { IfSome prepared (AreReadyFor (read_jobs (items_of self.old.replica.waiting))) }
+        ensures goes { (entries : List Entry) × ((ran : List Job) × ((tail : ℕ) × GoesOnBy entries ran tail self.old self.new × (result.round ≡ Ok Round.Done → HasRead ran tail self.old self.new) × (result.round ≢ Ok Round.Done → ran ≡ []) × (result.is_behind ≡ false → tail ≤ passed_of self.new.seat.standing) × (result.is_behind ≡ true → passed_of self.new.seat.standing < tail))) }
+        ensures not_yet { (result.round ≡ Ok Round.NotYet) ↔ ((result.is_behind ≡ true) × (self.new.replica.down ≡ false)) }
+        ensures down { (result.round ≡ Ok Round.Down) ↔ (self.new.replica.down ≡ true) }
+        ensures stopped { result.is_behind ≡ true → HasStopped self.old.seat.looks self.new.seat self.new.replica }
+        ensures waiting { result.round ≢ Ok Round.Done → self.new.replica.down ≡ false → (self.new.replica.waiting ≡ self.old.replica.waiting) × (self.new.next ≡ self.old.next) }
+        ensures again { result.round ≡ Ok Round.Again → self.old.next ≢ [] }
+        ensures never_full { result.round ≢ Ok Round.Full }
+    {
         let reached = catch_up(
             &mut self.end,
             &mut self.kept,
             &mut self.replica,
             &mut self.accounts,
             &mut self.next,
+            &mut self.wanted,
         );
         if self.replica.is_down() {
             return Looked {
@@ -351,7 +390,7 @@ impl<B: LogName> Core<B> {
                 is_behind: false,
             };
         }
-        let _ran = match read(&mut self.end, &mut self.replica) {
+        let _ran = match read(&mut self.end, &mut self.replica, prepared, spares) {
             Ok(ran) => ran,
             Err(memory) => {
                 return Looked {
@@ -379,6 +418,19 @@ impl<B: LogName> Core<B> {
             round: Ok(Round::Down),
             is_behind: self.end.passed() < tail,
         }
+    }
+
+    /// Lends its server, where the replica is up, no job waits, no entry is due, all entries are passed that there are by a load of the tail, and none waits for a loan to end.
+    /// `None` too where its owners can't be counted. Constant.
+    pub fn lend(&mut self) -> Option<Loan<B>>
+        ensures lent { IfSome result (λ loan. HasLent loan self.old self.new) }
+        ensures none { IfNone result (self.new.replica ≡ self.old.replica) }
+        ensures same { LooksAtTail self.old self.new }
+    {
+        if self.wanted || self.next.is_some() || !self.replica.is_idle() {
+            return None;
+        }
+        lend(&mut self.end, &mut self.replica)
     }
 
     /// The first connection of the node after one, by serial, that this worker serves, and of which a job was taken, but not its end: with the number of its next job,

@@ -69,7 +69,7 @@ texts_of-append c (w ∷ ws) vs =
     let b = same_connection w.connection c in
     ap (λ (ts : List Bytes). cond b (w.bytes ∷ ts) ts) (texts_of-append c ws vs) ∙ join_if b w.bytes (texts_of c ws) (texts_of c vs)
 
-texts_for-append : (c : Connection) (es fs : List Emission) → texts_for c (es ++ fs) ≡ texts_for c es ++ texts_for c fs
+pub texts_for-append : (c : Connection) (es fs : List Emission) → texts_for c (es ++ fs) ≡ texts_for c es ++ texts_for c fs
 texts_for-append c [] fs = refl
 texts_for-append c (e ∷ es) fs =
     let b = same_connection e.connection c in

@@ -14,3 +14,5 @@ pub mod Told
 pub mod Stepped
 pub mod Crossing
 pub mod CutAll
+pub mod Joined
+pub mod Runs

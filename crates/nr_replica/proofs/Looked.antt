@@ -28,7 +28,7 @@ use Rattle.nr_replica.proofs.Received.{alike, one_text}
 use Rattle.nr_replica.proofs.Giving.{delivered_more}
 
 -- a reply to its connection is all that a read emits
-abbrev IsReply : Connection → List Emission → Type 0
+abbrev pub IsReply : Connection → List Emission → Type 0
 IsReply c es = (reply : Reply) × (es ≡ record { connection = c; reply = reply } ∷ [])
 
 command_replies : (c : Connection) (found : Found) (now : ℕ) (command : Command) (call : Call)
@@ -54,17 +54,17 @@ deed_replies c found now (Run calls) h = absurd (cc)
 deed_replies c found now Abort h = absurd (cc)
 deed_replies c found now (End reply) h = absurd (cc)
 
-read_replies : (s : Server) (item : Item) → is_update item.deed ≡ false → IsReply item.connection (emitted_in s item)
+pub read_replies : (s : Server) (item : Item) → is_update item.deed ≡ false → IsReply item.connection (emitted_in s item)
 read_replies s item h = deed_replies item.connection (found_in s item.connection (now_in s item)) (now_in s item) item.deed h
 
-same_itself : (c : Connection) → same_connection c c ≡ true
+pub same_itself : (c : Connection) → same_connection c c ≡ true
 same_itself c = grind (arith, nat_tests)
 
 -- the text of the reply
-abbrev read_text : (s : Server) (item : Item) → is_update item.deed ≡ false → Bytes
+abbrev pub read_text : (s : Server) (item : Item) → is_update item.deed ≡ false → Bytes
 read_text s item h = reply_text (read_replies s item h).0
 
-texts_of_read : (s : Server) (item : Item) (h : is_update item.deed ≡ false) (c : Connection)
+pub texts_of_read : (s : Server) (item : Item) (h : is_update item.deed ≡ false) (c : Connection)
     → texts_for c (emitted_in s item) ≡ one_text item.connection (read_text s item h) c
 texts_of_read s item h c = ap (texts_for c) (read_replies s item h).1
 

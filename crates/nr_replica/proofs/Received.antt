@@ -11,7 +11,7 @@ use Rattle.nr_model.specs.Queues.{Queue, takes, put, puts, with_bytes, cut_off, 
 use Rattle.nr_replica.specs.Members.{Member, AreNumbered, AreReceived}
 
 -- a queue that is cut stays as it is
-puts_cut : (q : Queue) (ts : List Bytes) → puts (cut_off q) ts ≡ cut_off q
+pub puts_cut : (q : Queue) (ts : List Bytes) → puts (cut_off q) ts ≡ cut_off q
 puts_cut q [] = refl
 puts_cut q (t ∷ ts) = puts_cut q ts
 
@@ -24,7 +24,7 @@ received_cut None q ts = puts_cut q ts
 received_cut (Some n) q ts =
     either (ltb n (length ts)) (cut_off (puts (cut_off q) (take n ts))) (puts (cut_off q) ts) (cut_off q) (ap cut_off (puts_cut q (take n ts))) (puts_cut q ts)
 
-puts-append : (q : Queue) (ts us : List Bytes) → puts q (ts ++ us) ≡ puts (puts q ts) us
+pub puts-append : (q : Queue) (ts us : List Bytes) → puts q (ts ++ us) ≡ puts (puts q ts) us
 puts-append q [] us = refl
 puts-append q (t ∷ ts) us = puts-append (put q t) ts us
 
@@ -35,9 +35,19 @@ put_connection q t = elim (takes q t) as (λ b. (cond b (with_bytes q t) (cut_of
   | false ↦ refl
 ]
 
-puts_connection : (q : Queue) (ts : List Bytes) → (puts q ts).connection ≡ q.connection
+pub puts_connection : (q : Queue) (ts : List Bytes) → (puts q ts).connection ≡ q.connection
 puts_connection q [] = refl
 puts_connection q (t ∷ ts) = puts_connection (put q t) ts ∙ put_connection q t
+
+put_limit : (q : Queue) (t : Bytes) → (put q t).limit ≡ q.limit
+put_limit q t = elim (takes q t) as (λ b. (cond b (with_bytes q t) (cut_off q)).limit ≡ q.limit) [
+  | true ↦ refl
+  | false ↦ refl
+]
+
+pub puts_limit : (q : Queue) (ts : List Bytes) → (puts q ts).limit ≡ q.limit
+puts_limit q [] = refl
+puts_limit q (t ∷ ts) = puts_limit (put q t) ts ∙ put_limit q t
 
 pub received_connection : (n : Option ℕ) (q : Queue) (ts : List Bytes) → (received n q ts).connection ≡ q.connection
 received_connection None q ts = puts_connection q ts
@@ -47,10 +57,10 @@ received_connection (Some n) q ts = elim (ltb n (length ts)) as (λ b. (cond b (
 ]
 
 -- where memory was refused, and where it wasn't
-refused_at : (n : ℕ) (q : Queue) (ts : List Bytes) → ltb n (length ts) ≡ true → received (Some n) q ts ≡ cut_off (puts q (take n ts))
+pub refused_at : (n : ℕ) (q : Queue) (ts : List Bytes) → ltb n (length ts) ≡ true → received (Some n) q ts ≡ cut_off (puts q (take n ts))
 refused_at n q ts h = ap (λ b. cond b (cut_off (puts q (take n ts))) (puts q ts)) h
 
-refused_past : (n : ℕ) (q : Queue) (ts : List Bytes) → ltb n (length ts) ≡ false → received (Some n) q ts ≡ puts q ts
+pub refused_past : (n : ℕ) (q : Queue) (ts : List Bytes) → ltb n (length ts) ≡ false → received (Some n) q ts ≡ puts q ts
 refused_past n q ts h = ap (λ b. cond b (cut_off (puts q (take n ts))) (puts q ts)) h
 
 -- texts, and then texts more
@@ -189,19 +199,19 @@ one_received node n (suc i) f (member ∷ members) d new refused numbered within
     )
 
 -- connections of one serial are the same, and others aren't
-same_serial : (node m n : ℕ) → m ≡ n → same_connection (record { node = node; serial = m }) (record { node = node; serial = n }) ≡ true
+pub same_serial : (node m n : ℕ) → m ≡ n → same_connection (record { node = node; serial = m }) (record { node = node; serial = n }) ≡ true
 same_serial node m n e = grind (arith, nat_tests)
 
-other_serial : (node m n : ℕ) → (m ≡ n → ⊥) → same_connection (record { node = node; serial = m }) (record { node = node; serial = n }) ≡ false
+pub other_serial : (node m n : ℕ) → (m ≡ n → ⊥) → same_connection (record { node = node; serial = m }) (record { node = node; serial = n }) ≡ false
 other_serial node m n e = grind (arith, nat_tests)
 
 pub of_another : (c d : Connection) → (c.node ≡ d.node → ⊥) → same_connection c d ≡ false
 of_another c d apart = and_left (c.node == d.node) (c.serial == d.serial) (ne_eqb c.node d.node apart)
 
-eqb_is : (a b : ℕ) → (a == b) ≡ true → a ≡ b
+pub eqb_is : (a b : ℕ) → (a == b) ≡ true → a ≡ b
 eqb_is a b h = grind (arith, nat_tests)
 
-joined : (node n : ℕ) (c : Connection) → c.node ≡ node → c.serial ≡ n → c ≡ record { node = node; serial = n }
+pub joined : (node n : ℕ) (c : Connection) → c.node ≡ node → c.serial ≡ n → c ≡ record { node = node; serial = n }
 joined node n c e f = λ i. record { node = e i; serial = f i }
 
 pub apart : (node n : ℕ) (c : Connection) → (c ≡ record { node = node; serial = n } → ⊥) → same_connection c (record { node = node; serial = n }) ≡ false
@@ -239,3 +249,22 @@ pub none_given : (node : ℕ) (to : Connection) (text : Bytes) (members : List M
 none_given node to text members numbered others =
     none_received node 0 (one_text to text) members numbered
     (λ serial from below. ap (λ b. cond b (text ∷ []) []) (apart node serial to (others serial (omega arith))))
+
+-- texts to one of them
+abbrev pub some_texts : Connection → List Bytes → Connection → List Bytes
+some_texts to texts c = cond (same_connection to c) texts []
+
+pub some_given : (node i : ℕ) (to : Connection) (texts : List Bytes) (members : List Member) (d new : Member) (refused : Option ℕ) → AreNumbered node 0 members
+    → i < length members → to ≡ record { node = node; serial = i }
+    → new ≡ record (get_or members i d) { outbox = received refused (get_or members i d).outbox texts }
+    → AreReceived (some_texts to texts) members (set members i new)
+some_given node i to texts members d new refused numbered within own is =
+    let at : Connection = record { node = node; serial = 0 + i } in
+    let number : i ≡ 0 + i = omega arith in
+    let here : some_texts to texts at ≡ texts =
+    ap (λ (c : Connection). some_texts c texts at) own ∙ ap (λ b. cond b texts []) (same_serial node i (0 + i) number) in
+    one_received node 0 i (some_texts to texts) members d new refused numbered within
+    (is ∙ ap (λ (ts : List Bytes). record (get_or members i d) { outbox = received refused (get_or members i d).outbox ts }) (sym here))
+    (λ serial other.
+    ap (λ (c : Connection). some_texts c texts (record { node = node; serial = serial })) own
+    ∙ ap (λ b. cond b texts []) (other_serial node i serial (λ e. other (sym e ∙ number))))

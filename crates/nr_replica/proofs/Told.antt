@@ -1,6 +1,6 @@
 -- What a replica's calls say of its state, from what its parts say.
-use Rattle.std.proofs.Common.{◌≡◌, ℕ, ◌+◌, ◌<◌, Bool, true, false, cond, List, [], length, take, get_or, refl, ap, sym, ◌∙◌, subst, arith, add-one}
-use Rattle.std.specs.Prelude.{◌==◌, is_none, Result, Ok, Err, IfOk, IfSome, OnOk, OnErr, Option, Some, None}
+use Rattle.std.proofs.Common.{◌≡◌, ℕ, ◌+◌, ◌<◌, Bool, true, false, cond, List, [], ◌∷◌, length, take, get_or, refl, ap, sym, ◌∙◌, subst, arith, add-one}
+use Rattle.std.specs.Prelude.{◌==◌, not, is_none, Result, Ok, Err, IfOk, IfSome, OnOk, OnErr, Option, Some, None}
 use Rattle.nr_model.specs.Items.{Connection}
 use Rattle.nr_model.specs.Servers.{Server, after_all, emitted_all}
 use Rattle.nr_model.specs.Entries.{entry_items}
@@ -10,6 +10,7 @@ use Rattle.nr_blob.specs.declared.memory.Memory.{Memory}
 use Rattle.nr_entry.specs.declared.entry.Entry.{Entry}
 use Rattle.nr_entry.specs.declared.job.Job.{Job}
 use Rattle.nr_entry.specs.Jobs.{connection_of, items_of}
+use Rattle.nr_entry.specs.Waiting.{has_some}
 use Rattle.nr_machine.specs.Machines.{MachineState}
 use Rattle.nr_replica.specs.declared.fall.Fall.{Fall}
 use Rattle.nr_replica.specs.declared.outbox.Piece.{Piece}
@@ -19,15 +20,15 @@ use Rattle.nr_replica.proofs.Giving.{given_delivered}
 use Rattle.nr_replica.proofs.Kept.{numbered_at, get_or_same}
 
 -- an entry was applied
-pub applied_is : (counted : Bool) (node applied : ℕ) (members given : List Member) (owed left : List (Option ℕ)) (waiting : List Job) (was now : Option MachineState) (refused : Bool) (fell : Option Fall) (entry : Entry) (staging : List Written)
+pub applied_is : (counted : Bool) (node applied : ℕ) (members given : List Member) (owed left : List (Option ℕ)) (waiting : List Job) (was now : Option MachineState) (refused : Bool) (fell : Option Fall) (lent : Bool) (entry : Entry) (staging : List Written)
     → is_none was ≡ false → AreNumbered node 0 members
     → staging ≡ all_after written_after [] (for_node node (emitted_all (server_in was) (entry_items (items_of entry.jobs.items)))) → AreGiven staging members given
     → left ≡ cond counted (cond (entry.node == node) (owed_from 0 members (items_of entry.jobs.items) owed) owed) owed
     → now ≡ Some (record { state = after_all (server_in was) (entry_items (items_of entry.jobs.items)); failed = false })
     → IsAppliedAs counted entry
-    (record { node = node; members = members; owed = owed; waiting = waiting; applied = applied; server = server_in was; down = is_none was; refused = refused; fell = fell })
-    (record { node = node; members = given; owed = left; waiting = waiting; applied = applied + 1; server = server_in now; down = is_none now; refused = refused; fell = fell })
-applied_is counted node applied members given owed left waiting was now refused fell entry staging up numbered staged handed less moved =
+    (record { node = node; members = members; owed = owed; waiting = waiting; applied = applied; server = server_in was; down = is_none was; refused = refused; fell = fell; lent = lent })
+    (record { node = node; members = given; owed = left; waiting = waiting; applied = applied + 1; server = server_in now; down = is_none now; refused = refused; fell = fell; lent = lent })
+applied_is counted node applied members given owed left waiting was now refused fell lent entry staging up numbered staged handed less moved =
     let items = entry_items (items_of entry.jobs.items) in
     let server : server_in now ≡ after_all (server_in was) items = ap server_in moved in
     let stays : is_none now ≡ is_none was = ap is_none moved ∙ sym up in
@@ -44,6 +45,7 @@ applied_is counted node applied members given owed left waiting was now refused 
             down = stays i;
             refused = refused;
             fell = fell;
+            lent = lent;
           };
     }
 
@@ -94,3 +96,8 @@ pub kept_on_err : {T E : Type 0} (result : Result T E) (old now : ReplicaState) 
     → OnErr result (record old { members = news } ≡ now)
 kept_on_err (Ok x) old now news same is = tt
 kept_on_err (Err e) old now news same is = ap (λ (ms : List Member). record old { members = ms }) is ∙ same
+
+-- no job waits
+pub none_waits : (jobs : List Job) → not (has_some (items_of jobs)) ≡ true → jobs ≡ []
+none_waits [] none = refl
+none_waits (job ∷ jobs) none = absurd (cc)

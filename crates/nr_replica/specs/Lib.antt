@@ -1,4 +1,5 @@
 pub mod Backlogs
+pub mod Lent
 pub mod Members
 pub mod Ready
 pub mod Replicas

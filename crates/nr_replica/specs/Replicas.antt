@@ -15,7 +15,7 @@ use Rattle.nr_replica.specs.Members.{Member, coded_member, AreDelivered, jobs_of
 
 -- The node; its connections by serial; for each worker, where a batch of it was lifted, how many of its jobs are neither applied nor run; the jobs that were
 -- lifted and neither taken for an entry nor run; how many entries were applied; the server, which is given up when the node falls; whether it is down, whether the
--- next entry is refused, and why it is down, where it is
+-- next entry is refused; why it is down, where it is; and whether a loan of its server may be out: one was given since it was seen last that none is
 pub record ReplicaState : Type 0 where
   pub node : ℕ
   pub members : List Member
@@ -26,13 +26,14 @@ pub record ReplicaState : Type 0 where
   pub down : Bool
   pub refused : Bool
   pub fell : Option Fall
+  pub lent : Bool
 
 abbrev pub coded_replica : Coded ReplicaState
 coded_replica =
-    code_by (ℕ × (List Member × (List (Option ℕ) × (List Job × (ℕ × (Server × (Bool × (Bool × Option Fall))))))))
-    (coded× coded_ℕ (coded× (coded_list coded_member) (coded× (coded_list (coded_option coded_ℕ)) (coded× (coded_list of_job.the_row.coded) (coded× coded_ℕ (coded× coded_server (coded× coded_bool (coded× coded_bool (coded_option of_fall.the_row.coded)))))))))
-    (λ r. (r.node, (r.members, (r.owed, (r.waiting, (r.applied, (r.server, (r.down, (r.refused, r.fell)))))))))
-    (λ p. record { node = p.0; members = p.1.0; owed = p.1.1.0; waiting = p.1.1.1.0; applied = p.1.1.1.1.0; server = p.1.1.1.1.1.0; down = p.1.1.1.1.1.1.0; refused = p.1.1.1.1.1.1.1.0; fell = p.1.1.1.1.1.1.1.1 }) (λ _. refl)
+    code_by (ℕ × (List Member × (List (Option ℕ) × (List Job × (ℕ × (Server × (Bool × (Bool × (Option Fall × Bool)))))))))
+    (coded× coded_ℕ (coded× (coded_list coded_member) (coded× (coded_list (coded_option coded_ℕ)) (coded× (coded_list of_job.the_row.coded) (coded× coded_ℕ (coded× coded_server (coded× coded_bool (coded× coded_bool (coded× (coded_option of_fall.the_row.coded) coded_bool)))))))))
+    (λ r. (r.node, (r.members, (r.owed, (r.waiting, (r.applied, (r.server, (r.down, (r.refused, (r.fell, r.lent))))))))))
+    (λ p. record { node = p.0; members = p.1.0; owed = p.1.1.0; waiting = p.1.1.1.0; applied = p.1.1.1.1.0; server = p.1.1.1.1.1.0; down = p.1.1.1.1.1.1.0; refused = p.1.1.1.1.1.1.1.0; fell = p.1.1.1.1.1.1.1.1.0; lent = p.1.1.1.1.1.1.1.1.1 }) (λ _. refl)
 
 -- jobs were executed: they are owed no more
 abbrev pub owing_less : ℕ → Option ℕ → Option ℕ

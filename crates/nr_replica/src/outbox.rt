@@ -1,5 +1,6 @@
 // A connection's queue: replies and messages are written behind one another into one buffer, and handed out from its front.
 ghost use Rattle.std.specs.Prelude.{◌≡◌, ◌<◌, ◌≤◌, ◌+◌, ℕ, true, false, not, [], map, take, drop, length, IfOk, OnErr, IfSome, IfNone, OnOk, Err, is_some, nat_le, ◌&&◌};
+ghost use Rattle.std.specs.Bool.{OnTrue, OnFalse};
 ghost use Rattle.std.specs.Arc.{arc_value};
 ghost use Rattle.nr_model.specs.Connections.{is_some_bytes};
 ghost use Rattle.nr_model.specs.Replies.{reply_text};
@@ -95,6 +96,29 @@ impl Outbox {
         }
     }
 
+    /// The same over a spare buffer, where there is one.
+    pub(crate) fn over_spare(
+        alloc: Global,
+        conn: ConnId,
+        limit: usize,
+        spares: &mut Spares,
+    ) -> Outbox
+        ensures { result ≡ record { connection = connection_of conn; waiting = []; handed = 0; limit = limit; cut = false } }
+    {
+        let mut outbox = Outbox::new(alloc, conn, limit);
+        if let Some(buffer) = spares.take() {
+            outbox.buffer = buffer;
+        }
+        outbox
+    }
+
+    /// Whose queue it is.
+    pub(crate) fn conn(&self) -> ConnId
+        ensures { connection_of result ≡ self.now.connection }
+    {
+        self.conn
+    }
+
     /// Takes a reply, which is written once, behind what waits. Where memory is refused nothing changes.
     pub fn offer(&mut self, shown: &Shown<'_>) -> Result<(), Memory>
         ensures put { OnOk result (self.new ≡ put self.old (reply_text (shown_reply shown.now))) }
@@ -171,6 +195,30 @@ impl Outbox {
         }
         self.buffer.extend_from_slice(bytes)?;
         Ok(())
+    }
+
+    /// Takes what waits in another queue of its connection behind what waits. Where nothing waits here its buffer is taken over, and this one's is spared; else the
+    /// bytes are copied once. False, and nothing changes, where they don't fit or memory is refused.
+    pub(crate) fn take_over(&mut self, other: Outbox, spares: &mut Spares) -> bool
+        ensures taken { OnTrue result ((takes self.old other.waiting ≡ true) × (self.new ≡ with_bytes self.old other.waiting)) }
+        ensures same { OnFalse result (self.new ≡ self.old) }
+    {
+        let before = self.buffer.len() - self.start;
+        let Outbox { buffer, start, .. } = other;
+        let more = buffer.len() - start;
+        if self.is_cut() || !has_room(before, more, self.limit, self.handed) {
+            return false;
+        }
+        if before == 0 {
+            spares.keep(mem::replace(&mut self.buffer, buffer));
+            self.start = start;
+            return true;
+        }
+        if self.buffer.extend_from_slice(&buffer[start..]).is_err() {
+            return false;
+        }
+        spares.keep(buffer);
+        true
     }
 
     /// Memory was refused for what came: it takes no more from now on.

@@ -7,16 +7,19 @@ ghost use Rattle.nr_entry.specs.Entry.{are_of};
 ghost use Rattle.nr_entry.specs.Jobs.{connection_of, items_of};
 ghost use Rattle.nr_entry.specs.Waiting.{has_some};
 ghost use Rattle.nr_replica.specs.Backlogs.{HasBacklog};
+ghost use Rattle.nr_replica.specs.Lent.{AreRepliesTo};
 ghost use Rattle.nr_replica.specs.Members.{Member, fresh_member, closed_member, cut_member, handed_member, next_ready};
 ghost use Rattle.nr_replica.specs.declared.offer.OfferError.TheVariants as OfferError;
 ghost use Rattle.nr_replica.specs.Replicas.{IsApplied, IsAppliedAs, HasRead, fallen, stopped};
 
+use crate::answering::Replies;
 use crate::delivering::deliver;
 use crate::fall::Fall;
+use crate::lending::{Lender, Lent};
 use crate::members::Members;
 use crate::offer::{Offer, OfferError};
 use crate::outbox::Piece;
-use crate::reading::run_reads;
+use crate::reading::{run_reads, take_all};
 use crate::settling::{settle, settle_counted};
 use crate::spares::Spares;
 use crate::steps::{stage, take_updates};
@@ -35,7 +38,7 @@ pub struct Replica {
     alloc: Global,
     node: usize,
     // None where it is down.
-    machine: Option<Machine>,
+    machine: Lender,
     members: Members,
     owed: Vec<Option<usize>>,
     waiting: Waiting,
@@ -45,6 +48,8 @@ pub struct Replica {
     is_refused: bool,
     // Why it is down, where it is.
     fell: Option<Fall>,
+    // Whether its server was lent since it was seen last that it isn't.
+    was_lent: bool,
 }
 
 impl Model for Replica {
@@ -59,7 +64,7 @@ impl Model for Replica {
 
     ghost coded = { coded_replica };
 
-    ghost view = { λ r. record { node = r.node; members = members_seen r.node r.members; owed = r.owed.items; waiting = r.waiting.jobs; applied = r.applied; server = server_in r.machine; down = is_none r.machine; refused = r.is_refused; fell = r.fell } };
+    ghost view = { λ r. record { node = r.node; members = members_seen r.node r.members; owed = r.owed.items; waiting = r.waiting.jobs; applied = r.applied; server = server_in r.machine; down = is_none r.machine; refused = r.is_refused; fell = r.fell; lent = r.was_lent } };
 
     ghost invariant = { λ r. (r.staging ≡ []) × (r.waiting.gaps ≡ []) × AreNumbered r.node 0 (members_seen r.node r.members) × IfSome r.machine (λ machine. machine.failed ≡ false) × IsTrue (are_of r.node (items_of r.waiting.jobs)) × AreReady r.members.ready.sets.items (members_seen r.node r.members) };
 }
@@ -82,6 +87,7 @@ impl Replica {
           down = false;
           refused = false;
           fell = None;
+          lent = false;
         }) }
     {
         let mut owed = Vec::with_capacity(alloc, workers)?;
@@ -89,7 +95,7 @@ impl Replica {
         Ok(Replica {
             alloc,
             node,
-            machine: Some(Machine::new(alloc, keys)?),
+            machine: Lender::new(alloc, Machine::new(alloc, keys)?)?,
             members: Members::new(alloc, workers)?,
             owed,
             waiting: Waiting::new(alloc),
@@ -97,6 +103,7 @@ impl Replica {
             applied: 0,
             is_refused: false,
             fell: None,
+            was_lent: false,
         })
     }
 
@@ -301,6 +308,7 @@ impl Replica {
         ensures refused { (result ≡ Err Fall.Refused) ↔ (self.old.refused ≡ true) }
     {
         if let Err(fall) = stage(
+            self.alloc,
             entry,
             self.node,
             self.applied,
@@ -343,13 +351,44 @@ impl Replica {
         ensures copied { IfOk result (λ offer. offer ≡ self.now.server) }
         ensures down { (result ≡ Err OfferError.Down) ↔ (self.now.down ≡ true) }
     {
-        let Some(machine) = &self.machine else {
+        let Some(machine) = self.machine.get() else {
             return Err(OfferError::Down);
         };
-        match machine.copy() {
-            Ok(machine) => Ok(Offer { machine }),
+        match Offer::of(self.alloc, machine) {
+            Ok(offer) => Ok(offer),
             Err(memory) => Err(OfferError::Memory(memory)),
         }
+    }
+
+    /// Lends its server. Constant. `None` where it is down, or its owners can't be counted.
+    pub fn lend(&mut self) -> Option<Lent>
+        ensures lent { IfSome result (λ lent. (self.old.down ≡ false) × (lent ≡ self.old.server) × (self.new ≡ record self.old { lent = true })) }
+        ensures none { IfNone result (self.new ≡ self.old) }
+    {
+        let Some(machine) = self.machine.lend() else {
+            return None;
+        };
+        self.was_lent = true;
+        Some(Lent { machine })
+    }
+
+    /// Whether a loan of its server is out: then an entry that it applies costs a copy of the server. Where none is, that is known from then on, until one is
+    /// given. Constant.
+    pub fn is_lent(&mut self) -> bool
+        ensures was { result ≡ true → self.old.lent ≡ true }
+        ensures known { self.new ≡ record self.old { lent = result } }
+    {
+        if self.was_lent {
+            self.was_lent = self.machine.is_lent();
+        }
+        self.was_lent
+    }
+
+    /// Whether no job waits.
+    pub fn is_idle(&self) -> bool
+        ensures { result ≡ true → self.now.waiting ≡ [] }
+    {
+        self.waiting.is_empty()
     }
 
     /// Comes back with a copy of another replica's server, after so many entries. Every connection that was opened so far gets nothing more
@@ -359,7 +398,7 @@ impl Replica {
         ensures { self.new ≡ record self.old { members = map cut_member self.old.members; applied = applied; server = offer; down = false; fell = None } }
     {
         self.members.cut_all();
-        self.machine = Some(offer.machine);
+        self.machine = Lender::of(offer.machine);
         self.applied = applied;
         self.fell = None;
     }
@@ -374,11 +413,40 @@ impl Replica {
     {
         let reads = self.waiting.take_reads()?;
         settle(&reads, &self.members, &mut self.owed);
-        let Some(machine) = &self.machine else {
+        let Some(machine) = self.machine.get() else {
             unreachable!()
         };
         run_reads(machine, &reads, self.node, &mut self.members);
         Ok(reads)
+    }
+
+    /// Runs the reads that lead, the replies to which are at hand, and hands them back: [`Replica::run_reads`]. Those of a run that doesn't fit into its connection's queue as a
+    /// whole are run anew. An error leaves all as it was.
+    pub fn take_reads(
+        &mut self,
+        replies: Vec<Replies>,
+        spares: &mut Spares,
+    ) -> Result<Vec<Job>, Memory>
+        requires up { self.old.down ≡ false }
+        requires ready { AreRepliesTo self.old.server (read_jobs (items_of self.old.waiting)) replies.items }
+        ensures ran { IfOk result (λ ran. items_of ran.items ≡ read_jobs (items_of self.old.waiting)) }
+        ensures read { OnOk result (HasRead self.old self.new) }
+        ensures unchanged { OnErr result (self.new ≡ self.old) }
+    {
+        let taken = self.waiting.take_reads()?;
+        settle(&taken, &self.members, &mut self.owed);
+        let Some(machine) = self.machine.get() else {
+            unreachable!()
+        };
+        take_all(
+            machine,
+            &taken,
+            replies,
+            self.node,
+            &mut self.members,
+            spares,
+        );
+        Ok(taken)
     }
 
     /// How many jobs of a worker's batch are neither applied nor run, or `None` where no batch of it was lifted.

@@ -9,10 +9,11 @@ ghost use Rattle.nr_entry.specs.Jobs.{items_of};
 ghost use Rattle.nr_replica.specs.Replicas.{server_in};
 
 use crate::fall::Fall;
+use crate::lending::Lender;
 use nr_blob::Memory;
 use nr_emission::Staging;
 use nr_entry::{Entry, Job, Waiting};
-use nr_machine::Machine;
+use std::alloc::Global;
 
 /// Takes the jobs of the next entry. They wait no more.
 pub(crate) fn take_updates(waiting: &mut Waiting) -> Result<Vec<Job>, Memory>
@@ -33,11 +34,12 @@ pub(crate) fn take_updates(waiting: &mut Waiting) -> Result<Vec<Job>, Memory>
 /// Applies an entry behind so many others, and holds back what it emits for the node. Where that is refused what is held back isn't to be sent, and the
 /// machine is let go of.
 pub(crate) fn stage(
+    alloc: Global,
     entry: &Entry,
     node: usize,
     applied: u64,
     is_refused: bool,
-    machine: &mut Option<Machine>,
+    machine: &mut Lender,
     staging: &mut Staging,
 ) -> Result<(), Fall>
     requires up { is_none machine.old ≡ false }
@@ -49,10 +51,10 @@ pub(crate) fn stage(
     ensures dropped { OnErr result (machine.new ≡ None) }
     ensures refused { (result ≡ Err Fall.Refused) ↔ (is_refused ≡ true) }
 {
-    match try_entry(entry, node, applied, is_refused, machine, staging) {
+    match try_entry(alloc, entry, node, applied, is_refused, machine, staging) {
         Ok(()) => Ok(()),
         Err(fall) => {
-            *machine = None;
+            *machine = Lender::none();
             Err(fall)
         }
     }
@@ -60,11 +62,12 @@ pub(crate) fn stage(
 
 // Applies an entry behind so many others, unless it is to be refused.
 fn try_entry(
+    alloc: Global,
     entry: &Entry,
     node: usize,
     applied: u64,
     is_refused: bool,
-    machine: &mut Option<Machine>,
+    machine: &mut Lender,
     staging: &mut Staging,
 ) -> Result<(), Fall>
     requires up { is_none machine.old ≡ false }
@@ -81,27 +84,8 @@ fn try_entry(
     if let Some(memory) = Memory::at_last(applied) {
         return Err(Fall::Memory(memory));
     }
-    match apply_to(entry, node, machine, staging) {
+    match machine.apply(alloc, entry, node, staging) {
         Ok(()) => Ok(()),
         Err(memory) => Err(Fall::Memory(memory)),
     }
-}
-
-// Applies an entry by the machine that is there.
-fn apply_to(
-    entry: &Entry,
-    node: usize,
-    machine: &mut Option<Machine>,
-    staging: &mut Staging,
-) -> Result<(), Memory>
-    requires { is_none machine.old ≡ false }
-    ensures applied { OnOk result (machine.new ≡ Some (record { state = after_all (server_in machine.old) (entry_items (items_of entry.now.jobs.items)); failed = false })) }
-    ensures emitted { OnOk result (staging.new
-        ≡ all_after written_after staging.old (for_node node (emitted_all (server_in machine.old) (entry_items (items_of entry.now.jobs.items))))) }
-{
-    let Some(machine) = machine else {
-        unreachable!()
-    };
-    machine.apply(entry, node, staging)?;
-    Ok(())
 }

@@ -17,4 +17,4 @@ pub returns-then-is_held_back-clause-stopped : goal.returns-then-is_held_back-cl
 returns-then-is_held_back-clause-stopped g c = λ _.
     let up = c.is_held_back.ensures.up c.if-is_held_back.true in
     let backlog = c.is_held_back.ensures.reason c.if-is_held_back.true in
-    subst (λ (r : ReplicaState). HasStopped c.args.end.now.looks c.args.end.now r) (sym c.is_held_back.ensures.same) (inl (up, backlog))
+    subst (λ (r : ReplicaState). HasStopped c.args.end.now.looks c.args.end.now r) (sym c.is_held_back.ensures.same) (inl (up, inl backlog))

@@ -1,5 +1,6 @@
-use Rattle.std.proofs.Common.{[], ◌≡◌, true, false, ◌-◌, ◌++◌, ◌∙◌, ap, rules}
-use Rattle.nr_node.proofs.Advances.{looks_on, met_on, more_looks, stopped_on, looked_on, counted, goes_tail, goes_then, went_or_not, behind_tail, reached_tail, few_stopped, few_more, same_passed}
+use Rattle.std.proofs.Common.{[], ◌≡◌, true, false, ◌-◌, ◌++◌, ◌∙◌, ap, sym, rules}
+use Rattle.std.proofs.lemmas.List.{append-nil}
+use Rattle.nr_node.proofs.Advances.{looks_on, met_on, more_looks, stopped_on, looked_on, counted, goes_asked, goes_then, went_or_not, behind_tail, reached_tail, few_stopped, few_more, same_passed}
 use Rattle.nr_log_end.specs.declared.standing.Standing.{Standing}
 use Rattle.nr_node.proofs.Shares.{lets_free, lets_look, lets_stand}
 use Rattle.nr_node.proofs.advancing.catch_up.Goals as goal
@@ -12,8 +13,8 @@ returns-then-not-advance_by-clause-goes g c =
     let stopped : c.advance_by.result ≡ false = search (c.if-not-advance_by.true) in
     let fewer = c.advance_by.ensures.fewer stopped in (
       fewer.0,
-      goes_then [] fewer.0 s m c.advance_by.new.end.standing c.args.replica.now c.args.replica.now c.advance_by.new.replica c.args.next.now c.args.next.now
-          c.advance_by.new.next c.args.accounts.now c.args.accounts.now c.advance_by.new.accounts (goes_tail s m c.args.replica.now c.args.next.now c.args.accounts.now on) fewer.2,
+      goes_then [] fewer.0 s m c.advance_by.new.end.standing c.args.replica.now c.is_lent_out.new.replica c.advance_by.new.replica c.args.next.now c.args.next.now
+          c.advance_by.new.next c.args.accounts.now c.args.accounts.now c.advance_by.new.accounts (goes_asked s m c.args.replica.now c.is_lent_out.new.replica c.args.next.now c.args.accounts.now on c.is_lent_out.ensures.asked) fewer.2,
     )
 
 pub returns-then-not-advance_by-clause-behind : goal.returns-then-not-advance_by-clause-behind
@@ -50,8 +51,8 @@ returns-clause-goes g c =
     let all = c.advance_by.ensures.all went in
     let last = went_or_not c.advance_further.result t c.advance_further.new.end.standing c.advance_by.new.replica c.advance_further.new.replica c.advance_by.new.next c.advance_further.new.next
     c.advance_by.new.accounts c.advance_further.new.accounts c.advance_further.ensures.some c.advance_further.ensures.none in
-    let first = goes_then [] all.0 s m t c.args.replica.now c.args.replica.now c.advance_by.new.replica c.args.next.now c.args.next.now c.advance_by.new.next
-    c.args.accounts.now c.args.accounts.now c.advance_by.new.accounts (goes_tail s m c.args.replica.now c.args.next.now c.args.accounts.now on) all.2 in (
+    let first = goes_then [] all.0 s m t c.args.replica.now c.is_lent_out.new.replica c.advance_by.new.replica c.args.next.now c.args.next.now c.advance_by.new.next
+    c.args.accounts.now c.args.accounts.now c.advance_by.new.accounts (goes_asked s m c.args.replica.now c.is_lent_out.new.replica c.args.next.now c.args.accounts.now on c.is_lent_out.ensures.asked) all.2 in (
       all.0 ++ last.0,
       goes_then all.0 last.0 s t c.advance_further.new.end.standing c.args.replica.now c.advance_by.new.replica c.advance_further.new.replica c.args.next.now c.advance_by.new.next
           c.advance_further.new.next c.args.accounts.now c.advance_by.new.accounts c.advance_further.new.accounts first last.1,
@@ -115,3 +116,15 @@ returns-then-not-advance_by-clause-stopped g c = λ _.
     let stopped : c.advance_by.result ≡ false = search (c.if-not-advance_by.true) in
     stopped_on c.args.end.now c.tail-tail.new.self c.let_go.new.end c.advance_by.new.end c.tail-tail.result c.advance_by.new.replica c.tail-tail.ensures.looks
     (lets_look c.args.kept.now.kept c.let_go.new.self.kept c.tail-tail.new.self c.let_go.new.end c.let_go.ensures.go) (c.advance_by.ensures.stopped stopped)
+
+pub returns-then-is_lent_out-clause-goes : goal.returns-then-is_lent_out-clause-goes
+returns-then-is_lent_out-clause-goes g c =
+    let s = c.args.end.now.standing in
+    let m = c.let_go.new.end.standing in
+    let on = looked_on s c.tail-tail.new.self.standing m c.tail-tail.ensures.standing (lets_stand c.args.kept.now.kept c.let_go.new.self.kept c.tail-tail.new.self c.let_go.new.end c.let_go.ensures.go) in
+    ([], goes_asked s m c.args.replica.now c.is_lent_out.new.replica c.args.next.now c.args.accounts.now on c.is_lent_out.ensures.asked)
+
+pub returns-then-is_lent_out-clause-freed : goal.returns-then-is_lent_out-clause-freed
+returns-then-is_lent_out-clause-freed g c =
+    lets_free c.args.kept.now.kept c.let_go.new.self.kept c.args.end.now c.tail-tail.new.self c.let_go.new.end c.let_go.new.end c.tail-tail.result c.tail-tail.ensures.looks
+    (ap (λ (s : Standing). s.nodes) c.tail-tail.ensures.standing.1) c.let_go.ensures.go ([], sym (append-nil c.let_go.new.end.looks))

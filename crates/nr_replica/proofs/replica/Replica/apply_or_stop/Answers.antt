@@ -49,5 +49,5 @@ returns-clause-applied c =
     c.settle_counted.ensures inside.node
     ∙ ap (λ (owed : List (Option ℕ)). cond counted (cond (entry.node == inside.node) (owed_from 0 olds (items_of entry.jobs.items) owed) owed) owed) c.deref_mut.ensures.value in
     applied_from counted entry _ _ _ c.self.view_is
-    (applied_is counted inside.node inside.applied olds news inside.owed.items _ inside.waiting.jobs inside.machine c.stage.new.machine inside.is_refused inside.fell
+    (applied_is counted inside.node inside.applied olds news inside.owed.items _ inside.waiting.jobs inside.machine c.stage.new.machine inside.is_refused inside.fell inside.was_lent
     entry c.stage.new.staging up keeps.2 from-none c.deliver.ensures.given (less ∙ owes) moved)

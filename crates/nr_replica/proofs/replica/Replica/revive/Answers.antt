@@ -1,3 +1,6 @@
+use Rattle.std.proofs.Common.{◌≡◌, false, sym, subst}
+use Rattle.std.specs.Prelude.{Option, IfSome}
+use Rattle.nr_machine.specs.Machines.{MachineState}
 use Rattle.nr_replica.specs.Members.{members_seen}
 use Rattle.nr_replica.proofs.CutAll.{all_numbered}
 use Rattle.nr_replica.proofs.replica.Replica.revive.Goals as goal
@@ -11,7 +14,7 @@ invariant_of-self c =
       keeps.0,
       keeps.1,
       all_numbered inside.node olds news (c.cut_all.ensures.cut inside.node) keeps.2,
-      c.offer.invariant,
+      subst (λ (m : Option MachineState). IfSome m (λ machine. machine.failed ≡ false)) (sym c.of.ensures) c.offer.invariant,
       keeps.4,
       c.cut_all.ensures.ready inside.node keeps.5,
     )

@@ -19,7 +19,7 @@ invariant_of-self-2 c =
     let keeps = c.self.invariant in
     let olds = members_seen inside.node inside.members in
     let news = members_seen inside.node c.run_reads.new.members in
-    let es = emitted_all c.in-Some.machine.state (items_of c.deref-2.result.now) in (
+    let es = emitted_all c.in-Some.machine.now.state (items_of c.deref-2.result.now) in (
       keeps.0,
       c.in_ok-reads.ensures.whole.0,
       received_numbered inside.node 0 (λ k. texts_for k es) olds news keeps.2 c.run_reads.ensures.delivered,

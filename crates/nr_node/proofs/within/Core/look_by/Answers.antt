@@ -1,19 +1,24 @@
-use Rattle.std.proofs.Common.{◌≡◌, ◌≤◌, true, false, [], ap, sym, ◌∙◌, refl, subst}
-use Rattle.std.specs.Prelude.{is_some}
+use Rattle.std.proofs.Common.{◌≡◌, ◌≤◌, true, false, List, [], ap, sym, ◌∙◌, refl, subst}
+use Rattle.std.specs.Prelude.{is_some, IfSome}
 use Rattle.std.proofs.lemmas.Bool.{not-false, not-true}
+use Rattle.nr_model.specs.Entries.{read_jobs}
+use Rattle.nr_entry.specs.Jobs.{items_of}
+use Rattle.nr_entry.specs.declared.job.Job.{Job}
 use Rattle.nr_log_end.specs.Standings.{passed_of}
 use Rattle.nr_oplog.specs.declared.view.LogView.{LogView}
 use Rattle.nr_replica.specs.Replicas.{ReplicaState}
 use Rattle.nr_node.specs.Level.{NodeState, IsInOrder}
+use Rattle.nr_node.specs.Lending.{AreReadyFor}
 use Rattle.nr_node.specs.Next.{jobs_next}
 use Rattle.nr_node.specs.Advanced.{HasStopped}
 use Rattle.nr_node.specs.Steps.{GoesOnBy, HasRead}
 use Rattle.nr_node.proofs.Lists.{none_unpassed}
+use Rattle.nr_node.proofs.Orders.{is_sound}
 use Rattle.nr_node.proofs.Taking.{goes_within, failed_within, noted_within, read_awaited}
 use Rattle.nr_node.proofs.Caught.{caught_by, failed_by, read_on, read_got, has_read, next_has, none_of}
 use Rattle.nr_node.proofs.Served.{noted_rises}
 use Rattle.nr_node.proofs.Shares.{went_last, ended_last, noted_last}
-use Rattle.nr_node.proofs.within.Core.look.Goals as goal
+use Rattle.nr_node.proofs.within.Core.look_by.Goals as goal
 
 pub invariant_of-self : goal.invariant_of-self
 invariant_of-self g c =
@@ -104,6 +109,26 @@ read-requires-clause-rising g c =
     let none = none_unpassed t all.1 c.catch_up-reached.ensures.idle all.0 order.met in
     let still = ap jobs_next (none_of next (sym c.is_some.ensures ∙ c.if-is_some.false)) in
     noted_rises t new book none (subst (IsInOrder t new book) still order)
+
+pub read-requires-clause-server : goal.read-requires-clause-server
+read-requires-clause-server g c =
+    let up : c.catch_up-reached.new.replica.down ≡ false = sym c.is_down.ensures ∙ c.if-is_down.false in
+    (c.catch_up-reached.ensures.goes.1.level c.self.invariant.0.level).server up
+
+pub read-requires-clause-sound : goal.read-requires-clause-sound
+read-requires-clause-sound g c =
+    let went = c.catch_up-reached.ensures.goes in
+    let keeps = c.self.invariant in
+    let t = c.catch_up-reached.new.end.standing in
+    is_sound t t c.catch_up-reached.new.replica c.catch_up-reached.new.accounts (jobs_next c.catch_up-reached.new.next) refl c.catch_up-reached.ensures.idle
+    (went.1.level keeps.0.level).opened (went.1.order keeps.0.order)
+
+pub read-requires-clause-ready : goal.read-requires-clause-ready
+read-requires-clause-ready g c =
+    let up : c.catch_up-reached.new.replica.down ≡ false = sym c.is_down.ensures ∙ c.if-is_down.false in
+    let waits = (c.catch_up-reached.ensures.goes.1.up up).2 in
+    subst (λ (jobs : List Job). IfSome c.args.prepared (AreReadyFor (read_jobs (items_of jobs))))
+    (ap (λ (n : NodeState). n.replica.waiting) (sym c.self.view_is) ∙ sym waits) c.requires.ready
 
 pub invariant_of-self-in-Err : goal.invariant_of-self-in-Err
 invariant_of-self-in-Err g c =
