@@ -66,8 +66,6 @@ pub struct Turned {
     pub has_put: bool,
     /// The other workers of the node that were answered, also by their batch coming back, or for which bytes wait: a bit for each, worker 0's the lowest.
     pub others: u16,
-    /// Whether an entry is due still: updates lead.
-    pub leads_update: bool,
     /// Whether a queue of the worker's connections was cut since it was told last.
     pub has_cut: bool,
     /// How many connections the node had as it came back last; 0 where it never did. Of these, which have the serials below, only ends are taken.

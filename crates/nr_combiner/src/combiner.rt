@@ -14,7 +14,7 @@ ghost use Rattle.nr_node.specs.Batches.{AreSame, is_cut_at, IsOpened, IsPiece};
 ghost use Rattle.nr_node.specs.Owing.{IsServedBy};
 ghost use Rattle.nr_node.specs.Revived.{IsOffered, revive_refusal};
 ghost use Rattle.nr_node.specs.Sound.{IsSound};
-ghost use Rattle.nr_node.specs.Steps.{taken_node, refusing_node, is_due, HasHandedOut, IsStill};
+ghost use Rattle.nr_node.specs.Steps.{taken_node, refusing_node, HasHandedOut, IsStill};
 ghost use Rattle.nr_combiner.specs.Counts.{fresh_counts, generation_of, with_next};
 ghost use Rattle.nr_combiner.specs.Pieces.{AddsFront, HasJobOf};
 ghost use Rattle.nr_combiner.specs.Served.{owed_at, HasNoJobs, IsServed, StandsLevel};
@@ -315,7 +315,6 @@ impl<B: ServerName> Combiner<B> {
         let combined = self.combine_by(lifts, worker);
         let told = self.collect_pieces(worker, most, spares, taken);
         let others = self.others(worker, combined.answered);
-        let leads_update = self.leads_update();
         let turned = Turned {
             combined: combined.round,
             collected: told.collected.result,
@@ -323,7 +322,6 @@ impl<B: ServerName> Combiner<B> {
             answered: told.collected.answered,
             has_put: combined.has_put,
             others,
-            leads_update,
             has_cut: told.collected.has_cut,
             since: told.collected.since,
         };
@@ -420,13 +418,6 @@ impl<B: ServerName> Combiner<B> {
         ensures { result ≡ min (length (desk_of self.now.seat worker).answered) (2 ^ 64 - 1) }
     {
         self.seat.answered(worker)
-    }
-
-    // Whether an entry is due.
-    fn leads_update(&self) -> bool
-        ensures { result ≡ is_due self.now.node }
-    {
-        self.core.is_due()
     }
 
     // The other workers that were answered, which are these, or for which bytes wait: a bit for each.

@@ -446,11 +446,13 @@ impl<B: ServerName> Node<B> {
         self.hold(rt).go_on();
     }
 
-    // A turn of its combiner, and a copy of its server, where all entries that there were are in it.
+    // A turn of its combiner, and a copy of its server, where that left nothing to be done, so that all entries that there were are in it.
     pub(crate) fn offer<R: Wait>(&self, rt: &R) -> Result<Offer<B>, RevivalError> {
         let mut combiner = self.hold(rt);
-        if combiner.combine() == Ok(Round::NotYet) {
-            return Err(RevivalError::NotYet);
+        match combiner.combine() {
+            Ok(Round::Done | Round::Down) => {}
+            Ok(Round::Full | Round::Again | Round::NotYet) => return Err(RevivalError::NotYet),
+            Err(memory) => return Err(RevivalError::Memory(memory)),
         }
         match combiner.offer() {
             Ok(offer) => Ok(offer),

@@ -7,11 +7,11 @@ use crate::node::Node;
 use nr_blob::Memory;
 use nr_node::{Offer, ReviveError};
 use nr_replica::OfferError;
-use std::hint;
 use std::sync::Wait;
+use std::thread;
 
-/// How often a copy is asked for, and how often it is tried to come back with it, before that is given up. Between two tries the lock is free.
-const MOST_TRIES: u32 = 1_000;
+/// How often a copy is asked for, and how often it is tried to come back with it, before that is given up. Between two tries the lock is free, and others may run.
+const MOST_TRIES: u32 = 10_000;
 
 /// Why a node behind its lock didn't come back.
 #[derive(Clone, Copy, Debug, PartialEq, Eq)]
@@ -20,8 +20,10 @@ pub enum RevivalError {
     NotDown,
     /// The other one is down.
     DonorDown,
-    /// An entry wasn't there in time, or is one that the copy doesn't have: it may be tried again.
+    /// An entry wasn't there in time: it may be tried again.
     NotYet,
+    /// The copy lacks an entry that was passed: it may be tried again with another.
+    Behind,
     /// Another node stands behind the lock, which there never is.
     Elsewhere,
     /// There was no memory for the copy.
@@ -41,7 +43,8 @@ impl From<ReviveError> for RevivalError {
     fn from(why: ReviveError) -> RevivalError {
         match why {
             ReviveError::NotDown => RevivalError::NotDown,
-            ReviveError::Behind | ReviveError::Busy | ReviveError::NotYet => RevivalError::NotYet,
+            ReviveError::Behind => RevivalError::Behind,
+            ReviveError::Busy | ReviveError::NotYet => RevivalError::NotYet,
         }
     }
 }
@@ -83,7 +86,7 @@ impl<B: ServerName> Node<B> {
             if !matches!(offer, Err(RevivalError::NotYet)) {
                 return offer;
             }
-            hint::spin_loop();
+            thread::yield_now();
         }
         Err(RevivalError::NotYet)
     }
@@ -99,7 +102,7 @@ impl<B: ServerName> Node<B> {
                 Err((back, RevivalError::NotYet)) => offer = back,
                 Err((_, why)) => return Err(why),
             }
-            hint::spin_loop();
+            thread::yield_now();
         }
         Err(RevivalError::NotYet)
     }

@@ -14,6 +14,10 @@ mod law;
 #[cfg(test)]
 mod layouts;
 #[cfg(test)]
+mod lending;
+#[cfg(test)]
+mod loans;
+#[cfg(test)]
 mod reviving;
 #[cfg(test)]
 mod seated;

@@ -23,9 +23,14 @@ kept_for keeps client = kept_bytes (keeps (connection client))
 abbrev pub TakesNone : (Connection → Standing → Type 0) → Connection → Type 0
 TakesNone stands c = (standing : Standing) × stands c standing × (standing ≢ standings.Open)
 
--- what answers it is down, and it took no byte, and gave none, for a second
+-- ten seconds went by since a moment that is given
+abbrev pub IsSlow : Option ℕ → ℕ → Type 0
+IsSlow None now = ⊥
+IsSlow (Some fell) now = fell + 10000 ≤ now
+
+-- what answers it is down, and it took no byte, and gave none, for a second, or was seen ten seconds ago to take less than was there for it
 abbrev pub IsStuck : {S : Type 0} → (Connection → Standing → Type 0) → Bounds → Client S → Type 0
-IsStuck stands bounds client = (client.heard + 1000 ≤ bounds.now) × stands (connection client) standings.Down
+IsStuck stands bounds client = ((client.heard + 1000 ≤ bounds.now) ⊎ IsSlow client.fell bounds.now) × stands (connection client) standings.Down
 
 -- How a client ends by these bounds. It is lost where its stream failed or more waits for it than may, and where some does and it is stuck; else, where nothing waits for it and what answers
 -- isn't busy, it has finished where its input has ended or its connection takes no more bytes, and else it is silent where it was so for too long; and

@@ -43,6 +43,8 @@ pub struct Client<S> {
     pub heard: u64,
     /// It wasn't looked at yet.
     pub is_new: bool,
+    /// The moment, in milliseconds, at which it was seen that what answers it is down and its stream takes less than is there for it.
+    pub fell: Option<u64>,
 }
 
 impl<S> Client<S> {
@@ -66,6 +68,7 @@ impl<S> Client<S> {
             has_filled: false,
             heard,
             is_new: true,
+            fell: None,
         }
     }
 }

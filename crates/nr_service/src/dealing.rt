@@ -79,6 +79,14 @@ pub trait Accepts {
     fn hear_of_revival(&mut self, _: usize, _: Revival)
         ensures { dealt self.new ≡ dealt self.old }
     {}
+
+    /// Whether a node is to refuse the next entry that it applies, as where memory runs out, and to fall by that. It is asked first, behind each wait, and before each try
+    /// to bring one back. It is for tests.
+    fn refuses(&mut self, _: usize) -> bool
+        ensures { dealt self.new ≡ dealt self.old }
+    {
+        false
+    }
 }
 
 /// Wakes the threads of a server. Nothing that is proved rests on it: one that isn't woken looks by itself, at most 10 milliseconds later.

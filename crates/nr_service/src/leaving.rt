@@ -1,6 +1,6 @@
 // Letting go of the clients that are over.
 ghost use Rattle.std.specs.Prelude.{◌≡◌, ◌<◌, ◌↔◌, false, [], ◌∷◌, IsTrue, OnOk, OnErr, length};
-ghost use Rattle.nr_service.specs.Leaving.{IsEnding, IsStuck, LetsGo, LetsGoOne, Loses, parting};
+ghost use Rattle.nr_service.specs.Leaving.{IsEnding, IsSlow, IsStuck, LetsGo, LetsGoOne, Loses, parting};
 ghost use Rattle.nr_service.specs.Devices.{PartsWith};
 ghost use Rattle.nr_service.specs.Silence.{IsSilent};
 ghost use Rattle.nr_service.specs.Sweeps.{GoesOnAt, GoOn};
@@ -15,6 +15,9 @@ use nr_blob::Memory;
 
 /// After how many milliseconds without a byte a client is let go of where what answers it is down, and something waits for it.
 const STUCK_FOR: u64 = 1_000;
+
+/// After how many milliseconds one is let go of there that takes some of it now and then.
+const SLOW_FOR: u64 = 10_000;
 
 /// By what clients are judged: how many bytes may wait for one, and, in milliseconds, for how long one may be silent, where that is bounded at all,
 /// and what the moment is.
@@ -33,11 +36,21 @@ fn is_silent<S>(client: &Client<S>, bounds: Bounds) -> bool
     bounds.timeout > 0 && bounds.timeout <= bounds.now.saturating_sub(client.heard)
 }
 
-// Whether what answers a client is down, and the client took no byte, and gave none, for a second.
+// Whether a client was seen ten seconds ago to take less than was there for it, while what answers it was down.
+fn is_slow<S>(client: &Client<S>, bounds: Bounds) -> bool
+    ensures { IsTrue result ↔ IsSlow client.now.fell bounds.now }
+{
+    match client.fell {
+        Some(fell) => bounds.now.saturating_sub(fell) >= SLOW_FOR,
+        None => false,
+    }
+}
+
+// Whether what answers a client is down, and the client took no byte, and gave none, for a second, or is slow.
 fn is_stuck<A: Answers, S>(answers: &A, client: &Client<S>, bounds: Bounds) -> bool
     ensures { IsTrue result → IsStuck (A.stands answers.now) bounds client.now }
 {
-    if bounds.now.saturating_sub(client.heard) < STUCK_FOR {
+    if bounds.now.saturating_sub(client.heard) < STUCK_FOR && !is_slow(client, bounds) {
         return false;
     }
     answers.standing(client.conn) == Standing::Down

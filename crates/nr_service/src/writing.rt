@@ -1,5 +1,5 @@
 // Writing what is kept for clients.
-ghost use Rattle.std.specs.Prelude.{◌≡◌, ◌≤◌, ◌+◌, [], true, false, length, map, All};
+ghost use Rattle.std.specs.Prelude.{◌≡◌, ◌≤◌, ◌+◌, ◌⊎◌, [], true, false, length, map, All, Some, None, IfSome, IfNone};
 ghost use Rattle.std.specs.List.{IsDistinct};
 ghost use Rattle.nr_model.specs.Items.{same_connection};
 ghost use Rattle.nr_service.specs.Readings.{IsNeverFed};
@@ -8,8 +8,9 @@ ghost use Rattle.nr_service.specs.Silence.{AreHeard, IsHeard};
 ghost use Rattle.nr_service.specs.Steps.{Serves, ServesOne, settled_past};
 ghost use Rattle.nr_service.specs.Stories.{KeepsOthers, kept_bytes};
 ghost use Rattle.nr_service.specs.Sweeps.{IsSentOrBroken, IsWrittenOn, WritesAt, most_written};
+ghost use Rattle.nr_service.specs.declared.answers.Standing.TheVariants as standings;
 
-use crate::answers::Answers;
+use crate::answers::{Answers, Standing};
 use crate::client::{Client, FIRST_ROOM, MOST_ROOM};
 use crate::reading::HELD_PART;
 use crate::signs::Signs;
@@ -118,6 +119,21 @@ fn write_on<A: Answers, S: Stream>(
     left
 }
 
+// Since which moment what answers a client is down while its stream takes less than is there for it, as it is seen at this moment. `None` where that isn't so.
+fn fell_at<A: Answers, S>(answers: &A, client: &Client<S>, moment: u64) -> Option<u64>
+    ensures fell { IfSome result (λ fell. (client.now.fell ≡ Some fell) ⊎ ((client.now.fell ≡ None) × (fell ≡ moment) × A.stands answers.now (connection client.now) standings.Down)) }
+    ensures none { IfNone result (client.now.fell ≡ None) }
+{
+    if client.fell.is_some() || !client.is_full {
+        return client.fell;
+    }
+    if answers.standing(client.conn) == Standing::Down {
+        Some(moment)
+    } else {
+        None
+    }
+}
+
 // Writes what is kept for one, until all is written, its stream takes nothing or fails, or as much was taken as may be in a visit. What isn't taken
 // stays.
 fn write_one<A: Answers, S: Stream>(
@@ -138,6 +154,7 @@ fn write_one<A: Answers, S: Stream>(
     ensures on { IsWrittenOn (most_written limit) (length (kept_bytes (A.kept answers.old (connection client.old))))
         (length (kept_bytes (A.kept answers.new (connection client.old)))) (IsSentOrBroken (A.kept answers.new) client.new) }
 {
+    client.fell = fell_at(answers, client, moment);
     let most = most_written(limit);
     let first = write_some(answers, client, moment, most);
     client.room = room_behind(client.room, client.has_filled, first.kept);

@@ -1,5 +1,5 @@
 -- A desk stands for a worker of the law once a batch was handed in.
-use Rattle.std.proofs.Common.{◌<◌, ◌≡◌, ℕ, Bool, true, List, [], ◌∷◌, ◌++◌, length, take, drop, Contains, inl, inr, refl, ap, sym, ◌∙◌, subst, append-nil}
+use Rattle.std.proofs.Common.{◌<◌, ◌≡◌, ℕ, Bool, true, Option, List, [], ◌∷◌, ◌++◌, length, take, drop, Contains, inl, inr, refl, ap, sym, ◌∙◌, subst, append-nil}
 use Rattle.std.specs.Prelude.{suc, Result, Ok, Err, IsOk, OnOk}
 use Rattle.std.specs.List.{AllByRecursion}
 use Rattle.std.proofs.lemmas.List.{map-append, take-append-drop}
@@ -36,10 +36,10 @@ stays v w same = record {
   };
 }
 
--- how many of the jobs are late is nothing to the law, nor is the worker's generation
-numbered_too : (change : List Served → List Served) (v w : WorkState) (late generation : ℕ) → Goes change v w
-    → Goes change v (record w { late = late; worker = record w.worker { generation = generation } })
-numbered_too change v w late generation g = record {
+-- What the law doesn't look at: how many of the jobs are late, the worker's generation, and what is known of the ends that are to be put.
+pub aside_too : (change : List Served → List Served) (v w : WorkState) (late generation : ℕ) (ending : Bool) (ended : Option ℕ) → Goes change v w
+    → Goes change v (record w { late = late; worker = record w.worker { generation = generation }; ending = ending; ended = ended })
+aside_too change v w late generation ending ended g = record {
   leads = λ d led r.
       let l = g.leads d led r in
       let now = l.reflects in
@@ -65,10 +65,10 @@ numbered_too change v w late generation g = record {
 }
 
 pub late_too : (change : List Served → List Served) (v w : WorkState) (late : ℕ) → Goes change v w → Goes change v (record w { late = late })
-late_too change v w late g = numbered_too change v w late w.worker.generation g
+late_too change v w late g = aside_too change v w late w.worker.generation w.ending w.ended g
 
 more_too : (change : List Served → List Served) (v w : WorkState) → Goes change v w → Goes change v (record w { worker = with_more w.worker })
-more_too change v w g = numbered_too change v w w.late (next_generation w.worker.generation) g
+more_too change v w g = aside_too change v w w.late (next_generation w.worker.generation) w.ending w.ended g
 
 pub closed_too : (change : List Served → List Served) (v w : WorkState) (worker : WorkerState) → workers.MayHaveClosed w.worker worker → Goes change v w
     → Goes change v (record w { worker = worker })

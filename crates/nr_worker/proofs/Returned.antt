@@ -32,39 +32,11 @@ use Rattle.nr_worker.specs.Working.{AreAccountedFor, AreApart, EndsNext, Goes, I
 use Rattle.nr_worker.proofs.Accounted.{accounted_more}
 use Rattle.nr_worker.proofs.Admitted.{heard_goes, none_there}
 use Rattle.nr_worker.proofs.Awaited.{none_left}
-use Rattle.nr_worker.proofs.Batched.{goes_nowhere, stays}
+use Rattle.nr_worker.proofs.Batched.{aside_too, goes_nowhere, stays}
 use Rattle.nr_worker.proofs.Desks.{ended_asked, ended_led}
 use Rattle.nr_worker.proofs.Lists.{all_weaker, posted_at}
 use Rattle.nr_worker.proofs.Nourished.{behind, both_hold, differ_false}
 use Rattle.nr_worker.proofs.Portioned.{all_map, all_of, known_more, same_connections}
-
--- what the law doesn't look at: how many of the jobs are late, and what is known of the ends that are to be put
-aside_too : (change : List Served → List Served) (v w : WorkState) (late : ℕ) (ending : Bool) (ended : Option ℕ) → Goes change v w
-    → Goes change v (record w { late = late; ending = ending; ended = ended })
-aside_too change v w late ending ended g = record {
-  leads = λ d led r.
-      let l = g.leads d led r in
-      let now = l.reflects in
-      record {
-        then = l.then;
-        led = l.led;
-        goes = l.goes;
-        reflects = record {
-          node = now.node;
-          worker = now.worker;
-          posted = now.posted;
-          heard = now.heard;
-          mark = now.mark;
-          below = now.below;
-          apart = now.apart;
-          jobs = now.jobs;
-          seats = now.seats;
-          numbers = now.numbers;
-          accounted = now.accounted;
-        };
-        served = l.served;
-      };
-}
 
 -- ---- the node falls
 -- then each job that was asked for is accounted for
@@ -289,7 +261,7 @@ none_told v u worker same still =
     let w : WorkState = record u { worker = worker; ending = false } in
     let is : w ≡ record u { ending = false } = λ i. record u { worker = still i; ending = false } in
     subst (λ (x : WorkState). Goes (all_ended []) x w) same
-    (subst (Goes (all_ended []) u) (sym is) (aside_too (all_ended []) u u u.late false u.ended (none_ended u u (stays u u refl))))
+    (subst (Goes (all_ended []) u) (sym is) (aside_too (all_ended []) u u u.late u.worker.generation false u.ended (none_ended u u (stays u u refl))))
 
 -- one was told of, and none put
 pub none_put : (v u : WorkState) (desk : Desk) (worker : WorkerState) (mark : Option Standing) (s : Standing) (one : Unended) (jobs : List Job)
@@ -303,7 +275,7 @@ none_put v u desk worker mark s one jobs late ending same heard waits knows soun
     λ i. record u { worker = heard i; mark = mark; jobs = waits i; late = late; ending = ending } in
     subst (λ (x : WorkState). Goes (all_ended []) x w) same
     (subst (Goes (all_ended []) u) (sym is)
-    (aside_too (all_ended []) u told late ending u.ended (none_ended u told (heard_goes u desk mark s knows.knows sound adopted met))))
+    (aside_too (all_ended []) u told late told.worker.generation ending u.ended (none_ended u told (heard_goes u desk mark s knows.knows sound adopted met))))
 
 -- ---- as the code has it
 put_goes : (v : WorkState) (desk : Desk) (mark : Option Standing) (s : Standing) (jobs : List Job) (one : Unended)
@@ -347,7 +319,7 @@ put_by v u desk worker mark s note one r a b late same heard are added now_late 
             ∙ (λ i. record u { worker = told_of (noted i) u.worker; mark = mark; jobs = r ++ b; late = 0; ended = Some one.serial });
       },
       subst (Goes change u) (sym is)
-          (aside_too change u put late u.ending (Some one.serial)
+          (aside_too change u put late put.worker.generation u.ending (Some one.serial)
           (put_goes u desk mark s (r ++ b) one jobs (none_there (seat_at one.serial u.seats) absent) sound knows adopted met)),
     )
 
