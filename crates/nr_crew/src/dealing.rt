@@ -94,6 +94,36 @@ fn deal_waiting<L: Accepts, K: Rings>(
     number
 }
 
+// A node refuses the next entry that it applies, where it is to.
+fn refuse_one<B: ServerName, R: Wait, L: Accepts>(
+    rt: &R,
+    main: &mut L,
+    nodes: &[Arc<Node<B>, Global>],
+    node: usize,
+)
+    ensures { L.dealt main.new ≡ L.dealt main.old }
+{
+    if !main.refuses(node) {
+        return;
+    }
+    if let Some(shared) = nodes.get(node) {
+        shared.refuse(rt);
+    }
+}
+
+// So do all that are to.
+fn refuse_each<B: ServerName, R: Wait, L: Accepts>(
+    rt: &R,
+    main: &mut L,
+    nodes: &[Arc<Node<B>, Global>],
+)
+    ensures { L.dealt main.new ≡ L.dealt main.old }
+{
+    for node in 0..nodes.len() {
+        refuse_one(rt, main, nodes, node);
+    }
+}
+
 // Tells of a node, where it is down and it didn't hear of that yet.
 fn tell_of_fall<L: Accepts, K: Rings>(main: &mut L, crew: &Crew<K>, node: usize)
     ensures { L.dealt main.new ≡ L.dealt main.old }
@@ -151,7 +181,7 @@ fn tell_of_revival<L: Accepts>(main: &mut L, node: usize, revived: Result<u64, R
     }
 }
 
-// Tries to bring a node back that is down, where another one is up and it is time to. None is brought back once all shall end in order: what a turn of its donor puts into the
+// Tries to bring a node back whose fall was told, where another one is up and it is time to. None is brought back once all shall end in order: what a turn of its donor puts into the
 // log then, nobody is told of.
 fn revive_in_time<B: ServerName, R: Wait, L: Accepts, K: Rings>(
     rt: &R,
@@ -164,12 +194,13 @@ fn revive_in_time<B: ServerName, R: Wait, L: Accepts, K: Rings>(
     requires { node < shape.nodes }
     ensures { L.dealt main.new ≡ L.dealt main.old }
 {
-    if !crew.is_down(node) || crew.are_down() || crew.is_ending() {
+    if !crew.is_known_down(node) || crew.are_down() || crew.is_ending() {
         return;
     }
     if !main.is_time_to_revive(node) {
         return;
     }
+    refuse_each(rt, main, nodes);
     crew.begin_to_revive();
     let revived = revive_from_next(rt, crew, nodes, shape, node);
     if matches!(revived, Ok(_) | Err(RevivalError::NotDown)) {
@@ -189,6 +220,7 @@ fn hear_of_falls<B: ServerName, R: Wait, L: Accepts, K: Rings>(
 )
     ensures { L.dealt main.new ≡ L.dealt main.old }
 {
+    refuse_each(rt, main, nodes);
     for node in 0..shape.nodes {
         tell_of_fall(main, crew, node);
         revive_in_time(rt, main, crew, nodes, shape, node);
@@ -270,5 +302,6 @@ pub(crate) fn deal_out<B: ServerName, R: Wait, L: Accepts, K: Rings>(
     if !main.begin() {
         return false;
     }
+    refuse_each(rt, main, nodes);
     deal_on(rt, main, crew, nodes, shape)
 }

@@ -21,9 +21,10 @@ pub struct Crew<K> {
     connections: u64,
     // Of each node, how many of its connections are open, or on their way to it.
     taken: Vec<AtomicU64>,
-    // A bit for each node that is down, node 0's the lowest, and for each of them of which nobody heard yet.
+    // A bit for each node that is down, node 0's the lowest, for each of them of which nobody heard yet, and for each of which that was heard.
     downs: AtomicU64,
     unheard: AtomicU64,
+    heard: AtomicU64,
     // Of each node, how many of its connections were open as it fell, how often it came back, and a bit for each worker that didn't hear of the last of these yet.
     fallen: Vec<AtomicU64>,
     revivals: Vec<AtomicU64>,
@@ -87,6 +88,7 @@ impl<K: Rings> Crew<K> {
             taken,
             downs: AtomicU64::new(0),
             unheard: AtomicU64::new(0),
+            heard: AtomicU64::new(0),
             fallen,
             revivals,
             unreturned,
@@ -170,8 +172,14 @@ impl<K: Rings> Crew<K> {
             return None;
         }
         self.unheard.fetch_and(!(1 << node), Ordering::SeqCst);
+        self.heard.fetch_or(1 << node, Ordering::SeqCst);
         let fallen = self.fallen.get(node)?;
         Some(fallen.load(Ordering::SeqCst) as usize)
+    }
+
+    /// Whether a node is down of which that was heard, by [`Crew::take_fall`].
+    pub fn is_known_down(&self, node: usize) -> bool {
+        node < 64 && self.heard.load(Ordering::SeqCst) & (1 << node) != 0
     }
 
     /// How often a node came back.
@@ -207,6 +215,7 @@ impl<K: Rings> Crew<K> {
         for worker in 0..self.workers {
             self.ring(node, worker);
         }
+        self.heard.fetch_and(!(1 << node), Ordering::SeqCst);
         self.downs.fetch_and(!(1 << node), Ordering::SeqCst);
     }
 

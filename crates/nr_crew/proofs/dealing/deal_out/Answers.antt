@@ -1,3 +1,4 @@
+use Rattle.std.proofs.Common.{◌∙◌}
 use Rattle.nr_crew.proofs.Dealt.{deals_before, deals_behind, deals_none}
 use Rattle.nr_crew.proofs.dealing.deal_out.Goals as goal
 
@@ -22,6 +23,6 @@ returns g c =
     let workers = c.args.shape.workers in
     record {
       last = c.deal_on.ensures.last;
-      dealt = deals_behind nodes workers 0 c.deal_on.ensures.last (dealt c.args.main.now) (dealt c.begin.new.self) (dealt c.deal_on.new.main)
-          c.begin.ensures c.deal_on.ensures.dealt;
+      dealt = deals_behind nodes workers 0 c.deal_on.ensures.last (dealt c.args.main.now) (dealt c.refuse_each.new.main) (dealt c.deal_on.new.main)
+          (c.refuse_each.ensures ∙ c.begin.ensures) c.deal_on.ensures.dealt;
     }
