@@ -12,3 +12,4 @@ pub mod ByTcp
 pub mod Listening
 pub mod Notices
 pub mod Parting
+pub mod Attempts

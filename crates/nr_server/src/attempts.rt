@@ -1,43 +1,70 @@
 // When it is tried to bring a node back that is down.
-ghost use Rattle.std.specs.Prelude.{◌≡◌, ◌+◌, ◌*◌, ◌-◌, ◌^◌, ◌≤◌, ◌↔◌, min, IsTrue};
+ghost use Rattle.std.specs.Prelude.{◌≡◌, ◌⊎◌, ◌↔◌, ◌+◌, ◌≤◌, ◌<◌, IsTrue};
+ghost use Rattle.nr_server.specs.Attempts.{IsPausedBehind};
 
-/// After how many milliseconds it is tried again at first, and at most.
+/// How many milliseconds it is waited behind the first try, and at most.
 const FIRST_PAUSE: u64 = 1_000;
 
 const LONGEST_PAUSE: u64 = 30_000;
 
-/// When it is tried to bring a node back that is down: at once, then a second behind a try that failed, and then after twice as long each time, at most 30 seconds.
+/// Where no try was made for so many milliseconds more than it was to be waited, it begins anew.
+const PEACE: u64 = 10_000;
+
+/// When it is tried to bring a node back that is down: at once, then a second behind that, whatever came of it, and then after twice as long each time, at most 30 seconds. Where no
+/// try was made for ten seconds longer than that it begins anew. So a node that falls each time it has come back is not copied without a pause, and one that was up for a
+/// while comes back at once.
 #[derive(Clone, Copy, Debug)]
 pub(crate) struct Attempts {
-    // From which moment on, in milliseconds, and how long it is waited behind the next that fails.
-    next: u64,
+    // The moment of the last one, in milliseconds, and how long it is waited behind it: not at all before the first.
+    last: u64,
     pause: u64,
 }
 
 impl Attempts {
-    /// None failed yet.
+    /// None was made yet.
     pub(crate) fn new() -> Attempts
-        ensures { result ≡ record { next = 0; pause = 1000 } }
+        ensures { result ≡ record { last = 0; pause = 0 } }
     {
-        Attempts {
-            next: 0,
-            pause: FIRST_PAUSE,
+        Attempts { last: 0, pause: 0 }
+    }
+
+    /// Whether it is time for one at this moment, in milliseconds. Where the clock went back behind the last one it is.
+    pub(crate) fn is_due(&self, moment: u64) -> bool
+        ensures { IsTrue result ↔ ((moment < self.now.last) ⊎ (self.now.last + self.now.pause ≤ moment)) }
+    {
+        match moment.checked_sub(self.last) {
+            Some(gone) => gone >= self.pause,
+            None => true,
         }
     }
 
-    /// Whether it is time for one at this moment, in milliseconds.
-    pub(crate) fn is_due(&self, moment: u64) -> bool
-        ensures { IsTrue result ↔ (self.now.next ≤ moment) }
+    /// One was made, and was over at this moment.
+    pub(crate) fn note(&mut self, moment: u64)
+        ensures last { self.new.last ≡ moment }
+        ensures pause { IsPausedBehind self.old moment self.new.pause }
     {
-        self.next <= moment
+        self.pause = self.next_pause(moment);
+        self.last = moment;
     }
 
-    /// One failed at this moment.
-    pub(crate) fn fail(&mut self, moment: u64)
-        ensures next { self.new.next ≡ min (moment + self.old.pause) (2 ^ 64 - 1) }
-        ensures pause { self.new.pause ≡ min (min (self.old.pause * 2) (2 ^ 64 - 1)) 30000 }
+    // How long it is waited behind one that is over at this moment.
+    fn next_pause(&self, moment: u64) -> u64
+        ensures { IsPausedBehind self.now moment result }
     {
-        self.next = moment.saturating_add(self.pause);
-        self.pause = self.pause.saturating_mul(2).min(LONGEST_PAUSE);
+        if self.is_in_peace(moment) {
+            return FIRST_PAUSE;
+        }
+        let doubled = self.pause.saturating_mul(2);
+        doubled.max(FIRST_PAUSE).min(LONGEST_PAUSE)
+    }
+
+    // Whether it was left in peace until this moment.
+    fn is_in_peace(&self, moment: u64) -> bool
+        ensures { IsTrue result ↔ ((moment < self.now.last) ⊎ (self.now.last + self.now.pause + 10000 ≤ moment)) }
+    {
+        match moment.checked_sub(self.last) {
+            Some(gone) => gone >= self.pause && gone - self.pause >= PEACE,
+            None => true,
+        }
     }
 }

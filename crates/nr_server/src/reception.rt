@@ -186,13 +186,13 @@ impl<L: Receives, M: Moments, O, E: Write> Reception<L, M, O, E> {
         self.tell_of_shortage();
     }
 
-    // A try to bring a node back failed.
-    fn note_failure(&mut self, node: usize)
+    // A try to bring a node back is over.
+    fn note_attempt(&mut self, node: usize)
         ensures { self.new.listener ≡ self.old.listener }
     {
         self.moment = self.clock.now().unwrap_or(self.moment);
         if let Some(attempts) = self.attempts.get_mut(node) {
-            attempts.fail(self.moment);
+            attempts.note(self.moment);
         }
     }
 
@@ -206,20 +206,19 @@ impl<L: Receives, M: Moments, O, E: Write> Reception<L, M, O, E> {
         }
     }
 
-    // Tells that a node is up again, with so many keys: it is tried at once where it falls again.
-    fn tell_of_return(&mut self, node: usize, keys: u64)
+    // Tells what became of a try to bring a node back that is over now, and began at a moment.
+    fn tell_of_revival(&mut self, node: usize, began: u64, revival: Revival)
         ensures { self.new.listener ≡ self.old.listener }
     {
-        let began = self.moment;
-        let ended = self.clock.now().unwrap_or(began);
-        if let Some(attempts) = self.attempts.get_mut(node) {
-            *attempts = Attempts::new();
+        match revival {
+            Revival::Back(keys) => self.tell(Notice::Back {
+                node,
+                keys,
+                milliseconds: self.moment.saturating_sub(began),
+            }),
+            Revival::Memory(_) => self.tell_of_no_copy(node),
+            Revival::NotYet => {}
         }
-        self.tell(Notice::Back {
-            node,
-            keys,
-            milliseconds: ended.saturating_sub(began),
-        });
     }
 
     /// Whether it was told to end, and did so in time.
@@ -281,13 +280,8 @@ impl<L: Receives, M: Moments, O: Write, E: Write> Accepts for Reception<L, M, O,
     }
 
     fn hear_of_revival(&mut self, node: usize, revival: Revival) {
-        match revival {
-            Revival::Back(keys) => self.tell_of_return(node, keys),
-            Revival::Memory(_) => {
-                self.note_failure(node);
-                self.tell_of_no_copy(node);
-            }
-            Revival::NotYet => self.note_failure(node),
-        }
+        let began = self.moment;
+        self.note_attempt(node);
+        self.tell_of_revival(node, began, revival);
     }
 }
