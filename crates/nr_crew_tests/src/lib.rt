@@ -4,6 +4,10 @@
 #[cfg(test)]
 mod asserted;
 #[cfg(test)]
+mod callers;
+#[cfg(test)]
+mod directing;
+#[cfg(test)]
 mod doors;
 #[cfg(test)]
 mod falling;
@@ -13,6 +17,8 @@ mod line;
 mod places;
 #[cfg(test)]
 mod returning;
+#[cfg(test)]
+mod reviving;
 #[cfg(test)]
 mod sizes;
 #[cfg(test)]

@@ -1,10 +1,10 @@
 // Workers over connections in memory: these come, are dealt into letter boxes, one a lane, and are kept once they went.
-use crate::falling::serve_falling;
+use crate::falling::Falls;
 use crate::line::{Given, Line};
 use crate::watch::{Held, Watch};
 use nr_blob::Memory;
 use nr_crew::{ClientLimits, Place, ServeError, Served, Shape, Size, StartError, serve_nodes};
-use nr_service::{Accepts, Device, Ends, Moments, Silent};
+use nr_service::{Accepts, Device, Ends, Moments, Revival, Silent};
 use std::alloc::Global;
 use std::collections::VecDeque;
 use std::hash::RandomState;
@@ -113,11 +113,25 @@ struct Arrivals<'a, R> {
     waits: u64,
     // All are to end in order once so many lines have given all that they send, which are counted here.
     ends: Option<(usize, Given)>,
+    falls: &'a Falls,
+    // The first node falls again each time it came back; and whether its fall was told.
+    falls_again: bool,
+    has_fallen: bool,
+}
+
+impl<R> Arrivals<'_, R> {
+    // Whether those behind the first wait until the first node has fallen.
+    fn waits_for_fall(&self) -> bool {
+        self.falls_again && !self.has_fallen && !self.dealt.is_empty()
+    }
 }
 
 impl<R: Wait + Abort> Accepts for Arrivals<'_, R> {
     fn accept(&mut self) -> bool {
         let gone = self.watch.gone();
+        if self.waits_for_fall() {
+            return false;
+        }
         if self.to_come.last().is_some_and(|line| line.from <= gone) {
             self.held = self.to_come.pop();
         }
@@ -150,6 +164,24 @@ impl<R: Wait + Abort> Accepts for Arrivals<'_, R> {
             _ => Ends::Not,
         }
     }
+
+    fn hear_of_fall(&mut self, _: usize, _: usize) {
+        self.has_fallen = true;
+    }
+
+    fn is_time_to_revive(&mut self, _: usize) -> bool {
+        self.falls_again && self.to_come.is_empty()
+    }
+
+    fn hear_of_revival(&mut self, _: usize, revival: Revival) {
+        if let Revival::Back(_) = revival {
+            self.falls.add(1);
+        }
+    }
+
+    fn refuses(&mut self, node: usize) -> bool {
+        self.falls.take(node)
+    }
 }
 
 /// A server of so many nodes, with so many workers each.
@@ -167,8 +199,9 @@ pub(crate) struct Trial {
     /// How a worker's door breaks, and at which lane.
     pub breaks: Breaks,
     pub breaks_at: usize,
-    /// The first node falls over the first entry.
+    /// The first node falls over the first entry; and comes back once all have come, and falls again, time and again.
     pub falls: bool,
+    pub falls_again: bool,
     /// After how many waits no connection can come any more.
     pub waits: u64,
     /// All end in order once all clients have given all that they send.
@@ -239,7 +272,7 @@ fn places_of<'a, R: Abort>(
     places
 }
 
-// Serves by a new server, of which the first node falls where it is to.
+// Serves by a new server.
 fn serve_by<'a, R>(
     rt: &'a R,
     alloc: Global,
@@ -253,11 +286,6 @@ where
     R: Threads + Wait + Abort + Sync,
 {
     let size = size_of(rt, trial);
-    if trial.falls {
-        return serve_falling::<R, Line, Door<'_, R>, Still, Watch, Arrivals<'_, R>>(
-            rt, alloc, keys, size, places, arrivals, watch,
-        );
-    }
     serve_nodes::<R, Line, Door<'_, R>, Still, Silent, Watch, Arrivals<'_, R>>(
         rt, alloc, keys, size, places, Silent, arrivals, watch,
     )
@@ -312,6 +340,7 @@ where
         letters.push(empty).ok().expect(rt, "memory");
     }
     let ends = ends_of(rt, alloc, trial, &mut lines);
+    let falls = Falls::new(u64::from(trial.falls));
     lines.reverse();
     let arrivals = Arrivals {
         rt,
@@ -322,12 +351,15 @@ where
         dealt: Vec::new(alloc),
         waits: trial.waits,
         ends,
+        falls: &falls,
+        falls_again: trial.falls_again,
+        has_fallen: false,
     };
     let places = places_of(rt, alloc, &watch, &letters, (trial.breaks, trial.breaks_at));
     let keys = RandomState::new(rt).ok().expect(rt, "random bytes");
     let served = serve_by(rt, alloc, keys, trial, places, arrivals, &watch);
     let (served, arrivals) = served.ok().expect(rt, "memory");
-    if !have_come_back(&served, trial.nodes) {
+    if !trial.falls_again && !have_come_back(&served, trial.nodes) {
         panic!(rt;
             "the replica of each node comes back from behind its lock, with its connections"
         );

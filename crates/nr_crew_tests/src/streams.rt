@@ -24,6 +24,7 @@ const TRIAL: Trial = Trial {
     breaks: Breaks::Never,
     breaks_at: 0,
     falls: false,
+    falls_again: false,
     waits: u64::MAX,
     ends: false,
 };
@@ -470,36 +471,66 @@ fn messages_of<R: Abort>(rt: &R, alloc: Global, line: &Line) -> (usize, usize) {
     (0, count)
 }
 
-// Six subscribers and twelve publishers at three nodes of two workers, none of whom ends: once all that they send was read, the server is told to end in order. By then
-// each PUBLISH was answered, and each message came that the replies count, across all nodes.
+// Six subscribers and twelve publishers, of whom none ends.
+fn talkers<R: Abort>(rt: &R, alloc: Global, lines: &mut Vec<Line>) {
+    for number in 0..18 {
+        let (input, times) = if number % 3 == 0 {
+            (b"SUBSCRIBE news\r\n".as_slice(), 1)
+        } else {
+            (b"PUBLISH news m\r\n".as_slice(), 200)
+        };
+        let mut line = client(rt, alloc, 0, (input, b""), times);
+        line.stays = true;
+        lines.push(line).ok().expect(rt, "memory");
+    }
+}
+
+// They got as many messages as the replies count.
+fn owes_nothing<R: Abort>(rt: &R, alloc: Global, came: &Came) {
+    holds(rt, "the server ends well", came.ended == Ok(()));
+    holds(rt, "all are left", came.left.len() == 18);
+    let mut got = 0usize;
+    let mut told = 0usize;
+    for line in &came.left {
+        let (messages, receivers) = messages_of(rt, alloc, line);
+        got = got.saturating_add(messages);
+        told = told.saturating_add(receivers);
+    }
+    holds(rt, "each message came", got == told);
+}
+
+// At three nodes of two workers: once all that they send was read, the server is told to end in order. By then each PUBLISH was answered, and each message came that the
+// replies count, across all nodes.
 #[test]
 fn an_end_in_order_owes_nothing(rt: HostRuntime) {
     for _ in 0..3 {
         let mut lines = Vec::new(rt.alloc());
-        for number in 0..18 {
-            let (input, times) = if number % 3 == 0 {
-                (b"SUBSCRIBE news\r\n".as_slice(), 1)
-            } else {
-                (b"PUBLISH news m\r\n".as_slice(), 200)
-            };
-            let mut line = client(&rt, rt.alloc(), 0, (input, b""), times);
-            line.stays = true;
-            lines.push(line).ok().expect(&rt, "memory");
-        }
+        talkers(&rt, rt.alloc(), &mut lines);
         let mut trial = TRIAL;
         trial.nodes = 3;
         trial.ends = true;
         let came = serve(&rt, rt.alloc(), trial, lines);
         holds(&rt, "nobody went", came.gone.is_empty());
-        holds(&rt, "the server ends well", came.ended == Ok(()));
-        holds(&rt, "all are left", came.left.len() == 18);
-        let mut got = 0usize;
-        let mut told = 0usize;
-        for line in &came.left {
-            let (messages, receivers) = messages_of(&rt, rt.alloc(), line);
-            got = got.saturating_add(messages);
-            told = told.saturating_add(receivers);
-        }
-        holds(&rt, "each message came", got == told);
+        owes_nothing(&rt, rt.alloc(), &came);
+    }
+}
+
+// The same while the first of the nodes, which serves none of them, falls and comes back time and again.
+#[test]
+fn an_end_in_order_beside_falls_owes_nothing(rt: HostRuntime) {
+    for _ in 0..3 {
+        let mut lines = Vec::new(rt.alloc());
+        lines
+            .push(comes(&rt, rt.alloc(), (0, b"SET k v\r\n", b"")))
+            .ok()
+            .expect(&rt, "memory");
+        talkers(&rt, rt.alloc(), &mut lines);
+        let mut trial = TRIAL;
+        trial.nodes = 3;
+        trial.ends = true;
+        trial.falls = true;
+        trial.falls_again = true;
+        let came = serve(&rt, rt.alloc(), trial, lines);
+        owes_nothing(&rt, rt.alloc(), &came);
     }
 }
