@@ -32,13 +32,28 @@ IsSlow (Some fell) now = fell + 10000 ≤ now
 abbrev pub IsStuck : {S : Type 0} → (Connection → Standing → Type 0) → Bounds → Client S → Type 0
 IsStuck stands bounds client = ((client.heard + 1000 ≤ bounds.now) ⊎ IsSlow client.fell bounds.now) × stands (connection client) standings.Down
 
+-- what answers it stands so that it isn't down
+abbrev pub IsNoneDown : (Connection → Standing → Type 0) → Connection → Type 0
+IsNoneDown stands c = (standing : Standing) × stands c standing × (standing ≢ standings.Down)
+
+-- what answers it isn't down, or it took a byte, or gave one, within a second, and wasn't seen ten seconds ago to take less than was there for it
+abbrev pub IsFlowing : {S : Type 0} → (Connection → Standing → Type 0) → Bounds → Client S → Type 0
+IsFlowing stands bounds client = (¬ ((client.heard + 1000 ≤ bounds.now) ⊎ IsSlow client.fell bounds.now)) ⊎ IsNoneDown stands (connection client)
+
+-- Since when what answers a client is down while its stream takes less than is there for it, as it is seen at a moment: since the moment that is known; else since this one, where
+-- its stream takes less now and what answers it is down.
+abbrev pub IsDownSince : {S : Type 0} → (Connection → Standing → Type 0) → ℕ → Client S → Option ℕ → Type 0
+IsDownSince stands moment client (Some since) =
+    (client.fell ≡ Some since) ⊎ ((client.fell ≡ None) × (client.is_full ≡ true) × (since ≡ moment) × stands (connection client) standings.Down)
+IsDownSince stands moment client None = (client.fell ≡ None) × ((client.is_full ≡ false) ⊎ IsNoneDown stands (connection client))
+
 -- How a client ends by these bounds. It is lost where its stream failed or more waits for it than may, and where some does and it is stuck; else, where nothing waits for it and what answers
 -- isn't busy, it has finished where its input has ended or its connection takes no more bytes, and else it is silent where it was so for too long; and
 -- else it goes on.
 abbrev pub IsEnding : {S : Type 0} → Kept → (Connection → Standing → Type 0) → Bool → Bounds → Client S → Option Ending → Type 0
 IsEnding keeps stands busy bounds client None =
     IsWithin keeps bounds.limit client
-    × ((0 < length (kept_for keeps client)) ⊎ (busy ≡ true)
+    × (((0 < length (kept_for keeps client)) × IsFlowing stands bounds client) ⊎ (busy ≡ true)
     ⊎ ((client.is_ending ≡ false) × stands (connection client) standings.Open × (¬ IsSilent bounds client)))
 IsEnding keeps stands busy bounds client (Some endings.Finished) =
     IsWithin keeps bounds.limit client × (kept_for keeps client ≡ []) × (busy ≡ false)

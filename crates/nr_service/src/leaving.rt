@@ -1,6 +1,6 @@
 // Letting go of the clients that are over.
-ghost use Rattle.std.specs.Prelude.{◌≡◌, ◌<◌, ◌↔◌, false, [], ◌∷◌, IsTrue, OnOk, OnErr, length};
-ghost use Rattle.nr_service.specs.Leaving.{IsEnding, IsSlow, IsStuck, LetsGo, LetsGoOne, Loses, parting};
+ghost use Rattle.std.specs.Prelude.{◌≡◌, ◌<◌, ◌↔◌, false, [], ◌∷◌, IsTrue, IsFalse, OnOk, OnErr, length};
+ghost use Rattle.nr_service.specs.Leaving.{IsEnding, IsFlowing, IsSlow, IsStuck, LetsGo, LetsGoOne, Loses, parting};
 ghost use Rattle.nr_service.specs.Devices.{PartsWith};
 ghost use Rattle.nr_service.specs.Silence.{IsSilent};
 ghost use Rattle.nr_service.specs.Sweeps.{GoesOnAt, GoOn};
@@ -48,7 +48,8 @@ fn is_slow<S>(client: &Client<S>, bounds: Bounds) -> bool
 
 // Whether what answers a client is down, and the client took no byte, and gave none, for a second, or is slow.
 fn is_stuck<A: Answers, S>(answers: &A, client: &Client<S>, bounds: Bounds) -> bool
-    ensures { IsTrue result → IsStuck (A.stands answers.now) bounds client.now }
+    ensures stuck { IsTrue result → IsStuck (A.stands answers.now) bounds client.now }
+    ensures flowing { IsFalse result → IsFlowing (A.stands answers.now) bounds client.now }
 {
     if bounds.now.saturating_sub(client.heard) < STUCK_FOR && !is_slow(client, bounds) {
         return false;

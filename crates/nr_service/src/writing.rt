@@ -2,13 +2,13 @@
 ghost use Rattle.std.specs.Prelude.{◌≡◌, ◌≤◌, ◌+◌, ◌⊎◌, [], true, false, length, map, All, Some, None, IfSome, IfNone};
 ghost use Rattle.std.specs.List.{IsDistinct};
 ghost use Rattle.nr_model.specs.Items.{same_connection};
+ghost use Rattle.nr_service.specs.Leaving.{IsDownSince};
 ghost use Rattle.nr_service.specs.Readings.{IsNeverFed};
 ghost use Rattle.nr_service.specs.Serving.{connection};
 ghost use Rattle.nr_service.specs.Silence.{AreHeard, IsHeard};
 ghost use Rattle.nr_service.specs.Steps.{Serves, ServesOne, settled_past};
 ghost use Rattle.nr_service.specs.Stories.{KeepsOthers, kept_bytes};
 ghost use Rattle.nr_service.specs.Sweeps.{IsSentOrBroken, IsWrittenOn, WritesAt, most_written};
-ghost use Rattle.nr_service.specs.declared.answers.Standing.TheVariants as standings;
 
 use crate::answers::{Answers, Standing};
 use crate::client::{Client, FIRST_ROOM, MOST_ROOM};
@@ -53,6 +53,7 @@ fn write_some<A: Answers, S: Stream>(
     ensures served { ServesOne S.received S.sent S.course (settled_past A.is_past A.is_settled) A.kept IsNeverFed answers.old answers.new
         client.old client.new }
     ensures conn { client.new.conn ≡ client.old.conn }
+    ensures fell { client.new.fell ≡ client.old.fell }
     ensures heard { IsHeard moment client.old.heard client.new.heard (S.sent client.old.stream) (S.sent client.new.stream) }
     ensures others { KeepsOthers (connection client.old) (A.kept answers.old) (A.kept answers.new) }
     ensures kept { result.kept ≡ length (kept_bytes (A.kept answers.old (connection client.old))) }
@@ -98,6 +99,7 @@ fn write_on<A: Answers, S: Stream>(
     ensures served { ServesOne S.received S.sent S.course (settled_past A.is_past A.is_settled) A.kept IsNeverFed answers.old answers.new
         client.old client.new }
     ensures conn { client.new.conn ≡ client.old.conn }
+    ensures fell { client.new.fell ≡ client.old.fell }
     ensures heard { IsHeard moment client.old.heard client.new.heard (S.sent client.old.stream) (S.sent client.new.stream) }
     ensures others { KeepsOthers (connection client.old) (A.kept answers.old) (A.kept answers.new) }
     ensures left { result ≡ length (kept_bytes (A.kept answers.new (connection client.old))) }
@@ -121,8 +123,7 @@ fn write_on<A: Answers, S: Stream>(
 
 // Since which moment what answers a client is down while its stream takes less than is there for it, as it is seen at this moment. `None` where that isn't so.
 fn fell_at<A: Answers, S>(answers: &A, client: &Client<S>, moment: u64) -> Option<u64>
-    ensures fell { IfSome result (λ fell. (client.now.fell ≡ Some fell) ⊎ ((client.now.fell ≡ None) × (fell ≡ moment) × A.stands answers.now (connection client.now) standings.Down)) }
-    ensures none { IfNone result (client.now.fell ≡ None) }
+    ensures { IsDownSince (A.stands answers.now) moment client.now result }
 {
     if client.fell.is_some() || !client.is_full {
         return client.fell;
@@ -146,6 +147,7 @@ fn write_one<A: Answers, S: Stream>(
     ensures served { ServesOne S.received S.sent S.course (settled_past A.is_past A.is_settled) A.kept IsNeverFed answers.old answers.new
         client.old client.new }
     ensures conn { client.new.conn ≡ client.old.conn }
+    ensures fell { IsDownSince (A.stands answers.old) moment client.old client.new.fell }
     ensures heard { IsHeard moment client.old.heard client.new.heard (S.sent client.old.stream) (S.sent client.new.stream) }
     ensures all { signs.new.is_all ≡ signs.old.is_all }
     ensures calm { signs.new.is_busy ≡ false → signs.old.is_busy ≡ false }

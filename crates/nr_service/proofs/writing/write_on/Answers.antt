@@ -12,6 +12,7 @@ pub loop-left-preserved : goal.loop-left-preserved
 loop-left-preserved g c = record {
   served = one_then _ _ _ _ _ _ _ _ _ _ _ _ c.loop-left.invariant.served c.write_some-next.ensures.served;
   conn = c.write_some-next.ensures.conn ∙ c.loop-left.invariant.conn;
+  fell = c.write_some-next.ensures.fell ∙ c.loop-left.invariant.fell;
   heard = heard_then _ _ _ _ _ _ _ c.loop-left.invariant.heard c.write_some-next.ensures.heard;
   others = others_then _ _ _ _ _ (ap connection_of c.loop-left.invariant.conn) c.loop-left.invariant.others c.write_some-next.ensures.others;
   left = left_then (g.A.Answers.kept c.loop-left.answers) (g.A.Answers.kept c.write_some-next.new.answers) _ _ _ _ _

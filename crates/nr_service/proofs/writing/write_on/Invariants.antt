@@ -12,6 +12,7 @@ invariant-loop-left g l = record {
   served : ServesOne g.S.Stream.received g.S.Stream.sent g.S.Stream.course (settled_past g.A.Answers.is_past g.A.Answers.is_settled) g.A.Answers.kept
       IsNeverFed l.fn.answers l.answers l.fn.client l.client;
   conn : l.client.conn ≡ l.fn.client.conn;
+  fell : l.client.fell ≡ l.fn.client.fell;
   heard : IsHeard l.fn.moment l.fn.client.heard l.client.heard (g.S.Stream.sent l.fn.client.stream) (g.S.Stream.sent l.client.stream);
   others : KeepsOthers (connection l.fn.client) (g.A.Answers.kept l.fn.answers) (g.A.Answers.kept l.answers);
   left : l.left ≡ length (kept_bytes (g.A.Answers.kept l.answers (connection l.fn.client)));
