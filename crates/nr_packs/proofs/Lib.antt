@@ -4,6 +4,7 @@ pub mod Skipped
 pub mod Around
 pub mod Counted
 pub mod Kept
+pub mod Sites
 pub mod Looked
 pub mod Moved
 pub mod Spread

@@ -15,6 +15,8 @@ use nr_blob::Memory;
 use std::alloc::Global;
 use std::marker::Model;
 
+mod places;
+
 /// The most pairs in a block: what a call costs is bounded by it.
 const MOST_PAIRS: usize = 512;
 

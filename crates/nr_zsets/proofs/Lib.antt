@@ -1,6 +1,8 @@
 pub mod Bools
 pub mod Mapped
 pub mod Parts
+pub mod Walks
+pub mod Spelled
 pub mod Sorted
 pub mod Ranked
 pub mod Indexed

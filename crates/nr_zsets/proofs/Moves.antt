@@ -75,15 +75,21 @@ renumbered_is [] k member n at = absurd (cc)
 renumbered_is (x ∷ xs) zero member n at = ap (λ (m : Bytes). let item : Item = (m, n) in item ∷ xs) (same_Some x.0 member at)
 renumbered_is (x ∷ xs) (suc k) member n at = ap (λ ys. x ∷ ys) (renumbered_is xs k member n at)
 
-pub set_there : (xs new : List Item) (from to : ℕ) (member : Bytes) (n : ℤ) → from ≤ to → to ≤ from + 1 → option_map (λ x. x.0) (slice_get xs from) ≡ Some member
-    → new ≡ renumbered xs from n → new ≡ moved xs from to (member, n)
-set_there xs new from to member n low high at is =
-    let here : cond (nat_lt from to) (to - 1) to ≡ from =
+-- the place of what is put in where it stood, or just behind
+same_place : (from to : ℕ) → from ≤ to → to ≤ from + 1 → cond (nat_lt from to) (to - 1) to ≡ from
+same_place from to low high =
     elim (nat_lt from to) as (λ b. nat_lt from to ≡ b → cond b (to - 1) to ≡ from) [
       | true ↦ λ more. let less = ltb-true from to more in omega (arith, less, high)
       | false ↦ λ not_more. let less = ltb-false from to not_more in omega (arith, less, low)
-    ] refl in
-    is ∙ renumbered_is xs from member n at ∙ sym (ap (λ k. insert (remove xs from) k (member, n)) here)
+    ] refl
+
+pub set_there : (xs new : List Item) (from to : ℕ) (member : Bytes) (n : ℤ) → from ≤ to → to ≤ from + 1 → option_map (λ x. x.0) (slice_get xs from) ≡ Some member
+    → new ≡ renumbered xs from n → new ≡ moved xs from to (member, n)
+set_there xs new from to member n low high at is =
+    is ∙ renumbered_is xs from member n at ∙ sym (ap (λ k. insert (remove xs from) k (member, n)) (same_place from to low high))
+
+pub moved_here : (xs : List Item) (from to : ℕ) (x : Item) → from ≤ to → to ≤ from + 1 → moved xs from from x ≡ moved xs from to x
+moved_here xs from to x low high = ap (λ k. insert (remove xs from) k x) (same_place from from (omega arith) (omega arith) ∙ sym (same_place from to low high))
 
 pub stands_within : (xs : List Item) (k : ℕ) (member : Bytes) → option_map (λ x. x.0) (slice_get xs k) ≡ Some member → k < length xs
 stands_within [] k member at = absurd (cc)

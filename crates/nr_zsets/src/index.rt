@@ -3,11 +3,12 @@ ghost use Rattle.std.specs.Prelude.{◌≡◌, ◌<◌, ◌^◌, true, is_some, 
 ghost use Rattle.std.specs.Option.{option_map};
 ghost use Rattle.std.specs.FinMap as finmap;
 ghost use Rattle.nr_model.specs.SortedSets.{ranked};
+ghost use Rattle.nr_zsets.specs.Forms.{items_of};
 ghost use Rattle.nr_zsets.specs.Scores.{scores_of, IsIndexOf, HasRoom, IsPutAt};
 
+use crate::form::Form;
 use crate::order::Named;
 use nr_blob::{Blob, Memory};
-use nr_ordered::Tree;
 use std::alloc::Global;
 use std::collections::HashMap;
 use std::hash::RandomState;
@@ -53,39 +54,39 @@ impl Index {
     }
 
     /// How many members. Constant.
-    pub(crate) fn len(&self, tree: &Tree) -> usize
-        requires ordered { tree.now.0 ≡ ranked (scores_of tree.now.0) }
-        requires indexed { IsIndexOf self.now tree.now.0 }
-        ensures len { result ≡ finmap.len (scores_of tree.now.0) }
+    pub(crate) fn len(&self, form: &Form) -> usize
+        requires ordered { (items_of form.now) ≡ ranked (scores_of (items_of form.now)) }
+        requires indexed { IsIndexOf self.now (items_of form.now) }
+        ensures len { result ≡ finmap.len (scores_of (items_of form.now)) }
         ensures small { result < 2 ^ 63 }
     {
         match &self.scores {
             Some(scores) => scores.len(),
-            None => tree.len(),
+            None => form.len(),
         }
     }
 
     /// The score of a member. Linear in at most 128 members, and constant where there is a map.
-    pub(crate) fn score(&self, tree: &Tree, member: &Blob) -> Option<i64>
-        requires indexed { IsIndexOf self.now tree.now.0 }
-        ensures { result ≡ finmap.get (scores_of tree.now.0) member.now }
+    pub(crate) fn score(&self, form: &Form, member: &Blob) -> Option<i64>
+        requires indexed { IsIndexOf self.now (items_of form.now) }
+        ensures { result ≡ finmap.get (scores_of (items_of form.now)) member.now }
     {
         match &self.scores {
             Some(scores) => scores.get(member).copied(),
-            None => score_in(tree, member),
+            None => score_in(form, member),
         }
     }
 
     /// Makes the map where one member more wants it. Where memory runs out nothing is changed.
-    pub(crate) fn make_room(&mut self, alloc: Global, tree: &Tree) -> Result<(), Memory>
-        requires indexed { IsIndexOf self.old tree.now.0 }
-        ensures ok { OnOk result (HasRoom self.new tree.now.0) }
+    pub(crate) fn make_room(&mut self, alloc: Global, form: &Form) -> Result<(), Memory>
+        requires indexed { IsIndexOf self.old (items_of form.now) }
+        ensures ok { OnOk result (HasRoom self.new (items_of form.now)) }
         ensures err { OnErr result (self.new ≡ self.old) }
     {
-        if tree.len() < MOST_UNMAPPED || self.is_made() {
+        if form.len() < MOST_UNMAPPED || self.is_made() {
             return Ok(());
         }
-        let scores = map_of(alloc, self.keys, tree)?;
+        let scores = map_of(alloc, self.keys, form)?;
         self.scores = Some(Box::new(alloc, scores)?);
         Ok(())
     }
@@ -112,14 +113,14 @@ impl Index {
     }
 
     /// Takes a member out of the map, if there is one, and gives its score, which it finds as `score` does.
-    pub(crate) fn take(&mut self, tree: &Tree, member: &Blob) -> Option<i64>
-        requires indexed { IsIndexOf self.old tree.now.0 }
-        ensures was { result ≡ finmap.get (scores_of tree.now.0) member.now }
+    pub(crate) fn take(&mut self, form: &Form, member: &Blob) -> Option<i64>
+        requires indexed { IsIndexOf self.old (items_of form.now) }
+        ensures was { result ≡ finmap.get (scores_of (items_of form.now)) member.now }
         ensures removed { self.new ≡ option_map (λ scores. finmap.remove scores member.now) self.old }
     {
         match &mut self.scores {
             Some(scores) => take_from(scores, member),
-            None => score_in(tree, member),
+            None => score_in(form, member),
         }
     }
 
@@ -148,11 +149,11 @@ impl Index {
 }
 
 // The score of a member by a look at one item after the other.
-fn score_in(tree: &Tree, member: &Blob) -> Option<i64>
-    ensures { result ≡ finmap.get (scores_of tree.now.0) member.now }
+fn score_in(form: &Form, member: &Blob) -> Option<i64>
+    ensures { result ≡ finmap.get (scores_of (items_of form.now)) member.now }
 {
     let member = member.bytes();
-    let Some((_, score)) = tree.first(&Named { member }) else {
+    let Some((_, score)) = form.first(&Named { member }) else {
         return None;
     };
     Some(score)
@@ -162,14 +163,14 @@ fn score_in(tree: &Tree, member: &Blob) -> Option<i64>
 fn map_of(
     alloc: Global,
     keys: RandomState,
-    tree: &Tree,
+    form: &Form,
 ) -> Result<HashMap<Blob, i64, RandomState>, Memory>
-    ensures { IfOk result (λ scores. scores_of scores.entries ≡ scores_of tree.now.0) }
+    ensures { IfOk result (λ scores. scores_of scores.entries ≡ scores_of (items_of form.now)) }
 {
-    let len = tree.len();
+    let len = form.len();
     let mut scores = HashMap::with_capacity_and_hasher(alloc, len, keys)?;
     for place in (0..len).rev() {
-        insert_item(&mut scores, alloc, tree, place)?;
+        insert_item(&mut scores, alloc, form, place)?;
     }
     Ok(scores)
 }
@@ -178,13 +179,13 @@ fn map_of(
 fn insert_item(
     scores: &mut HashMap<Blob, i64, RandomState>,
     alloc: Global,
-    tree: &Tree,
+    form: &Form,
     place: usize,
 ) -> Result<(), Memory>
-    requires { place < length tree.now.0 }
-    ensures { OnOk result (IsPutAt tree.now.0 place (scores_of scores.old.entries) (scores_of scores.new.entries)) }
+    requires { place < length (items_of form.now) }
+    ensures { OnOk result (IsPutAt (items_of form.now) place (scores_of scores.old.entries) (scores_of scores.new.entries)) }
 {
-    let Some((bytes, score)) = tree.get(place) else {
+    let Some((bytes, score)) = form.get(place) else {
         unreachable!()
     };
     let member = Blob::from_slice(alloc, bytes)?;

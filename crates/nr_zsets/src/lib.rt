@@ -1,9 +1,12 @@
-//! Sorted sets, as keys hold them: members with scores in order, in a balanced tree of small blocks, and beside it a map where they are many.
+//! Sorted sets, as keys hold them: members with scores in order, in one block, or in a balanced tree of small blocks with a map beside it where they are many.
 #![tactic(auto)]
 
 pub use nr_ordered::Ticks;
 pub use zset::Zset;
 
+mod block;
+mod digits;
+mod form;
 mod index;
 mod order;
 mod zset;

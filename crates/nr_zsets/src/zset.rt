@@ -1,10 +1,10 @@
-// A sorted set: a tree of members with scores in order, and beside it, once there are many, a hashed map of the same, kept in step.
+// A sorted set: members with scores in order, in a block or in a tree, and beside it, once there are many, a hashed map of the same, kept in step.
 ghost use Rattle.std.specs.Prelude.{◌≡◌, ◌↔◌, ◌<◌, ◌^◌, IsTrue, IfOk};
 ghost use Rattle.std.specs.FinMap as finmap;
 
+use crate::form::Form;
 use crate::index::Index;
 use nr_blob::{Blob, Memory};
-use nr_ordered::Tree;
 use std::alloc::Global;
 use std::hash::RandomState;
 use std::marker::Model;
@@ -14,27 +14,32 @@ mod edits;
 mod places;
 mod ranges;
 
-/// A sorted set, as a key holds it. It is seen as a finite map from members to scores. Up to 128 members stand in a tree alone, and one is found by
-/// a look at each of them. One more makes a map beside it, which stays. To drop the set is linear in its members.
+/// A sorted set, as a key holds it. It is seen as a finite map from members to scores. Up to 128 members of at most 64 bytes stand in one block, in
+/// their order. More or longer ones make a tree, which stays, and more than 128 a map beside it, which stays too: where there is no map, a member is
+/// found by a look at each of them. To drop the set is linear in its members.
+///
+/// In a block a member takes its bytes, two more for lengths, and of its score's 64 bits the bytes that aren't 0 from the highest on. Each call walks a
+/// block from its front: what is logarithmic in a tree is linear in the at most 128 members of a block.
 #[derive(Drop)]
 pub struct Zset {
-    // Copies, the map, and what is put into the tree are made with it: the tree hands its own out to nobody.
+    // Copies, the map, and what is put into a form are made with it: a form hands its own out to nobody.
     alloc: Global,
     index: Index,
-    tree: Tree,
+    form: Form,
 }
 
 impl Model for Zset {
     ghost use Rattle.nr_model.specs.SortedSets.{Scores, coded_scores};
+    ghost use Rattle.nr_zsets.specs.Forms.{items_of};
     ghost use Rattle.nr_zsets.specs.Scores.{scores_of, IsSorted};
 
     ghost Value = { Scores };
 
     ghost coded = { coded_scores };
 
-    ghost view = { λ z. scores_of z.tree.0 };
+    ghost view = { λ z. scores_of (items_of z.form) };
 
-    ghost invariant = { λ z. IsSorted z.index z.tree.0 };
+    ghost invariant = { λ z. IsSorted z.index (items_of z.form) };
 }
 
 impl Zset {
@@ -45,7 +50,7 @@ impl Zset {
         Zset {
             alloc,
             index: Index::new(keys),
-            tree: Tree::new(),
+            form: Form::new(alloc),
         }
     }
 
@@ -54,7 +59,7 @@ impl Zset {
         ensures len { result ≡ finmap.len self.now }
         ensures small { result < 2 ^ 63 }
     {
-        self.index.len(&self.tree)
+        self.index.len(&self.form)
     }
 
     pub fn is_empty(&self) -> bool
@@ -67,7 +72,7 @@ impl Zset {
     pub fn score(&self, member: &Blob) -> Option<i64>
         ensures { result ≡ finmap.get self.now member.now }
     {
-        self.index.score(&self.tree, member)
+        self.index.score(&self.form, member)
     }
 
     /// The same members and scores once more, found by the same keys. Linear in the members and their bytes.
@@ -77,7 +82,7 @@ impl Zset {
         Ok(Zset {
             alloc: self.alloc,
             index: self.index.copy(self.alloc)?,
-            tree: self.tree.copy(self.alloc)?,
+            form: self.form.copy(self.alloc)?,
         })
     }
 }

@@ -25,7 +25,7 @@ impl Zset {
             return None;
         };
         let member = member.bytes();
-        Some(self.tree.place_of(&Before { member, score }, ticks))
+        Some(self.form.place_of(&Before { member, score }, ticks))
     }
 
     /// The member at a place from the least score on, with its score, as `by_place` finds it.
@@ -33,7 +33,7 @@ impl Zset {
         ensures item { option_map shown result ≡ slice_get (ranked self.now) place }
         ensures cost { (d : ℕ) → finmap.len self.now < 2 ^ d → ticks.new ≤ ticks.old + 2 * d }
     {
-        self.tree.at(place, ticks)
+        self.form.at(place, ticks)
     }
 
     /// How many members stand before a lower end of scores, as `count` finds them.
@@ -42,6 +42,6 @@ impl Zset {
         ensures cost { (d : ℕ) → finmap.len self.now < 2 ^ d → ticks.new ≤ ticks.old + 2 * d }
     {
         let bounds = Bounds::ByScore(min, Bound::Highest);
-        self.tree.place_of(&LowerEnd { bounds: &bounds }, ticks)
+        self.form.place_of(&LowerEnd { bounds: &bounds }, ticks)
     }
 }

@@ -5,14 +5,15 @@ ghost use Rattle.std.specs.Option.{option_map, option_to_list};
 ghost use Rattle.std.specs.FinMap as finmap;
 ghost use Rattle.nr_model.specs.SortedSets.{ranked, told_in, without};
 ghost use Rattle.nr_ordered.specs.Lists.{part, shown};
+ghost use Rattle.nr_zsets.specs.Forms.{items_of};
 ghost use Rattle.nr_zsets.specs.Lists.{moved};
 
 use super::Zset;
 use super::places::told;
+use crate::form::{Form, MOST_ITEMS};
 use crate::order::Before;
 use nr_blob::{Blob, Memory};
 use nr_model::command::Direction;
-use nr_ordered::Tree;
 use std::alloc::Global;
 
 impl Zset {
@@ -38,15 +39,16 @@ impl Zset {
         ensures ok { OnOk result (self.new ≡ finmap.insert self.old member score) }
         ensures err { OnErr result (self.new ≡ self.old) }
     {
-        self.index.make_room(self.alloc, &self.tree)?;
+        self.index.make_room(self.alloc, &self.form)?;
         let bytes = member.bytes();
-        let place = self.tree.find(&Before {
+        let place = self.form.find(&Before {
             member: bytes,
             score,
         });
-        self.tree.insert(self.alloc, place, bytes, score)?;
+        self.form
+            .insert(self.alloc, place, bytes, score, MOST_ITEMS)?;
         if let Err(why) = self.index.insert(member, score) {
-            self.tree.remove(place);
+            self.form.remove(place);
             return Err(why);
         }
         Ok(())
@@ -66,15 +68,15 @@ impl Zset {
         let few = self.len() < usize::MAX;
         prove!(few);
         let bytes = member.bytes();
-        let from = self.tree.find(&Before {
+        let from = self.form.find(&Before {
             member: bytes,
             score: before,
         });
-        let to = self.tree.find(&Before {
+        let to = self.form.find(&Before {
             member: bytes,
             score,
         });
-        move_item(self.alloc, &mut self.tree, from, to, bytes, score)?;
+        move_item(self.alloc, &mut self.form, from, to, bytes, score)?;
         self.index.write(member, score);
         Ok(())
     }
@@ -84,13 +86,13 @@ impl Zset {
         ensures was { result ≡ finmap.get self.old member.now }
         ensures removed { self.new ≡ finmap.remove self.old member.now }
     {
-        let score = self.index.take(&self.tree, member)?;
+        let score = self.index.take(&self.form, member)?;
         let bytes = member.bytes();
-        let place = self.tree.find(&Before {
+        let place = self.form.find(&Before {
             member: bytes,
             score,
         });
-        self.tree.remove(place);
+        self.form.remove(place);
         Some(score)
     }
 
@@ -114,12 +116,12 @@ impl Zset {
         ensures left { OnOk result (ranked self.new ≡ remove (ranked self.old) place) }
         ensures err { OnErr result (self.new ≡ self.old) }
     {
-        let Some((bytes, score)) = self.tree.get(place) else {
+        let Some((bytes, score)) = self.form.get(place) else {
             unreachable!()
         };
         let member = Blob::from_slice(self.alloc, bytes)?;
         self.index.remove(&member);
-        self.tree.remove(place);
+        self.form.remove(place);
         Ok((member, score))
     }
 
@@ -173,30 +175,52 @@ pub(super) fn members_of(alloc: Global, lent: &[(&[u8], i64)]) -> Result<Vec<Blo
 }
 
 // Gives the member at a place another score, and brings it to another place, which is counted as the member stands now. It is put in there before it
-// is taken out here; where no other stands between the two places it stays, and takes no memory. Where that runs out nothing is changed.
+// is taken out here; in a tree it stays where no other stands between the two places, and takes no memory. Where that runs out the members are as they
+// were.
 fn move_item(
     alloc: Global,
-    tree: &mut Tree,
+    form: &mut Form,
     from: usize,
     to: usize,
     member: &[u8],
     score: i64,
 ) -> Result<(), Memory>
-    requires stands { option_map (λ item. item.0) (slice_get tree.old.0 from) ≡ Some member.now }
-    requires within { to ≤ length tree.old.0 }
-    requires fits { length tree.old.0 < 2 ^ 64 }
-    ensures moved { OnOk result (tree.new.0 ≡ moved tree.old.0 from to (member.now, score)) }
-    ensures err { OnErr result (tree.new ≡ tree.old) }
+    requires stands { option_map (λ item. item.0) (slice_get (items_of form.old) from) ≡ Some member.now }
+    requires within { to ≤ length (items_of form.old) }
+    requires fits { length (items_of form.old) < 2 ^ 64 }
+    ensures moved { OnOk result (items_of form.new ≡ moved (items_of form.old) from to (member.now, score)) }
+    ensures err { OnErr result (items_of form.new ≡ items_of form.old) }
 {
     if from <= to && to <= from + 1 {
-        tree.set(from, score);
+        set_item(alloc, form, from, member, score)?;
         return Ok(());
     }
-    tree.insert(alloc, to, member, score)?;
+    form.insert(alloc, to, member, score, MOST_ITEMS + 1)?;
     if from < to {
-        tree.remove(from);
+        form.remove(from);
         return Ok(());
     }
-    tree.remove(from + 1);
+    form.remove(from + 1);
+    Ok(())
+}
+
+// Gives the member at a place another score. In a block it is put in anew.
+fn set_item(
+    alloc: Global,
+    form: &mut Form,
+    place: usize,
+    member: &[u8],
+    score: i64,
+) -> Result<(), Memory>
+    requires stands { option_map (λ item. item.0) (slice_get (items_of form.old) place) ≡ Some member.now }
+    requires fits { length (items_of form.old) < 2 ^ 64 }
+    ensures moved { OnOk result (items_of form.new ≡ moved (items_of form.old) place place (member.now, score)) }
+    ensures err { OnErr result (items_of form.new ≡ items_of form.old) }
+{
+    if form.set(place, score) {
+        return Ok(());
+    }
+    form.insert(alloc, place, member, score, MOST_ITEMS + 1)?;
+    form.remove(place + 1);
     Ok(())
 }

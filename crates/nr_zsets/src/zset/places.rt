@@ -30,7 +30,7 @@ impl Zset {
             return None;
         };
         let member = member.bytes();
-        let place = self.tree.find(&Before { member, score });
+        let place = self.form.find(&Before { member, score });
         Some(told(direction, place, self.len()))
     }
 
@@ -43,9 +43,7 @@ impl Zset {
     ) -> Result<Vec<(&[u8], i64)>, Memory>
         ensures { IfOk result (λ lent. map shown lent.items ≡ part from to (told_in direction (ranked self.now))) }
     {
-        let most = to.min(self.len()).saturating_sub(from);
-        let mut lent = Vec::with_capacity(self.alloc, most)?;
-        self.tree.lend(direction, from, to, &mut lent);
+        let lent = self.form.lend(self.alloc, direction, from, to)?;
         Ok(lent)
     }
 }

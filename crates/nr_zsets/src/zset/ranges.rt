@@ -5,30 +5,17 @@ ghost use Rattle.std.specs.FinMap as finmap;
 ghost use Rattle.nr_model.specs.SortedSets.{ranked, told_in, between, without};
 ghost use Rattle.nr_zbounds.specs.Ranges.{seen_bounds};
 ghost use Rattle.nr_ordered.specs.Lists.{part, shown};
-ghost use Rattle.nr_zsets.specs.Lists.{at_most, fewest, told_ends};
+ghost use Rattle.nr_zsets.specs.Lists.{at_most, fewest};
 ghost use Rattle.nr_zsets.specs.Scores.{HaveOneScore, StandTogether, held_at};
 
 use super::Zset;
 use super::edits::members_of;
 use super::places::told;
+use crate::form::ends_told;
 use crate::order::{Between, LowerEnd, UpperEnd};
 use nr_blob::{Blob, Memory};
 use nr_model::command::Direction;
 use nr_zbounds::Bounds;
-
-// Where it is told what stands from one place to another, among so many.
-fn ends_told(direction: Direction, low: usize, high: usize, len: usize) -> (usize, usize)
-    requires low { low ≤ len }
-    requires high { high ≤ len }
-    ensures ends { result ≡ told_ends direction low high len }
-    ensures first { result.0 ≤ len }
-    ensures last { result.1 ≤ len }
-{
-    match direction {
-        Direction::Ascending => (low, high),
-        Direction::Descending => (len - high, len - low),
-    }
-}
 
 // At most so many of this many.
 fn limited(count: Option<usize>, most: usize) -> usize
@@ -47,10 +34,10 @@ impl Zset {
         ensures one { result ≡ true → HaveOneScore (ranked self.now) }
         ensures all { HaveOneScore (ranked self.now) → result ≡ true }
     {
-        let Some((_, first)) = self.tree.get(0) else {
+        let Some((_, first)) = self.form.get(0) else {
             return true;
         };
-        let Some((_, last)) = self.tree.get(self.tree.len() - 1) else {
+        let Some((_, last)) = self.form.get(self.form.len() - 1) else {
             return false;
         };
         first == last
@@ -77,8 +64,8 @@ impl Zset {
         if !self.stand_together(bounds) {
             return None;
         }
-        let low = self.tree.find(&LowerEnd { bounds });
-        let high = self.tree.find(&UpperEnd { bounds });
+        let low = self.form.find(&LowerEnd { bounds });
+        let high = self.form.find(&UpperEnd { bounds });
         Some((low, high))
     }
 
@@ -86,7 +73,7 @@ impl Zset {
     fn held_at(&self, bounds: &Bounds<'_>, place: usize) -> Option<(&[u8], i64)>
         ensures { option_map shown result ≡ held_at (seen_bounds bounds.now) place (ranked self.now) }
     {
-        let Some((member, score)) = self.tree.get(place) else {
+        let Some((member, score)) = self.form.get(place) else {
             return None;
         };
         if bounds.holds(member, score) {
@@ -106,7 +93,7 @@ impl Zset {
         prove!(len < 1 << 63);
         match self.ends(bounds) {
             Some((low, high)) => high.saturating_sub(low),
-            None => self.tree.count(&Between { bounds }),
+            None => self.form.count(&Between { bounds }),
         }
     }
 

@@ -1,6 +1,5 @@
-use Rattle.std.proofs.Common.{ap}
 use Rattle.nr_zsets.proofs.Indexed.{sorted_none}
 use Rattle.nr_zsets.proofs.zset.Zset.new.Goals as goal
 
 pub invariant_of-result : goal.invariant_of-result
-invariant_of-result c = sorted_none _ _ c.new.ensures (ap (λ d. d.0) c.new-2.ensures)
+invariant_of-result c = sorted_none _ _ c.new.ensures c.new-2.ensures.none
