@@ -1,5 +1,5 @@
 -- The changes of a database, on its entries and its ordered deadlines at once.
-use Rattle.std.proofs.Common.{◌≡◌, ℕ, ℤ, Bool, true, false, cond, Option, Some, None, List, refl, ap, sym, ◌∙◌, subst, true≢false, is_some, Result, Ok, Err, OnOk, OnErr, OnSome, IfNone}
+use Rattle.std.proofs.Common.{◌≡◌, ℕ, ℤ, Bool, true, false, cond, Option, Some, None, List, refl, ap, sym, ◌∙◌, subst, true≢false, is_some, not, Result, Ok, Err, IfOk, OnOk, OnErr, OnSome, IfNone}
 use Rattle.std.specs.Option.{option_map}
 use Rattle.std.specs.Map.{lookup, KeepsOthers}
 use Rattle.std.specs.FinMap as map
@@ -12,7 +12,7 @@ use Rattle.nr_model.specs.Keyspace as model
 use Rattle.nr_model.specs.Bytes.{Bytes}
 use Rattle.nr_model.specs.Keyspace.{byte_cmp, Stored, is_live_at, only_live}
 use Rattle.nr_keyspace.specs.Deadlines.{due_cmp, has_deadline, without_deadline, IsReplaced}
-use Rattle.nr_keyspace.specs.Stores.{Store, IsIndexed, redated, bytes_of, store_of, stored_of, deadline_of}
+use Rattle.nr_keyspace.specs.Stores.{Store, IsIndexed, redated, written_if, is_undated, bytes_of, store_of, stored_of, deadline_of}
 use Rattle.nr_keyspace.specs.Values.{value_of}
 use Rattle.nr_keyspace.specs.declared.value.Value.{Value}
 use Rattle.nr_keyspace.specs.declared.database.Entry.{Entry}
@@ -163,3 +163,24 @@ rewritten_indexed None old new dues name value was written undated unchanged =
     (insert_indexed (store_of bytes_of old) dues dues name stored was
     (kept dues None None name (λ deadline. was.exact deadline name ∙ ap (has_deadline deadline) undated) refl))
 rewritten_indexed (Some back) old new dues name value was written undated unchanged = subst (λ store. IsIndexed store dues) (sym unchanged) was
+
+undated_none : (stored : Option Stored) → is_undated stored ≡ true → deadline_of stored ≡ None
+undated_none None undated = refl
+undated_none (Some stored) undated = elim stored.deadline as (λ d. not (is_some d) ≡ true → d ≡ None) [
+  | None ↦ λ _. refl
+  | Some deadline ↦ λ no. absurd (true≢false (sym no))
+] undated
+
+-- the same where a text may be written, or memory runs out
+pub written_indexed : {E : Type 0} (result : Result Bool E) (old new : Entries) (dues : set.FinSet due_cmp) (name text : Bytes)
+    → IsIndexed (store_of bytes_of old) dues
+    → IfOk result (λ written. written ≡ is_undated (map.get (store_of bytes_of old) name))
+    → IfOk result (λ written. store_of bytes_of new ≡ written_if written (store_of bytes_of old) name text)
+    → OnErr result (store_of bytes_of new ≡ store_of bytes_of old) → IsIndexed (store_of bytes_of new) dues
+written_indexed (Ok true) old new dues name text was exact written unchanged =
+    let stored : Stored = record { value = model.Text text; deadline = None } in
+    subst (λ store. IsIndexed store dues) (sym written)
+    (insert_indexed (store_of bytes_of old) dues dues name stored was
+    (kept dues None None name (λ deadline. was.exact deadline name ∙ ap (has_deadline deadline) (undated_none _ (sym exact))) refl))
+written_indexed (Ok false) old new dues name text was exact written unchanged = subst (λ store. IsIndexed store dues) (sym written) was
+written_indexed (Err e) old new dues name text was exact written unchanged = subst (λ store. IsIndexed store dues) (sym unchanged) was

@@ -1,5 +1,5 @@
 -- That the ordered deadlines are those of the names stays so.
-use Rattle.std.proofs.Common.{◌≡◌, ◌-◌, suc, arith, subst, ℕ, ℤ, pos, Bool, true, false, cond, not, ◌&&◌, Option, Some, None, is_some, refl, ap, sym, ◌∙◌, true≢false}
+use Rattle.std.proofs.Common.{◌≡◌, ◌-◌, suc, arith, subst, ℕ, ℤ, pos, Bool, true, false, cond, not, ◌&&◌, Option, Some, None, is_some, IfSome, refl, ap, sym, ◌∙◌, true≢false}
 use Rattle.std.specs.Prelude.{int_lt}
 use Rattle.std.specs.Ordering.{is_eq, eq_by_cmp, int_cmp}
 use Rattle.std.specs.Cmp.{Equal-is, tied_itself, int_cmp_total}
@@ -9,7 +9,7 @@ use Rattle.std.specs.FinSet as set
 use Rattle.std.proofs.lemmas.Map.Lookups.{exact_bytes, exact_signed}
 use Rattle.nr_model.specs.Bytes.{Bytes}
 use Rattle.nr_model.specs.Keyspace.{byte_cmp, Stored, is_live_at, only_live}
-use Rattle.nr_keyspace.specs.Deadlines.{due_cmp, has_deadline, without_deadline, IsReplaced}
+use Rattle.nr_keyspace.specs.Deadlines.{Due, due_cmp, has_deadline, without_deadline, IsReplaced, IsFirst}
 use Rattle.nr_keyspace.specs.Stores.{Store, IsIndexed, deadline_of}
 use Rattle.nr_keyspace.proofs.Replaced.{contains-without}
 
@@ -114,8 +114,21 @@ sweep_step now store dues fewer name was popped =
       one = one_fewer store name (stored_there (map.get store name) popped.0 (sym (was.exact popped.0 name) ∙ popped.2));
     }
 
+-- the same, where it is the first that was taken out
+pub swept_step : (now : ℕ) (store : Store) (dues fewer : set.FinSet due_cmp) (name : Bytes) → IsIndexed store dues
+    → (deadline : ℤ) × (int_lt (pos now) deadline ≡ false) × IsFirst dues (deadline, name) → ((due : Due) → IsFirst dues due → fewer ≡ set.remove dues due)
+    → IsStep now store dues name fewer
+swept_step now store dues fewer name was first taken =
+    sweep_step now store dues fewer name was (first.0, first.1, first.2.there, taken (first.0, name) first.2)
+
 has_itself : (deadline : ℤ) → has_deadline deadline (Some deadline) ≡ true
 has_itself deadline = ap is_eq (tied_itself int_cmp_total deadline)
+
+-- a name is there at the deadline that it has
+pub found_there : (store : Store) (dues : set.FinSet due_cmp) (name : Bytes) (found : Option ℤ) → IsIndexed store dues
+    → deadline_of (map.get store name) ≡ found → IfSome found (λ deadline. set.contains dues (deadline, name) ≡ true)
+found_there store dues name None was at = tt
+found_there store dues name (Some deadline) was at = was.exact deadline name ∙ ap (has_deadline deadline) at ∙ has_itself deadline
 
 no_deadline : (now : ℕ) (stored : Option Stored) → deadline_of stored ≡ None → only_live now stored ≡ stored
 no_deadline now None _ = refl

@@ -10,9 +10,9 @@ use Rattle.std.specs.List.{SwappedAt}
 use Rattle.std.specs.FinMap as map
 use Rattle.std.proofs.lemmas.List.{get_or_default, get_or_past, set-get_or}
 use Rattle.nr_model.specs.Bytes.{Bytes}
-use Rattle.nr_model.specs.Keyspace.{Key, Keyspace, key_cmp, byte_cmp, Stored, live, only_live}
+use Rattle.nr_model.specs.Keyspace.{Key, Keyspace, key_cmp, byte_cmp, Stored, Text, live, only_live}
 use Rattle.nr_model.proofs.Live.{key_total, get-live}
-use Rattle.nr_keyspace.specs.Stores.{Store, redated}
+use Rattle.nr_keyspace.specs.Stores.{Store, redated, written_if}
 use Rattle.nr_keyspace.specs.Joined.{key_of, with_entries, joined_from, joined, store_at, IsSwept, other_of, exchanged}
 use Rattle.nr_keyspace.proofs.Orders.{key_exact}
 
@@ -148,6 +148,13 @@ removed stores database store name is below = map.same_map key_total key_exact _
 
 pub unchanged : (stores : List Store) (database : ℕ) (store : Store) → store ≡ get_or stores database store → joined (set stores database store) ≡ joined stores
 unchanged stores database store is = ap joined (ap (set stores database) is ∙ set-get_or stores database store)
+
+-- a text that is written in one database, or not
+pub written_in : (stores : List Store) (database : ℕ) (store : Store) (name text : Bytes) (written : Bool) → store ≡ get_or stores database store
+    → database < length stores
+    → joined (set stores database (written_if written store name text)) ≡ written_if written (joined stores) (key_of database name) text
+written_in stores database store name text true is below = inserted stores database store name (record { value = Text text; deadline = None }) is below
+written_in stores database store name text false is below = unchanged stores database store is
 
 pub swept : (now : ℕ) (old new : List Store) → IsSwept now old new → joined new ≡ live (joined old) now
 swept now old new is = map.same_map key_total key_exact _ _ (λ key.

@@ -1,5 +1,6 @@
 -- What a change of the entries is on the finite map that they make.
-use Rattle.std.proofs.Common.{◌≡◌, Bool, true, false, cond, Option, Some, None, List, [], ◌∷◌, refl, ap, sym, ◌∙◌}
+use Rattle.std.proofs.Common.{◌≡◌, Bool, true, false, cond, not, true≢false, Option, Some, None, List, [], ◌∷◌, refl, ap, sym, ◌∙◌}
+use Rattle.std.specs.Prelude.{filter}
 use Rattle.std.specs.Option.{option_map}
 use Rattle.std.specs.Str.{bytes_eq}
 use Rattle.std.specs.Ordering.{eq_by_cmp}
@@ -10,7 +11,7 @@ use Rattle.std.proofs.lemmas.Map.Lookups.{exact_bytes}
 use Rattle.std.proofs.lemmas.Map.Entries.{place_from_lookup}
 use Rattle.nr_model.specs.Bytes.{Bytes}
 use Rattle.nr_model.specs.Keyspace.{byte_cmp}
-use Rattle.nr_keyspace.specs.Stores.{Store, stored_of, stored_entries, store_of}
+use Rattle.nr_keyspace.specs.Stores.{Store, bytes_of, stored_of, stored_entries, store_of}
 use Rattle.nr_keyspace.specs.declared.database.Entry.{Entry}
 
 cond-map : (b : Bool) (e : Entry) (o : Option Entry) → option_map stored_of (cond b (Some e) o) ≡ cond b (Some (stored_of e)) (option_map stored_of o)
@@ -91,3 +92,47 @@ module _ {Name : Type 0} (bytes : Name → Bytes) where
         ] refl
       ] refl)
       ∙ sym (get-store old q))
+
+none_either : (b : Bool) → let none : Option Entry = None in none ≡ cond b None none
+none_either true = refl
+none_either false = refl
+
+left_without : (own same found : Bool) (entry : Entry) (behind left : Option Entry) → (own ≡ true → found ≡ same) → (same ≡ true → found ≡ own)
+    → left ≡ cond same None behind → cond own left (cond found (Some entry) left) ≡ cond same None (cond found (Some entry) behind)
+left_without true true found entry behind left here there is = is
+left_without true false true entry behind left here there is = absurd (true≢false (here refl))
+left_without true false false entry behind left here there is = is
+left_without false true true entry behind left here there is = absurd (true≢false (there refl))
+left_without false true false entry behind left here there is = is
+left_without false false found entry behind left here there is = ap (cond found (Some entry)) is
+
+-- whether an entry is at another name
+abbrev pub is_elsewhere : Bytes → Bytes × Entry → Bool
+is_elsewhere name entry = not (bytes_eq entry.0 name)
+
+lookup-kept : (own : Bool) (q : Bytes) (entry : Bytes × Entry) (kept : List (Bytes × Entry))
+    → lookup (bytes_eq q) (cond (not own) (entry ∷ kept) kept) ≡ cond own (lookup (bytes_eq q) kept) (cond (bytes_eq q entry.0) (Some entry.1) (lookup (bytes_eq q) kept))
+lookup-kept true q entry kept = refl
+lookup-kept false q entry kept = refl
+
+lookup-elsewhere : (name q : Bytes) (entries : List (Bytes × Entry))
+    → lookup (bytes_eq q) (filter (is_elsewhere name) entries) ≡ cond (bytes_eq q name) None (lookup (bytes_eq q) entries)
+lookup-elsewhere name q [] = none_either (bytes_eq q name)
+lookup-elsewhere name q (e ∷ entries) =
+    lookup-kept (bytes_eq e.0 name) q e (filter (is_elsewhere name) entries)
+    ∙ left_without (bytes_eq e.0 name) (bytes_eq q name) (bytes_eq q e.0) e.1 (lookup (bytes_eq q) entries) (lookup (bytes_eq q) (filter (is_elsewhere name) entries))
+    (λ own. ap (bytes_eq q) ((bytes_decides e.0 name).0 own))
+    (λ same. ap (λ n. bytes_eq n e.0) ((bytes_decides q name).0 same) ∙ nat_list_eq_equiv.symm name e.0)
+    (lookup-elsewhere name q entries)
+
+-- the entries at other names are those without what is stored at one
+pub others_left : (entries kept : List (Bytes × Entry)) (name : Bytes) → kept ≡ filter (is_elsewhere name) entries
+    → store_of bytes_of kept ≡ map.remove (store_of bytes_of entries) name
+others_left entries kept name is = map.same_map nat_list_cmp_total exact_bytes _ _ (λ q.
+    get-store bytes_of kept q
+    ∙ ap (λ es. option_map stored_of (lookup (bytes_eq q) es)) is
+    ∙ ap (option_map stored_of) (lookup-elsewhere name q entries)
+    ∙ cond-put (bytes_eq q name) None (lookup (bytes_eq q) entries)
+    ∙ ap (λ b. cond b None (option_map stored_of (lookup (bytes_eq q) entries))) (texts_ties q name)
+    ∙ ap (cond (eq_by_cmp byte_cmp q name) None) (sym (get-store bytes_of entries q))
+    ∙ sym (map.get-remove nat_list_cmp_total (store_of bytes_of entries) name q))

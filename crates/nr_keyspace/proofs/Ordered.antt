@@ -1,79 +1,193 @@
 -- What a change of the ordered deadlines is on the finite set that they make.
-use Rattle.std.proofs.Common.{◌≡◌, ℕ, ◌<◌, length, ℤ, pos, Bool, true, false, cond, not, ◌||◌, ◌&&◌, List, [], ◌∷◌, refl, ap, sym, ◌∙◌, true≢false, arith}
+use Rattle.std.proofs.Common.{◌≡◌, ℕ, zero, suc, ◌<◌, length, ℤ, pos, Bool, true, false, cond, not, ◌||◌, ◌&&◌, List, [], ◌∷◌, map, refl, ap, sym, ◌∙◌, subst, true≢false, arith}
+use Rattle.std.specs.Prelude.{filter, int_lt, Some, None}
 use Rattle.std.specs.declared.cmp.Ordering.{Ordering}
 use Rattle.std.specs.declared.cmp.Ordering.TheVariants.{Less, Equal, Greater}
-use Rattle.std.specs.Ordering.{is_eq, is_gt, eq_by_cmp, int_cmp, ordering_then}
-use Rattle.std.specs.Cmp.{Equal-is, alike_right, tied_itself}
-use Rattle.std.specs.List.{list_any, AllByRecursion}
-use Rattle.std.specs.Prelude.{int_lt, slice_get, Some}
-use Rattle.std.specs.Set.{KeepsOthers}
-use Rattle.std.proofs.lemmas.Int.{ints}
+use Rattle.std.specs.Ordering.{is_eq, is_gt, eq_by_cmp, int_cmp, ordering_then, ordering_reverse}
+use Rattle.std.specs.Cmp.{IsTotalOrder, tied_itself}
+use Rattle.std.specs.List.{list_any, AllByRecursion, insert, remove, slice_get}
+use Rattle.std.specs.FinMap.{IsAntisymmetric}
 use Rattle.std.specs.FinSet as set
+use Rattle.std.proofs.lemmas.Cmp.{on_total}
+use Rattle.std.proofs.lemmas.Int.{ints}
+use Rattle.std.proofs.lemmas.Option.{slice_get_within}
 use Rattle.nr_model.specs.Bytes.{Bytes}
-use Rattle.nr_model.specs.Keyspace.{byte_cmp}
-use Rattle.nr_keyspace.specs.Deadlines.{Due, due_cmp, dues_of}
+use Rattle.nr_model.specs.Names.{put, in_order}
+use Rattle.nr_model.specs.Keyspace.{byte_cmp, is_live_at}
+use Rattle.nr_model.proofs.Ordered.{has, IsOrdered, equal_from, ordered-in_order, has-in_order, ordered-put, has-put, ordered-filter, has-filter, same_ordered}
+use Rattle.nr_ordered.specs.Lists.{Item, IsParted}
+use Rattle.nr_ordered.proofs.Places.{same_Some}
+use Rattle.nr_zsets.proofs.Sorted.{Rises, rises, all_at, passing, all_such, parted_where, parted_front, inserted_put, stands, has_at}
+use Rattle.nr_keyspace.specs.Deadlines.{Due, due_cmp, due_of, item_cmp, is_before, dues_of, AreInOrder, IsFirst}
 use Rattle.nr_keyspace.proofs.Orders.{due_total, due_exact}
 
-cond_or : (b c : Bool) → cond b true c ≡ (b || c)
-cond_or true c = refl
-cond_or false c = refl
+pub item_total : IsTotalOrder item_cmp
+item_total = on_total due_of due_total
 
-cond_and : (b c : Bool) → cond b false c ≡ (not b && c)
-cond_and true c = refl
-cond_and false c = refl
+abbrev item_of : Due → Item
+item_of due = (due.1, due.0)
 
-module _ {Name : Type 0} (bytes : Name → Bytes) where
-  -- a stored deadline with its name, as the definitions see it
-  abbrev pub due : ℤ × Name → Due
-  due k = (k.0, bytes k.1)
+item_exact : IsAntisymmetric item_cmp
+item_exact a b h = ap item_of (due_exact (due_of a) (due_of b) h)
 
-  -- whether a stored one is this
-  abbrev pub is_due : Due → ℤ × Name → Bool
-  is_due q k = is_eq (due_cmp q (due k))
+any-dues : (q : Due) (items : List Item) → list_any (eq_by_cmp due_cmp q) (map due_of items) ≡ has item_cmp (item_of q) items
+any-dues q [] = refl
+any-dues q (x ∷ items) = ap (λ b. eq_by_cmp due_cmp q (due_of x) || b) (any-dues q items)
 
-  abbrev pub stored_cmp : ℤ × Name → ℤ × Name → Ordering
-  stored_cmp a b = due_cmp (due a) (due b)
+pub contains-dues : (items : List Item) (q : Due) → set.contains (dues_of items) q ≡ has item_cmp (item_of q) items
+contains-dues items q = set.contains-from_list due_total (map due_of items) q ∙ any-dues q items
 
-  any-dues : (q : Due) (keys : List (ℤ × Name)) → list_any (eq_by_cmp due_cmp q) (dues_of bytes keys) ≡ list_any (is_due q) keys
-  any-dues q [] = refl
-  any-dues q (k ∷ keys) = ap (λ b. is_due q k || b) (any-dues q keys)
+-- items in order, each once
+ordered : (items : List Item) → AreInOrder items → IsOrdered item_cmp items
+ordered items is = subst (IsOrdered item_cmp) (sym is) (ordered-in_order item_cmp item_total items)
 
-  pub contains-dues : (keys : List (ℤ × Name)) (q : Due) → set.contains (set.from_list {R = due_cmp} (dues_of bytes keys)) q ≡ list_any (is_due q) keys
-  contains-dues keys q = set.contains-from_list due_total (dues_of bytes keys) q ∙ any-dues q keys
+in_order_from : (items : List Item) → IsOrdered item_cmp items → AreInOrder items
+in_order_from items h =
+    same_ordered item_cmp item_total item_exact items (in_order item_cmp items) h (ordered-in_order item_cmp item_total items)
+    (λ q. sym (has-in_order item_cmp item_total q items))
 
-  -- after a change at one deadline and name, any other is found as before
-  changed : (old new : List (ℤ × Name)) (key : Due) (b : Bool) → list_any (is_due key) new ≡ b → KeepsOthers (eq_by_cmp stored_cmp) (is_due key) old new
-      → (q : Due) → list_any (is_due q) new ≡ cond (eq_by_cmp due_cmp q key) b (list_any (is_due q) old)
-  unfolding KeepsOthers
-  changed old new key b at_key others q =
-      elim (eq_by_cmp due_cmp q key) as (λ t. eq_by_cmp due_cmp q key ≡ t → list_any (is_due q) new ≡ cond t b (list_any (is_due q) old)) [
-        | true ↦ λ t. ap (λ (k : Due). list_any (is_due k) new) (due_exact q key ((Equal-is (due_cmp q key)).0 t)) ∙ at_key
-        | false ↦ λ t. others (is_due q)
-            (λ x y same. ap is_eq (due_total.congr q (due x) (due y) ((Equal-is (due_cmp q (due x))).0 same)))
-            (λ k same. sym (ap is_eq (alike_right due_total key (due k) q ((Equal-is (due_cmp key (due k))).0 same))) ∙ t)
-      ] refl
+pub rising : (items : List Item) → AreInOrder items → Rises item_cmp items
+rising items is = rises item_cmp items (ordered items is)
 
-  pub added : (old new : List (ℤ × Name)) (key : Due) → list_any (is_due key) new ≡ true → KeepsOthers (eq_by_cmp stored_cmp) (is_due key) old new
-      → set.from_list {R = due_cmp} (dues_of bytes new) ≡ set.insert (set.from_list (dues_of bytes old)) key
-  added old new key at_key others = set.same_set due_total due_exact _ _ (λ q.
-      contains-dues new q ∙ changed old new key true at_key others q ∙ cond_or (eq_by_cmp due_cmp q key) (list_any (is_due q) old)
-      ∙ sym (set.contains-insert due_total _ key q ∙ ap (λ b. eq_by_cmp due_cmp q key || b) (contains-dues old q)))
+abbrev pub place_in : List Item → Item → ℕ
+place_in items at = length (filter (is_before at) items)
 
-  pub removed : (old new : List (ℤ × Name)) (key : Due) → list_any (is_due key) new ≡ false → KeepsOthers (eq_by_cmp stored_cmp) (is_due key) old new
-      → set.from_list {R = due_cmp} (dues_of bytes new) ≡ set.remove (set.from_list (dues_of bytes old)) key
-  removed old new key at_key others = set.same_set due_total due_exact _ _ (λ q.
-      contains-dues new q ∙ changed old new key false at_key others q ∙ cond_and (eq_by_cmp due_cmp q key) (list_any (is_due q) old)
-      ∙ sym (set.contains-remove due_total _ key q ∙ ap (λ b. not (eq_by_cmp due_cmp q key) && b) (contains-dues old q)))
+-- what a search for an item finds
+pub found_place : (items : List Item) (at : Item) (place : ℕ) → AreInOrder items
+    → (IsParted (is_before at) items → place ≡ place_in items at) → place ≡ place_in items at
+found_place items at place is found = found (parted_front item_cmp item_total at items (rising items is))
 
-  -- none that is found is before one that is before or at all
-  earliest : (first : Due) (keys : List (ℤ × Name)) → AllByRecursion (λ k. is_gt (due_cmp first (due k)) ≡ false) keys
-      → (q : Due) → list_any (is_due q) keys ≡ true → is_gt (due_cmp first q) ≡ false
-  earliest first [] all q found = absurd (true≢false (sym found))
-  earliest first (k ∷ keys) all q found =
-      elim (is_due q k) as (λ b. is_due q k ≡ b → (b || list_any (is_due q) keys) ≡ true → is_gt (due_cmp first q) ≡ false) [
-        | true ↦ λ t _. ap is_gt (alike_right due_total q (due k) first ((Equal-is (due_cmp q (due k))).0 t)) ∙ all.0
-        | false ↦ λ t rest. earliest first keys all.1 q rest
-      ] refl found
+not_there : (items : List Item) (due : Due) (before : set.FinSet due_cmp) → dues_of items ≡ before → set.contains before due ≡ false
+    → has item_cmp (item_of due) items ≡ false
+not_there items due before seen none = sym (contains-dues items due) ∙ ap (λ dues. set.contains dues due) seen ∙ none
+
+there : (items : List Item) (due : Due) (before : set.FinSet due_cmp) → dues_of items ≡ before → set.contains before due ≡ true
+    → has item_cmp (item_of due) items ≡ true
+there items due before seen some = sym (contains-dues items due) ∙ ap (λ dues. set.contains dues due) seen ∙ some
+
+-- items in order after a change, and the set that they make
+pub record AreNow (items : List Item) (dues : set.FinSet due_cmp) : Type 0 where
+  pub ordered : AreInOrder items
+  pub seen : dues_of items ≡ dues
+
+-- a name is put in that wasn't there
+pub added : (old new : List Item) (due : Due) (place : ℕ) (before : set.FinSet due_cmp) → AreInOrder old → dues_of old ≡ before
+    → place ≡ place_in old (item_of due) → set.contains before due ≡ false → new ≡ insert old place (item_of due) → AreNow new (set.insert before due)
+added old new due place before is seen at none put_in =
+    let x = item_of due in
+    let new_is : new ≡ put item_cmp x old =
+    put_in ∙ ap (λ k. insert old k x) at ∙ inserted_put item_cmp item_total x old (rising old is) (not_there old due before seen none) in
+    record {
+      ordered = in_order_from new (subst (IsOrdered item_cmp) (sym new_is) (ordered-put item_cmp item_total x old (ordered old is)));
+      seen = set.same_set due_total due_exact _ _ (λ q.
+          contains-dues new q
+          ∙ ap (has item_cmp (item_of q)) new_is
+          ∙ has-put item_cmp item_total (item_of q) x old
+          ∙ ap (λ b. eq_by_cmp due_cmp q due || b) (sym (contains-dues old q) ∙ ap (λ dues. set.contains dues q) seen)
+          ∙ sym (set.contains-insert due_total before due q));
+    }
+
+-- those other than an item
+abbrev is_other : Item → Item → Bool
+is_other x y = not (eq_by_cmp item_cmp y x)
+
+stays_behind : (x y : Item) → item_cmp x y ≡ Less → is_other x y ≡ true
+stays_behind x y before = ap (λ r. not (is_eq r)) (item_total.antisymm y x ∙ ap ordering_reverse before)
+
+all_stay : (x : Item) (items : List Item) → AllByRecursion (λ y. item_cmp x y ≡ Less) items → filter (is_other x) items ≡ items
+all_stay x [] all = refl
+all_stay x (y ∷ items) all =
+    ap (λ b. cond b (y ∷ filter (is_other x) items) (filter (is_other x) items)) (stays_behind x y all.0) ∙ ap (λ ys. y ∷ ys) (all_stay x items all.1)
+
+-- where an item stands, the others are left without it
+removed_is : (items : List Item) (k : ℕ) (x : Item) → Rises item_cmp items → slice_get items k ≡ Some x → remove items k ≡ filter (is_other x) items
+removed_is [] k x rise at = absurd (cc)
+removed_is (y ∷ items) zero x rise at =
+    let same = same_Some y x at in
+    sym (ap (λ b. cond b (y ∷ filter (is_other x) items) (filter (is_other x) items))
+    (ap (is_other x) same ∙ ap (λ r. not (is_eq r)) (tied_itself item_total x))
+    ∙ all_stay x items (subst (λ z. AllByRecursion (λ w. item_cmp z w ≡ Less) items) same rise.0))
+removed_is (y ∷ items) (suc k) x rise at =
+    ap (λ ys. y ∷ ys) (removed_is items k x rise.1 at)
+    ∙ sym (ap (λ b. cond b (y ∷ filter (is_other x) items) (filter (is_other x) items))
+    (ap (λ r. not (is_eq r)) (all_at (λ z. item_cmp y z ≡ Less) items k x rise.0 at)))
+
+-- what stands at a place is taken out
+pub taken_set : (old new : List Item) (x : Item) (k : ℕ) (before : set.FinSet due_cmp) → Rises item_cmp old → dues_of old ≡ before
+    → slice_get old k ≡ Some x → new ≡ remove old k → dues_of new ≡ set.remove before (due_of x)
+taken_set old new x k before rise seen at out = set.same_set due_total due_exact _ _ (λ q.
+    contains-dues new q
+    ∙ ap (has item_cmp (item_of q)) (out ∙ removed_is old k x rise at)
+    ∙ has-filter item_cmp item_total item_exact (item_of q) (is_other x) old
+    ∙ ap (λ b. not (eq_by_cmp due_cmp q (due_of x)) && b) (sym (contains-dues old q) ∙ ap (λ dues. set.contains dues q) seen)
+    ∙ sym (set.contains-remove due_total before (due_of x) q))
+
+taken_at : (old new : List Item) (x : Item) (k : ℕ) (before : set.FinSet due_cmp) → AreInOrder old → dues_of old ≡ before
+    → slice_get old k ≡ Some x → new ≡ remove old k → AreNow new (set.remove before (due_of x))
+taken_at old new x k before is seen at out = record {
+  ordered = in_order_from new
+      (subst (IsOrdered item_cmp) (sym (out ∙ removed_is old k x (rising old is) at)) (ordered-filter item_cmp (is_other x) old (ordered old is)));
+  seen = taken_set old new x k before (rising old is) seen at out;
+}
+
+-- a name that is there stands at its place
+standing : (items : List Item) (due : Due) (place : ℕ) (before : set.FinSet due_cmp) → AreInOrder items → dues_of items ≡ before
+    → place ≡ place_in items (item_of due) → set.contains before due ≡ true → slice_get items place ≡ Some (item_of due)
+standing items due place before is seen at some =
+    ap (slice_get items) at ∙ stands item_cmp item_total item_exact (item_of due) items (rising items is) (there items due before seen some)
+
+pub within : (items : List Item) (due : Due) (place : ℕ) (before : set.FinSet due_cmp) → AreInOrder items → dues_of items ≡ before
+    → place ≡ place_in items (item_of due) → set.contains before due ≡ true → place < length items
+within items due place before is seen at some = slice_get_within items place (item_of due) (standing items due place before is seen at some)
+
+pub removed : (old new : List Item) (due : Due) (place : ℕ) (before : set.FinSet due_cmp) → AreInOrder old → dues_of old ≡ before
+    → place ≡ place_in old (item_of due) → set.contains before due ≡ true → new ≡ remove old place → AreNow new (set.remove before due)
+removed old new due place before is seen at some out =
+    taken_at old new (item_of due) place before is seen (standing old due place before is seen at some) out
+
+-- none that is there stands before the first
+not_before : (x y q : Item) (items : List Item) (k : ℕ) → Rises item_cmp (x ∷ items) → slice_get (x ∷ items) k ≡ Some y → q ≡ y
+    → is_gt (item_cmp x q) ≡ false
+not_before x y q items zero rise at same =
+    ap (λ z. is_gt (item_cmp x z)) (same ∙ sym (same_Some x y at)) ∙ ap is_gt (tied_itself item_total x)
+not_before x y q items (suc k) rise at same =
+    ap (λ z. is_gt (item_cmp x z)) same ∙ ap is_gt (all_at (λ z. item_cmp x z ≡ Less) items k y rise.0 at)
+
+first_of : (x : Item) (items : List Item) → Rises item_cmp (x ∷ items) → IsFirst (dues_of (x ∷ items)) (due_of x)
+first_of x items rise = record {
+  there = contains-dues (x ∷ items) (due_of x) ∙ has_at item_cmp item_total (x ∷ items) 0 x refl;
+  earliest = λ other found.
+      let one = passing (eq_by_cmp item_cmp (item_of other)) (x ∷ items) (sym (contains-dues (x ∷ items) other) ∙ found) in
+      not_before x one.1 (item_of other) items one.0 rise one.2 (item_exact (item_of other) one.1 (equal_from _ one.3));
+}
+
+pub first_is : (items : List Item) (x : Item) (before : set.FinSet due_cmp) → Rises item_cmp items → dues_of items ≡ before → slice_get items 0 ≡ Some x
+    → IsFirst before (due_of x)
+first_is [] x before rise seen at = absurd (cc)
+first_is (y ∷ items) x before rise seen at = subst (λ dues. IsFirst dues (due_of x)) seen
+    (subst (λ z. IsFirst (dues_of (y ∷ items)) (due_of z)) (same_Some y x at) (first_of y items rise))
+
+neither_greater : (r : Ordering) → is_gt r ≡ false → is_gt (ordering_reverse r) ≡ false → r ≡ Equal
+neither_greater Less h back = absurd (true≢false back)
+neither_greater Equal h back = refl
+neither_greater Greater h back = absurd (true≢false h)
+
+one_first : (dues : set.FinSet due_cmp) (a b : Due) → IsFirst dues a → IsFirst dues b → a ≡ b
+one_first dues a b first too = due_exact a b
+    (neither_greater (due_cmp a b) (first.earliest b too.there) (ap is_gt (sym (due_total.antisymm b a)) ∙ too.earliest a first.there))
+
+pub some_there : (items : List Item) (due : Due) (before : set.FinSet due_cmp) → dues_of items ≡ before → IsFirst before due → 0 < length items
+some_there [] due before seen first = absurd (true≢false (sym (there [] due before seen first.there)))
+some_there (x ∷ items) due before seen first = omega arith
+
+-- the first is taken out
+pub first_out : (old new : List Item) (due : Due) (before : set.FinSet due_cmp) → AreInOrder old → dues_of old ≡ before
+    → IsFirst before due → new ≡ remove old 0 → AreNow new (set.remove before due)
+first_out [] new due before is seen first out = absurd (true≢false (sym (there [] due before seen first.there)))
+first_out (x ∷ items) new due before is seen first out =
+    let own = first_is (x ∷ items) x before (rising (x ∷ items) is) seen refl in
+    subst (λ d. AreNow new (set.remove before d)) (one_first before (due_of x) due own first)
+    (taken_at (x ∷ items) new x 0 before is seen refl out)
 
 not_greater : (r s : Ordering) → is_gt (ordering_then r s) ≡ false → is_gt r ≡ false
 not_greater Less s h = refl
@@ -84,40 +198,27 @@ not_greater Greater s h = h
 later_too : (now : ℕ) (first later : ℤ) → int_lt (pos now) first ≡ true → is_gt (int_cmp first later) ≡ false → int_lt (pos now) later ≡ true
 later_too now first later before h = grind (arith, ints)
 
-pub still_live : {Name : Type 0} (bytes : Name → Bytes) (now : ℕ) (first : ℤ × Name) (keys : List (ℤ × Name))
-    → AllByRecursion (λ k. is_gt (due_cmp (due bytes first) (due bytes k)) ≡ false) keys → int_lt (pos now) first.0 ≡ true
-    → (deadline : ℤ) (name : Bytes) → set.contains (set.from_list {R = due_cmp} (dues_of bytes keys)) (deadline, name) ≡ true → int_lt (pos now) deadline ≡ true
-still_live bytes now first keys all before deadline name found =
-    later_too now first.0 deadline before
-    (not_greater _ (byte_cmp (bytes first.1) name)
-    (earliest bytes (due bytes first) keys all (deadline, name) (sym (contains-dues bytes keys (deadline, name)) ∙ found)))
+pub still_live : (now : ℕ) (first : Due) (dues : set.FinSet due_cmp) → IsFirst dues first → int_lt (pos now) first.0 ≡ true
+    → (deadline : ℤ) (name : Bytes) → set.contains dues (deadline, name) ≡ true → int_lt (pos now) deadline ≡ true
+still_live now first dues is before deadline name found =
+    later_too now first.0 deadline before (not_greater _ (byte_cmp first.1 name) (is.earliest (deadline, name) found))
 
--- where nothing is stored, nothing is found
-pub none_found : {Name : Type 0} (bytes : Name → Bytes) (keys : List (ℤ × Name)) → (0 < length keys → ⊥) → {P : Type 0} (q : Due)
-    → set.contains (set.from_list {R = due_cmp} (dues_of bytes keys)) q ≡ true → P
-none_found bytes [] none q found = absurd (true≢false (sym (sym (contains-dues bytes [] q) ∙ found)))
-none_found bytes (k ∷ keys) none q found = absurd (none (omega arith))
+-- where nothing stands first, nothing is found
+pub none_found : (items : List Item) (before : set.FinSet due_cmp) → dues_of items ≡ before → slice_get items 0 ≡ None → {P : Type 0} (q : Due)
+    → set.contains before q ≡ true → P
+none_found [] before seen none q found = absurd (true≢false (sym (there [] q before seen found)))
+none_found (x ∷ items) before seen none q found = absurd (cc)
 
--- the first is found
-pub first_found : {Name : Type 0} (bytes : Name → Bytes) (k : ℤ × Name) (keys : List (ℤ × Name))
-    → set.contains (set.from_list {R = due_cmp} (dues_of bytes (k ∷ keys))) (due bytes k) ≡ true
-first_found bytes k keys = contains-dues bytes (k ∷ keys) (due bytes k)
-    ∙ ap (λ b. is_eq b || list_any (is_due bytes (due bytes k)) keys) (tied_itself due_total (due bytes k))
+-- whether a deadline is not after a moment
+abbrev pub is_expired : ℕ → Item → Bool
+is_expired now x = not (is_live_at now (Some x.1))
 
-same_first : {A : Type 0} (first popped : A) (all rest : List A) → slice_get all 0 ≡ Some first → all ≡ popped ∷ rest → first ≡ popped
-same_first {A} first popped all rest at_first parts = let e : Some popped ≡ Some first = sym (ap (λ (xs : List A). slice_get xs 0) parts) ∙ at_first in cc
+stays_live : (b c : Bool) → (b ≡ true → c ≡ true) → not b ≡ false → not c ≡ false
+stays_live true c more live = ap not (more refl)
+stays_live false c more live = absurd (true≢false live)
 
--- the first, taken out, was found at its deadline, and is gone
-pub popped_was : {Name : Type 0} (bytes : Name → Bytes) (now : ℕ) (first popped : ℤ × Name) (all rest : List (ℤ × Name)) (before : set.FinSet due_cmp)
-    → set.from_list (dues_of bytes all) ≡ before
-    → slice_get all 0 ≡ Some first → all ≡ popped ∷ rest → int_lt (pos now) first.0 ≡ false → list_any (is_due bytes (due bytes popped)) rest ≡ false
-    → KeepsOthers (eq_by_cmp (stored_cmp bytes)) (is_due bytes (due bytes popped)) all rest
-    → (deadline : ℤ) × (int_lt (pos now) deadline ≡ false) × (set.contains before (deadline, bytes popped.1) ≡ true)
-    × (set.from_list {R = due_cmp} (dues_of bytes rest) ≡ set.remove before (deadline, bytes popped.1))
-popped_was {Name} bytes now first popped all rest before seen at_first parts late gone others = (
-  popped.0,
-  ap (λ (k : ℤ × Name). int_lt (pos now) k.0) (sym (same_first first popped all rest at_first parts)) ∙ late,
-  ap (λ dues. set.contains dues (due bytes popped)) (sym seen ∙ ap (λ keys. set.from_list {R = due_cmp} (dues_of bytes keys)) parts)
-      ∙ first_found bytes popped rest,
-  removed bytes all rest (due bytes popped) gone others ∙ ap (λ dues. set.remove dues (due bytes popped)) seen,
-)
+pub parted_expired : (now : ℕ) (items : List Item) → Rises item_cmp items → IsParted (is_expired now) items
+parted_expired now items rise = parted_where item_cmp (λ x. Unit {0}) (is_expired now)
+    (λ x y _ _ before. stays_live (int_lt (pos now) x.1) (int_lt (pos now) y.1)
+    (λ live. later_too now x.1 y.1 live (not_greater _ (byte_cmp x.0 y.0) (ap is_gt before))))
+    items (all_such item_cmp items) rise

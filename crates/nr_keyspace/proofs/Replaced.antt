@@ -1,15 +1,16 @@
 -- What it is to give a name another deadline.
-use Rattle.std.proofs.Common.{◌≡◌, ℤ, Bool, true, false, cond, not, ◌||◌, ◌&&◌, Option, Some, None, refl, ap, sym, ◌∙◌, true≢false}
+use Rattle.std.proofs.Common.{◌≡◌, ℤ, Bool, true, false, cond, not, ◌||◌, ◌&&◌, Option, Some, None, IfSome, refl, ap, sym, ◌∙◌, true≢false}
 use Rattle.std.specs.declared.cmp.Ordering.{Ordering}
 use Rattle.std.specs.declared.cmp.Ordering.TheVariants.{Less, Equal, Greater}
 use Rattle.std.specs.Ordering.{is_eq, eq_by_cmp, int_cmp, int_eq, ordering_then}
 use Rattle.std.specs.Bool.{Decides}
 use Rattle.std.specs.Option.{option_eq}
-use Rattle.std.specs.Cmp.{Equal-is, signed_Decides}
+use Rattle.std.specs.Cmp.{Equal-is, signed_Decides, tied_itself, int_cmp_total}
 use Rattle.std.specs.FinSet as set
 use Rattle.std.proofs.lemmas.Map.Lookups.{exact_signed, exact_bytes}
 use Rattle.nr_model.specs.Bytes.{Bytes}
 use Rattle.nr_model.specs.Keyspace.{byte_cmp}
+use Rattle.nr_model.proofs.Ordered.{or_true}
 use Rattle.nr_keyspace.specs.Deadlines.{due_cmp, has_deadline, with_deadline, without_deadline, IsReplaced}
 use Rattle.nr_keyspace.proofs.Orders.{due_total}
 
@@ -87,3 +88,13 @@ same_deadline None None same is = (λ _. refl, λ _. is)
 same_deadline None (Some y) same is = (λ yes. absurd (true≢false (sym yes ∙ is)), λ e. cc)
 same_deadline (Some x) None same is = (λ yes. absurd (true≢false (sym yes ∙ is)), λ e. cc)
 same_deadline (Some x) (Some y) same is = (λ yes. ap Some ((signed_Decides x y).0 (sym is ∙ yes)), λ e. is ∙ (signed_Decides x y).1 (let f : x ≡ y = cc in f))
+
+-- with its next deadline, a name is still there at the one that it had
+pub still_there : (dues : set.FinSet due_cmp) (before after : Option ℤ) (name : Bytes)
+    → ((deadline : ℤ) → set.contains dues (deadline, name) ≡ has_deadline deadline before)
+    → IfSome before (λ deadline. set.contains (with_deadline dues after name) (deadline, name) ≡ true)
+still_there dues None after name had = tt
+still_there dues (Some x) after name had =
+    contains-with dues after name x name
+    ∙ ap (λ b. (has_deadline x after && eq_by_cmp byte_cmp name name) || b) (had x ∙ ap is_eq (tied_itself int_cmp_total x))
+    ∙ or_true (has_deadline x after && eq_by_cmp byte_cmp name name)

@@ -4,11 +4,12 @@ use Rattle.std.specs.Prelude.{int_lt}
 use Rattle.std.specs.Ordering.{eq_by_cmp}
 use Rattle.std.specs.FinMap as map
 use Rattle.std.proofs.lemmas.Int.{ints}
-use Rattle.nr_model.specs.Keyspace.{Key, Keyspace, key_cmp, Value, Stored, is_live_at, live, only_live}
+use Rattle.nr_model.specs.Bytes.{Bytes}
+use Rattle.nr_model.specs.Keyspace.{Key, Keyspace, key_cmp, Value, Stored, Text, is_live_at, live, only_live}
 use Rattle.nr_model.proofs.Live.{key_total, get-live}
 use Rattle.nr_keyspace.specs.Joined.{exchanged}
 use Rattle.nr_keyspace.specs.Seen.{seen_after, is_seen_after}
-use Rattle.nr_keyspace.specs.Stores.{is_undated, redated}
+use Rattle.nr_keyspace.specs.Stores.{is_undated, redated, written_if}
 use Rattle.nr_keyspace.proofs.Orders.{key_exact}
 
 before : (now later : ℕ) (deadline : ℤ) → now ≤ later → int_lt (pos later) deadline ≡ true → int_lt (pos now) deadline ≡ true
@@ -135,3 +136,9 @@ pub seen_undated : (latest : Option ℕ) (keyspace : Keyspace) (key : Key)
     → is_undated (map.get (seen_after latest keyspace) key) ≡ is_undated (map.get keyspace key)
 seen_undated None keyspace key = refl
 seen_undated (Some latest) keyspace key = ap is_undated (get-live keyspace latest key) ∙ undated_of latest (map.get keyspace key)
+
+-- a text that is written, or not
+pub seen_written : (latest : Option ℕ) (keyspace : Keyspace) (key : Key) (text : Bytes) (written : Bool)
+    → seen_after latest (written_if written keyspace key text) ≡ written_if written (seen_after latest keyspace) key text
+seen_written latest keyspace key text true = seen_insert latest keyspace key (record { value = Text text; deadline = None }) (undated_seen latest)
+seen_written latest keyspace key text false = refl

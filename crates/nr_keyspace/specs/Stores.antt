@@ -1,12 +1,12 @@
 -- The keys of one database as a finite map.
-use Rattle.std.specs.Prelude.{◌≡◌, ℕ, ℤ, Bool, false, not, Option, Some, None, is_some, List}
+use Rattle.std.specs.Prelude.{◌≡◌, ℕ, ℤ, Bool, true, false, not, Option, Some, None, is_some, List}
 use Rattle.std.specs.Prelude as prelude
 use Rattle.std.specs.declared.cmp.Ordering.{Ordering}
 use Rattle.std.specs.FinMap as map
 use Rattle.std.specs.FinSet as set
 use Rattle.std.specs.Coded.{Coded}
 use Rattle.nr_model.specs.Bytes.{Bytes}
-use Rattle.nr_model.specs.Keyspace.{byte_cmp, Stored, coded_bytes, coded_stored}
+use Rattle.nr_model.specs.Keyspace.{byte_cmp, Stored, Text, coded_bytes, coded_stored}
 use Rattle.nr_keyspace.specs.Values.{value_of}
 use Rattle.nr_keyspace.specs.Deadlines.{due_cmp, has_deadline}
 use Rattle.nr_keyspace.specs.declared.database.Entry.{Entry}
@@ -41,6 +41,11 @@ deadline_of (Some stored) = stored.deadline
 abbrev pub is_undated : Option Stored → Bool
 is_undated None = false
 is_undated (Some stored) = not (is_some stored.deadline)
+
+-- with a text that has no deadline, where it was written
+abbrev pub written_if : {K : Type 0} {R : K → K → Ordering} → Bool → map.FinMap R Stored → K → Bytes → map.FinMap R Stored
+written_if false kept at text = kept
+written_if true kept at text = map.insert kept at (record { value = Text text; deadline = None })
 
 -- with another deadline where something was stored
 abbrev pub redated : {K : Type 0} {R : K → K → Ordering} → map.FinMap R Stored → K → Option Stored → Option ℤ → map.FinMap R Stored

@@ -10,7 +10,7 @@ ghost use Rattle.nr_model.specs.Keyspace.{Stored, is_live_at, only_live};
 ghost use Rattle.nr_keyspace.specs.Values.{value_of};
 ghost use Rattle.nr_keyspace.specs.Names.{live_store};
 ghost use Rattle.nr_keyspace.specs.Edited.{IsEdited};
-ghost use Rattle.nr_keyspace.specs.Stores.{stored_of, deadline_of, bytes_of, store_of, is_undated, redated};
+ghost use Rattle.nr_keyspace.specs.Stores.{stored_of, deadline_of, bytes_of, store_of, is_undated, redated, written_if};
 
 use crate::deadlines::Deadlines;
 use crate::edit::Edit;
@@ -83,6 +83,27 @@ fn rewrite(
     None
 }
 
+// Writes a text to the entry at a name, if there is one and it has no deadline, and says whether there was.
+fn write_text(
+    by_name: &mut HashMap<Blob, Entry, RandomState>,
+    name: &Blob,
+    text: &[u8],
+) -> Result<bool, Memory>
+    ensures exact { IfOk result (λ written. written ≡ is_undated (map.get (store_of bytes_of by_name.old.entries) name.now)) }
+    ensures ok { IfOk result (λ written. let old = store_of bytes_of by_name.old.entries in
+        store_of bytes_of by_name.new.entries ≡ written_if written old name.now text.now) }
+    ensures err { OnErr result (store_of bytes_of by_name.new.entries ≡ store_of bytes_of by_name.old.entries) }
+{
+    let Some(held) = by_name.get_mut(name) else {
+        return Ok(false);
+    };
+    if held.deadline.is_some() {
+        return Ok(false);
+    }
+    held.value.write(name.allocator(), text)?;
+    Ok(true)
+}
+
 // Has the value at a live name edited, if there is one.
 fn edit_at<E: Edit>(
     by_name: &mut HashMap<Blob, Entry, RandomState>,
@@ -102,6 +123,17 @@ fn edit_at<E: Edit>(
     }
     let given = edit.edit(&mut entry.value)?;
     Ok(Some(given))
+}
+
+// Takes out what is stored at a name, if there is something. Where there is no memory for a copy of a long name, each name is looked at.
+fn forget(by_name: &mut HashMap<Blob, Entry, RandomState>, alloc: Global, name: &[u8])
+    ensures { store_of bytes_of by_name.new.entries ≡ map.remove (store_of bytes_of by_name.old.entries) name.now }
+{
+    let Ok(name) = Blob::from_slice(alloc, name) else {
+        by_name.retain(|held, _| held.bytes() != name);
+        return;
+    };
+    by_name.remove(&name);
 }
 
 // Whether an entry is live, and its name matches a pattern.
@@ -169,7 +201,7 @@ impl Database {
         Some(entry.deadline.get())
     }
 
-    /// How many names are live. Looks at the deadlines that have passed alone.
+    /// How many names are live. Logarithmic in the deadlines.
     pub(crate) fn len(&self, now: u64) -> usize
         ensures count { result ≡ map.len (live_store self.now now) }
         ensures small { result < 2 ^ 63 }
@@ -209,7 +241,7 @@ impl Database {
         let kept = KeptDeadline::new(deadline)?;
         let before = self.deadline_at(&name);
         self.by_name.reserve(1)?;
-        let name = self.deadlines.replace(before, deadline, name)?;
+        self.deadlines.replace(before, deadline, &name)?;
         let entry = Entry {
             value,
             deadline: kept,
@@ -226,6 +258,15 @@ impl Database {
         ensures unchanged { OnSome result (self.new ≡ self.old) }
     {
         rewrite(&mut self.by_name, name, value)
+    }
+
+    /// Stores a text, in place, at a name that is there and has no deadline, and says whether it is so.
+    pub(crate) fn write_text(&mut self, name: &Blob, text: &[u8]) -> Result<bool, Memory>
+        ensures exact { IfOk result (λ written. written ≡ is_undated (map.get self.old name.now)) }
+        ensures ok { IfOk result (λ written. self.new ≡ written_if written self.old name.now text.now) }
+        ensures err { OnErr result (self.new ≡ self.old) }
+    {
+        write_text(&mut self.by_name, name, text)
     }
 
     /// Has the value at a live name edited, if there is one.
@@ -250,7 +291,7 @@ impl Database {
         if self.live(now, name).is_none() {
             return None;
         }
-        let (name, entry) = self.by_name.remove_entry(name)?;
+        let entry = self.by_name.remove(name)?;
         self.deadlines.take(entry.deadline.get(), name);
         Some(entry.value)
     }
@@ -271,8 +312,7 @@ impl Database {
         }
         let kept = KeptDeadline::new(deadline)?;
         let before = self.deadline_at(name);
-        let name_copy = name.copy()?;
-        self.deadlines.replace(before, deadline, name_copy)?;
+        self.deadlines.replace(before, deadline, name)?;
         redate(&mut self.by_name, name, kept);
         Ok(true)
     }
@@ -313,10 +353,11 @@ impl Database {
         ensures none { result ≡ false → (name : Bytes) → only_live now (map.get self.new name) ≡ map.get self.new name }
         ensures unchanged { result ≡ false → self.new ≡ self.old }
     {
-        let Some(name) = self.deadlines.pop_expired(now) else {
+        let Some(name) = self.deadlines.first_expired(now) else {
             return false;
         };
-        self.by_name.remove(&name);
+        forget(&mut self.by_name, self.deadlines.allocator(), name);
+        self.deadlines.remove_first();
         true
     }
 }

@@ -9,7 +9,7 @@ ghost use Rattle.nr_model.specs.Keyspace as model;
 ghost use Rattle.nr_model.specs.Keyspace.{names_in};
 ghost use Rattle.nr_keyspace.specs.Values.{value_of};
 ghost use Rattle.nr_keyspace.specs.Edited.{IsEdited};
-ghost use Rattle.nr_keyspace.specs.Stores.{is_undated, redated};
+ghost use Rattle.nr_keyspace.specs.Stores.{is_undated, redated, written_if};
 ghost use Rattle.nr_keyspace.specs.Joined.{key_of, store_at, exchanged, IsSwept};
 ghost use Rattle.nr_keyspace.specs.Swept.{IsSweptAt};
 
@@ -116,7 +116,7 @@ impl Databases {
         self.databases[database.index()].deadline(now, name)
     }
 
-    /// How many keys are live in a database. Looks at the deadlines that have passed alone.
+    /// How many keys are live in a database. Logarithmic in its deadlines.
     pub(crate) fn len(&self, now: u64, database: Db) -> usize
         ensures count { result ≡ length (names_in (model.live self.now now) database) }
         ensures small { result < 2 ^ 63 }
@@ -159,6 +159,20 @@ impl Databases {
         ensures unchanged { OnSome result (self.new ≡ self.old) }
     {
         self.databases[database.index()].rewrite(name, value)
+    }
+
+    /// Stores a text, in place, at a key that is there and has no deadline, and says whether it is so.
+    pub(crate) fn write_text(
+        &mut self,
+        database: Db,
+        name: &Blob,
+        text: &[u8],
+    ) -> Result<bool, Memory>
+        ensures exact { IfOk result (λ written. written ≡ is_undated (map.get self.old (key_of database name.now))) }
+        ensures ok { IfOk result (λ written. self.new ≡ written_if written self.old (key_of database name.now) text.now) }
+        ensures err { OnErr result (self.new ≡ self.old) }
+    {
+        self.databases[database.index()].write_text(name, text)
     }
 
     /// Has the value of a live key edited, if there is one.

@@ -9,7 +9,7 @@ ghost use Rattle.nr_model.specs.Keyspace as model;
 ghost use Rattle.nr_model.specs.Keyspace.{names_in};
 ghost use Rattle.nr_keyspace.specs.Values.{value_of};
 ghost use Rattle.nr_keyspace.specs.Edited.{IsEdited};
-ghost use Rattle.nr_keyspace.specs.Stores.{is_undated, redated};
+ghost use Rattle.nr_keyspace.specs.Stores.{is_undated, redated, written_if};
 ghost use Rattle.nr_keyspace.specs.Joined.{key_of, exchanged};
 
 use crate::databases::Databases;
@@ -95,7 +95,7 @@ impl Keyspace {
             .deadline(self.sweeps.later(now), database, name)
     }
 
-    /// How many keys are live in a database. Looks at each deadline that has passed and whose key was not yet taken out.
+    /// How many keys are live in a database. Logarithmic in its deadlines.
     pub fn len(&self, now: u64, database: Db) -> usize
         ensures count { result ≡ length (names_in (model.live self.now now) database) }
         ensures small { result < 2 ^ 63 }
@@ -143,6 +143,17 @@ impl Keyspace {
         ensures unchanged { OnSome result (self.new ≡ self.old) }
     {
         self.databases.rewrite(database, name, value)
+    }
+
+    /// Stores a text, in place, at a key that is there and has no deadline, and says whether it is so: with one hash of its name. The bytes of a string
+    /// that was there are written over where these need a block, fit in that and take at least half of it: then they take no memory. Where the key isn't
+    /// so, or memory runs out, nothing changed.
+    pub fn write_text(&mut self, database: Db, name: &Blob, text: &[u8]) -> Result<bool, Memory>
+        ensures exact { IfOk result (λ written. written ≡ is_undated (map.get self.old (key_of database name.now))) }
+        ensures ok { IfOk result (λ written. self.new ≡ written_if written self.old (key_of database name.now) text.now) }
+        ensures err { OnErr result (self.new ≡ self.old) }
+    {
+        self.databases.write_text(database, name, text)
     }
 
     /// Has the value of a live key edited, in place, with one hash of its name. Its deadline stays. `None` where no such key is live.

@@ -13,6 +13,7 @@ pub use touched::{Nobody, Touched};
 pub use value::Value;
 
 mod collections;
+mod cuts;
 mod database;
 mod databases;
 mod db;

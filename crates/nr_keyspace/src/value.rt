@@ -1,6 +1,6 @@
 // What a key holds. A kind of value is a variant, and what is asked of a kind stands here: no command matches on a value.
-ghost use Rattle.std.specs.Prelude.{◌≡◌, Ok, IfOk, IfErr};
-ghost use Rattle.nr_model.specs.Keyspace.{Scores};
+ghost use Rattle.std.specs.Prelude.{◌≡◌, Ok, IfOk, IfErr, OnOk, OnErr};
+ghost use Rattle.nr_model.specs.Keyspace.{Scores, Text};
 ghost use Rattle.nr_model.specs.Commands.Held.{items_of, fields_of, members_of, scores_of};
 ghost use Rattle.nr_model.specs.Commands.Keys.{kind_of};
 ghost use Rattle.nr_model.specs.Commands.Reading.{fault};
@@ -99,6 +99,19 @@ impl Value {
             Value::Set(set) => Ok(Value::Set(set.copy()?)),
             Value::SortedSet(zset) => Value::sorted_set(alloc, zset.copy()?),
         }
+    }
+
+    /// Becomes a string of these bytes. A string's block is kept as `Str::write` keeps it. Where memory runs out nothing is changed.
+    pub(crate) fn write(&mut self, alloc: Global, text: &[u8]) -> Result<(), Memory>
+        ensures ok { OnOk result (value_of self.new ≡ Text text.now) }
+        ensures err { OnErr result (value_of self.new ≡ value_of self.old) }
+    {
+        if let Value::String(held) = self {
+            held.write(text)?;
+            return Ok(());
+        }
+        *self = Value::String(Str::from_slice(alloc, text)?);
+        Ok(())
     }
 
     /// The name of its kind, as TYPE answers it.

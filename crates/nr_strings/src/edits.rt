@@ -17,6 +17,23 @@ pub(crate) fn append(text: &mut Bytes, bytes: &[u8]) -> Result<(), Memory>
     Ok(())
 }
 
+/// Becomes these bytes, in the room that there is where they fit in and take at least half of it.
+pub(crate) fn write(text: &mut Bytes, bytes: &[u8]) -> Result<(), Memory>
+    ensures ok { OnOk result (text.new.items ≡ bytes.now) }
+    ensures err { OnErr result (text.new.items ≡ text.old.items) }
+{
+    let room = text.capacity();
+    if bytes.len() > room || bytes.len() < room / 2 {
+        *text = Bytes::from_slice(*text.allocator(), bytes)?;
+        return Ok(());
+    }
+    text.clear();
+    if text.extend_from_slice(bytes).is_err() {
+        unreachable!()
+    }
+    Ok(())
+}
+
 /// Writes bytes over these from an offset on, with zero bytes between the end and the offset.
 pub(crate) fn set_range(text: &mut Bytes, offset: usize, written: &[u8]) -> Result<(), Memory>
     requires { offset + length written.now < 2 ^ 63 }

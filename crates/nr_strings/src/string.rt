@@ -9,7 +9,7 @@ use crate::counts::{ones_between, ones_of};
 use crate::edits;
 use crate::joins::{self, BitOperation};
 use itoa::Buffer;
-use nr_blob::{Blob, Memory, end_of, start_of};
+use nr_blob::{Blob, MOST_IN_PLACE, Memory, end_of, start_of};
 use std::alloc::Global;
 use std::marker::Model;
 
@@ -102,6 +102,22 @@ impl Str {
             return &[];
         }
         &self.bytes()[start..end]
+    }
+
+    /// Becomes these bytes. A block that is there is kept where they need one, fit in it and take at least half of it: then they take no memory.
+    /// Where that runs out nothing is changed.
+    pub fn write(&mut self, bytes: &[u8]) -> Result<(), Memory>
+        ensures ok { OnOk result (self.new ≡ bytes.now) }
+        ensures err { OnErr result (self.new ≡ self.old) }
+    {
+        if bytes.len() <= MOST_IN_PLACE {
+            self.bytes = Blob::from_slice(self.bytes.allocator(), bytes)?;
+            return Ok(());
+        }
+        let mut text = self.bytes.take();
+        let written = edits::write(&mut text, bytes);
+        self.bytes = Blob::from(text);
+        written
     }
 
     /// Puts bytes behind these, in place. Where memory runs out nothing is changed.

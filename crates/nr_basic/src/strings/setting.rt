@@ -36,7 +36,7 @@ pub fn set<T: Touched>(
 {
     // Without options nothing is asked of the key.
     if let [name, text] = words {
-        store(keyspace, database, name, owned(text)?, touched)?;
+        store_text(keyspace, database, name, text, touched)?;
         return Ok(Reply::Simple("OK"));
     }
     let [name, text, others @ ..] = words else {
@@ -107,7 +107,7 @@ pub fn set_nx<T: Touched>(
     if keyspace.get(now, database, name).is_some() {
         return Ok(Reply::Int(0));
     }
-    store(keyspace, database, name, owned(text)?, touched)?;
+    store_text(keyspace, database, name, text, touched)?;
     Ok(Reply::Int(1))
 }
 
@@ -175,7 +175,7 @@ pub fn get_set<T: Touched>(
 {
     let (name, text) = two_words(words)?;
     let old = owned_bulk(text_at(keyspace, now, database, name)?)?;
-    store(keyspace, database, name, owned(text)?, touched)?;
+    store_text(keyspace, database, name, text, touched)?;
     Ok(old)
 }
 
@@ -210,7 +210,7 @@ fn store_with<T: Touched>(
     }
     match deadline {
         Some(deadline) => store_until(keyspace, database, name, text, deadline, touched),
-        None => store(keyspace, database, name, owned(text)?, touched),
+        None => store_text(keyspace, database, name, text, touched),
     }
 }
 
@@ -232,7 +232,25 @@ pub(super) fn store_until<T: Touched>(
     touched.touch(database, name)
 }
 
-/// The key holds the text, whatever it held, and has no deadline. The name is copied where the key is not yet there or has a deadline.
+/// The key holds the text, whatever it held, and has no deadline. The text is copied into the block of a string that is there, where it needs one, fits and takes at least
+/// half of it; the name is copied where the key is not yet there or has a deadline.
+pub(super) fn store_text<T: Touched>(
+    keyspace: &mut Keyspace,
+    database: Db,
+    name: &Blob,
+    text: &Blob,
+    touched: &mut T,
+) -> Result<(), Memory>
+    ensures keyspace { OnOk result (keyspace.new ≡ map.insert keyspace.old (key_of database name.now) (strings.plain text.now)) }
+    ensures touched { OnOk result (Touches T.after touched.old touched.new (key_of database name.now ∷ [])) }
+{
+    if !keyspace.write_text(database, name, text.bytes())? {
+        keyspace.put(database, name.copy()?, Value::from(owned(text)?), None)?;
+    }
+    touched.touch(database, name)
+}
+
+/// The same of a text that is owned. The name is copied where the key is not yet there or has a deadline.
 pub(super) fn store<T: Touched>(
     keyspace: &mut Keyspace,
     database: Db,

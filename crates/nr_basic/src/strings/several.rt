@@ -9,8 +9,7 @@ ghost use Rattle.nr_resp.specs.Done.{Performs};
 ghost use Rattle.nr_basic.specs.Pairs.{couples};
 ghost use Rattle.nr_keyspace.specs.Touched.{Touches};
 
-use crate::strings::held::owned;
-use crate::strings::setting::store;
+use crate::strings::setting::store_text;
 use nr_blob::{Blob, Memory};
 use nr_keyspace::{Db, Keyspace, Touched};
 use nr_model::refused::Refused;
@@ -102,7 +101,7 @@ fn store_all<T: Touched>(
 {
     let mut left = words;
     while let Some((name, text, others)) = first_pair(left) {
-        store(keyspace, database, name, owned(text)?, touched)?;
+        store_text(keyspace, database, name, text, touched)?;
         left = others;
     }
     Ok(())

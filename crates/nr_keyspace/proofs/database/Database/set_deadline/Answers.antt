@@ -1,19 +1,9 @@
-use Rattle.std.proofs.Common.{not, ap, ◌∙◌, sym, subst}
+use Rattle.std.proofs.Common.{not, ap, ◌∙◌, sym}
 use Rattle.std.specs.FinMap as map
-use Rattle.std.specs.FinSet as set
-use Rattle.nr_model.specs.Bytes.{Bytes}
 use Rattle.nr_model.specs.Keyspace.{only_live}
-use Rattle.nr_keyspace.specs.Deadlines.{has_deadline, IsReplaced}
-use Rattle.nr_keyspace.specs.Stores.{stored_of, deadline_of, redated, store_of, bytes_of}
+use Rattle.nr_keyspace.specs.Stores.{stored_of, redated, store_of, bytes_of}
 use Rattle.nr_keyspace.proofs.Changes.{redated_live}
 use Rattle.nr_keyspace.proofs.database.Database.set_deadline.Goals as goal
-
-pub replace-requires : goal.replace-requires
-replace-requires c = λ deadline.
-    ap (λ (name : Bytes). set.contains c.self.inside.deadlines (deadline, name)) c.in_ok-name_copy.ensures.copied
-    ∙ c.self.invariant.exact deadline c.args.name.now
-    ∙ ap (λ store. has_deadline deadline (deadline_of (map.get store c.args.name.now))) c.self.view_is
-    ∙ ap (has_deadline deadline) (sym c.deadline_at-before.ensures)
 
 pub invariant_of-self-2 : goal.invariant_of-self-2
 invariant_of-self-2 c =
@@ -23,5 +13,4 @@ invariant_of-self-2 c =
     (c.is_none.ensures ∙ ap not c.if-is_none.false)
     (c.redate.ensures ∙ ap (λ deadline. redated (store_of bytes_of c.self.inside.by_name.entries) c.args.name.now
     (map.get (store_of bytes_of c.self.inside.by_name.entries) c.args.name.now) deadline) c.in_ok-kept.ensures.kept)
-    (subst (λ (name : Bytes). IsReplaced c.self.inside.deadlines c.replace.new.self c.args.deadline name) c.in_ok-name_copy.ensures.copied
-    c.in_ok-replace.ensures.ok)
+    c.in_ok-replace.ensures.ok

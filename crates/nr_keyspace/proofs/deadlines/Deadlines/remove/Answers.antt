@@ -1,15 +1,31 @@
-use Rattle.std.proofs.Common.{ℤ, ap, ◌∙◌, to_z, of_z, to_z-of_z, w64}
-use Rattle.std.specs.FinSet as set
-use Rattle.nr_model.specs.Bytes.{Bytes}
-use Rattle.nr_keyspace.specs.Deadlines.{Due}
-use Rattle.nr_keyspace.proofs.Ordered.{removed}
+use Rattle.std.proofs.Common.{◌≡◌, rules}
+use Rattle.nr_ordered.specs.Lists.{Item}
+use Rattle.nr_keyspace.specs.Deadlines.{due_of}
+use Rattle.nr_keyspace.proofs.Ordered.{place_in, found_place, within, removed}
 use Rattle.nr_keyspace.proofs.deadlines.Deadlines.remove.Goals as goal
 
-pub returns-clause-removed : goal.returns-clause-removed
-returns-clause-removed c =
-    let at : ℤ → Due = λ deadline. (deadline, c.args.name) in
-    let key : Due = at (to_z w64 (of_z w64 c.args.deadline)) in
-    let changes = c.remove.ensures.updates in
-    removed (λ (name : Bytes). name) c.self.inside.ordered.keys c.remove.new.self.keys key changes.1 changes.3
-    ∙ ap (λ dues. set.remove dues key) c.self.view_is
-    ∙ ap (λ deadline. set.remove c.args.self.now (at deadline)) (to_z-of_z c.ranges.deadline)
+pub remove-requires : goal.remove-requires
+remove-requires c =
+    let items = c.self.inside.ordered.0 in
+    let x : Item = (c.args.name.now, c.args.deadline) in
+    let place : c.find-place.result ≡ place_in items x =
+    found_place items x c.find-place.result c.self.invariant (search (rules, c.find-place.ensures.place)) in
+    within items (due_of x) c.find-place.result c.args.self.now c.self.invariant c.self.view_is place c.requires
+
+pub invariant_of-self : goal.invariant_of-self
+invariant_of-self c =
+    let items = c.self.inside.ordered.0 in
+    let x : Item = (c.args.name.now, c.args.deadline) in
+    let place : c.find-place.result ≡ place_in items x =
+    found_place items x c.find-place.result c.self.invariant (search (rules, c.find-place.ensures.place)) in
+    (removed items c.remove.new.self.0 (due_of x) c.find-place.result c.args.self.now c.self.invariant c.self.view_is place c.requires
+    c.remove.ensures.items).ordered
+
+pub returns : goal.returns
+returns c =
+    let items = c.self.inside.ordered.0 in
+    let x : Item = (c.args.name.now, c.args.deadline) in
+    let place : c.find-place.result ≡ place_in items x =
+    found_place items x c.find-place.result c.self.invariant (search (rules, c.find-place.ensures.place)) in
+    (removed items c.remove.new.self.0 (due_of x) c.find-place.result c.args.self.now c.self.invariant c.self.view_is place c.requires
+    c.remove.ensures.items).seen
