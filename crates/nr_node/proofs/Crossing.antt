@@ -26,7 +26,7 @@ own_send = view_send OwnEntries.TheInside.the_row _ _ _ _ (declared_send OwnEntr
 
 pub core_send : (B : RattleType) (g : Ghosts B.Denot) → IsSend (Core.the_row B g)
 core_send B g = view_send (Core.TheInside.the_row B g) _ _ _ _ (declared_send (Core.TheInside.the_type B g)
-    (send, (search sent, (end_send B g, (own_send, (replica_send, (accounts.the_send, (next_send, (search sent depth 60, tt)))))))))
+    (send, (search sent, (end_send B g, (own_send, (replica_send, (accounts.the_send, (next_send, tt))))))))
 
 pub node_offer_send : (B : RattleType) (g : Ghosts B.Denot) → IsSend (Offer.the_row B g)
 node_offer_send B g = view_send (Offer.TheInside.the_row B g) _ _ _ _ (declared_send (Offer.TheInside.the_type B g)

@@ -75,6 +75,11 @@ has_lent (Some loan) v w old new book next nodes n is stood gave passed stands l
       replica = gave.1;
     }
 
+-- which node it is of
+pub lent_by : (lent : Option Standing) (s : Standing) (node : ℕ) → IfSome lent (λ loan. (loan ≡ s) × IsSound loan) → s.node ≡ node → IfSome lent (λ loan. loan.node ≡ node)
+lent_by None s node stood is = tt
+lent_by (Some loan) s node stood is = ap (λ (x : Standing). x.node) stood.0 ∙ is
+
 -- whatever came of it
 pub looked_at : (v w : LogView) (old new : ReplicaState) (book : Book) (next : List Job) (n : NodeState) → record { seat = v; replica = old; book = book; next = next } ≡ n
     → LooksOn v.standing w.standing → w.looks ≡ v.looks ++ Tail w.standing.seen ∷ [] → new ≡ record old { lent = new.lent }

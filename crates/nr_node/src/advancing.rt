@@ -28,14 +28,13 @@ const MOST_ASKED: u64 = 400;
 /// see [`Replica::holds_back`](nr_replica::Replica::holds_back). While its server is lent it takes none in: where there are some it waits for the loans to end, some
 /// 20 microseconds at most, and stops where one is still out. The account of each connection whose end is among them goes. A replica that is down passes them
 /// too, executes none, and holds none back. Where the replica falls over one of them, what waits and the next entry of its own are dropped, and the accounts go
-/// back by that: see [`drop_lifted`]. Whether entries wait for a loan to end stands in `wanted` then.
+/// back by that: see [`drop_lifted`].
 pub(crate) fn catch_up<B: LogName>(
     end: &mut End<B>,
     kept: &mut OwnEntries,
     replica: &mut Replica,
     accounts: &mut Accounts,
     next: &mut Option<Next>,
-    wanted: &mut bool,
 ) -> bool
     requires idle { end.old.standing.held ≡ None }
     requires level { IsLevel end.old.standing replica.old }
@@ -55,10 +54,8 @@ pub(crate) fn catch_up<B: LogName>(
     kept.let_go(end);
     let count = tail.saturating_sub(end.passed());
     if is_lent_out(replica, count) {
-        *wanted = count > 0;
         return count == 0;
     }
-    *wanted = false;
     if !advance_by(end, replica, accounts, next, count) {
         return false;
     }

@@ -62,8 +62,6 @@ pub struct Core<B: LogName> {
     replica: Replica,
     accounts: Accounts,
     next: Option<Next>,
-    // Whether entries wait for a loan of the server to end.
-    wanted: bool,
 }
 
 impl<B: LogName> Model for Core<B> {
@@ -104,7 +102,6 @@ impl<B: LogName> Core<B> {
             next: None,
             end,
             kept: OwnEntries::new(alloc),
-            wanted: false,
         })
     }
 
@@ -312,7 +309,6 @@ impl<B: LogName> Core<B> {
             &mut self.replica,
             &mut self.accounts,
             &mut self.next,
-            &mut self.wanted,
         );
         let is_behind = !reached;
         Looked {
@@ -370,7 +366,6 @@ impl<B: LogName> Core<B> {
             &mut self.replica,
             &mut self.accounts,
             &mut self.next,
-            &mut self.wanted,
         );
         if self.replica.is_down() {
             return Looked {
@@ -420,14 +415,15 @@ impl<B: LogName> Core<B> {
         }
     }
 
-    /// Lends its server, where the replica is up, no job waits, no entry is due, all entries are passed that there are by a load of the tail, and none waits for a loan to end.
-    /// `None` too where its owners can't be counted. Constant.
+    /// Lends its server, where the replica is up, no job waits, no entry is due, and all entries are passed that there are by a load of the tail. `None` too where its
+    /// owners can't be counted. Constant.
     pub fn lend(&mut self) -> Option<Loan<B>>
         ensures lent { IfSome result (λ loan. HasLent loan self.old self.new) }
+        ensures node { IfSome result (λ loan. loan.node ≡ self.old.book.node) }
         ensures none { IfNone result (self.new.replica ≡ self.old.replica) }
         ensures same { LooksAtTail self.old self.new }
     {
-        if self.wanted || self.next.is_some() || !self.replica.is_idle() {
+        if self.next.is_some() || !self.replica.is_idle() {
             return None;
         }
         lend(&mut self.end, &mut self.replica)
@@ -547,6 +543,13 @@ impl<B: LogName> Core<B> {
         ensures { result ≡ is_some (next_ready worker 0 self.now.replica.members) }
     {
         self.replica.next_ready(worker, 0).is_some()
+    }
+
+    /// Whether no job waits.
+    pub fn is_idle(&self) -> bool
+        ensures { result ≡ true → self.now.replica.waiting ≡ [] }
+    {
+        self.replica.is_idle()
     }
 
     /// Whether an entry is due: one found no place before, or an update leads.

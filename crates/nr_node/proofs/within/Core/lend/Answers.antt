@@ -1,7 +1,8 @@
 use Rattle.std.proofs.Common.{◌≡◌, true, false, ap, sym, ◌∙◌, refl, rules}
 use Rattle.nr_node.specs.Next.{jobs_next}
 use Rattle.nr_node.proofs.Caught.{none_of}
-use Rattle.nr_node.proofs.Loans.{has_lent, lent_within, looked_at}
+use Rattle.nr_node.specs.Level.{NodeState}
+use Rattle.nr_node.proofs.Loans.{has_lent, lent_by, lent_within, looked_at}
 use Rattle.nr_node.proofs.Orders.{is_sound}
 use Rattle.nr_node.proofs.Shares.{looked_last}
 use Rattle.nr_node.proofs.within.Core.lend.Goals as goal
@@ -33,6 +34,15 @@ returns-clause-lent g c =
     let none = ap jobs_next (none_of inside.next (sym c.is_some.ensures ∙ not_due)) in
     has_lent c.lend.result inside.end last inside.replica c.lend.new.replica inside.accounts inside.next inside.nodes c.args.self.now c.self.view_is c.lend.ensures.stood
     c.lend.ensures.lent c.lend.ensures.passed c.lend.ensures.in_log c.lend.ensures.looks w (c.is_idle.ensures idle) none
+
+pub returns-clause-node : goal.returns-clause-node
+returns-clause-node g c =
+    let keeps = c.self.invariant in
+    let inside = c.self.inside in
+    let last = c.lend.new.end in
+    let w = lent_within inside.end.standing last.standing inside.replica c.lend.new.replica inside.accounts inside.next inside.nodes c.lend.ensures.met c.lend.ensures.replica
+    (keeps.0, keeps.1, keeps.2, keeps.3, keeps.4) in
+    lent_by c.lend.result last.standing c.args.self.now.book.node c.lend.ensures.stood (sym w.0.order.book_is ∙ ap (λ (n : NodeState). n.book.node) c.self.view_is)
 
 pub returns-clause-same : goal.returns-clause-same
 returns-clause-same g c =
