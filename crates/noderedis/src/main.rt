@@ -5,7 +5,7 @@
 use nr_blob::Memory;
 use nr_config::{Given, Lasts, Settings, Task, WordsError, words};
 use nr_server::{
-    Fault, Refusal, listen_on, play_on, run_on, serve_by_tcp, settings_on, with_words,
+    Fault, SystemRefusal, listen_on, play_on, run_on, serve_by_tcp, settings_on, with_words,
 };
 use nr_service::{MachineClock, Open};
 use std::alloc::Global;
@@ -29,11 +29,11 @@ fn serve_input(rt: &HostRuntime) -> io::Result<Result<(), Fault>> {
 }
 
 // The bytes of a file, or why it can't be read.
-fn read_file(rt: &HostRuntime, file: &str) -> io::Result<Result<Vec<u8>, Refusal>> {
+fn read_file(rt: &HostRuntime, file: &str) -> io::Result<Result<Vec<u8>, SystemRefusal>> {
     match fs::read(rt, file) {
         Ok(text) => Ok(Ok(text)),
         Err(error) if Memory::of(&error).is_some() => Err(error),
-        Err(error) => Ok(Err(Refusal::of(&error))),
+        Err(error) => Ok(Err(SystemRefusal::of(&error))),
     }
 }
 

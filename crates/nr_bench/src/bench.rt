@@ -1,7 +1,7 @@
 // A machine with a thousand connections on one channel and a text at one key, and what is asked of it in a round.
 use crate::queue::Queue;
 use nr_blob::Memory;
-use nr_held::Subscribed;
+use nr_test_parts::Subscribed;
 use std::alloc::Global;
 use std::hash::RandomState;
 

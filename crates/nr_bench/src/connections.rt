@@ -6,8 +6,8 @@ ghost use Rattle.nr_combiner.specs.Opened.{AreNamed, AreOfWorkers};
 use crate::nodes::serve_batch;
 use crate::{as_io, no_memory};
 use nr_combiner::{Lifts, OpenedSlots, Plan, ServerName, open_slots};
-use nr_held::{HeldError, Station, stations};
-use nr_oplog::Opened;
+use nr_oplog::OpenedLog;
+use nr_test_parts::{HeldError, Station, stations};
 use std::alloc::Global;
 use std::hash::RandomState;
 use std::io;
@@ -50,7 +50,7 @@ fn hold_named<B: ServerName, R: Runtime + Wait>(
     host: &HostRuntime,
     rt: &R,
     keys: RandomState,
-    opened: Opened,
+    opened: OpenedLog,
     slots: Vec<OpenedSlots>,
     count: u32,
 ) -> io::Result<()>
@@ -84,7 +84,7 @@ pub(crate) fn hold<R: Runtime + Wait>(
     count: u32,
 ) -> io::Result<()> {
     let alloc = host.alloc();
-    let opened = Opened::open(alloc, 1, PLACES).map_err(|error| as_io(error.into()))?;
+    let opened = OpenedLog::open(alloc, 1, PLACES).map_err(|error| as_io(error.into()))?;
     let slots = open_slots(alloc, 1, 1).map_err(|error| as_io(error.into()))?;
     hold_named::<Brand, R>(host, rt, keys, opened, slots, count)
 }

@@ -2,8 +2,8 @@
 use crate::{as_io, no_memory};
 use nr_blob::{Memory, int_text};
 use nr_entry::ConnId;
-use nr_held::HeldError;
-use nr_nodes::{Outcome, Setup, World};
+use nr_test_parts::HeldError;
+use nr_world::{Setup, StepOutcome, World};
 use std::alloc::Global;
 use std::hash::RandomState;
 use std::io;
@@ -47,7 +47,7 @@ fn ask(world: &mut World, conn: ConnId, requests: &[u8]) -> Result<usize, Memory
 
 fn open(world: &mut World, node: usize) -> Result<ConnId, HeldError> {
     match world.open(node, 0)? {
-        Outcome::Opened(conn) => Ok(conn),
+        StepOutcome::Opened(conn) => Ok(conn),
         _ => Err(HeldError::Invalid),
     }
 }

@@ -10,14 +10,14 @@ mod bench;
 mod connections;
 mod copies;
 mod expiry;
-mod held;
 mod keys;
 mod messages;
 mod nodes;
 mod queue;
+mod stored;
 
 use nr_blob::Memory;
-use nr_held::HeldError;
+use nr_test_parts::HeldError;
 use std::env;
 use std::hash::RandomState;
 use std::io::{self, ErrorKind};
@@ -56,7 +56,7 @@ fn say_counts(
     let alloc = rt.alloc();
     nodes::say_counts(threads, alloc, RandomState::new(rt)?)?;
     messages::say_count(rt, alloc, RandomState::new(rt)?)?;
-    held::say_counts(rt, alloc, RandomState::new(rt)?)?;
+    stored::say_counts(rt, alloc, RandomState::new(rt)?)?;
     copies::say_count(rt, alloc, RandomState::new(rt)?)
 }
 
@@ -80,7 +80,7 @@ fn perform(rt: &HostRuntime, threads: &(impl Runtime + Threads + Wait + Sync)) -
             hasher,
             first.unwrap_or(MANY_KEYS),
         ),
-        Some(word) if word.as_str() == "memory" => held::hold(
+        Some(word) if word.as_str() == "memory" => stored::hold(
             rt,
             hasher,
             first.map_or(TEXT_BYTES, |bytes| bytes as usize),

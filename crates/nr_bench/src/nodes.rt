@@ -7,8 +7,8 @@ ghost use Rattle.nr_combiner.specs.Opened.{AreNamed, AreOfWorkers};
 use crate::{as_io, no_memory};
 use nr_blob::Memory;
 use nr_combiner::{Lifts, OpenedSlots, Plan, ServerName, open_slots};
-use nr_held::{Client, HeldError, Single, Station, stations};
-use nr_oplog::Opened;
+use nr_oplog::OpenedLog;
+use nr_test_parts::{Client, HeldError, Single, Station, stations};
 use std::alloc::Global;
 use std::hash::RandomState;
 use std::marker::Brand;
@@ -160,7 +160,7 @@ fn run_named<B: ServerName + Send + Sync, R: Threads + Wait + Sync>(
     rt: &R,
     alloc: Global,
     keys: RandomState,
-    opened: Opened,
+    opened: OpenedLog,
     slots: Vec<OpenedSlots>,
     workers: usize,
     lifts: Lifts,
@@ -192,7 +192,7 @@ fn run<R: Threads + Wait + Sync>(
     sent: &[u8],
     batches: usize,
 ) -> Result<usize, HeldError> {
-    let opened = Opened::open(alloc, layout.nodes, PLACES)?;
+    let opened = OpenedLog::open(alloc, layout.nodes, PLACES)?;
     let slots = open_slots(alloc, layout.nodes, layout.workers)?;
     run_named::<Brand, R>(
         rt,
@@ -244,7 +244,7 @@ fn time_named<B: ServerName, R: Runtime + Wait>(
     rt: &R,
     alloc: Global,
     keys: RandomState,
-    opened: Opened,
+    opened: OpenedLog,
     slots: Vec<OpenedSlots>,
     sent: &[u8],
     batches: usize,
@@ -274,7 +274,7 @@ fn time_lock<R: Runtime + Wait>(
     sent: &[u8],
     batches: usize,
 ) -> io::Result<u128> {
-    let opened = Opened::open(alloc, 1, PLACES).map_err(|error| as_io(error.into()))?;
+    let opened = OpenedLog::open(alloc, 1, PLACES).map_err(|error| as_io(error.into()))?;
     let slots = open_slots(alloc, 1, 1).map_err(|error| as_io(error.into()))?;
     let nanos = time_named::<Brand, R>(rt, alloc, keys, opened, slots, sent, batches)?;
     Ok(nanos / batches.max(1) as u128)

@@ -15,7 +15,7 @@ use Rattle.nr_entry.specs.declared.batch.Batch.{Batch}
 use Rattle.nr_entry.specs.declared.entry.Entry.{Entry}
 use Rattle.nr_entry.specs.declared.job.Job.{Job}
 use Rattle.nr_log_end.specs.declared.standing.Standing.{Standing}
-use Rattle.nr_log_end.specs.declared.standing.Turn.TheVariants.{Applied, Ran}
+use Rattle.nr_log_end.specs.declared.standing.LogEvent.TheVariants.{Applied, Ran}
 use Rattle.nr_log_end.specs.Standings.{record_of}
 use Rattle.nr_replica.specs.Members.{Member, worker_of, jobs_of_worker}
 use Rattle.nr_replica.specs.Replicas.{ReplicaState}

@@ -16,7 +16,7 @@ use Rattle.nr_combiner.specs.declared.name.ServerName as server_name
 use Rattle.nr_combiner.specs.contracts.combiner.Combiner as Combiner
 use Rattle.nr_combiner.specs.contracts.counts.Counts as Counts
 use Rattle.nr_combiner.specs.contracts.node.Node as Node
-use Rattle.nr_combiner.specs.contracts.worker.Worker as Worker
+use Rattle.nr_combiner.specs.contracts.node_handle.NodeHandle as NodeHandle
 
 module _ (B : RattleType) (s : server_name.Ghosts B.Denot) (g : log_name.Ghosts B.Denot) where
   counts_send : IsSend Counts.the_row
@@ -40,6 +40,6 @@ module _ (B : RattleType) (s : server_name.Ghosts B.Denot) (g : log_name.Ghosts 
   node_sync = view_sync (Node.TheInside.the_row B g s) _ _ _ _ (declared_sync (Node.TheInside.the_type B g s)
       (search sent, (lock_sync, (search (crosses, log_send B g, log_sync B g), (search (crosses, slots_send, slots_sync), (search sent, (search sent, (search sent, (search sent, tt)))))))))
 
-  pub worker_send : IsSend (Worker.the_row B s g)
-  worker_send = view_send (Worker.TheInside.the_row B s g) _ _ _ _ (declared_send (Worker.TheInside.the_type B s g)
+  pub worker_send : IsSend (NodeHandle.the_row B s g)
+  worker_send = view_send (NodeHandle.TheInside.the_row B s g) _ _ _ _ (declared_send (NodeHandle.TheInside.the_type B s g)
       (Arc-send (Node.the_row B g s) node_send node_sync, (search sent, (seat_send, (search sent, (search sent, tt))))))

@@ -7,12 +7,12 @@ use Rattle.nr_node.specs.Batches.{is_cut_at}
 use Rattle.nr_node.specs.Level.{NodeState, IsLevel}
 use Rattle.nr_combiner.specs.Behind.{CutsBehind, CutsFrontBehind}
 use Rattle.nr_combiner.specs.Counts.{generation_of}
-use Rattle.nr_combiner.specs.Pieces.{AddsFront}
+use Rattle.nr_combiner.specs.Pieces.{ListsFront}
 use Rattle.nr_combiner.specs.Served.{CombinerState, StandsLevel}
 
 -- what was added, and what is left to add, is all
 abbrev pub AreAdded : (ConnId → Bool) → List ConnId → List ConnId → List ConnId → ℕ → Type 0
-AreAdded p conns old new i = AddsFront (filter p conns) old new (filter p (drop i conns))
+AreAdded p conns old new i = ListsFront (filter p conns) old new (filter p (drop i conns))
 
 pub none_added : (p : ConnId → Bool) (conns old : List ConnId) → AreAdded p conns old old 0
 none_added p conns old = record { more = []; behind = sym (append-nil old); front = refl }
@@ -49,6 +49,6 @@ pub cuts_behind : (node worker generation : ℕ) (c : CombinerState) (conns old 
 cuts_behind node worker generation c conns old new is met all level = record { at = c; node_is = is; met = met; added = all; is_level = level }
 
 pub cuts_front : {T E : Type 0} (r : Result T E) (n : NodeState) (conns old new : List ConnId)
-    → (left : List ConnId) × AddsFront (filter (is_cut_at n) conns) old new left → IsLevel n.seat.standing n.replica → OnErr r (CutsFrontBehind conns old new)
+    → (left : List ConnId) × ListsFront (filter (is_cut_at n) conns) old new left → IsLevel n.seat.standing n.replica → OnErr r (CutsFrontBehind conns old new)
 cuts_front (Ok done) n conns old new front level = tt
 cuts_front (Err why) n conns old new (left, front) level = record { at = n; left = left; added = front; is_level = level }

@@ -19,11 +19,11 @@ use Rattle.nr_entry.specs.declared.batch.Batch.{Batch}
 use Rattle.nr_entry.specs.declared.entry.Entry.{Entry}
 use Rattle.nr_entry.specs.declared.job.Job.{Job}
 use Rattle.nr_log_end.specs.declared.standing.Standing.{Standing}
-use Rattle.nr_log_end.specs.declared.standing.Turn.{Turn}
-use Rattle.nr_log_end.specs.declared.standing.Turn.TheVariants.{Applied, Ran}
+use Rattle.nr_log_end.specs.declared.standing.LogEvent.{LogEvent}
+use Rattle.nr_log_end.specs.declared.standing.LogEvent.TheVariants.{Applied, Ran}
 use Rattle.nr_log_end.specs.Standings.{record_of, applied_of, own_entries, reservation}
 use Rattle.nr_replica.specs.Replicas.{ReplicaState}
-use Rattle.nr_slots.specs.declared.view.Desk.{Desk}
+use Rattle.nr_slots.specs.declared.view.CombinerPast.{CombinerPast}
 use Rattle.nr_slots.specs.Rule.{no_desk}
 use Rattle.nr_slots.specs.Seats.{CombinerView, desk_of, with_lifted, with_answered}
 use Rattle.nr_node.specs.Level.{NodeState, unpassed, jobs_reserved}
@@ -108,7 +108,7 @@ module _ (Q : Item → Type 0) where
       let s = n.seat.standing in
       let passed = length (own_entries s.node (applied_of s.history)) in
       record {
-        done = subst (λ (h : List Turn). AllByRecursion Q (record_of h)) (sym none.0) tt;
+        done = subst (λ (h : List LogEvent). AllByRecursion Q (record_of h)) (sym none.0) tt;
         reserved = subst (λ (rs : List (ℕ × Entry)). AllByRecursion Q (jobs_reserved (drop passed rs))) (sym none.1) (drop_all passed [] tt);
         due = subst (λ (js : List Job). AllByRecursion Q (items_of js)) (sym none.2) tt;
         waits = subst (λ (js : List Job). AllByRecursion Q (items_of js)) (sym none.3) tt;
@@ -279,7 +279,7 @@ jobs_weaker Q R f n a = record {
 }
 
 -- of which batch an update is stays so at a later moment, and it is said of the node's connections alone
-pub speaks_of : (n : NodeState) (desks : List Desk) → SpeaksOf (IsOwnOfBatch n desks) n.book.node
+pub speaks_of : (n : NodeState) (desks : List CombinerPast) → SpeaksOf (IsOwnOfBatch n desks) n.book.node
 speaks_of n desks = (
   λ job moment update later of own.
       let b = of own in
@@ -303,7 +303,7 @@ speaks_of n desks = (
 )
 
 -- what was lifted before stays so
-pub of_lifted : (n m : NodeState) (v w : List Desk) → ((worker : ℕ) (job : Item) → IsOfWorker n worker job → IsOfWorker m worker job) → n.book.node ≡ m.book.node
+pub of_lifted : (n m : NodeState) (v w : List CombinerPast) → ((worker : ℕ) (job : Item) → IsOfWorker n worker job → IsOfWorker m worker job) → n.book.node ≡ m.book.node
     → ((worker : ℕ) (batch : Batch) → IsLifted v worker batch → IsLifted w worker batch) → (job : Item) → IsOwnOfBatch n v job → IsOwnOfBatch m w job
 of_lifted n m v w moves node lifted job of own =
     let b = of (own ∙ sym node) in
@@ -328,7 +328,7 @@ none_yet (x ∷ xs) zero e = absurd (omega (arith, e))
 none_yet (x ∷ xs) (suc k) e = none_yet xs k (omega (arith, e))
 
 -- a worker's desk changes: what lay on it is there as before, and no answer hands it back
-desk_changed : (desks : List Desk) (worker : ℕ) (desk : Desk) (more : List Batch) → worker < length desks → desk.lifted ≡ (get_or desks worker no_desk).lifted ++ more
+desk_changed : (desks : List CombinerPast) (worker : ℕ) (desk : CombinerPast) (more : List Batch) → worker < length desks → desk.lifted ≡ (get_or desks worker no_desk).lifted ++ more
     → ((k : ℕ) → k < length (get_or desks worker no_desk).lifted → HandsNoneBack (slice_get (get_or desks worker no_desk).answered k) → HandsNoneBack (slice_get desk.answered k))
     → (w : ℕ) (b : Batch) → IsLifted desks w b → IsLifted (set desks worker desk) w b
 desk_changed desks worker desk more near longer kept w b is =
@@ -338,23 +338,23 @@ desk_changed desks worker desk more near longer kept w b is =
           let there : get_or (set desks worker desk) w no_desk ≡ desk =
           ap (λ (k : ℕ). get_or (set desks worker desk) k no_desk) same.1 ∙ get_or-set_same desks worker desk no_desk near in
           let was : get_or desks w no_desk ≡ old = ap (λ (k : ℕ). get_or desks k no_desk) same.1 in
-          let whole : old.lifted ≡ is.before ++ b ∷ is.after = sym (ap (λ (d : Desk). d.lifted) was) ∙ is.lifted in
+          let whole : old.lifted ≡ is.before ++ b ∷ is.after = sym (ap (λ (d : CombinerPast). d.lifted) was) ∙ is.lifted in
           let long : length old.lifted ≡ length is.before + length (b ∷ is.after) = ap length whole ∙ length-append is.before (b ∷ is.after) in
           let below : length is.before < length old.lifted = omega (arith, long) in
           record {
             before = is.before;
             after = is.after ++ more;
-            lifted = ap (λ (d : Desk). d.lifted) there ∙ longer ∙ ap (λ (bs : List Batch). bs ++ more) whole ∙ append_assoc is.before (b ∷ is.after) more;
-            kept = subst (λ (d : Desk). HandsNoneBack (slice_get d.answered (length is.before))) (sym there)
-                (kept (length is.before) below (subst (λ (d : Desk). HandsNoneBack (slice_get d.answered (length is.before))) was is.kept));
+            lifted = ap (λ (d : CombinerPast). d.lifted) there ∙ longer ∙ ap (λ (bs : List Batch). bs ++ more) whole ∙ append_assoc is.before (b ∷ is.after) more;
+            kept = subst (λ (d : CombinerPast). HandsNoneBack (slice_get d.answered (length is.before))) (sym there)
+                (kept (length is.before) below (subst (λ (d : CombinerPast). HandsNoneBack (slice_get d.answered (length is.before))) was is.kept));
           }
       | inr other ↦
           let same : get_or (set desks worker desk) w no_desk ≡ get_or desks w no_desk = get_or-set_other desks worker w desk no_desk other.1 in
           record {
             before = is.before;
             after = is.after;
-            lifted = ap (λ (d : Desk). d.lifted) same ∙ is.lifted;
-            kept = subst (λ (d : Desk). HandsNoneBack (slice_get d.answered (length is.before))) (sym same) is.kept;
+            lifted = ap (λ (d : CombinerPast). d.lifted) same ∙ is.lifted;
+            kept = subst (λ (d : CombinerPast). HandsNoneBack (slice_get d.answered (length is.before))) (sym same) is.kept;
           }
     ]
 
@@ -388,17 +388,17 @@ lifted_last : (seat : CombinerView) (worker : ℕ) (batch : Batch) → worker < 
     → length (desk_of seat worker).lifted ≡ length (desk_of seat worker).answered → IsLifted (with_lifted worker batch seat).desks worker batch
 lifted_last seat worker batch near even =
     let old = desk_of seat worker in
-    let desk : Desk = record { lifted = old.lifted ++ batch ∷ []; answered = old.answered; grip = old.grip } in
+    let desk : CombinerPast = record { lifted = old.lifted ++ batch ∷ []; answered = old.answered; grip = old.grip } in
     let there : get_or (set seat.desks worker desk) worker no_desk ≡ desk = get_or-set_same seat.desks worker desk no_desk near in
     record {
       before = old.lifted;
       after = [];
-      lifted = ap (λ (d : Desk). d.lifted) there;
-      kept = subst (λ (d : Desk). HandsNoneBack (slice_get d.answered (length old.lifted))) (sym there) (none_yet old.answered (length old.lifted) even);
+      lifted = ap (λ (d : CombinerPast). d.lifted) there;
+      kept = subst (λ (d : CombinerPast). HandsNoneBack (slice_get d.answered (length old.lifted))) (sym there) (none_yet old.answered (length old.lifted) even);
     }
 
 -- the jobs of a batch that is taken in
-batch_from : (n : NodeState) (desks : List Desk) (worker : ℕ) (batch : Batch) (front jobs : Jobs) → IsLifted desks worker batch → items_of batch.jobs.items ≡ front ++ jobs
+batch_from : (n : NodeState) (desks : List CombinerPast) (worker : ℕ) (batch : Batch) (front jobs : Jobs) → IsLifted desks worker batch → items_of batch.jobs.items ≡ front ++ jobs
     → AllByRecursion (IsOfWorker n worker) jobs → AllByRecursion (IsOwnOfBatch n desks) jobs
 batch_from n desks worker batch front [] lifted is all = tt
 batch_from n desks worker batch front (job ∷ jobs) lifted is all = (

@@ -12,10 +12,10 @@ use Rattle.nr_entry.specs.declared.batch.Outcome.TheVariants.{Executed, Refused,
 use Rattle.nr_entry.specs.declared.batch.Refusal.{Refusal}
 use Rattle.nr_entry.specs.declared.batch.Refusal.TheVariants.{Stranger, WrongNumber}
 use Rattle.nr_entry.specs.declared.job.Job.{Job}
-use Rattle.nr_accounts.specs.Book.{refusal_of, is_in_order}
-use Rattle.nr_accounts.specs.Held.{has_stranger}
-use Rattle.nr_accounts.proofs.Batches.{all_of_due}
-use Rattle.nr_slots.specs.declared.view.Desk.{Desk}
+use Rattle.nr_job_numbers.specs.Book.{refusal_of, is_in_order}
+use Rattle.nr_job_numbers.specs.Stored.{has_stranger}
+use Rattle.nr_job_numbers.proofs.Batches.{all_of_due}
+use Rattle.nr_slots.specs.declared.view.CombinerPast.{CombinerPast}
 use Rattle.nr_slots.specs.Names.{IsBackOf, IsUnanswered, IsForLast, Names}
 use Rattle.nr_slots.specs.Rule.{no_desk}
 use Rattle.nr_slots.specs.Seats.{CombinerView, FoundNone, desk_of, with_lifted, with_answered}
@@ -34,7 +34,7 @@ pub near_of : (n : NodeState) (seat : CombinerView) (numbers : List ℕ) (worker
 near_of n seat numbers worker near s = subst (λ (k : ℕ). worker < k) s.workers near
 
 -- nothing is owed where all batches are answered
-none_by : (n : NodeState) (worker number : ℕ) (desk : Desk) (o : Option ℕ) → IsDesk n worker number desk o → length desk.lifted ≡ length desk.answered → o ≡ None
+none_by : (n : NodeState) (worker number : ℕ) (desk : CombinerPast) (o : Option ℕ) → IsDesk n worker number desk o → length desk.lifted ≡ length desk.answered → o ≡ None
 none_by n worker number desk None d even = refl
 none_by n worker number desk (Some owed) d even =
     let long : length desk.lifted ≡ length d.before + 1 = ap length d.lifted ∙ length-append d.before (d.batch ∷ []) in
@@ -47,10 +47,10 @@ pub idle_at : (n : NodeState) (seat after : CombinerView) (numbers : List ℕ) (
     → owed_at worker n ≡ None
 idle_at n seat after numbers worker batch near is u s =
     let old = desk_of seat worker in
-    let mid : Desk = record { lifted = old.lifted ++ batch ∷ []; answered = old.answered; grip = old.grip } in
+    let mid : CombinerPast = record { lifted = old.lifted ++ batch ∷ []; answered = old.answered; grip = old.grip } in
     let there : desk_of after worker ≡ mid = ap (λ (v : CombinerView). desk_of v worker) is ∙ get_or-set_same seat.desks worker mid no_desk near in
-    let long : length (old.lifted ++ batch ∷ []) ≡ length (u.0 ++ batch ∷ []) = ap (λ (d : Desk). length d.lifted) (sym there) ∙ ap length u.1 in
-    let few : length old.answered ≡ length u.0 = ap (λ (d : Desk). length d.answered) (sym there) ∙ u.2 in
+    let long : length (old.lifted ++ batch ∷ []) ≡ length (u.0 ++ batch ∷ []) = ap (λ (d : CombinerPast). length d.lifted) (sym there) ∙ ap length u.1 in
+    let few : length old.answered ≡ length u.0 = ap (λ (d : CombinerPast). length d.answered) (sym there) ∙ u.2 in
     let left : length (old.lifted ++ batch ∷ []) ≡ length old.lifted + 1 = length-append old.lifted (batch ∷ []) in
     let right : length (u.0 ++ batch ∷ []) ≡ length u.0 + 1 = length-append u.0 (batch ∷ []) in
     let even : length old.lifted ≡ length old.answered = omega (arith, long, few, left, right) in

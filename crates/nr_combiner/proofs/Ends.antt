@@ -15,14 +15,14 @@ use Rattle.nr_entry.specs.Jobs.{items_of}
 use Rattle.nr_entry.specs.declared.batch.Batch.{Batch}
 use Rattle.nr_log_end.specs.declared.standing.Standing.{Standing}
 use Rattle.nr_log_end.specs.Standings.{record_of}
-use Rattle.nr_accounts.specs.Held.{numbers_in}
+use Rattle.nr_job_numbers.specs.Stored.{numbers_in}
 use Rattle.nr_replica.specs.Members.{worker_of}
-use Rattle.nr_slots.specs.declared.view.Desk.{Desk}
-use Rattle.nr_slots.specs.declared.view.Lane.{Lane}
+use Rattle.nr_slots.specs.declared.view.CombinerPast.{CombinerPast}
+use Rattle.nr_slots.specs.declared.view.WorkerPast.{WorkerPast}
 use Rattle.nr_slots.specs.Names.{IsTold}
 use Rattle.nr_slots.specs.Rule.{no_desk}
 use Rattle.nr_node.specs.Level.{NodeState, jobs_reserved, unpassed}
-use Rattle.nr_node.specs.Sound.{Serves}
+use Rattle.nr_node.specs.Sound.{ServesOpened}
 use Rattle.nr_combiner.specs.Heard.{KnowsUnended}
 use Rattle.nr_combiner.specs.Pieces.{HasExecuted, HasJobOf, HasOwn}
 use Rattle.nr_combiner.specs.Served.{jobs_of, IsLifted, IsOfBatch, IsOwnOfBatch, AllJobs}
@@ -56,10 +56,10 @@ all_of P n a =
     (All-append P (items_of n.next) (items_of n.replica.waiting) a.due a.waits)
 
 -- a batch that has a job of the connection lay in the slot of the worker that serves it
-is_there : (desks : List Desk) (worker : ℕ) (batch : Batch) → IsLifted desks worker batch → Contains (get_or desks worker no_desk).lifted batch
+is_there : (desks : List CombinerPast) (worker : ℕ) (batch : Batch) → IsLifted desks worker batch → Contains (get_or desks worker no_desk).lifted batch
 is_there desks worker batch h = subst (λ (bs : List Batch). Contains bs batch) (sym h.lifted) (in_middle batch h.before h.after)
 
-of_batch : (n : NodeState) (desks : List Desk) (worker : ℕ) (c : Connection) (job : Item) → job.connection ≡ c → worker_of n.replica.members c ≡ worker
+of_batch : (n : NodeState) (desks : List CombinerPast) (worker : ℕ) (c : Connection) (job : Item) → job.connection ≡ c → worker_of n.replica.members c ≡ worker
     → IsOfBatch n desks job → HasJobOf c (get_or desks worker no_desk).lifted
 of_batch n desks worker c job own served b =
     let mine : b.worker ≡ worker = sym b.own.served.1 ∙ ap (worker_of n.replica.members) own ∙ served in
@@ -72,7 +72,7 @@ of_batch n desks worker c job own served b =
     }
 
 -- so does one of which a node has a job, where the connection is its own
-pub job_lifted : (n : NodeState) (desks : List Desk) (worker next : ℕ) (c : Connection) → c.node ≡ n.book.node → worker_of n.replica.members c ≡ worker
+pub job_lifted : (n : NodeState) (desks : List CombinerPast) (worker next : ℕ) (c : Connection) → c.node ≡ n.book.node → worker_of n.replica.members c ≡ worker
     → numbers_in c (jobs_of n) ≡ range_with_len 0 next → 0 < next → AllJobs (IsOwnOfBatch n desks) n → HasJobOf c (get_or desks worker no_desk).lifted
 job_lifted n desks worker next c node served numbers some all =
     let count : length (numbers_in c (jobs_of n)) ≡ next = ap length numbers ∙ length-range_with_len 0 next in
@@ -90,11 +90,11 @@ job_posted c lifted posted front h = record {
 }
 
 -- so a worker knows of one, told of a note
-pub knows_unended : (c : Connection) (s : Standing) (lane : Lane) (desks : List Desk) (worker seat : ℕ) (desk : Desk) → worker ≡ seat → desk ≡ get_or desks seat no_desk
-    → IsTold (get_or desks seat no_desk) lane → HasExecuted (get_or desks worker no_desk) s → HasOwn worker (get_or desks worker no_desk) s → Serves s worker c
+pub knows_unended : (c : Connection) (s : Standing) (lane : WorkerPast) (desks : List CombinerPast) (worker seat : ℕ) (desk : CombinerPast) → worker ≡ seat → desk ≡ get_or desks seat no_desk
+    → IsTold (get_or desks seat no_desk) lane → HasExecuted (get_or desks worker no_desk) s → HasOwn worker (get_or desks worker no_desk) s → ServesOpened s worker c
     → HasJobOf c (get_or desks worker no_desk).lifted → KnowsUnended seat c desk s lane
 knows_unended c s lane desks worker seat desk is kept told executed own serves job = record {
   knows = knows_by s lane desks worker seat desk is kept told executed own;
-  serves = subst (λ (k : ℕ). Serves s k c) is serves;
+  serves = subst (λ (k : ℕ). ServesOpened s k c) is serves;
   posted = job_posted c (get_or desks seat no_desk).lifted lane.posted told.0 (subst (λ (k : ℕ). HasJobOf c (get_or desks k no_desk).lifted) is job);
 }

@@ -7,7 +7,7 @@ use Rattle.nr_entry.specs.Jobs.{items_of}
 use Rattle.nr_entry.specs.declared.batch.Batch.{Batch}
 use Rattle.nr_entry.specs.declared.batch.Answer.{Answer}
 use Rattle.nr_log_end.specs.Standings.{record_of}
-use Rattle.nr_slots.specs.declared.view.Desk.{Desk}
+use Rattle.nr_slots.specs.declared.view.CombinerPast.{CombinerPast}
 use Rattle.nr_slots.specs.Seats.{CombinerView, desk_of}
 use Rattle.nr_replica.specs.Members.{Member, worker_of}
 use Rattle.nr_node.specs.Level.{NodeState}
@@ -63,7 +63,7 @@ executed_still old more (batch ∷ batches) [] all = tt
 executed_still old more (batch ∷ batches) (answer ∷ answers) all =
     (λ e. stand_still old more (items_of batch.jobs.items) (all.0 e), executed_still old more batches answers all.1)
 
-pub held_still : (n m : NodeState) → Grows n m → (worker number : ℕ) (desk : Desk) → HoldsBatch n worker number desk → HoldsBatch m worker number desk
+pub held_still : (n m : NodeState) → Grows n m → (worker number : ℕ) (desk : CombinerPast) → HoldsBatch n worker number desk → HoldsBatch m worker number desk
 held_still n m grows worker number desk h = record {
   before = h.before;
   batch = h.batch;
@@ -73,7 +73,7 @@ held_still n m grows worker number desk h = record {
   jobs = all_still (taken_still n m grows worker) (items_of h.batch.jobs.items) h.jobs;
 }
 
-pub desk_still : (n m : NodeState) → Grows n m → (worker number : ℕ) (desk : Desk) (o p : Option ℕ) → IsStill o p → IsDesk n worker number desk o → IsDesk m worker number desk p
+pub desk_still : (n m : NodeState) → Grows n m → (worker number : ℕ) (desk : CombinerPast) (o p : Option ℕ) → IsStill o p → IsDesk n worker number desk o → IsDesk m worker number desk p
 desk_still n m grows worker number desk None None still d = d
 desk_still n m grows worker number desk None (Some p) still d = absurd still
 desk_still n m grows worker number desk (Some o) None still d = absurd still

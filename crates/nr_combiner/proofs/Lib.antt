@@ -1,7 +1,7 @@
 pub mod Deeds
 pub mod Among
 mod Grows
-pub mod Desks
+pub mod CombinerPasts
 pub mod Lifted
 pub mod Turns
 pub mod Due

@@ -14,9 +14,9 @@ use Rattle.nr_entry.specs.declared.batch.Outcome.{Outcome}
 use Rattle.nr_entry.specs.declared.batch.Outcome.TheVariants.{Executed, Refused, Down}
 use Rattle.nr_entry.specs.declared.job.Job.{Job}
 use Rattle.nr_log_end.specs.Standings.{record_of}
-use Rattle.nr_accounts.specs.Held.{takes_all}
+use Rattle.nr_job_numbers.specs.Stored.{takes_all}
 use Rattle.nr_replica.specs.Members.{jobs_of_worker}
-use Rattle.nr_slots.specs.declared.view.Desk.{Desk}
+use Rattle.nr_slots.specs.declared.view.CombinerPast.{CombinerPast}
 use Rattle.nr_slots.specs.Seats.{CombinerView, desk_of, with_lifted, with_answered}
 use Rattle.nr_slots.specs.Rule.{no_desk}
 use Rattle.nr_slots.specs.Names.{IsBackOf, IsForLast}
@@ -27,10 +27,10 @@ use Rattle.nr_combiner.specs.Served.{owed_at, IsAmong, IsOfWorker, IsTakenOf, Ho
 use Rattle.nr_combiner.proofs.Among.{all_among, among_done, newly_there, taken_keeps}
 use Rattle.nr_combiner.proofs.Deeds.{same_jobs, jobs_weaker, of_lifted, answered_lifted, back_lifted, taken_jobs}
 use Rattle.nr_combiner.proofs.Grows.{Grows, still_itself, desk_still, all_still, own_still}
-use Rattle.nr_combiner.proofs.Desks.{all_of_node, executed_more, executed_front, executed_answered}
+use Rattle.nr_combiner.proofs.CombinerPasts.{all_of_node, executed_more, executed_front, executed_answered}
 
 -- at one worker's desk another one lies, and the numbers and what is owed are changed there alone
-pub at_desk : (n m : NodeState) (seat : CombinerView) (numbers : List ℕ) (worker number : ℕ) (desk : Desk) (owed : Option ℕ) (v : CombinerView)
+pub at_desk : (n m : NodeState) (seat : CombinerView) (numbers : List ℕ) (worker number : ℕ) (desk : CombinerPast) (owed : Option ℕ) (v : CombinerView)
     → worker < length n.replica.owed → Grows n m → m.replica.owed ≡ set n.replica.owed worker owed → v.desks ≡ set seat.desks worker desk
     → record_of m.seat.standing.history ≡ record_of n.seat.standing.history
     → IsDesk m worker number desk owed → AreExecuted (record_of n.seat.standing.history) desk.lifted desk.answered → AllJobs (IsOwnOfBatch m v.desks) m
@@ -43,20 +43,20 @@ at_desk n m seat numbers worker number desk owed v near grows owed_is desks_is s
       numbered = length-set numbers worker number ∙ s.numbered ∙ sym grows.workers;
       desks = λ w w_near. elim (eqb_tells w worker) [
         | inl e ↦ subst (λ k. IsDesk m k (get_or (set numbers worker number) k 0) (desk_of v k) (owed_at k m)) (sym e.1)
-            (subst (λ (x : ℕ × (Desk × Option ℕ)). IsDesk m worker x.0 x.1.0 x.1.1)
+            (subst (λ (x : ℕ × (CombinerPast × Option ℕ)). IsDesk m worker x.0 x.1.0 x.1.1)
             (λ i. (
               sym (get_or-set_same numbers worker number 0 near'') i,
               (
-                sym (ap (λ (ds : List Desk). get_or ds worker no_desk) desks_is ∙ get_or-set_same seat.desks worker desk no_desk near') i,
+                sym (ap (λ (ds : List CombinerPast). get_or ds worker no_desk) desks_is ∙ get_or-set_same seat.desks worker desk no_desk near') i,
                 sym (ap (λ (os : List (Option ℕ)). get_or os worker None) owed_is ∙ get_or-set_same n.replica.owed worker owed None near) i,
               ),
             ))
             here)
-        | inr e ↦ subst (λ (x : ℕ × (Desk × Option ℕ)). IsDesk m w x.0 x.1.0 x.1.1)
+        | inr e ↦ subst (λ (x : ℕ × (CombinerPast × Option ℕ)). IsDesk m w x.0 x.1.0 x.1.1)
             (λ i. (
               sym (get_or-set_other numbers worker w number 0 e.1) i,
               (
-                sym (ap (λ (ds : List Desk). get_or ds w no_desk) desks_is ∙ get_or-set_other seat.desks worker w desk no_desk e.1) i,
+                sym (ap (λ (ds : List CombinerPast). get_or ds w no_desk) desks_is ∙ get_or-set_other seat.desks worker w desk no_desk e.1) i,
                 sym (ap (λ (os : List (Option ℕ)). get_or os w None) owed_is ∙ get_or-set_other n.replica.owed worker w owed None e.1) i,
               ),
             ))
@@ -65,10 +65,10 @@ at_desk n m seat numbers worker number desk owed v near grows owed_is desks_is s
       ];
       executed = λ w w_near. subst (λ (r : Sequence). AreExecuted r (desk_of v w).lifted (desk_of v w).answered) (sym same) (elim (eqb_tells w worker) [
         | inl e ↦ subst (λ k. AreExecuted (record_of n.seat.standing.history) (desk_of v k).lifted (desk_of v k).answered) (sym e.1)
-            (subst (λ (d : Desk). AreExecuted (record_of n.seat.standing.history) d.lifted d.answered)
-            (sym (ap (λ (ds : List Desk). get_or ds worker no_desk) desks_is ∙ get_or-set_same seat.desks worker desk no_desk near')) executed)
-        | inr e ↦ subst (λ (d : Desk). AreExecuted (record_of n.seat.standing.history) d.lifted d.answered)
-            (sym (ap (λ (ds : List Desk). get_or ds w no_desk) desks_is ∙ get_or-set_other seat.desks worker w desk no_desk e.1))
+            (subst (λ (d : CombinerPast). AreExecuted (record_of n.seat.standing.history) d.lifted d.answered)
+            (sym (ap (λ (ds : List CombinerPast). get_or ds worker no_desk) desks_is ∙ get_or-set_same seat.desks worker desk no_desk near')) executed)
+        | inr e ↦ subst (λ (d : CombinerPast). AreExecuted (record_of n.seat.standing.history) d.lifted d.answered)
+            (sym (ap (λ (ds : List CombinerPast). get_or ds w no_desk) desks_is ∙ get_or-set_other seat.desks worker w desk no_desk e.1))
             (s.executed w (subst (λ k. w < k) grows.workers w_near))
       ]);
       handed_in = jobs;
@@ -140,12 +140,12 @@ back_served n seat numbers worker batch answer near idle other s =
     let old = desk_of seat worker in
     let near' : worker < length seat.desks = subst (λ k. worker < k) (sym s.workers) near in
     let even : length old.lifted ≡ length old.answered = subst (IsDesk n worker (get_or numbers worker 0) old) idle (s.desks worker near) in
-    let mid : Desk = record { lifted = old.lifted ++ batch ∷ []; answered = old.answered; grip = old.grip } in
-    let desk : Desk = record { lifted = old.lifted ++ batch ∷ []; answered = old.answered ++ answer ∷ []; grip = old.grip } in
+    let mid : CombinerPast = record { lifted = old.lifted ++ batch ∷ []; answered = old.answered; grip = old.grip } in
+    let desk : CombinerPast = record { lifted = old.lifted ++ batch ∷ []; answered = old.answered ++ answer ∷ []; grip = old.grip } in
     let v = with_answered worker answer (with_lifted worker batch seat) in
     let there : desk_of (with_lifted worker batch seat) worker ≡ mid = get_or-set_same seat.desks worker mid no_desk near' in
     let desks_is : v.desks ≡ set seat.desks worker desk =
-    ap (λ (d : Desk). set (set seat.desks worker mid) worker record { lifted = d.lifted; answered = d.answered ++ answer ∷ []; grip = d.grip }) there
+    ap (λ (d : CombinerPast). set (set seat.desks worker mid) worker record { lifted = d.lifted; answered = d.answered ++ answer ∷ []; grip = d.grip }) there
     ∙ set-set seat.desks worker mid desk in
     subst (λ (ns : List ℕ). IsServed n v ns) (set-get_or numbers worker 0)
     (at_desk n n seat numbers worker (get_or numbers worker 0) desk None v near (grows_itself n)
@@ -154,7 +154,7 @@ back_served n seat numbers worker batch answer near idle other s =
     (executed_answered (record_of n.seat.standing.history) old.lifted batch old.answered answer (sym even) (λ e. absurd (other e)) (s.executed worker near))
     (jobs_weaker (IsOwnOfBatch n seat.desks) (IsOwnOfBatch n v.desks)
     (of_lifted n n seat.desks v.desks (λ w job own. own) refl
-    (λ w b is. subst (λ (ds : List Desk). IsLifted ds w b) (sym desks_is) (back_lifted seat worker batch answer near' even w b is))) n s.handed_in) s)
+    (λ w b is. subst (λ (ds : List CombinerPast). IsLifted ds w b) (sym desks_is) (back_lifted seat worker batch answer near' even w b is))) n s.handed_in) s)
 
 -- nothing comes back of one that isn't refused
 none_back : (o : Outcome) (jobs : List Job) → IsNoRefusal o → IsBackOf o jobs
@@ -163,7 +163,7 @@ none_back Down jobs none = tt
 none_back (Refused why back) jobs none = absurd none
 
 -- the answer is for the batch that the desk holds
-pub is_last : (n : NodeState) (worker number : ℕ) (desk : Desk) (answer : Answer) → HoldsBatch n worker number desk
+pub is_last : (n : NodeState) (worker number : ℕ) (desk : CombinerPast) (answer : Answer) → HoldsBatch n worker number desk
     → answer.node ≡ n.book.node → answer.worker ≡ worker → answer.batch ≡ number → IsNoRefusal answer.outcome
     → IsForLast answer desk.lifted desk.answered
 is_last n worker number desk answer h node named batch none = (
@@ -196,7 +196,7 @@ answered_served n m seat numbers worker owed answer near is told m_is done s =
     let r = record_of n.seat.standing.history in
     let old = desk_of seat worker in
     let h = holds_some n seat numbers worker owed near is s in
-    let desk : Desk = record { lifted = old.lifted; answered = old.answered ++ answer ∷ []; grip = old.grip } in
+    let desk : CombinerPast = record { lifted = old.lifted; answered = old.answered ++ answer ∷ []; grip = old.grip } in
     let v = with_answered worker answer seat in
     let all : AreExecuted r (h.before ++ h.batch ∷ []) old.answered = subst (λ (bs : List Batch). AreExecuted r bs old.answered) h.lifted (s.executed worker near) in
     let now : AreExecuted r old.lifted (old.answered ++ answer ∷ []) =

@@ -16,18 +16,18 @@ use Rattle.nr_entry.specs.declared.entry.Entry.{Entry}
 use Rattle.nr_log_end.specs.declared.standing.Standing.{Standing}
 use Rattle.nr_log_end.specs.Standings.{opened_with, record_of}
 use Rattle.nr_oplog.specs.declared.view.LogView.{LogView}
-use Rattle.nr_accounts.specs.Book.{Book}
+use Rattle.nr_job_numbers.specs.Book.{Book}
 use Rattle.nr_replica.specs.Members.{Member, fresh_member, closed_member, handed_member}
 use Rattle.nr_replica.specs.Replicas.{ReplicaState}
-use Rattle.nr_slots.specs.declared.view.Desk.{Desk}
+use Rattle.nr_slots.specs.declared.view.CombinerPast.{CombinerPast}
 use Rattle.nr_slots.specs.Rule.{no_desk}
 use Rattle.nr_slots.specs.Seats.{CombinerView, desk_of}
 use Rattle.nr_node.specs.Batches.{IsOpened}
 use Rattle.nr_node.specs.Collected.{AreHanded}
 use Rattle.nr_node.specs.Level.{NodeState, connection_at, unpassed, jobs_reserved}
 use Rattle.nr_node.specs.Steps.{nobody, opened_node, HasOpened, closed_node, refusing_node, HasHandedOut, IsStill}
-use Rattle.nr_node.specs.declared.collecting.Handed.{Handed}
-use Rattle.nr_node.specs.declared.answers.OpenError.{OpenError}
+use Rattle.nr_node.specs.declared.collecting.LastPiece.{LastPiece}
+use Rattle.nr_node.specs.declared.answers.CoreOpenError.{CoreOpenError}
 use Rattle.nr_combiner.specs.Served.{jobs_of, owed_at, IsAmong, IsDesk, AreExecuted, IsOwnOfBatch, AllJobs, IsServed}
 use Rattle.nr_node.proofs.Lists.{record_opened, unpassed_opened}
 use Rattle.nr_combiner.proofs.Among.{same_keeps}
@@ -84,7 +84,7 @@ opened_on n v seat numbers limit worker seen noted s =
     } in
     (served_still n m seat numbers grows (λ w. still_itself (owed_at w n)) jobs s, refl)
 
-pub opened_served : (r : Result ConnId OpenError) (n m : NodeState) (seat : CombinerView) (numbers : List ℕ) (limit worker : ℕ)
+pub opened_served : (r : Result ConnId CoreOpenError) (n m : NodeState) (seat : CombinerView) (numbers : List ℕ) (limit worker : ℕ)
     → OnOk r (HasOpened limit worker n m) → OnErr r (m ≡ n) → IsServed n seat numbers → GoesOn n m seat numbers
 opened_served (Ok conn) n m seat numbers limit worker opened unchanged s =
     subst (λ (x : NodeState). GoesOn n x seat numbers) (sym opened.opened)
@@ -132,7 +132,7 @@ handed_served (Ok (Some t)) n m seat numbers serial most P none some failed s = 
 handed_served (Err memory) n m seat numbers serial most P none some failed s = same_on n m seat numbers failed s
 
 -- so they are for one connection after the other
-pub all_handed_on : (most : ℕ) (serials : List ℕ) (pieces : List Handed) (n m : NodeState) (seat : CombinerView) (numbers : List ℕ)
+pub all_handed_on : (most : ℕ) (serials : List ℕ) (pieces : List LastPiece) (n m : NodeState) (seat : CombinerView) (numbers : List ℕ)
     → AreHanded most serials pieces n m → IsServed n seat numbers → GoesOn n m seat numbers
 all_handed_on most [] [] n m seat numbers same s = same_on n m seat numbers same s
 all_handed_on most [] (one ∷ pieces) n m seat numbers h s = absurd h
@@ -173,12 +173,12 @@ fresh_served n seat numbers workers owed desks long jobs =
     let idle : (w : ℕ) → w < length n.replica.owed → owed_at w n ≡ None =
     λ w near. ap (λ (os : List (Option ℕ)). get_or os w None) owed ∙ get_or-replicate {A = Option ℕ} workers w None None (subst (λ (k : ℕ). w < k) owed_long near) in
     let empty : (w : ℕ) → w < length n.replica.owed → desk_of seat w ≡ no_desk =
-    λ w near. ap (λ (ds : List Desk). get_or ds w no_desk) desks ∙ get_or-replicate {A = Desk} workers w no_desk no_desk (subst (λ (k : ℕ). w < k) owed_long near) in
+    λ w near. ap (λ (ds : List CombinerPast). get_or ds w no_desk) desks ∙ get_or-replicate {A = CombinerPast} workers w no_desk no_desk (subst (λ (k : ℕ). w < k) owed_long near) in
     record {
-      workers = ap length desks ∙ length-replicate {A = Desk} workers no_desk ∙ sym owed_long;
+      workers = ap length desks ∙ length-replicate {A = CombinerPast} workers no_desk ∙ sym owed_long;
       numbered = long ∙ sym owed_long;
       desks = λ w near. subst (IsDesk n w (get_or numbers w 0) (desk_of seat w)) (sym (idle w near))
-          (subst (λ (d : Desk). length d.lifted ≡ length d.answered) (sym (empty w near)) refl);
-      executed = λ w near. subst (λ (d : Desk). AreExecuted (record_of n.seat.standing.history) d.lifted d.answered) (sym (empty w near)) tt;
+          (subst (λ (d : CombinerPast). length d.lifted ≡ length d.answered) (sym (empty w near)) refl);
+      executed = λ w near. subst (λ (d : CombinerPast). AreExecuted (record_of n.seat.standing.history) d.lifted d.answered) (sym (empty w near)) tt;
       handed_in = jobs;
     }

@@ -5,12 +5,12 @@ use Rattle.std.proofs.lemmas.List.{length-map}
 use Rattle.nr_model.specs.Items.{Sequence}
 use Rattle.nr_entry.specs.declared.entry.Entry.{Entry}
 use Rattle.nr_log_end.specs.declared.standing.Standing.{Standing}
-use Rattle.nr_log_end.specs.declared.standing.Turn.TheVariants.{Applied}
+use Rattle.nr_log_end.specs.declared.standing.LogEvent.TheVariants.{Applied}
 use Rattle.nr_log_end.specs.Standings.{passed_of, record_of}
-use Rattle.nr_accounts.specs.Book.{Book}
+use Rattle.nr_job_numbers.specs.Book.{Book}
 use Rattle.nr_replica.specs.Members.{Member, fresh_member, cut_member}
 use Rattle.nr_replica.specs.Replicas.{ReplicaState}
-use Rattle.nr_slots.specs.declared.view.Desk.{Desk}
+use Rattle.nr_slots.specs.declared.view.CombinerPast.{CombinerPast}
 use Rattle.nr_slots.specs.Seats.{CombinerView, desk_of}
 use Rattle.nr_node.specs.Advanced.{HasPassed, jobs_of_own}
 use Rattle.nr_node.specs.Level.{NodeState, jobs_reserved}
@@ -38,7 +38,7 @@ passed_record : (es : List Entry) (s t : Standing) → HasPassed es s t → reco
 passed_record es s t h = ap (λ (x : Standing). record_of x.history) h.standing ∙ record-append s.history (map Applied es)
 
 -- a desk whose batches are all answered
-idle_desk : (n m : NodeState) (worker number : ℕ) (desk : Desk) (o p : Option ℕ) → o ≡ None → p ≡ None → IsDesk n worker number desk o → IsDesk m worker number desk p
+idle_desk : (n m : NodeState) (worker number : ℕ) (desk : CombinerPast) (o p : Option ℕ) → o ≡ None → p ≡ None → IsDesk n worker number desk o → IsDesk m worker number desk p
 idle_desk n m worker number desk o p none still d = subst (IsDesk m worker number desk) (sym still) (subst (IsDesk n worker number desk) none d)
 
 pub revived_served : (offer : OfferState) (n m : NodeState) (seat : CombinerView) (numbers : List ℕ) → HasRevived offer n m → IsServed n seat numbers → GoesOn n m seat numbers

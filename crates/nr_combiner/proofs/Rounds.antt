@@ -1,7 +1,7 @@
 -- Desks are neither added nor taken away as batches are lifted and answered.
 use Rattle.std.proofs.Common.{◌≡◌, ℕ, zero, suc, ◌+◌, Bool, inl, inr, [], ◌∷◌, ◌++◌, length, length-set, ap, ◌∙◌, subst, arith}
 use Rattle.std.specs.Prelude.{Result}
-use Rattle.nr_accounts.specs.Book.{Book}
+use Rattle.nr_job_numbers.specs.Book.{Book}
 use Rattle.nr_blob.specs.declared.memory.Memory.{Memory}
 use Rattle.nr_entry.specs.declared.batch.Batch.{Batch}
 use Rattle.nr_entry.specs.declared.batch.Answer.{Answer}

@@ -5,7 +5,7 @@ use Rattle.atomic_table.specs.Seated.{TableId}
 use Rattle.nr_slots.specs.Seats.{SlotsView}
 use Rattle.nr_combiner.specs.Opened.{AreNamed, AreOfWorkers}
 use Rattle.nr_combiner.specs.Shared.{NodeView}
-use Rattle.nr_combiner.specs.Workers.{WorkerState, fresh_worker, fresh_workers}
+use Rattle.nr_combiner.specs.Workers.{NodeHandleState, fresh_worker, fresh_workers}
 
 -- what holds of each that is left holds of the first
 pub first_is : {A : Type 0} (xs ys : List A) (x : A) (f : ℕ → A) (n : ℕ) → xs ≡ x ∷ ys → ((k : ℕ) → k < length xs → slice_get xs k ≡ Some (f (n + k))) → x ≡ f n
@@ -62,7 +62,7 @@ pub none_of : (workers : ℕ) (slots : List SlotsView) → slots ≡ [] → AreO
 none_of workers slots is node one at = absurd (cc (sym at ∙ ap (λ l. slice_get l node) is))
 
 -- workers that were made, and those that are to be made, are all
-pub one_made : (shared : NodeView) (whole : ℕ) (ws vs : List WorkerState) (w : WorkerState) (count left : ℕ) → vs ≡ ws ++ w ∷ [] → w ≡ fresh_worker shared (length ws)
+pub one_made : (shared : NodeView) (whole : ℕ) (ws vs : List NodeHandleState) (w : NodeHandleState) (count left : ℕ) → vs ≡ ws ++ w ∷ [] → w ≡ fresh_worker shared (length ws)
     → count ≡ suc left → ws ++ fresh_workers shared (length ws) count ≡ fresh_workers shared 0 whole
     → vs ++ fresh_workers shared (length vs) left ≡ fresh_workers shared 0 whole
 one_made shared whole ws vs w count left more is fewer all =

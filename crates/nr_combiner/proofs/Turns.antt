@@ -7,11 +7,11 @@ use Rattle.nr_blob.specs.declared.memory.Memory.{Memory}
 use Rattle.nr_entry.specs.declared.entry.Entry.{Entry}
 use Rattle.nr_entry.specs.declared.job.Job.{Job}
 use Rattle.nr_log_end.specs.declared.standing.Standing.{Standing}
-use Rattle.nr_log_end.specs.declared.standing.Turn.{Turn}
-use Rattle.nr_log_end.specs.declared.standing.Turn.TheVariants.{Applied, Ran}
+use Rattle.nr_log_end.specs.declared.standing.LogEvent.{LogEvent}
+use Rattle.nr_log_end.specs.declared.standing.LogEvent.TheVariants.{Applied, Ran}
 use Rattle.nr_log_end.specs.Standings.{record_of}
 use Rattle.nr_log_end.specs.Tries.{IsFull, IsLost}
-use Rattle.nr_accounts.specs.Book.{Book}
+use Rattle.nr_job_numbers.specs.Book.{Book}
 use Rattle.nr_replica.specs.Members.{Member, fresh_member}
 use Rattle.nr_replica.specs.Replicas.{ReplicaState}
 use Rattle.nr_slots.specs.Seats.{CombinerView}
@@ -55,7 +55,7 @@ served_same n m seat numbers node owed members history keeps jobs s =
       workers = ap length owed;
       members = members;
       keeps = keeps;
-      log = subst (λ (h : List Turn). IsBeginningOf r (record_of h)) (sym history) (begins_itself r);
+      log = subst (λ (h : List LogEvent). IsBeginningOf r (record_of h)) (sym history) (begins_itself r);
     } in
     served_still n m seat numbers grows
     (λ worker. subst (λ (os : List (Option ℕ)). IsStill (owed_at worker n) (get_or os worker None)) (sym owed) (still_itself (owed_at worker n))) jobs s

@@ -4,7 +4,7 @@ use Rattle.nr_blob.specs.declared.memory.Memory.{Memory}
 use Rattle.nr_entry.specs.Jobs.{connection_of}
 use Rattle.nr_entry.specs.declared.conn.ConnId.{ConnId}
 use Rattle.nr_log_end.specs.declared.standing.Standing.{Standing}
-use Rattle.nr_accounts.specs.declared.account.Unended.{Unended}
+use Rattle.nr_job_numbers.specs.declared.account.Unended.{Unended}
 use Rattle.nr_slots.specs.Seats.{NoteView, desk_of, note_of}
 use Rattle.nr_node.specs.Batches.{is_cut_at}
 use Rattle.nr_node.specs.Level.{NodeState, connection_at, IsLevel}
@@ -12,12 +12,12 @@ use Rattle.nr_node.specs.Revived.{OfferState, IsOffered}
 use Rattle.nr_node.specs.Steps.{refusing_node}
 use Rattle.nr_node.specs.declared.answers.Round.{Round}
 use Rattle.nr_node.specs.declared.answers.Round.TheVariants as rounds
-use Rattle.nr_node.specs.declared.collecting.Handed.{Handed}
+use Rattle.nr_node.specs.declared.collecting.LastPiece.{LastPiece}
 use Rattle.nr_combiner.specs.declared.answering.Collected.{Collected}
 use Rattle.nr_combiner.specs.declared.answering.Lifts.{Lifts}
 use Rattle.nr_combiner.specs.declared.answering.Lifts.TheVariants.{All}
 use Rattle.nr_combiner.specs.declared.answering.Turned.{Turned}
-use Rattle.nr_combiner.specs.Pieces.{AddsFront}
+use Rattle.nr_combiner.specs.Pieces.{ListsFront}
 use Rattle.nr_combiner.specs.Counts.{generation_of}
 use Rattle.nr_combiner.specs.Served.{CombinerState, IsServed, StandsLevel}
 use Rattle.nr_combiner.specs.Shared.{NodeView}
@@ -27,7 +27,7 @@ use Rattle.nr_combiner.specs.Turned.{HandsOutTo, HasTurned}
 -- A turn of this node: it is down exactly where it says so, and keeps what a combiner keeps. As it began the worker had this generation: nothing was handed out for its
 -- connections, and none of them was closed, since it was told of that. As it ended so many batches of the worker were answered as it says, as far as a u64 counts, and the
 -- node had so many connections as it came back last.
-pub record TurnsBehind (places node worker generation : ℕ) (which : Lifts) (most : ℕ) (old new : List Handed) (turned : Turned) (s : Standing) (note : NoteView) : Type 0 where
+pub record TurnsBehind (places node worker generation : ℕ) (which : Lifts) (most : ℕ) (old new : List LastPiece) (turned : Turned) (s : Standing) (note : NoteView) : Type 0 where
   pub before : CombinerState
   pub after : CombinerState
   pub has_turned : HasTurned places worker which most old new turned s note before after
@@ -44,7 +44,7 @@ pub record TurnsBehind (places node worker generation : ℕ) (which : Lifts) (mo
 
 -- It handed out alone, without a turn: no batch is lifted or answered, nothing is put into the log, and no entry is passed. So many batches of the worker were answered
 -- before.
-pub record CollectsBehind (node worker generation most : ℕ) (old new : List Handed) (told : Collected) (s : Standing) (note : NoteView) : Type 0 where
+pub record CollectsBehind (node worker generation most : ℕ) (old new : List LastPiece) (told : Collected) (s : Standing) (note : NoteView) : Type 0 where
   pub before : CombinerState
   pub after : CombinerState
   pub handed : HandsOutTo worker most old new told.result s note before after
@@ -127,5 +127,5 @@ pub record CutsBehind (node worker generation : ℕ) (conns old new : List ConnI
 pub record CutsFrontBehind (conns old new : List ConnId) : Type 0 where
   pub at : NodeState
   pub left : List ConnId
-  pub added : AddsFront (filter (is_cut_at at) conns) old new left
+  pub added : ListsFront (filter (is_cut_at at) conns) old new left
   pub is_level : IsLevel at.seat.standing at.replica

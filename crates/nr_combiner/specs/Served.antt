@@ -10,7 +10,7 @@ use Rattle.nr_entry.specs.declared.batch.Answer.{Answer}
 use Rattle.nr_entry.specs.declared.batch.Outcome.{Outcome}
 use Rattle.nr_entry.specs.declared.batch.Outcome.TheVariants.{Executed, Down, Refused}
 use Rattle.nr_log_end.specs.Standings.{record_of}
-use Rattle.nr_slots.specs.declared.view.Desk.{Desk}
+use Rattle.nr_slots.specs.declared.view.CombinerPast.{CombinerPast}
 use Rattle.nr_slots.specs.Rule.{no_desk}
 use Rattle.nr_slots.specs.Seats.{CombinerView, desk_of}
 use Rattle.nr_slots.specs.Codes.{combiner_code}
@@ -71,7 +71,7 @@ pub record IsTakenOf (n : NodeState) (worker : ℕ) (job : Item) : Type 0 where
   pub has : n.replica.down ≡ false → IsAmong job (jobs_of n)
 
 -- the batch that was lifted last is the only one that isn't answered; it names the worker and this number, and its jobs were taken
-pub record HoldsBatch (n : NodeState) (worker number : ℕ) (desk : Desk) : Type 0 where
+pub record HoldsBatch (n : NodeState) (worker number : ℕ) (desk : CombinerPast) : Type 0 where
   pub before : List Batch
   pub batch : Batch
   pub lifted : desk.lifted ≡ before ++ batch ∷ []
@@ -80,7 +80,7 @@ pub record HoldsBatch (n : NodeState) (worker number : ℕ) (desk : Desk) : Type
   pub jobs : AllByRecursion (IsTakenOf n worker) (items_of batch.jobs.items)
 
 -- a worker's desk: all batches are answered where it waits for no answer
-abbrev pub IsDesk : NodeState → ℕ → ℕ → Desk → Option ℕ → Type 0
+abbrev pub IsDesk : NodeState → ℕ → ℕ → CombinerPast → Option ℕ → Type 0
 IsDesk n worker number desk None = length desk.lifted ≡ length desk.answered
 IsDesk n worker number desk (Some owed) = HoldsBatch n worker number desk
 
@@ -107,21 +107,21 @@ HandsNoneBack None = Unit {0}
 HandsNoneBack (Some answer) = IsNoRefusal answer.outcome
 
 -- a batch was lifted from a worker's slot, and wasn't handed back
-pub record IsLifted (desks : List Desk) (worker : ℕ) (batch : Batch) : Type 0 where
+pub record IsLifted (desks : List CombinerPast) (worker : ℕ) (batch : Batch) : Type 0 where
   pub before : List Batch
   pub after : List Batch
   pub lifted : (slice_index_or desks worker no_desk).lifted ≡ before ++ batch ∷ after
   pub kept : HandsNoneBack (slice_get (slice_index_or desks worker no_desk).answered (length before))
 
 -- a batch that was lifted from the slot of the worker that serves the job's connection, and wasn't handed back, has it
-pub record IsOfBatch (n : NodeState) (desks : List Desk) (job : Item) : Type 0 where
+pub record IsOfBatch (n : NodeState) (desks : List CombinerPast) (job : Item) : Type 0 where
   pub worker : ℕ
   pub own : IsOfWorker n worker job
   pub batch : Batch
   pub lifted : IsLifted desks worker batch
   pub has : ComesFrom job (items_of batch.jobs.items)
 
-abbrev pub IsOwnOfBatch : NodeState → List Desk → Item → Type 0
+abbrev pub IsOwnOfBatch : NodeState → List CombinerPast → Item → Type 0
 IsOwnOfBatch n desks job = job.connection.node ≡ n.book.node → IsOfBatch n desks job
 
 -- P holds of each job in a node's record, of those in the entries that it reserved and hasn't passed, of those of its next entry, and of those that wait

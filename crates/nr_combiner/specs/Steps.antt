@@ -12,7 +12,7 @@ use Rattle.nr_entry.specs.declared.batch.Outcome.{Outcome}
 use Rattle.nr_entry.specs.declared.batch.Outcome.TheVariants as outcomes
 use Rattle.nr_entry.specs.declared.entry.Entry.{Entry}
 use Rattle.nr_entry.specs.declared.job.Job.{Job}
-use Rattle.nr_log_end.specs.declared.standing.Look.{Look}
+use Rattle.nr_log_end.specs.declared.standing.Load.{Load}
 use Rattle.nr_log_end.specs.Standings.{passed_of}
 use Rattle.nr_log_end.specs.Tries.{IsFull, IsLost}
 use Rattle.nr_slots.specs.Names.{Names, IsForLast}
@@ -25,15 +25,15 @@ use Rattle.nr_node.specs.declared.answers.Round.{Round}
 use Rattle.nr_node.specs.declared.answers.Round.TheVariants as rounds
 use Rattle.nr_node.specs.declared.answers.TakeError.{TakeError}
 use Rattle.nr_node.specs.declared.answers.TakeError.TheVariants as errors
-use Rattle.nr_node.specs.declared.answers.OpenError as node_errors
-use Rattle.nr_node.specs.declared.answers.OpenError.TheVariants as node_error
+use Rattle.nr_node.specs.declared.answers.CoreOpenError as node_errors
+use Rattle.nr_node.specs.declared.answers.CoreOpenError.TheVariants as node_error
 use Rattle.nr_combiner.specs.declared.answering.Lifts.{Lifts}
 use Rattle.nr_combiner.specs.declared.answering.Lifts.TheVariants as lifts
 use Rattle.nr_combiner.specs.declared.answering.OpenError.{OpenError}
 use Rattle.nr_combiner.specs.declared.answering.OpenError.TheVariants as open_errors
 use Rattle.nr_node.specs.Revived.{OfferState, HasRevived, IsNotYet}
-use Rattle.nr_accounts.specs.Held.{is_unended, numbers_in, ComesAfter}
-use Rattle.nr_accounts.specs.declared.account.Unended.{Unended}
+use Rattle.nr_job_numbers.specs.Stored.{is_unended, numbers_in, ComesAfter}
+use Rattle.nr_job_numbers.specs.declared.account.Unended.{Unended}
 use Rattle.nr_combiner.specs.Counts.{with_closed, with_opened, with_since}
 use Rattle.nr_combiner.specs.Served.{CombinerState, jobs_of}
 
@@ -56,7 +56,7 @@ closed_combiner serial c =
     }
 
 -- why no connection was opened, where there is room
-abbrev pub open_error : node_errors.OpenError → OpenError
+abbrev pub open_error : node_errors.CoreOpenError → OpenError
 open_error node_error.Down = open_errors.Down
 open_error (node_error.Memory memory) = open_errors.Memory memory
 
@@ -152,7 +152,7 @@ ComesTo places (Err memory) n m = (m ≡ n) ⊎ GoesOnWaiting n m
 pub record HasTried (places : ℕ) (r : Result Round Memory) (n m : NodeState) : Type 0 where
   pub comes : ComesTo places r n m
   pub down : (r ≡ Ok rounds.Down) ↔ (n.replica.down ≡ true)
-  pub looks : (more : List Look) × (m.seat.looks ≡ n.seat.looks ++ more)
+  pub looks : (more : List Load) × (m.seat.looks ≡ n.seat.looks ++ more)
 
 -- its node came back with an offer: all connections that it has are of before
 pub record ComesBack (offer : OfferState) (c d : CombinerState) : Type 0 where

@@ -7,7 +7,7 @@ ghost use Rattle.nr_combiner.specs.Steps.{IsOutcomeOf, open_error};
 
 use nr_blob::Memory;
 use nr_entry::{Answer, Batch, Job, Outcome, Refusal};
-use nr_node::{OpenError as NodeError, Round, TakeError};
+use nr_node::{CoreOpenError as NodeError, Round, TakeError};
 use nr_slots::{CombinerSeat, Slots};
 
 /// Why a connection wasn't opened. The reasons are told in this order.

@@ -11,11 +11,11 @@ ghost use Rattle.nr_combiner.specs.Workers.{fresh_workers, IsNode};
 use crate::combiner::Combiner;
 use crate::name::ServerName;
 use crate::node::Node;
+use crate::node_handle::NodeHandle;
 use crate::opened::OpenedSlots;
-use crate::worker::Worker;
 use nr_blob::Memory;
-use nr_node::{Core, Shape};
-use nr_oplog::{End, LogSeat, Opened, Oplog};
+use nr_node::{Core, NodeShape};
+use nr_oplog::{End, LogSeat, OpenedLog, Oplog};
 use nr_slots::WorkerSeat;
 use std::alloc::Global;
 use std::hash::RandomState;
@@ -34,10 +34,10 @@ pub struct Plan {
 pub fn build<B: ServerName>(
     alloc: Global,
     keys: RandomState,
-    opened: Opened,
+    opened: OpenedLog,
     slots: Vec<OpenedSlots>,
     plan: Plan,
-) -> Result<Vec<Vec<Worker<B>>>, Memory>
+) -> Result<Vec<Vec<NodeHandle<B>>>, Memory>
     requires name { name_of opened ≡ B.log }
     requires shape { (nodes_of opened ≡ B.nodes) × (places_of opened ≡ B.places) }
     requires slots { (length slots.items ≡ B.nodes) × AreNamed B.slots slots.items }
@@ -55,7 +55,7 @@ pub fn build<B: ServerName>(
         let Some(opened) = slots.next() else {
             unreachable!();
         };
-        let shape = Shape {
+        let shape = NodeShape {
             node: built.len(),
             nodes,
             workers: plan.workers,
@@ -72,10 +72,10 @@ fn build_node<B: ServerName>(
     keys: RandomState,
     seat: LogSeat<B>,
     log: Arc<Oplog<B>, Global>,
-    shape: Shape,
+    shape: NodeShape,
     slots: OpenedSlots,
     plan: Plan,
-) -> Result<Vec<Worker<B>>, Memory>
+) -> Result<Vec<NodeHandle<B>>, Memory>
     requires seat { seat ≡ opening_view B.nodes B.places shape.node (shape.node + 1) }
     requires nodes { (shape.nodes ≡ B.nodes) × (shape.node < B.nodes) }
     requires workers { (1 ≤ shape.workers) × (shape.workers ≤ 16) }
@@ -92,10 +92,10 @@ fn seat_node<B: ServerName>(
     alloc: Global,
     core: Core<B>,
     log: Arc<Oplog<B>, Global>,
-    shape: Shape,
+    shape: NodeShape,
     opened: OpenedSlots,
     plan: Plan,
-) -> Result<Vec<Worker<B>>, Memory>
+) -> Result<Vec<NodeHandle<B>>, Memory>
     requires node { core.book.node ≡ shape.node }
     requires owed { core.replica.owed ≡ replicate shape.workers None }
     requires idle { HasNoJobs core }
@@ -125,7 +125,7 @@ fn workers_of<B: ServerName>(
     alloc: Global,
     shared: &Arc<Node<B>, Global>,
     seats: Vec<WorkerSeat>,
-) -> Result<Vec<Worker<B>>, Memory>
+) -> Result<Vec<NodeHandle<B>>, Memory>
     requires seats { (worker : ℕ) → worker < length seats.items → slice_get seats.items worker ≡ Some (new_worker (arc_value shared.now).slots.id worker) }
     requires workers { (length seats.items ≡ (arc_value shared.now).slots.workers) × (length seats.items ≤ 16) }
     ensures { IfOk result (λ workers. workers.items ≡ fresh_workers (arc_value shared.now) 0 (length seats.items)) }
@@ -133,7 +133,7 @@ fn workers_of<B: ServerName>(
     let mut workers = Vec::with_capacity(alloc, seats.len())?;
     for seat in seats {
         let worker = workers.len();
-        workers.push(Worker::new(Arc::try_clone(shared)?, worker, seat))?;
+        workers.push(NodeHandle::new(Arc::try_clone(shared)?, worker, seat))?;
     }
     Ok(workers)
 }

@@ -6,7 +6,7 @@ ghost use Rattle.std.specs.FinMap as finmap;
 ghost use Rattle.nr_entry.specs.Jobs.{connection_of, item_of, items_of};
 ghost use Rattle.nr_entry.specs.declared.entry.Entry.{Entry};
 ghost use Rattle.nr_slots.specs.Seats.{desk_of, new_combiner, note_of};
-ghost use Rattle.nr_accounts.specs.Held.{is_unended, ComesAfter};
+ghost use Rattle.nr_job_numbers.specs.Stored.{is_unended, ComesAfter};
 ghost use Rattle.nr_replica.specs.declared.offer.OfferError.TheVariants as offers;
 ghost use Rattle.nr_log_end.specs.Standings.{opened_of, passed_of};
 ghost use Rattle.nr_node.specs.Level.{connection_at, is_closed_at, queue_at, worker_at, workers_of};
@@ -16,7 +16,7 @@ ghost use Rattle.nr_node.specs.Revived.{IsOffered, revive_refusal};
 ghost use Rattle.nr_node.specs.Sound.{IsSound};
 ghost use Rattle.nr_node.specs.Steps.{taken_node, refusing_node, HasHandedOut, IsStill};
 ghost use Rattle.nr_combiner.specs.Counts.{fresh_counts, generation_of, with_next};
-ghost use Rattle.nr_combiner.specs.Pieces.{AddsFront, HasJobOf};
+ghost use Rattle.nr_combiner.specs.Pieces.{ListsFront, HasJobOf};
 ghost use Rattle.nr_combiner.specs.Served.{owed_at, HasNoJobs, IsServed, StandsLevel};
 ghost use Rattle.nr_combiner.specs.Steps.{HasRoom, OpensFor, closed_combiner, refusal_at, has_lost, is_lost, ComesBack, IsNotBack, IsRefusedFor, IsUnendedAt, HasLooked, HasLifted, HasLiftedAll, HasLiftedBy, HasLiftedOwn, HasAnswered, HasAnsweredAll, HasTried, HasCombined, outcome_of};
 ghost use Rattle.nr_combiner.specs.Turned.{HandsOutTo, HasCollectedFor, HasTurned};
@@ -24,11 +24,11 @@ ghost use Rattle.nr_combiner.specs.Turned.{HandsOutTo, HasCollectedFor, HasTurne
 use crate::answering::{Collected, Lifts, OpenError, Turned, hand_back, open_error};
 use crate::counts::Counts;
 use crate::name::ServerName;
-use crate::told::{Told, ToldPieces};
-use nr_accounts::Unended;
+use crate::turn_results::{Told, ToldPieces};
 use nr_blob::Memory;
 use nr_entry::{Answer, Batch, ConnId, Job};
-use nr_node::{Core, Handed, Looked, Offer, ReviveError, Round, Shape, TakeError};
+use nr_job_numbers::Unended;
+use nr_node::{Core, LastPiece, Looked, NodeOffer, NodeShape, ReviveError, Round, TakeError};
 use nr_oplog::{LogName, Token};
 use nr_replica::{OfferError, Piece, Replica, Spares};
 use nr_slots::{CombinerSeat, Note, Slots};
@@ -103,7 +103,7 @@ impl<B: ServerName> Combiner<B> {
     /// A node that has no job and no connection yet, with the seat of its combiner at these slots.
     pub fn new(
         alloc: Global,
-        shape: Shape,
+        shape: NodeShape,
         core: Core<B>,
         seat: CombinerSeat,
         slots: Arc<Slots, Global>,
@@ -243,7 +243,7 @@ impl<B: ServerName> Combiner<B> {
         worker: usize,
         most: usize,
         spares: &mut Spares,
-        taken: &mut Vec<Handed>,
+        taken: &mut Vec<LastPiece>,
     ) -> Result<(), Memory>
         requires { 0 < most }
         ensures { HasCollectedFor worker most taken.old.items taken.new.items result self.old self.new }
@@ -262,7 +262,7 @@ impl<B: ServerName> Combiner<B> {
         worker: usize,
         most: usize,
         spares: &mut Spares,
-        taken: &mut Vec<Handed>,
+        taken: &mut Vec<LastPiece>,
     ) -> ToldPieces<B>
         requires { 0 < most }
         ensures handed { HandsOutTo worker most taken.old.items taken.new.items result.collected.result result.token.standing result.note self.old self.new }
@@ -300,7 +300,7 @@ impl<B: ServerName> Combiner<B> {
         lifts: Lifts,
         most: usize,
         spares: &mut Spares,
-        taken: &mut Vec<Handed>,
+        taken: &mut Vec<LastPiece>,
     ) -> Told<B>
         requires { 0 < most }
         ensures turned { HasTurned B.places worker lifts most taken.old.items taken.new.items result.turned result.token.standing result.note self.old self.new }
@@ -336,13 +336,13 @@ impl<B: ServerName> Combiner<B> {
     /// out the last of them are left out.
     pub fn cut_among(&self, conns: &[ConnId], cut: &mut Vec<ConnId>) -> Result<(), Memory>
         ensures all { OnOk result (cut.new.items ≡ cut.old.items ++ filter (is_cut_at self.now.node) conns.now) }
-        ensures front { OnErr result ((left : List ConnId) × AddsFront (filter (is_cut_at self.now.node) conns.now) cut.old.items cut.new.items left) }
+        ensures front { OnErr result ((left : List ConnId) × ListsFront (filter (is_cut_at self.now.node) conns.now) cut.old.items cut.new.items left) }
     {
         add_cut(&self.core, conns, cut)
     }
 
     /// [`Core::offer`] of its node.
-    pub fn offer(&mut self) -> Result<Offer<B>, OfferError>
+    pub fn offer(&mut self) -> Result<NodeOffer<B>, OfferError>
         ensures copied { IfOk result (λ offer. offer ≡ record { server = self.old.node.replica.server; standing = self.old.node.seat.standing }) }
         ensures offered { IfOk result IsOffered }
         ensures down { (result ≡ Err offers.Down) ↔ (self.old.node.replica.down ≡ true) }
@@ -357,7 +357,7 @@ impl<B: ServerName> Combiner<B> {
     /// # Errors
     ///
     /// Those of [`Core::revive`].
-    pub fn revive(&mut self, offer: Offer<B>) -> Result<(), (Offer<B>, ReviveError)>
+    pub fn revive(&mut self, offer: NodeOffer<B>) -> Result<(), (NodeOffer<B>, ReviveError)>
         ensures revived { OnOk result ((revive_refusal self.old.node offer ≡ None) × ComesBack offer self.old self.new) }
         ensures refused { IfErr result (λ back. ((revive_refusal self.old.node offer ≡ Some back.1) × (self.new ≡ self.old)) ⊎ ((revive_refusal self.old.node offer ≡ None) × (back.1 ≡ ReviveError.NotYet) × IsNotBack offer self.old self.new)) }
         ensures back { IfErr result (λ back. back.0 ≡ offer) }
@@ -607,7 +607,7 @@ fn add_cut<B: LogName>(
     cut: &mut Vec<ConnId>,
 ) -> Result<(), Memory>
     ensures all { OnOk result (cut.new.items ≡ cut.old.items ++ filter (is_cut_at core.now) conns.now) }
-    ensures front { OnErr result ((left : List ConnId) × AddsFront (filter (is_cut_at core.now) conns.now) cut.old.items cut.new.items left) }
+    ensures front { OnErr result ((left : List ConnId) × ListsFront (filter (is_cut_at core.now) conns.now) cut.old.items cut.new.items left) }
 {
     for conn in conns {
         add_if_cut(core, conn, cut)?;

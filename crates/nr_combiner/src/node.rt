@@ -4,7 +4,7 @@ ghost use Rattle.std.specs.Arc.{arc_value};
 ghost use Rattle.nr_entry.specs.Jobs.{connection_of};
 ghost use Rattle.nr_log_end.specs.Standings.{record_of};
 ghost use Rattle.nr_slots.specs.Rule.{no_desk};
-ghost use Rattle.nr_node.specs.Sound.{IsSound, Serves};
+ghost use Rattle.nr_node.specs.Sound.{IsSound, ServesOpened};
 ghost use Rattle.nr_node.specs.Level.{connection_at};
 ghost use Rattle.nr_combiner.specs.Pieces.{AreHandedIn, HasAdded, HasExecuted, HasJobOf, HasOwn, IsPieceOf};
 ghost use Rattle.nr_combiner.specs.Behind.{CollectsBehind, CombinesBehind, CutsBehind, CutsFrontBehind, EndsBehind, OpensBehind, RefusesBehind, RevivesBehind, TurnsBehind};
@@ -15,10 +15,10 @@ use crate::answering::{AskError, Lifts, OpenError};
 use crate::combiner::{ClosedQueue, Combiner};
 use crate::name::ServerName;
 use crate::reviving::RevivalError;
-use crate::told::{Told, ToldOpened, ToldPieces, ToldUnended};
+use crate::turn_results::{Told, ToldOpened, ToldPieces, ToldUnended};
 use nr_blob::Memory;
 use nr_entry::ConnId;
-use nr_node::{Handed, Offer, Round};
+use nr_node::{LastPiece, NodeOffer, Round};
 use nr_oplog::{Oplog, Token};
 use nr_replica::{Piece, Replica, Spares};
 use nr_slots::Slots;
@@ -198,7 +198,7 @@ impl<B: ServerName> Node<B> {
         requires { worker < self.now.slots.workers }
         ensures node { IfOk result (λ told. told.conn.node ≡ self.now.node) }
         ensures opened { IfOk result (λ told. OpensBehind self.now worker generation since told.conn told.token.standing told.note) }
-        ensures serves { IfOk result (λ told. Serves told.token.standing worker (connection_of told.conn)) }
+        ensures serves { IfOk result (λ told. ServesOpened told.token.standing worker (connection_of told.conn)) }
         ensures own { IfOk result (λ told. HasOwn worker (slice_index_or told.note.desks worker no_desk) told.token.standing) }
         ensures executed { IfOk result (λ told. HasExecuted (slice_index_or told.note.desks worker no_desk) told.token.standing) }
         ensures sound { IfOk result (λ told. IsSound told.token.standing × (told.token.standing.node ≡ self.now.node)) }
@@ -259,7 +259,7 @@ impl<B: ServerName> Node<B> {
         lifts: Lifts,
         most: usize,
         spares: &mut Spares,
-        taken: &mut Vec<Handed>,
+        taken: &mut Vec<LastPiece>,
     ) -> Option<Told<B>>
         requires { 0 < most }
         ensures turned { IfSome result (λ told. TurnsBehind B.places self.now.node worker generation lifts most taken.old.items taken.new.items told.turned told.token.standing told.note) }
@@ -289,7 +289,7 @@ impl<B: ServerName> Node<B> {
         lifts: Lifts,
         most: usize,
         spares: &mut Spares,
-        taken: &mut Vec<Handed>,
+        taken: &mut Vec<LastPiece>,
     ) -> Option<Told<B>>
         requires { 0 < most }
         ensures turned { IfSome result (λ told. TurnsBehind B.places self.now.node worker generation lifts most taken.old.items taken.new.items told.turned told.token.standing told.note) }
@@ -320,7 +320,7 @@ impl<B: ServerName> Node<B> {
         lifts: Lifts,
         most: usize,
         spares: &mut Spares,
-        taken: &mut Vec<Handed>,
+        taken: &mut Vec<LastPiece>,
     ) -> Option<Told<B>>
         requires { 0 < most }
         ensures turned { IfSome result (λ told. TurnsBehind B.places self.now.node worker generation lifts most taken.old.items taken.new.items told.turned told.token.standing told.note) }
@@ -352,7 +352,7 @@ impl<B: ServerName> Node<B> {
         generation: u64,
         most: usize,
         spares: &mut Spares,
-        taken: &mut Vec<Handed>,
+        taken: &mut Vec<LastPiece>,
     ) -> Option<ToldPieces<B>>
         requires { 0 < most }
         ensures handed { IfSome result (λ told. CollectsBehind self.now.node worker generation most taken.old.items taken.new.items told.collected told.token.standing told.note) }
@@ -409,7 +409,7 @@ impl<B: ServerName> Node<B> {
         last: Option<u64>,
     ) -> Option<ToldUnended<B>>
         ensures unended { IfSome result (λ told. EndsBehind self.now.node worker generation last told.unended told.token.standing told.note) }
-        ensures serves { IfSome result (λ told. Serves told.token.standing worker (connection_at self.now.node told.unended.serial)) }
+        ensures serves { IfSome result (λ told. ServesOpened told.token.standing worker (connection_at self.now.node told.unended.serial)) }
         ensures handed_in { IfSome result (λ told. HasJobOf (connection_at self.now.node told.unended.serial) (slice_index_or told.note.desks worker no_desk).lifted) }
         ensures own { IfSome result (λ told. HasOwn worker (slice_index_or told.note.desks worker no_desk) told.token.standing) }
         ensures executed { IfSome result (λ told. HasExecuted (slice_index_or told.note.desks worker no_desk) told.token.standing) }
@@ -447,7 +447,7 @@ impl<B: ServerName> Node<B> {
     }
 
     // A turn of its combiner, and a copy of its server, where that left nothing to be done, so that all entries that there were are in it.
-    pub(crate) fn offer<R: Wait>(&self, rt: &R) -> Result<Offer<B>, RevivalError> {
+    pub(crate) fn offer<R: Wait>(&self, rt: &R) -> Result<NodeOffer<B>, RevivalError> {
         let mut combiner = self.hold(rt);
         match combiner.combine() {
             Ok(Round::Done | Round::Down) => {}
@@ -464,8 +464,8 @@ impl<B: ServerName> Node<B> {
     pub(crate) fn come_back<R: Wait>(
         &self,
         rt: &R,
-        offer: Offer<B>,
-    ) -> Result<(), (Offer<B>, RevivalError)>
+        offer: NodeOffer<B>,
+    ) -> Result<(), (NodeOffer<B>, RevivalError)>
         ensures { OnOk result (RevivesBehind self.now.node) }
     {
         let mut combiner = self.hold(rt);

@@ -3,7 +3,7 @@ ghost use Rattle.std.specs.Prelude.{◌≡◌, ◌≤◌, ◌↔◌, length, IfO
 ghost use Rattle.nr_combiner.specs.Opened.{AreOfWorkers};
 
 use nr_blob::Memory;
-use nr_slots::{CombinerSeat, OpenError, Slots, WorkerSeat};
+use nr_slots::{CombinerSeat, Slots, SlotsOpenError, WorkerSeat};
 use std::alloc::Global;
 use std::marker::Model;
 
@@ -77,7 +77,7 @@ fn open_one(alloc: Global, workers: usize) -> Result<OpenedSlots, Memory>
 {
     match Slots::open(alloc, workers) {
         Ok((slots, seats, desk)) => Ok(OpenedSlots { slots, seats, desk }),
-        Err(OpenError::Memory(memory)) => Err(memory),
-        Err(OpenError::BadShape) => unreachable!(),
+        Err(SlotsOpenError::Memory(memory)) => Err(memory),
+        Err(SlotsOpenError::BadShape) => unreachable!(),
     }
 }

@@ -5,7 +5,7 @@ ghost use Rattle.nr_combiner.specs.Behind.{RevivesBehind};
 use crate::name::ServerName;
 use crate::node::Node;
 use nr_blob::Memory;
-use nr_node::{Offer, ReviveError};
+use nr_node::{NodeOffer, ReviveError};
 use nr_replica::OfferError;
 use std::sync::Wait;
 use std::thread;
@@ -80,7 +80,7 @@ impl<B: ServerName> Node<B> {
     }
 
     // A copy of its server, where all entries that there were are in it after a while.
-    fn offer_in_time<R: Wait>(&self, rt: &R) -> Result<Offer<B>, RevivalError> {
+    fn offer_in_time<R: Wait>(&self, rt: &R) -> Result<NodeOffer<B>, RevivalError> {
         for _ in 0..MOST_TRIES {
             let offer = self.offer(rt);
             if !matches!(offer, Err(RevivalError::NotYet)) {
@@ -92,7 +92,7 @@ impl<B: ServerName> Node<B> {
     }
 
     // It comes back with a copy, where the entries up to its place are there after a while.
-    fn come_back_in_time<R: Wait>(&self, rt: &R, offer: Offer<B>) -> Result<(), RevivalError>
+    fn come_back_in_time<R: Wait>(&self, rt: &R, offer: NodeOffer<B>) -> Result<(), RevivalError>
         ensures { OnOk result (RevivesBehind self.now.node) }
     {
         let mut offer = offer;

@@ -1,6 +1,6 @@
 // Why a settings file is refused.
 use crate::keys::Kind;
-use crate::place::Place;
+use crate::place::TextPlace;
 use thiserror::Error;
 
 /// Why a settings file is refused. The text is the line that a user reads, and where there is a reason, that on a line behind it.
@@ -8,7 +8,7 @@ use thiserror::Error;
 pub enum ConfigError {
     /// The text isn't TOML from this place on, as where a key is given twice.
     #[error("settings: not toml\n  {0}")]
-    NotToml(Place),
+    NotToml(TextPlace),
     /// No setting has this name.
     #[error("settings: unknown key {0}")]
     UnknownKey(String),

@@ -5,7 +5,7 @@ pub use command_line::{Lasts, Task, WordsError, words};
 pub use error::ConfigError;
 pub use given::Given;
 pub use keys::Kind;
-pub use place::Place;
+pub use place::TextPlace;
 pub use settings::Settings;
 
 mod addresses;

@@ -6,34 +6,34 @@ use std::fmt;
 
 /// A place in a text, by its line and its column, both from 1: a column counts characters.
 #[derive(Clone, Copy, Debug, PartialEq, Eq)]
-pub struct Place {
+pub struct TextPlace {
     pub line: usize,
     pub column: usize,
 }
 
-fn next(place: Place, byte: u8) -> Place
+fn next(place: TextPlace, byte: u8) -> TextPlace
     ensures { result ≡ next place byte }
 {
     match byte {
-        b'\n' => Place {
+        b'\n' => TextPlace {
             line: place.line.saturating_add(1),
             column: 1,
         },
         // The further bytes of a character.
         0x80..=0xBF => place,
-        _ => Place {
+        _ => TextPlace {
             line: place.line,
             column: place.column.saturating_add(1),
         },
     }
 }
 
-impl Place {
+impl TextPlace {
     /// The place behind these bytes of a text. Linear in them.
-    pub fn behind(before: &[u8]) -> Place
+    pub fn behind(before: &[u8]) -> TextPlace
         ensures { result ≡ place_from start before.now }
     {
-        let mut place = Place { line: 1, column: 1 };
+        let mut place = TextPlace { line: 1, column: 1 };
         for byte in before {
             place = next(place, *byte);
         }
@@ -41,7 +41,7 @@ impl Place {
     }
 }
 
-impl fmt::Display for Place {
+impl fmt::Display for TextPlace {
     ghost use Rattle.std.specs.Prelude.{Some};
     ghost use Rattle.nr_config.specs.Places.{place_text};
 

@@ -10,7 +10,7 @@ ghost use Rattle.nr_config.specs.Faults.{BlamesFirst, IsMadeOf, Refuses, Sets};
 use crate::addresses::{addresses_in, only};
 use crate::error::ConfigError;
 use crate::keys::{check, truth, whole_number};
-use crate::place::Place;
+use crate::place::TextPlace;
 use crate::settings::Settings;
 use std::alloc::{AllocError, Global};
 use toml::de::Error;
@@ -22,7 +22,7 @@ fn refusal(text: &str, error: &Error) -> ConfigError
     ensures { IsMadeOf text.now error.now result }
 {
     match error.span() {
-        Some(span) => ConfigError::NotToml(Place::behind(&text.as_bytes()[..span.start])),
+        Some(span) => ConfigError::NotToml(TextPlace::behind(&text.as_bytes()[..span.start])),
         None => ConfigError::Memory,
     }
 }

@@ -12,7 +12,7 @@ use Rattle.nr_combiner.specs.declared.name.ServerName as server_name
 use Rattle.nr_combiner.proofs.Crossing.{worker_send}
 use Rattle.nr_crew.specs.contracts.lane.Lane as Lane
 use Rattle.nr_crew.specs.contracts.lane.Leaving as Leaving
-use Rattle.nr_crew.proofs.lane.Left.TheSendSync as left
+use Rattle.nr_crew.proofs.lane.WorkerEnd.TheSendSync as left
 
 module _ (B : RattleType) (s : server_name.Ghosts B.Denot) (g : log_name.Ghosts B.Denot) where
   pub lane_send : (D M : RattleType) → IsSend D → IsSend M → IsSend (Lane.the_row B D M s g)

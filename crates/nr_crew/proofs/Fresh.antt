@@ -2,7 +2,7 @@
 use Rattle.std.proofs.Common.{arith, ◌≡◌, ℕ, zero, suc, List, [], ◌∷◌, Some, refl, sym, subst, length}
 use Rattle.std.specs.List.{AllByRecursion, slice_get}
 use Rattle.nr_combiner.specs.Shared.{NodeView}
-use Rattle.nr_combiner.specs.Workers.{IsNode, WorkerState, fresh_workers}
+use Rattle.nr_combiner.specs.Workers.{IsNode, NodeHandleState, fresh_workers}
 use Rattle.nr_crew.specs.Nodes.{AreFresh, IsFresh}
 
 fresh_all : (shared : NodeView) (first n : ℕ) → AllByRecursion IsFresh (fresh_workers shared first n)
@@ -13,7 +13,7 @@ fresh_count : (shared : NodeView) (first n : ℕ) → length (fresh_workers shar
 fresh_count shared first zero = refl
 fresh_count shared first (suc n) = let rest = fresh_count shared (suc first) n in omega arith
 
-pub fresh_node : (workers connections limit node : ℕ) (list : List WorkerState) → IsNode workers connections limit node list → AreFresh workers list
+pub fresh_node : (workers connections limit node : ℕ) (list : List NodeHandleState) → IsNode workers connections limit node list → AreFresh workers list
 fresh_node workers connections limit node list n =
     subst (AreFresh workers) (sym n.all) (fresh_all n.shared 0 workers, fresh_count n.shared 0 workers)
 

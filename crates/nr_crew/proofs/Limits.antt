@@ -9,7 +9,7 @@ use Rattle.nr_service.specs.declared.ended.Ended.TheVariants as endings
 use Rattle.nr_service.specs.declared.gate.Go.{Go}
 use Rattle.nr_service.specs.declared.service.Service.{Service}
 use Rattle.nr_crew.specs.Left.{AreServedWithin}
-use Rattle.nr_crew.specs.declared.lane.Left.{Left}
+use Rattle.nr_crew.specs.declared.lane.WorkerEnd.{WorkerEnd}
 use Rattle.nr_crew.specs.declared.serving.ClientLimits.{ClientLimits}
 
 module _ {A S D M : Type 0} where
@@ -49,8 +49,8 @@ module _ {A S D M : Type 0} where
     same_worker endings.Device old new t = same_on old t.last new (along t.whole old t.last t.taken) (turned false t.last new t.ends.1)
 
 -- one more served within the same
-pub within_more : {S D M : Type 0} (limits : ClientLimits) (old new : List (Left S D M)) (left : Left S D M) → new ≡ old ++ left ∷ [] → AreServedWithin limits old
+pub within_more : {S D M : Type 0} (limits : ClientLimits) (old new : List (WorkerEnd S D M)) (left : WorkerEnd S D M) → new ≡ old ++ left ∷ [] → AreServedWithin limits old
     → left.limits ≡ limits → AreServedWithin limits new
 within_more {S} {D} {M} limits old new left is all one =
-    let P : Left S D M → Type 0 = λ one. one.limits ≡ limits in
+    let P : WorkerEnd S D M → Type 0 = λ one. one.limits ≡ limits in
     subst (AllByRecursion P) (sym is) (All-append P old (left ∷ []) all (one, tt))

@@ -5,7 +5,7 @@ use Rattle.std.proofs.lemmas.List.Elements.{All-append}
 use Rattle.nr_model.specs.Bytes.{Bytes, IsBeginningOf}
 use Rattle.nr_model.specs.Connections.{Setup}
 use Rattle.nr_log_end.specs.declared.standing.Standing.{Standing}
-use Rattle.nr_service.specs.Devices.{Parting}
+use Rattle.nr_service.specs.Pollers.{Parting}
 use Rattle.nr_service.specs.Endings.{ByEnding, RanOut}
 use Rattle.nr_service.specs.Serving.{IsLeft, IsServed, IsServing, connection}
 use Rattle.nr_service.specs.Stories.{Kept, Story, bytes_fed, bytes_handed}
@@ -14,8 +14,8 @@ use Rattle.nr_service.specs.declared.client.Client.{Client}
 use Rattle.nr_service.specs.declared.ended.Ended.{Ended}
 use Rattle.nr_service.specs.declared.ended.Ended.TheVariants as endings
 use Rattle.nr_service.specs.declared.service.Service.{Service}
-use Rattle.nr_lane.specs.Serving.{ServingState}
-use Rattle.nr_lane.specs.Led.{HasLedTo, size_of}
+use Rattle.nr_worker_service.specs.Serving.{WorkerBackendState}
+use Rattle.nr_worker_service.specs.Led.{HasLedTo, size_of}
 use Rattle.nr_crew.specs.Left.{AreServedWhole, IsAnswered, IsServedWhole}
 
 -- who is served was fed a beginning of what its stream received, and was sent one of what was handed out
@@ -28,7 +28,7 @@ sent_front None handed kept is = tt
 sent_front (Some bytes) handed kept is = (kept, sym is)
 
 module _ {S D M : Type 0} (was_received was_sent : S → Option Bytes) (course : S → Option Course) (gives : M → M → Option ℕ → Type 0)
-    (keeps : ServingState → Kept) (parted : D → Option (List (Parting S))) (first : M) (setup : Setup) (service : Service ServingState S D M) where
+    (keeps : WorkerBackendState → Kept) (parted : D → Option (List (Parting S))) (first : M) (setup : Setup) (service : Service WorkerBackendState S D M) where
   is_left_one : (story : Story) (client : Client S) → IsServed was_received was_sent course (keeps service.answers) story client
       → IsLeft was_received was_sent story client
   is_left_one story client s = record {
@@ -72,7 +72,7 @@ module _ {S D M : Type 0} (was_received was_sent : S → Option Bytes) (course :
 
 -- so it was answered
 pub is_answered : {S D M : Type 0} (was_received was_sent : S → Option Bytes) (gives : M → M → Option ℕ → Type 0) (parted : D → Option (List (Parting S)))
-    (first : M) (node number : ℕ) (service : Service ServingState S D M) (ended : Ended) (mark : Option Standing) → mark ≡ service.answers.desk.mark
+    (first : M) (node number : ℕ) (service : Service WorkerBackendState S D M) (ended : Ended) (mark : Option Standing) → mark ≡ service.answers.desk.mark
     → (r : RanOut was_received was_sent gives HasLedTo parted first (size_of node number) service)
     → AreServedWhole was_received was_sent r.story ended service.clients.items
     → IsAnswered was_received was_sent gives (parted service.device) node number ended mark service.clients.items

@@ -12,16 +12,16 @@ use Rattle.nr_oplog.specs.Plays.{AreOfOneLog}
 use Rattle.nr_replica.specs.Replicas.{ReplicaState}
 use Rattle.nr_node.specs.Level.{IsBehind, IsLevel, IsWhole, connection_at, queue_at}
 use Rattle.nr_node.specs.Sound.{IsSound}
-use Rattle.nr_service.specs.Devices.{Parting}
+use Rattle.nr_service.specs.Pollers.{Parting}
 use Rattle.nr_taps.specs.Marks as marks
 use Rattle.nr_taps.specs.Marks.{MarkState}
 use Rattle.nr_taps.specs.Sequence.{AreAllOfOneLog, IsExplainedBy}
-use Rattle.nr_worker.specs.Desk.{DeskState, IsLed}
+use Rattle.nr_worker.specs.Worker.{WorkerState, IsLed}
 use Rattle.nr_worker.specs.Law.{HoldsOfDesks, marks_of}
-use Rattle.nr_lane.proofs.Lists.{each_weaker}
+use Rattle.nr_worker_service.proofs.Lists.{each_weaker}
 use Rattle.nr_crew.specs.Left.{IsAnswered}
 use Rattle.nr_crew.specs.Together.{AllPairs, AreAnsweredTogether, AreLeft, AreTakenOut, IsInOrder, IsLeftBy, IsReplicaOf, standings_of}
-use Rattle.nr_crew.specs.declared.lane.Left.{Left}
+use Rattle.nr_crew.specs.declared.lane.WorkerEnd.{WorkerEnd}
 
 -- all elements written back
 all_kept : {A : Type 0} (len : ℕ) (now was : List A) → length now ≡ length was → len ≡ length was → take len (now ++ drop (length now) was) ≡ now
@@ -137,24 +137,24 @@ one_out own ms next replicas more s m r is next_is more_is level out = record {
 
 module _ {S D M : Type 0} (was_received was_sent : S → Option Bytes) (gives : M → M → Option ℕ → Type 0) (parted : D → Option (List (Parting S))) where
   -- one more worker left this
-  pub left_more : (ms now : List MarkState) (lefts left_now : List (Left S D M)) (m : MarkState) (left : Left S D M) → now ≡ ms ++ m ∷ []
+  pub left_more : (ms now : List MarkState) (lefts left_now : List (WorkerEnd S D M)) (m : MarkState) (left : WorkerEnd S D M) → now ≡ ms ++ m ∷ []
       → left_now ≡ lefts ++ left ∷ [] → AreLeft was_received was_sent gives parted ms lefts
       → IsAnswered was_received was_sent gives (parted left.device) left.node left.worker left.ended m.standing left.clients.items
       → AreLeft was_received was_sent gives parted now left_now
   left_more ms now lefts left_now m left is left_is all here =
       subst (λ (l : List MarkState). AreLeft was_received was_sent gives parted l left_now) (sym is)
       (subst (AreLeft was_received was_sent gives parted (ms ++ m ∷ [])) (sym left_is)
-      (pairs_more (λ (mark : MarkState) (one : Left S D M). IsAnswered was_received was_sent gives (parted one.device) one.node one.worker one.ended mark.standing one.clients.items) ms lefts m
+      (pairs_more (λ (mark : MarkState) (one : WorkerEnd S D M). IsAnswered was_received was_sent gives (parted one.device) one.node one.worker one.ended mark.standing one.clients.items) ms lefts m
       left all here))
 
-  record AreKnown (ms : List MarkState) (lefts : List (Left S D M)) : Type 0 where
-    workers : List DeskState
-    marked : map (λ (worker : DeskState). worker.mark) workers ≡ standings_of ms
+  record AreKnown (ms : List MarkState) (lefts : List (WorkerEnd S D M)) : Type 0 where
+    workers : List WorkerState
+    marked : map (λ (worker : WorkerState). worker.mark) workers ≡ standings_of ms
     known : marks_of workers ≡ marks.standings_of ms
     led : AllByRecursion IsLed workers
     each : AllPairs (IsLeftBy was_received was_sent gives parted) workers lefts
 
-  are_known : (ms : List MarkState) (lefts : List (Left S D M)) → AreLeft was_received was_sent gives parted ms lefts → AreKnown ms lefts
+  are_known : (ms : List MarkState) (lefts : List (WorkerEnd S D M)) → AreLeft was_received was_sent gives parted ms lefts → AreKnown ms lefts
   are_known [] [] all = record { workers = []; marked = refl; known = refl; led = tt; each = tt }
   are_known [] (left ∷ lefts) all = absurd all
   are_known (m ∷ ms) [] all = absurd all
@@ -169,7 +169,7 @@ module _ {S D M : Type 0} (was_received was_sent : S → Option Bytes) (gives : 
         each = (record { led = a.led; node_is = a.node_is; number_is = a.number_is; served = a.served }, more.each);
       }
 
-  pub are_together : (ms own : List MarkState) (lefts : List (Left S D M)) (replicas : List ReplicaState) → HoldsOfDesks
+  pub are_together : (ms own : List MarkState) (lefts : List (WorkerEnd S D M)) (replicas : List ReplicaState) → HoldsOfDesks
       → AllByRecursion IsSound (marks.standings_of ms) → AreAllOfOneLog (marks.standings_of ms)
       → AreLeft was_received was_sent gives parted own lefts → AreTakenOut own ms replicas
       → AreAnsweredTogether was_received was_sent gives parted ms lefts replicas

@@ -3,7 +3,7 @@ use Rattle.std.specs.Prelude.{◌≡◌, ℕ, Bool, true, false, not, cond, ◌|
 use Rattle.std.specs.List.{list_any}
 use Rattle.nr_service.specs.declared.ended.Ended.{Ended}
 use Rattle.nr_service.specs.declared.ended.Ended.TheVariants as endings
-use Rattle.nr_crew.specs.declared.lane.Left.{Left}
+use Rattle.nr_crew.specs.declared.lane.WorkerEnd.{WorkerEnd}
 use Rattle.nr_crew.specs.declared.running.ServeError.{ServeError}
 use Rattle.nr_crew.specs.declared.running.ServeError.TheVariants as errors
 
@@ -28,24 +28,24 @@ unless_for endings.Down others = others
 unless_for endings.Device others = others
 
 module _ {S D M : Type 0} where
-  abbrev pub any_device : List (Left S D M) → Bool
-  any_device lefts = list_any (λ (left : Left S D M). is_device left.ended) lefts
+  abbrev pub any_device : List (WorkerEnd S D M) → Bool
+  any_device lefts = list_any (λ (left : WorkerEnd S D M). is_device left.ended) lefts
 
-  abbrev pub any_down : List (Left S D M) → Bool
-  any_down lefts = list_any (λ (left : Left S D M). is_down left.ended) lefts
+  abbrev pub any_down : List (WorkerEnd S D M) → Bool
+  any_down lefts = list_any (λ (left : WorkerEnd S D M). is_down left.ended) lefts
 
   -- the first want of memory among them
-  abbrev pub unless_wanted : List (Left S D M) → Result (Unit {0}) ServeError
+  abbrev pub unless_wanted : List (WorkerEnd S D M) → Result (Unit {0}) ServeError
   unless_wanted [] = Ok tt
   unless_wanted (left ∷ more) = unless_for left.ended (unless_wanted more)
 
   -- All workers ended, by whether all threads were there and whether more connections may come. It is well only where each was stopped.
-  abbrev pub ended_of : Bool → Bool → List (Left S D M) → Result (Unit {0}) ServeError
+  abbrev pub ended_of : Bool → Bool → List (WorkerEnd S D M) → Result (Unit {0}) ServeError
   ended_of false comes lefts = Err errors.NoThread
   ended_of true comes lefts = cond (not comes || any_device lefts) (Err errors.Device) (cond (any_down lefts) (Err errors.Down) (unless_wanted lefts))
 
   -- So a server of so many workers ended, which left this: all of them, where no thread was wanting.
-  pub record HasEnded (workers : ℕ) (ended : Result (Unit {0}) ServeError) (lefts : List (Left S D M)) : Type 0 where
+  pub record HasEnded (workers : ℕ) (ended : Result (Unit {0}) ServeError) (lefts : List (WorkerEnd S D M)) : Type 0 where
     pub threads : Bool
     pub comes : Bool
     pub is : ended ≡ ended_of threads comes lefts

@@ -3,16 +3,16 @@ use Rattle.std.specs.Prelude.{◌≡◌, ℕ, List, ◌++◌, Option, IfSome, Al
 use Rattle.std.specs.List.{AllByRecursion}
 use Rattle.nr_model.specs.Bytes.{Bytes}
 use Rattle.nr_log_end.specs.declared.standing.Standing.{Standing}
-use Rattle.nr_service.specs.Devices.{AreGivenBack, Parting}
+use Rattle.nr_service.specs.Pollers.{AreGivenBack, Parting}
 use Rattle.nr_service.specs.Readings.{AreFedFrom}
 use Rattle.nr_service.specs.Endings.{ByEnding}
 use Rattle.nr_service.specs.Serving.{AreOpened, IsApart, IsLeft, connection, streams_of}
 use Rattle.nr_service.specs.Stories.{Story, bytes_fed, bytes_handed, fed_in, closings_in}
 use Rattle.nr_service.specs.declared.client.Client.{Client}
 use Rattle.nr_service.specs.declared.ended.Ended.{Ended}
-use Rattle.nr_worker.specs.Desk.{DeskState, IsLed}
-use Rattle.nr_lane.specs.Told.{Tells, WasAtFeeds}
-use Rattle.nr_crew.specs.declared.lane.Left.{Left}
+use Rattle.nr_worker.specs.Worker.{WorkerState, IsLed}
+use Rattle.nr_worker_service.specs.Told.{Tells, WasAtFeeds}
+use Rattle.nr_crew.specs.declared.lane.WorkerEnd.{WorkerEnd}
 use Rattle.nr_crew.specs.declared.serving.ClientLimits.{ClientLimits}
 
 -- A client that is there at a turn's end: it was fed exactly what its stream received, and its stream sent all that was handed out for it, but for the bytes that were kept yet.
@@ -30,7 +30,7 @@ AreServedWhole was_received was_sent story ended clients = ByEnding ended (All (
 -- and its stream sent a beginning of what was handed out for it; each that is there was fed all and was sent all that wasn't kept, where a turn was the last. The streams of
 -- those that left were given back, and bytes were fed and connections closed at the moments behind the readings of the worker's clock.
 pub record HasServed {S M : Type 0} (was_received was_sent : S → Option Bytes) (gives : M → M → Option ℕ → Type 0) (given : Option (List (Parting S)))
-    (ended : Ended) (clients : List (Client S)) (worker : DeskState) : Type 0 where
+    (ended : Ended) (clients : List (Client S)) (worker : WorkerState) : Type 0 where
   pub story : Story
   pub gone : List (Client S)
   pub first : M
@@ -46,7 +46,7 @@ pub record HasServed {S M : Type 0} (was_received was_sent : S → Option Bytes)
 -- So it was with this worker of a node, whose mark this is.
 pub record IsAnswered {S M : Type 0} (was_received was_sent : S → Option Bytes) (gives : M → M → Option ℕ → Type 0) (given : Option (List (Parting S)))
     (node number : ℕ) (ended : Ended) (mark : Option Standing) (clients : List (Client S)) : Type 0 where
-  pub worker : DeskState
+  pub worker : WorkerState
   pub led : IsLed worker
   pub node_is : worker.node ≡ node
   pub number_is : worker.worker ≡ number
@@ -54,5 +54,5 @@ pub record IsAnswered {S M : Type 0} (was_received was_sent : S → Option Bytes
   pub served : HasServed was_received was_sent gives given ended clients worker
 
 -- each of these served its clients within these limits
-abbrev pub AreServedWithin : {S D M : Type 0} → ClientLimits → List (Left S D M) → Type 0
-AreServedWithin {S} {D} {M} limits lefts = AllByRecursion (λ (left : Left S D M). left.limits ≡ limits) lefts
+abbrev pub AreServedWithin : {S D M : Type 0} → ClientLimits → List (WorkerEnd S D M) → Type 0
+AreServedWithin {S} {D} {M} limits lefts = AllByRecursion (λ (left : WorkerEnd S D M). left.limits ≡ limits) lefts

@@ -9,13 +9,13 @@ use Rattle.nr_model.specs.Servers.{after_all, fresh}
 use Rattle.nr_log_end.specs.declared.standing.Standing.{Standing}
 use Rattle.nr_replica.specs.Replicas.{ReplicaState}
 use Rattle.nr_node.specs.Level.{IsBehind, IsLevel, IsWhole, connection_at, queue_at}
-use Rattle.nr_service.specs.Devices.{Parting}
+use Rattle.nr_service.specs.Pollers.{Parting}
 use Rattle.nr_taps.specs.Marks.{MarkState, mark_of}
 use Rattle.nr_taps.specs.Sequence.{sequence_of, updates_of}
-use Rattle.nr_worker.specs.Desk.{DeskState, IsLed}
+use Rattle.nr_worker.specs.Worker.{WorkerState, IsLed}
 use Rattle.nr_worker.specs.Law.{AreAnsweredBeside, GoesTo, IsInTime}
 use Rattle.nr_crew.specs.Left.{HasServed, IsAnswered}
-use Rattle.nr_crew.specs.declared.lane.Left.{Left}
+use Rattle.nr_crew.specs.declared.lane.WorkerEnd.{WorkerEnd}
 
 -- each is so with the one in its place
 abbrev pub AllPairs : {X Y : Type 0} → (X → Y → Type 0) → List X → List Y → Type 0
@@ -26,21 +26,21 @@ AllPairs R (x ∷ xs) (y ∷ ys) = R x y × AllPairs R xs ys
 
 -- each of these is what a worker with the mark in its place left
 abbrev pub AreLeft : {S D M : Type 0} → (S → Option Bytes) → (S → Option Bytes) → (M → M → Option ℕ → Type 0) → (D → Option (List (Parting S)))
-    → List MarkState → List (Left S D M) → Type 0
+    → List MarkState → List (WorkerEnd S D M) → Type 0
 AreLeft {S} {D} {M} was_received was_sent gives parted marks lefts =
-    AllPairs (λ (mark : MarkState) (left : Left S D M). IsAnswered was_received was_sent gives (parted left.device) left.node left.worker left.ended mark.standing left.clients.items) marks lefts
+    AllPairs (λ (mark : MarkState) (left : WorkerEnd S D M). IsAnswered was_received was_sent gives (parted left.device) left.node left.worker left.ended mark.standing left.clients.items) marks lefts
 
 -- this is what this worker of a node left
 pub record IsLeftBy {S D M : Type 0} (was_received was_sent : S → Option Bytes) (gives : M → M → Option ℕ → Type 0)
-    (parted : D → Option (List (Parting S))) (worker : DeskState) (left : Left S D M) : Type 0 where
+    (parted : D → Option (List (Parting S))) (worker : WorkerState) (left : WorkerEnd S D M) : Type 0 where
   pub led : IsLed worker
   pub node_is : worker.node ≡ left.node
   pub number_is : worker.worker ≡ left.worker
   pub served : HasServed was_received was_sent gives (parted left.device) left.ended left.clients.items worker
 
 -- whatever a worker's mark knew earlier stands in front of all that it knows now, and of all that was fed behind that
-abbrev pub IsInOrder : DeskState → Type 0
-IsInOrder worker = (earlier : DeskState) → IsLed earlier → GoesTo earlier worker → IsInTime earlier worker
+abbrev pub IsInOrder : WorkerState → Type 0
+IsInOrder worker = (earlier : WorkerState) → IsLed earlier → GoesTo earlier worker → IsInTime earlier worker
 
 -- A node's replica: where it isn't down it is one sequential Redis after a beginning of the node's part of the sequence, and the updates of that are the first of the
 -- sequence's. What waits for each of its connections begins what that Redis emits for it behind what was handed out: it is all of that where the replica isn't down and the
@@ -68,10 +68,10 @@ standings_of marks = map (λ (m : MarkState). m.standing) marks
 -- whether it is left or gone, begins what one sequential Redis emits for it along that sequence, in which its first items are the first that its bytes asked for. Every replica is that
 -- Redis after a prefix of it. And of two items of one worker, the one that was answered before the other was fed stands before it.
 pub record AreAnsweredTogether {S D M : Type 0} (was_received was_sent : S → Option Bytes) (gives : M → M → Option ℕ → Type 0)
-    (parted : D → Option (List (Parting S))) (marks : List MarkState) (lefts : List (Left S D M)) (replicas : List ReplicaState) : Type 0 where
-  pub workers : List DeskState
+    (parted : D → Option (List (Parting S))) (marks : List MarkState) (lefts : List (WorkerEnd S D M)) (replicas : List ReplicaState) : Type 0 where
+  pub workers : List WorkerState
   pub ends : List Standing
-  pub marked : standings_of marks ≡ map (λ (worker : DeskState). worker.mark) workers ++ map (λ (s : Standing). Some s) ends
+  pub marked : standings_of marks ≡ map (λ (worker : WorkerState). worker.mark) workers ++ map (λ (s : Standing). Some s) ends
   pub level : AllPairs IsLevel ends replicas
   pub each : AllPairs (IsLeftBy was_received was_sent gives parted) workers lefts
   pub answered : AreAnsweredBeside ends workers
@@ -80,6 +80,6 @@ pub record AreAnsweredTogether {S D M : Type 0} (was_received was_sent : S → O
 
 -- these are what workers left that have served together, and the replicas of their nodes, whatever the marks were
 pub record AreServedTogether {S D M : Type 0} (was_received was_sent : S → Option Bytes) (gives : M → M → Option ℕ → Type 0)
-    (parted : D → Option (List (Parting S))) (lefts : List (Left S D M)) (replicas : List ReplicaState) : Type 0 where
+    (parted : D → Option (List (Parting S))) (lefts : List (WorkerEnd S D M)) (replicas : List ReplicaState) : Type 0 where
   pub marks : List MarkState
   pub together : AreAnsweredTogether was_received was_sent gives parted marks lefts replicas

@@ -3,8 +3,8 @@ ghost use Rattle.std.specs.Prelude.{◌≡◌, ◌+◌, ◌*◌, ◌<◌, ◌≤
 ghost use Rattle.nr_crew.specs.Dealing.{DealsFrom, DealsOne, HasDealt};
 
 use nr_combiner::{Node, RevivalError, ServerName};
-use nr_lane::Crew;
 use nr_service::{Accepts, Ends, Revival, Rings};
+use nr_worker_service::SharedHints;
 use std::alloc::Global;
 use std::sync::{Arc, Wait};
 
@@ -51,11 +51,11 @@ pub(crate) trait Rooms {
         ensures { admits self.now node result };
 }
 
-impl<K: Rings> Rooms for Crew<K> {
+impl<K: Rings> Rooms for SharedHints<K> {
     ghost admits = { λ _ _ _. Unit {0} };
 
     fn admit(&self, node: usize) -> bool {
-        Crew::admit(self, node)
+        SharedHints::admit(self, node)
     }
 }
 
@@ -77,7 +77,7 @@ fn deal_one<L: Accepts, C: Rooms>(main: &mut L, rooms: &C, shape: Shape, number:
 // Deals those out that wait to be taken, at most 64, from this number on. The next number.
 fn deal_waiting<L: Accepts, K: Rings>(
     main: &mut L,
-    crew: &Crew<K>,
+    crew: &SharedHints<K>,
     shape: Shape,
     number: u64,
 ) -> u64
@@ -125,7 +125,7 @@ fn refuse_each<B: ServerName, R: Wait, L: Accepts>(
 }
 
 // Tells of a node, where it is down and it didn't hear of that yet.
-fn tell_of_fall<L: Accepts, K: Rings>(main: &mut L, crew: &Crew<K>, node: usize)
+fn tell_of_fall<L: Accepts, K: Rings>(main: &mut L, crew: &SharedHints<K>, node: usize)
     ensures { L.dealt main.new ≡ L.dealt main.old }
 {
     let Some(connections) = crew.take_fall(node) else {
@@ -135,7 +135,7 @@ fn tell_of_fall<L: Accepts, K: Rings>(main: &mut L, crew: &Crew<K>, node: usize)
 }
 
 // The next node behind one that isn't known to be down.
-fn next_up<K: Rings>(crew: &Crew<K>, shape: Shape, node: usize) -> Option<usize>
+fn next_up<K: Rings>(crew: &SharedHints<K>, shape: Shape, node: usize) -> Option<usize>
     requires { node < shape.nodes }
     ensures { IfSome result (λ other. other < shape.nodes) }
 {
@@ -151,7 +151,7 @@ fn next_up<K: Rings>(crew: &Crew<K>, shape: Shape, node: usize) -> Option<usize>
 // Tries to bring a node back, from the next that is up. What came of it; nothing where it isn't down.
 fn revive_from_next<B: ServerName, R: Wait, K: Rings>(
     rt: &R,
-    crew: &Crew<K>,
+    crew: &SharedHints<K>,
     nodes: &[Arc<Node<B>, Global>],
     shape: Shape,
     node: usize,
@@ -186,7 +186,7 @@ fn tell_of_revival<L: Accepts>(main: &mut L, node: usize, revived: Result<u64, R
 fn revive_in_time<B: ServerName, R: Wait, L: Accepts, K: Rings>(
     rt: &R,
     main: &mut L,
-    crew: &Crew<K>,
+    crew: &SharedHints<K>,
     nodes: &[Arc<Node<B>, Global>],
     shape: Shape,
     node: usize,
@@ -214,7 +214,7 @@ fn revive_in_time<B: ServerName, R: Wait, L: Accepts, K: Rings>(
 fn hear_of_falls<B: ServerName, R: Wait, L: Accepts, K: Rings>(
     rt: &R,
     main: &mut L,
-    crew: &Crew<K>,
+    crew: &SharedHints<K>,
     nodes: &[Arc<Node<B>, Global>],
     shape: Shape,
 )
@@ -228,7 +228,7 @@ fn hear_of_falls<B: ServerName, R: Wait, L: Accepts, K: Rings>(
 }
 
 // Whether all end now: at once where that was told, and where they end in order once each rests.
-fn is_over<L: Accepts, K: Rings>(main: &mut L, crew: &Crew<K>) -> bool
+fn is_over<L: Accepts, K: Rings>(main: &mut L, crew: &SharedHints<K>) -> bool
     ensures { L.dealt main.new ≡ L.dealt main.old }
 {
     match main.ending() {
@@ -245,7 +245,7 @@ fn is_over<L: Accepts, K: Rings>(main: &mut L, crew: &Crew<K>) -> bool
 fn wait_once<B: ServerName, R: Wait, L: Accepts, K: Rings>(
     rt: &R,
     main: &mut L,
-    crew: &Crew<K>,
+    crew: &SharedHints<K>,
     nodes: &[Arc<Node<B>, Global>],
     shape: Shape,
 ) -> Option<bool>
@@ -266,7 +266,7 @@ fn wait_once<B: ServerName, R: Wait, L: Accepts, K: Rings>(
 fn deal_on<B: ServerName, R: Wait, L: Accepts, K: Rings>(
     rt: &R,
     main: &mut L,
-    crew: &Crew<K>,
+    crew: &SharedHints<K>,
     nodes: &[Arc<Node<B>, Global>],
     shape: Shape,
 ) -> bool
@@ -290,7 +290,7 @@ fn deal_on<B: ServerName, R: Wait, L: Accepts, K: Rings>(
 pub(crate) fn deal_out<B: ServerName, R: Wait, L: Accepts, K: Rings>(
     rt: &R,
     main: &mut L,
-    crew: &Crew<K>,
+    crew: &SharedHints<K>,
     nodes: &[Arc<Node<B>, Global>],
     shape: Shape,
 ) -> bool

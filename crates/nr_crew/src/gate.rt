@@ -1,12 +1,12 @@
 // A gate that stops whoever asks once all shall stop.
-use nr_lane::Crew;
 use nr_service::{Gate, Go, Rings};
+use nr_worker_service::SharedHints;
 
 /// Another gate, until all shall stop.
 #[derive(Drop)]
 pub(crate) struct Stoppable<'g, 'c, G, K> {
     pub(crate) gate: &'g G,
-    pub(crate) crew: &'c Crew<K>,
+    pub(crate) crew: &'c SharedHints<K>,
 }
 
 impl<G: Gate, K: Rings> Gate for Stoppable<'_, '_, G, K> {

@@ -5,8 +5,8 @@ ghost use Rattle.nr_combiner.specs.Workers.{fresh_worker, shared_of};
 
 use crate::serving::ClientLimits;
 use nr_blob::Memory;
-use nr_combiner::{ServerName, Worker};
-use nr_service::{Client, Device, Ended, Moments, Stream, read_buffer};
+use nr_combiner::{NodeHandle, ServerName};
+use nr_service::{Client, Ended, Moments, Poller, Stream, read_buffer};
 use nr_taps::Mark;
 use std::alloc::Global;
 use std::thread::Promise;
@@ -14,7 +14,7 @@ use std::thread::Promise;
 /// What a worker begins with: its place at its node, where its connections come from, its clock, and room for what it reads at once.
 #[derive(Drop)]
 pub struct Lane<B: ServerName, D, M> {
-    pub worker: Worker<B>,
+    pub worker: NodeHandle<B>,
     pub device: D,
     pub clock: M,
     pub(crate) buffer: Vec<u8>,
@@ -30,7 +30,7 @@ impl<B: ServerName, D: Drop, M: Drop> Lane<B, D, M> {
     /// `Memory` where there is no room.
     pub fn new(
         alloc: Global,
-        worker: Worker<B>,
+        worker: NodeHandle<B>,
         device: D,
         clock: M,
     ) -> Result<Lane<B, D, M>, Memory>
@@ -51,7 +51,7 @@ impl<B: ServerName, D: Drop, M: Drop> Lane<B, D, M> {
 
 /// What a worker leaves: which one of which node it was, its device and its clock, the clients that were there, within which limits it served them, and how it ended.
 #[derive(Drop)]
-pub struct Left<S, D, M> {
+pub struct WorkerEnd<S, D, M> {
     /// Its node, from 0 on.
     pub node: usize,
     /// Which worker of the node it was, from 0 on.
@@ -67,16 +67,17 @@ pub struct Left<S, D, M> {
 #[derive(Drop)]
 pub(crate) struct Leaving<B: ServerName, S, D, M> {
     pub(crate) mark: Mark<B>,
-    pub(crate) left: Left<S, D, M>,
+    pub(crate) left: WorkerEnd<S, D, M>,
 }
 
 /// What a worker promises of what it leaves, which served within these limits.
 #[derive(Drop)]
-pub(crate) struct Answered {
+pub(crate) struct WorkerPromise {
     pub(crate) limits: ClientLimits,
 }
 
-impl<B: ServerName, S: Stream, D: Device<S>, M: Moments> Promise<Leaving<B, S, D, M>> for Answered {
+impl<B: ServerName, S: Stream, D: Poller<S>, M: Moments> Promise<Leaving<B, S, D, M>>
+    for WorkerPromise {
     ghost use Rattle.std.specs.Prelude.{◌≡◌};
     ghost use Rattle.nr_crew.specs.Left.{IsAnswered};
 

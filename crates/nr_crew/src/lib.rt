@@ -2,9 +2,9 @@
 #![tactic(auto)]
 
 pub use dealing::Shape;
-pub use lane::{Lane, Left};
-pub use nodes::{Place, Served, Size, StartError, lanes_of, serve_nodes, share_nodes};
-pub use running::{Ran, ServeError, run_workers};
+pub use lane::{Lane, WorkerEnd};
+pub use nodes::{Served, Size, StartError, WorkerPorts, lanes_of, serve_nodes, share_nodes};
+pub use running::{RanWorkers, ServeError, run_workers};
 pub use serving::ClientLimits;
 
 mod dealing;

@@ -11,15 +11,15 @@ ghost use Rattle.nr_crew.specs.Nodes.{AreFresh, IsFresh};
 ghost use Rattle.nr_crew.specs.Together.{AreServedTogether};
 
 use crate::dealing::Shape;
-use crate::lane::{Lane, Left};
+use crate::lane::{Lane, WorkerEnd};
 use crate::running::{ServeError, run_workers};
 use crate::serving::ClientLimits;
 use nr_blob::Memory;
-use nr_combiner::{BuildError, Node, OpenedSlots, Plan, ServerName, Worker, build, open_slots};
-use nr_lane::Crew;
-use nr_oplog::{OpenError, Opened, Oplog};
+use nr_combiner::{BuildError, Node, NodeHandle, OpenedSlots, Plan, ServerName, build, open_slots};
+use nr_oplog::{LogOpenError, OpenedLog, Oplog};
 use nr_replica::Replica;
-use nr_service::{Accepts, Device, Gate, Moments, Rings, Stream};
+use nr_service::{Accepts, Gate, Moments, Poller, Rings, Stream};
+use nr_worker_service::SharedHints;
 use std::alloc::Global;
 use std::hash::RandomState;
 use std::marker::Brand;
@@ -38,7 +38,7 @@ pub struct Size {
 
 /// Where the connections of one worker come from, and its clock.
 #[derive(Drop)]
-pub struct Place<D, M> {
+pub struct WorkerPorts<D, M> {
     pub device: D,
     pub clock: M,
 }
@@ -46,7 +46,7 @@ pub struct Place<D, M> {
 /// What the workers of a server left, the replicas of its nodes, that of node 0 first, and why they ended.
 #[derive(Drop)]
 pub struct Served<S, D, M> {
-    pub lefts: Vec<Left<S, D, M>>,
+    pub lefts: Vec<WorkerEnd<S, D, M>>,
     pub replicas: Vec<Replica>,
     pub ended: Result<(), ServeError>,
 }
@@ -76,15 +76,15 @@ impl From<Memory> for StartError {
 // The lanes of a node's workers, in order, with the next places.
 fn add_lanes<B: ServerName, D: Drop, M: Drop>(
     alloc: Global,
-    workers: Vec<Worker<B>>,
-    places: &mut Vec<Place<D, M>>,
+    workers: Vec<NodeHandle<B>>,
+    places: &mut Vec<WorkerPorts<D, M>>,
     lanes: &mut Vec<Lane<B, D, M>>,
 ) -> Result<(), StartError>
     requires { AllByRecursion IsFresh workers.items }
     ensures { OnOk result (vec_len lanes.new ≡ vec_len lanes.old + vec_len workers) }
 {
     for worker in workers {
-        let Some(Place { device, clock }) = places.pop() else {
+        let Some(WorkerPorts { device, clock }) = places.pop() else {
             return Err(StartError::FewPlaces);
         };
         let lane = Lane::new(alloc, worker, device, clock)?;
@@ -108,9 +108,9 @@ fn keep<T: Drop>(one: T, all: &mut Vec<T>) -> Result<(), Memory>
 /// `FewPlaces` where there are fewer places than workers, and `Memory` where memory runs out.
 pub fn lanes_of<B: ServerName, D: Drop, M: Drop>(
     alloc: Global,
-    built: Vec<Vec<Worker<B>>>,
+    built: Vec<Vec<NodeHandle<B>>>,
     count: usize,
-    mut places: Vec<Place<D, M>>,
+    mut places: Vec<WorkerPorts<D, M>>,
 ) -> Result<Vec<Lane<B, D, M>>, StartError>
     requires { AllByRecursion (λ workers. AreFresh count workers.items) built.items }
     ensures { IfOk result (λ lanes. vec_len lanes ≡ vec_len built * count) }
@@ -138,10 +138,10 @@ fn serve_named<B, R, S, D, M, K, G, L>(
     rt: &R,
     alloc: Global,
     keys: RandomState,
-    opened: Opened,
+    opened: OpenedLog,
     slots: Vec<OpenedSlots>,
     size: Size,
-    places: Vec<Place<D, M>>,
+    places: Vec<WorkerPorts<D, M>>,
     bells: K,
     main: L,
     gate: &G,
@@ -150,7 +150,7 @@ where
     B: ServerName + Send + Sync,
     R: Threads + Wait + Sync,
     S: Stream + Drop + Send,
-    D: Device<S> + Drop + Send,
+    D: Poller<S> + Drop + Send,
     M: Moments + Drop + Send,
     K: Rings + Drop + Sync,
     G: Gate + Sync,
@@ -166,7 +166,7 @@ where
     ensures within { IfOk result (λ served. AreServedWithin size.limits served.0.lefts.items) }
 {
     let shape = size.shape;
-    let crew = Crew::new(alloc, bells, shape.nodes, shape.workers, size.connections)?;
+    let crew = SharedHints::new(alloc, bells, shape.nodes, shape.workers, size.connections)?;
     let plan = Plan {
         workers: shape.workers,
         connections: size.connections,
@@ -199,7 +199,9 @@ where
 }
 
 // The log that all of these share, of which there is one.
-fn share_log<B: ServerName>(built: &[Vec<Worker<B>>]) -> Result<Arc<Oplog<B>, Global>, StartError> {
+fn share_log<B: ServerName>(
+    built: &[Vec<NodeHandle<B>>],
+) -> Result<Arc<Oplog<B>, Global>, StartError> {
     let Some(workers) = built.first() else {
         return Err(StartError::BadShape);
     };
@@ -216,7 +218,7 @@ fn share_log<B: ServerName>(built: &[Vec<Worker<B>>]) -> Result<Arc<Oplog<B>, Gl
 /// `Memory` where memory runs out, `BadShape` where a node has no worker.
 pub fn share_nodes<B: ServerName>(
     alloc: Global,
-    built: &[Vec<Worker<B>>],
+    built: &[Vec<NodeHandle<B>>],
 ) -> Result<Vec<Arc<Node<B>, Global>>, StartError>
     ensures { IfOk result (λ nodes. vec_len nodes ≡ length built.now) }
 {
@@ -229,7 +231,9 @@ pub fn share_nodes<B: ServerName>(
 }
 
 // The node that these workers share.
-fn share_node<B: ServerName>(workers: &[Worker<B>]) -> Result<Arc<Node<B>, Global>, StartError> {
+fn share_node<B: ServerName>(
+    workers: &[NodeHandle<B>],
+) -> Result<Arc<Node<B>, Global>, StartError> {
     match workers.first() {
         Some(worker) => Ok(worker.share_node()?),
         None => Err(StartError::BadShape),
@@ -248,7 +252,7 @@ pub fn serve_nodes<R, S, D, M, K, G, L>(
     alloc: Global,
     keys: RandomState,
     size: Size,
-    places: Vec<Place<D, M>>,
+    places: Vec<WorkerPorts<D, M>>,
     bells: K,
     main: L,
     gate: &G,
@@ -256,7 +260,7 @@ pub fn serve_nodes<R, S, D, M, K, G, L>(
 where
     R: Threads + Wait + Sync,
     S: Stream + Drop + Send,
-    D: Device<S> + Drop + Send,
+    D: Poller<S> + Drop + Send,
     M: Moments + Drop + Send,
     K: Rings + Drop + Sync,
     G: Gate + Sync,
@@ -266,10 +270,10 @@ where
     ensures ended { IfOk result (λ served. HasEnded (size.shape.nodes * size.shape.workers) served.0.ended served.0.lefts.items) }
     ensures within { IfOk result (λ served. AreServedWithin size.limits served.0.lefts.items) }
 {
-    let opened = match Opened::open(alloc, size.shape.nodes, size.places) {
+    let opened = match OpenedLog::open(alloc, size.shape.nodes, size.places) {
         Ok(opened) => opened,
-        Err(OpenError::BadShape) => return Err(StartError::BadShape),
-        Err(OpenError::Memory(memory)) => return Err(StartError::Memory(memory)),
+        Err(LogOpenError::BadShape) => return Err(StartError::BadShape),
+        Err(LogOpenError::Memory(memory)) => return Err(StartError::Memory(memory)),
     };
     let slots = match open_slots(alloc, size.shape.nodes, size.shape.workers) {
         Ok(slots) => slots,

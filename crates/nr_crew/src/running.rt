@@ -11,16 +11,16 @@ ghost use Rattle.nr_crew.specs.Left.{AreServedWithin, IsAnswered};
 ghost use Rattle.nr_crew.specs.Together.{AreAnsweredTogether, AreLeft, AreTakenOut};
 
 use crate::dealing::{Shape, deal_out};
-use crate::lane::{Answered, Lane, Leaving, Left};
+use crate::lane::{Lane, Leaving, WorkerEnd, WorkerPromise};
 use crate::serving::{ClientLimits, serve_lane};
 use nr_blob::Memory;
 use nr_combiner::{Node, ServerName};
-use nr_lane::Crew;
 use nr_oplog::{Oplog, Token};
 use nr_replica::Replica;
-use nr_service::{Accepts, Device, Ended, Gate, Moments, Rings, Stream};
+use nr_service::{Accepts, Ended, Gate, Moments, Poller, Rings, Stream};
 use nr_taps::{Mark, meet_marks};
 use nr_worker::desk_law;
+use nr_worker_service::SharedHints;
 use std::alloc::Global;
 use std::sync::{Arc, Wait};
 use std::thread::{self, PromisedHandle, Scope, Threads};
@@ -41,9 +41,9 @@ pub enum ServeError {
 /// What the workers left that had started, and why they ended; and the replicas of the nodes, in the order in which those were told, but of a node that somebody else holds still.
 /// And the marks: what the node of each worker had done when it last handed something out to it, and behind these how the end of the log of each replica stood.
 #[derive(Drop)]
-pub struct Ran<B: ServerName, S, D, M> {
+pub struct RanWorkers<B: ServerName, S, D, M> {
     pub marks: Vec<Mark<B>>,
-    pub lefts: Vec<Left<S, D, M>>,
+    pub lefts: Vec<WorkerEnd<S, D, M>>,
     pub replicas: Vec<Replica>,
     pub ended: Result<(), ServeError>,
 }
@@ -51,18 +51,18 @@ pub struct Ran<B: ServerName, S, D, M> {
 // The same without the replicas.
 struct Joined<B: ServerName, S, D, M> {
     marks: Vec<Mark<B>>,
-    lefts: Vec<Left<S, D, M>>,
+    lefts: Vec<WorkerEnd<S, D, M>>,
     ended: Result<(), ServeError>,
 }
 
 // Room for all that is made of so many lanes.
-struct Room<B: ServerName, S: Stream, D: Device<S>, M: Moments> {
-    handles: Vec<PromisedHandle<Leaving<B, S, D, M>, Answered>>,
+struct Room<B: ServerName, S: Stream, D: Poller<S>, M: Moments> {
+    handles: Vec<PromisedHandle<Leaving<B, S, D, M>, WorkerPromise>>,
     marks: Vec<Mark<B>>,
-    lefts: Vec<Left<S, D, M>>,
+    lefts: Vec<WorkerEnd<S, D, M>>,
 }
 
-fn room_for<B: ServerName, S: Stream + Drop, D: Device<S> + Drop, M: Moments + Drop>(
+fn room_for<B: ServerName, S: Stream + Drop, D: Poller<S> + Drop, M: Moments + Drop>(
     alloc: Global,
     lanes: usize,
 ) -> Result<Room<B, S, D, M>, Memory>
@@ -80,15 +80,15 @@ fn room_for<B: ServerName, S: Stream + Drop, D: Device<S> + Drop, M: Moments + D
 // Waits for a worker to end, and keeps what it left.
 fn join_one<B, R, S, D, M>(
     rt: &R,
-    handle: PromisedHandle<Leaving<B, S, D, M>, Answered>,
+    handle: PromisedHandle<Leaving<B, S, D, M>, WorkerPromise>,
     marks: &mut Vec<Mark<B>>,
-    lefts: &mut Vec<Left<S, D, M>>,
+    lefts: &mut Vec<WorkerEnd<S, D, M>>,
 )
 where
     B: ServerName,
     R: Threads,
     S: Stream + Drop,
-    D: Device<S> + Drop,
+    D: Poller<S> + Drop,
     M: Moments + Drop,
     requires marks { vec_len marks.old < vec_capacity marks.old }
     requires lefts { vec_len lefts.old < vec_capacity lefts.old }
@@ -106,16 +106,16 @@ where
 // Waits for all of them to end, and keeps what each left.
 fn join_all<B, R, S, D, M>(
     rt: &R,
-    handles: Vec<PromisedHandle<Leaving<B, S, D, M>, Answered>>,
+    handles: Vec<PromisedHandle<Leaving<B, S, D, M>, WorkerPromise>>,
     limits: ClientLimits,
     marks: &mut Vec<Mark<B>>,
-    lefts: &mut Vec<Left<S, D, M>>,
+    lefts: &mut Vec<WorkerEnd<S, D, M>>,
 )
 where
     B: ServerName,
     R: Threads,
     S: Stream + Drop,
-    D: Device<S> + Drop,
+    D: Poller<S> + Drop,
     M: Moments + Drop,
     requires promised { AllByRecursion (λ handle. handle.promise.limits ≡ limits) handles.items }
     requires marks { (marks.old.items ≡ []) × (vec_len handles ≤ vec_capacity marks.old) }
@@ -131,7 +131,7 @@ where
 
 // Why they ended, once all have.
 fn ended_by<S, D, M>(
-    lefts: &[Left<S, D, M>],
+    lefts: &[WorkerEnd<S, D, M>],
     has_all_threads: bool,
     comes_more: bool,
 ) -> Result<(), ServeError>
@@ -150,14 +150,14 @@ fn ended_by<S, D, M>(
 }
 
 // Whether one of these ended since its device can't wait any more.
-fn any_device<S, D, M>(lefts: &[Left<S, D, M>]) -> bool
+fn any_device<S, D, M>(lefts: &[WorkerEnd<S, D, M>]) -> bool
     ensures { result ≡ any_device lefts.now }
 {
     lefts.iter().any(|left| is_device(left.ended))
 }
 
 // Whether one of these ended since every node is down.
-fn any_down<S, D, M>(lefts: &[Left<S, D, M>]) -> bool
+fn any_down<S, D, M>(lefts: &[WorkerEnd<S, D, M>]) -> bool
     ensures { result ≡ any_down lefts.now }
 {
     lefts.iter().any(|left| is_down(left.ended))
@@ -178,7 +178,7 @@ fn is_down(ended: Ended) -> bool
 }
 
 // The want of memory for which the first of those ended that did for that.
-fn unless_wanted<S, D, M>(lefts: &[Left<S, D, M>]) -> Result<(), ServeError>
+fn unless_wanted<S, D, M>(lefts: &[WorkerEnd<S, D, M>]) -> Result<(), ServeError>
     ensures { result ≡ unless_wanted lefts.now }
 {
     for left in lefts {
@@ -193,7 +193,7 @@ fn unless_wanted<S, D, M>(lefts: &[Left<S, D, M>]) -> Result<(), ServeError>
 fn keep_started<H, E: Drop, K: Rings>(
     started: Result<H, E>,
     handles: &mut Vec<H>,
-    crew: &Crew<K>,
+    crew: &SharedHints<K>,
 ) -> bool
     requires { vec_len handles.old < vec_capacity handles.old }
     ensures kept { IsTrue result → vec_len handles.new ≡ vec_len handles.old + 1 }
@@ -220,7 +220,7 @@ fn keep_started<H, E: Drop, K: Rings>(
 struct Shared<'e, R, K, G> {
     rt: &'e R,
     alloc: Global,
-    crew: &'e Crew<K>,
+    crew: &'e SharedHints<K>,
     gate: &'e G,
     limits: ClientLimits,
 }
@@ -249,7 +249,7 @@ where
     B: ServerName,
     R: Wait,
     S: Stream + Drop,
-    D: Device<S> + Drop,
+    D: Poller<S> + Drop,
     M: Moments + Drop,
     K: Rings,
     G: Gate,
@@ -274,13 +274,13 @@ fn start_one<'s, 'e, B, R, S, D, M, K, G>(
     scope: &Scope<'s, &'e ()>,
     shared: &Shared<'e, R, K, G>,
     lane: Lane<B, D, M>,
-    handles: &mut Vec<PromisedHandle<Leaving<B, S, D, M>, Answered>>,
+    handles: &mut Vec<PromisedHandle<Leaving<B, S, D, M>, WorkerPromise>>,
 ) -> bool
 where
     B: ServerName + Send + Sync + 'e,
     R: Threads + Wait + Sync + 'e,
     S: Stream + Drop + Send + 'e,
-    D: Device<S> + Drop + Send + 'e,
+    D: Poller<S> + Drop + Send + 'e,
     M: Moments + Drop + Send + 'e,
     K: Rings + Sync + 'e,
     G: Gate + Sync + 'e,
@@ -293,7 +293,7 @@ where
 {
     shared.crew.begin();
     let share = shared.share();
-    let answered = Answered {
+    let answered = WorkerPromise {
         limits: shared.limits,
     };
     let started = scope.spawn_with(answered, move || serve_shared(share, lane));
@@ -305,13 +305,13 @@ fn start_all<'s, 'e, B, R, S, D, M, K, G>(
     scope: &Scope<'s, &'e ()>,
     shared: &Shared<'e, R, K, G>,
     lanes: Vec<Lane<B, D, M>>,
-    handles: &mut Vec<PromisedHandle<Leaving<B, S, D, M>, Answered>>,
+    handles: &mut Vec<PromisedHandle<Leaving<B, S, D, M>, WorkerPromise>>,
 ) -> bool
 where
     B: ServerName + Send + Sync + 'e,
     R: Threads + Wait + Sync + 'e,
     S: Stream + Drop + Send + 'e,
-    D: Device<S> + Drop + Send + 'e,
+    D: Poller<S> + Drop + Send + 'e,
     M: Moments + Drop + Send + 'e,
     K: Rings + Sync + 'e,
     G: Gate + Sync + 'e,
@@ -333,7 +333,7 @@ fn run_all<B, R, S, D, M, K, G, L>(
     alloc: Global,
     lanes: Vec<Lane<B, D, M>>,
     nodes: &[Arc<Node<B>, Global>],
-    crew: &Crew<K>,
+    crew: &SharedHints<K>,
     main: L,
     gate: &G,
     shape: Shape,
@@ -343,7 +343,7 @@ where
     B: ServerName + Send + Sync,
     R: Threads + Wait + Sync,
     S: Stream + Drop + Send,
-    D: Device<S> + Drop + Send,
+    D: Poller<S> + Drop + Send,
     M: Moments + Drop + Send,
     K: Rings + Sync,
     G: Gate + Sync,
@@ -458,7 +458,7 @@ fn keep_replicas<B: ServerName>(
 /// Serves by these lanes, each on a thread of its own, and deals the connections out to them that come from `main`: connection number x, from 0 on, goes to
 /// node x mod nodes, worker (x / nodes) mod workers, or to that worker of the next node that takes it. The lanes stand in the order of their nodes, and of the
 /// workers of each: worker w of node n is lane n * workers + w. Each connection is served within these limits. It ends once the gate stopped all workers, every node
-/// is down, one of them can't wait any more, no connection can come any more, `main` told to end, and all rest where that is to be in order, or the crew is
+/// is down, one of them can't wait any more, no connection can come any more, `main` told to end, and all rest where that is to be in order, or it is
 /// told to stop: then all end, and what they left is handed back with `main` and the replicas of these nodes, which are those of the lanes. A node that somebody
 /// else holds then keeps its replica. A node that is down meanwhile is brought back with a copy of another's server, as often as `main` says that it is time to.
 ///
@@ -471,17 +471,17 @@ pub fn run_workers<B, R, S, D, M, K, G, L>(
     lanes: Vec<Lane<B, D, M>>,
     nodes: Vec<Arc<Node<B>, Global>>,
     log: &Oplog<B>,
-    crew: &Crew<K>,
+    crew: &SharedHints<K>,
     main: L,
     gate: &G,
     shape: Shape,
     limits: ClientLimits,
-) -> Result<(Ran<B, S, D, M>, L), Memory>
+) -> Result<(RanWorkers<B, S, D, M>, L), Memory>
 where
     B: ServerName + Send + Sync,
     R: Threads + Wait + Sync,
     S: Stream + Drop + Send,
-    D: Device<S> + Drop + Send,
+    D: Poller<S> + Drop + Send,
     M: Moments + Drop + Send,
     K: Rings + Sync,
     G: Gate + Sync,
@@ -502,7 +502,7 @@ where
     keep_replicas(nodes, &mut marks, &mut replicas);
     meet_marks(log, &mut marks);
     desk_law();
-    let ran = Ran {
+    let ran = RanWorkers {
         marks,
         lefts,
         replicas,

@@ -3,11 +3,11 @@ ghost use Rattle.std.specs.Prelude.{◌≡◌};
 ghost use Rattle.nr_crew.specs.Left.{IsAnswered};
 
 use crate::gate::Stoppable;
-use crate::lane::{Lane, Leaving, Left};
+use crate::lane::{Lane, Leaving, WorkerEnd};
 use nr_combiner::ServerName;
-use nr_lane::{Crew, ServingDesk};
 use nr_replica::share_of;
-use nr_service::{Answers, Client, Device, Ended, Gate, Moments, Rings, Service, Stream};
+use nr_service::{Backend, Client, Ended, Gate, Moments, Poller, Rings, Service, Stream};
+use nr_worker_service::{SharedHints, WorkerBackend};
 use std::alloc::Global;
 use std::sync::Wait;
 
@@ -21,7 +21,7 @@ pub struct ClientLimits {
 
 // A worker that ends before the others are to end stops them all: who was dealt to it would wait for ever, and so would the other nodes for its own. Where every node
 // is down each ends by itself, once its clients got what they still get.
-fn stop_behind<K: Rings>(ended: Ended, crew: &Crew<K>) {
+fn stop_behind<K: Rings>(ended: Ended, crew: &SharedHints<K>) {
     crew.end();
     if matches!(ended, Ended::Device | Ended::Memory(_)) {
         crew.stop();
@@ -32,9 +32,9 @@ fn stop_behind<K: Rings>(ended: Ended, crew: &Crew<K>) {
 // The device, the clock and the clients of a service. What answered goes.
 fn rest_of<A, S, D, M>(service: Service<A, S, D, M>) -> (D, M, Vec<Client<S>>)
 where
-    A: Answers + Drop,
+    A: Backend + Drop,
     S: Stream + Drop,
-    D: Device<S> + Drop,
+    D: Poller<S> + Drop,
     M: Moments + Drop,
     ensures { result ≡ (service.device, service.clock, service.clients) }
 {
@@ -42,13 +42,13 @@ where
     (device, clock, clients)
 }
 
-/// Serves by a lane until the gate or the crew stops it, every node is down, or its device can't wait any more: then all are stopped. What was handed out for a client is
+/// Serves by a lane until the gate or the shared hints stop it, every node is down, or its device can't wait any more: then all are stopped. What was handed out for a client is
 /// written before more is, once more waits for it than its node stops for ([`share_of`]).
 pub(crate) fn serve_lane<'a, B, R, S, D, M, K, G>(
     rt: &'a R,
     alloc: Global,
     lane: Lane<B, D, M>,
-    crew: &'a Crew<K>,
+    crew: &'a SharedHints<K>,
     gate: &G,
     limits: ClientLimits,
 ) -> Leaving<B, S, D, M>
@@ -56,7 +56,7 @@ where
     B: ServerName,
     R: Wait,
     S: Stream + Drop,
-    D: Device<S> + Drop,
+    D: Poller<S> + Drop,
     M: Moments + Drop,
     K: Rings,
     G: Gate,
@@ -79,7 +79,7 @@ where
     // More than the limit may wait there: the service lets go of a client for which it does.
     let most = limit.saturating_mul(2);
     let enough = share_of(limit);
-    let desk = ServingDesk::new(alloc, rt, worker, crew, most, enough);
+    let desk = WorkerBackend::new(alloc, rt, worker, crew, most, enough);
     let mut service = Service::over(
         alloc, buffer, node, number, desk, device, clock, limit, timeout,
     );
@@ -94,7 +94,7 @@ where
     let (device, clock, clients) = rest_of(service);
     Leaving {
         mark,
-        left: Left {
+        left: WorkerEnd {
             node,
             worker: number,
             device,

@@ -1,7 +1,7 @@
-// Connections on their way from the socket that listens to the doors of their lanes, and the bells that end waits there.
+// Connections on their way from the socket that listens to the pollers of their lanes, and the bells that end waits there.
 use crate::asserted::holds;
-use nr_service::{Accepts, Device, Received, Rings, Stream};
-use nr_sockets::{Door, Entrance, Listener, Listening, Socket, Terms, open_lanes};
+use nr_service::{Accepts, Poller, Received, Rings, Stream};
+use nr_sockets::{Inboxes, Listener, Listening, Socket, SocketPoller, Terms, open_lanes};
 use std::io::{Read, Write};
 use std::net::TcpStream;
 use std::process::Abort;
@@ -27,7 +27,7 @@ fn takes<R: Clock + Wait>(listener: &mut Listener<'_, R>) -> bool {
 }
 
 // The first byte of a connection.
-fn first_byte<R: Clock + Wait>(door: &mut Door<'_, R>, socket: &mut Socket) -> Option<u8> {
+fn first_byte<R: Clock + Wait>(door: &mut SocketPoller<'_, R>, socket: &mut Socket) -> Option<u8> {
     for _ in 0..1_000 {
         let mut buffer = [0u8];
         match socket.receive(&mut buffer) {
@@ -42,7 +42,7 @@ fn first_byte<R: Clock + Wait>(door: &mut Door<'_, R>, socket: &mut Socket) -> O
 }
 
 // Each fourth connection came to this lane, in order, ten in all.
-fn come_in_order<R: Clock + Wait + Abort>(rt: &R, door: &mut Door<'_, R>, lane: usize) {
+fn come_in_order<R: Clock + Wait + Abort>(rt: &R, door: &mut SocketPoller<'_, R>, lane: usize) {
     for number in 0..10usize {
         let came = door.accept().ok().expect(rt, "memory");
         let mut socket = came.expect(rt, "a connection");
@@ -55,7 +55,7 @@ fn come_in_order<R: Clock + Wait + Abort>(rt: &R, door: &mut Door<'_, R>, lane: 
 }
 
 // Rings the bell of a lane each two milliseconds, until it is done.
-fn rings(clock: &impl Clock, entrance: &Entrance, lane: usize, is_done: &AtomicBool) {
+fn rings(clock: &impl Clock, entrance: &Inboxes, lane: usize, is_done: &AtomicBool) {
     for _ in 0..10_000 {
         if is_done.load(Ordering::SeqCst) {
             return;
@@ -66,7 +66,7 @@ fn rings(clock: &impl Clock, entrance: &Entrance, lane: usize, is_done: &AtomicB
 }
 
 // How many of at most 400 waits are short, counted to ten.
-fn short_waits<R: Clock + Wait>(rt: &R, door: &mut Door<'_, R>) -> io::Result<u32> {
+fn short_waits<R: Clock + Wait>(rt: &R, door: &mut SocketPoller<'_, R>) -> io::Result<u32> {
     let mut count = 0u32;
     for _ in 0..400 {
         let since = Instant::now(rt)?;
@@ -80,11 +80,11 @@ fn short_waits<R: Clock + Wait>(rt: &R, door: &mut Door<'_, R>) -> io::Result<u3
     Ok(count)
 }
 
-// Who waits at a door while its bell is rung on another thread waits a short time.
+// Who waits at a poller while its bell is rung on another thread waits a short time.
 fn ends_waits<R: Clock + Threads + Wait + Sync>(
     rt: &R,
-    entrance: &Entrance,
-    door: &mut Door<'_, R>,
+    entrance: &Inboxes,
+    door: &mut SocketPoller<'_, R>,
     lane: usize,
 ) -> bool {
     let is_done = AtomicBool::new(false);
@@ -136,7 +136,7 @@ fn doors(rt: HostRuntime) -> Result<(), Fail> {
     }
     for lookout in lookouts {
         let lane = lookout.lane;
-        let mut door = Door::new(rt.alloc(), &rt, &entrance, lookout)
+        let mut door = SocketPoller::new(rt.alloc(), &rt, &entrance, lookout)
             .ok()
             .expect(&rt, "the lane is there");
         come_in_order(&rt, &mut door, lane);

@@ -1,10 +1,12 @@
-// Workers over connections in memory: these come, are dealt into letter boxes, one a lane, and are kept once they went.
+// Workers over connections in memory: these come, are dealt into inboxes, one a lane, and are kept once they went.
 use crate::falling::Falls;
 use crate::line::{Given, Line};
 use crate::watch::{Held, Watch};
 use nr_blob::Memory;
-use nr_crew::{ClientLimits, Place, ServeError, Served, Shape, Size, StartError, serve_nodes};
-use nr_service::{Accepts, Device, Ends, Moments, Revival, Silent};
+use nr_crew::{
+    ClientLimits, ServeError, Served, Shape, Size, StartError, WorkerPorts, serve_nodes,
+};
+use nr_service::{Accepts, Ends, Moments, Poller, Revival, Silent};
 use std::alloc::Global;
 use std::collections::VecDeque;
 use std::hash::RandomState;
@@ -68,7 +70,7 @@ impl<R: Abort> Door<'_, R> {
     }
 }
 
-impl<R: Wait + Abort> Device<Line> for Door<'_, R> {
+impl<R: Wait + Abort> Poller<Line> for Door<'_, R> {
     fn accept(&mut self) -> Result<Option<Line>, Memory> {
         if self.has_given && self.breaks == Breaks::Memory {
             refuse_memory(self.alloc)?;
@@ -245,7 +247,7 @@ fn places_of<'a, R: Abort>(
     watch: &'a Watch,
     letters: &'a [Letters],
     (breaks, breaks_at): (Breaks, usize),
-) -> Vec<Place<Door<'a, R>, Still>> {
+) -> Vec<WorkerPorts<Door<'a, R>, Still>> {
     let mut places = Vec::new(alloc);
     for (lane, letters) in letters.iter().enumerate() {
         let device = Door {
@@ -263,7 +265,7 @@ fn places_of<'a, R: Abort>(
             gone: Vec::new(alloc),
             told: 0,
         };
-        let put = places.push(Place {
+        let put = places.push(WorkerPorts {
             device,
             clock: Still,
         });
@@ -278,7 +280,7 @@ fn serve_by<'a, R>(
     alloc: Global,
     keys: RandomState,
     trial: Trial,
-    places: Vec<Place<Door<'a, R>, Still>>,
+    places: Vec<WorkerPorts<Door<'a, R>, Still>>,
     arrivals: Arrivals<'a, R>,
     watch: &Watch,
 ) -> Result<(Served<Line, Door<'a, R>, Still>, Arrivals<'a, R>), StartError>

@@ -1,9 +1,9 @@
-// The desks of two nodes of two workers each, of which the first node falls and comes back: its second worker hears late of that.
+// The workers of two nodes of two workers each, of which the first node falls and comes back: its second worker hears late of that.
 use crate::asserted::holds;
 use crate::sizes::{PING, SET, SUBSCRIBE, Server, asks, opens, opens_and_asks, sends, works};
 use nr_combiner::{Node, ServerName};
 use nr_entry::ConnId;
-use nr_service::{Answers, Standing};
+use nr_service::{Backend, ConnectionState};
 use std::alloc::Global;
 use std::process::Abort;
 use std::sync::{Arc, Wait};
@@ -45,7 +45,7 @@ const HEARD_BY_ONE: (&[u8], &[u8]) = (b"PUBLISH c m\r\n", b":1\r\n");
 const HEARD_BY_NONE: (&[u8], &[u8]) = (b"PUBLISH c m\r\n", b":0\r\n");
 
 // Node 0 refuses the next entry, which comes from a connection of node 1, and its first worker finds that.
-fn falls<R: Wait + Abort, A: Answers, N: Falling>(
+fn falls<R: Wait + Abort, A: Backend, N: Falling>(
     rt: &R,
     server: &mut Server<'_, A>,
     nodes: &N,
@@ -58,21 +58,21 @@ fn falls<R: Wait + Abort, A: Answers, N: Falling>(
 }
 
 // Node 0 comes back with what the other one stores.
-fn rises<R: Wait + Abort, A: Answers, N: Falling>(rt: &R, server: &Server<'_, A>, nodes: &N) {
+fn rises<R: Wait + Abort, A: Backend, N: Falling>(rt: &R, server: &Server<'_, A>, nodes: &N) {
     holds(rt, "it comes back", nodes.revive(rt, 0, 1) == Some(1));
     server.crew.rise(0);
     holds(rt, "its workers haven't heard", !server.crew.admit(0));
 }
 
-// No connection is opened at the second desk of node 0, for which room was taken before.
-fn opens_none<R: Abort, A: Answers>(rt: &R, server: &mut Server<'_, A>) {
+// No connection is opened at the second worker of node 0, for which room was taken before.
+fn opens_none<R: Abort, A: Backend>(rt: &R, server: &mut Server<'_, A>) {
     holds(rt, "none is dealt to it", !server.crew.admit(0));
     let opened = server.desk(rt, 0, 1).open(0);
     holds(rt, "none is opened", matches!(opened, Ok(None)));
 }
 
-// A connection that was dealt to the first desk of node 0 before that fell, and came there late.
-fn comes_late<R: Abort, A: Answers>(rt: &R, server: &mut Server<'_, A>) -> ConnId {
+// A connection that was dealt to the first worker of node 0 before that fell, and came there late.
+fn comes_late<R: Abort, A: Backend>(rt: &R, server: &mut Server<'_, A>) -> ConnId {
     let desk = server.desk(rt, 0, 0);
     let conn = opens(rt, desk);
     asks(rt, desk, conn, PING);
@@ -80,14 +80,14 @@ fn comes_late<R: Abort, A: Answers>(rt: &R, server: &mut Server<'_, A>) -> ConnI
 }
 
 // Room for so many that come late.
-fn are_dealt<R: Abort, A: Answers>(rt: &R, server: &Server<'_, A>, count: u32) {
+fn are_dealt<R: Abort, A: Backend>(rt: &R, server: &Server<'_, A>, count: u32) {
     for _ in 0..count {
         holds(rt, "there is room", server.crew.admit(0));
     }
 }
 
-// A desk works until nothing is left to be done there.
-fn works_off<R: Abort, A: Answers>(rt: &R, desk: &mut A) {
+// A worker works until nothing is left to be done there.
+fn works_off<R: Abort, A: Backend>(rt: &R, desk: &mut A) {
     for _ in 0..4 {
         works(rt, desk);
         if !desk.is_busy() {
@@ -97,11 +97,15 @@ fn works_off<R: Abort, A: Answers>(rt: &R, desk: &mut A) {
     panic!(rt; "all is done");
 }
 
-// A connection of a desk of node 0 is taken for down, and goes; then the desk works.
-fn goes<R: Abort, A: Answers>(rt: &R, server: &mut Server<'_, A>, worker: usize, conn: ConnId) {
+// A connection of a worker of node 0 is taken for down, and goes; then the worker works.
+fn goes<R: Abort, A: Backend>(rt: &R, server: &mut Server<'_, A>, worker: usize, conn: ConnId) {
     let desk = server.desk(rt, 0, worker);
     works(rt, desk);
-    holds(rt, "it is down", desk.standing(conn) == Standing::Down);
+    holds(
+        rt,
+        "it is down",
+        desk.standing(conn) == ConnectionState::Down,
+    );
     holds(rt, "nothing waits", desk.pending(conn).is_empty());
     holds(rt, "it is closed", desk.close(conn, 0).is_ok());
     works_off(rt, desk);
@@ -109,7 +113,7 @@ fn goes<R: Abort, A: Answers>(rt: &R, server: &mut Server<'_, A>, worker: usize,
 
 // The second worker of node 0 has a subscriber, and its node falls and comes back so often before it does anything. No other comes then, and what its client sends, if it
 // sends something, isn't executed; once that went another is served, and nobody counts as subscribed.
-fn hears_late<R: Wait + Abort, A: Answers, N: Falling>(
+fn hears_late<R: Wait + Abort, A: Backend, N: Falling>(
     rt: &R,
     server: &mut Server<'_, A>,
     nodes: &N,
@@ -135,7 +139,7 @@ fn hears_late<R: Wait + Abort, A: Answers, N: Falling>(
 }
 
 // Both workers of node 0 serve others.
-fn serves_others<R: Abort, A: Answers>(rt: &R, server: &mut Server<'_, A>) {
+fn serves_others<R: Abort, A: Backend>(rt: &R, server: &mut Server<'_, A>) {
     for worker in 0..2 {
         let conn = opens_and_asks(rt, server, (0, worker), PING);
         let desk = server.desk(rt, 0, worker);
@@ -145,7 +149,7 @@ fn serves_others<R: Abort, A: Answers>(rt: &R, server: &mut Server<'_, A>) {
 }
 
 // Node 0 falls again over the very entry in which its second worker puts the end of a subscriber: at the other node nobody counts then, and it comes back once more.
-fn falls_over_an_end<R: Wait + Abort, A: Answers, N: Falling>(
+fn falls_over_an_end<R: Wait + Abort, A: Backend, N: Falling>(
     rt: &R,
     server: &mut Server<'_, A>,
     nodes: &N,
@@ -171,7 +175,7 @@ fn falls_over_an_end<R: Wait + Abort, A: Answers, N: Falling>(
 }
 
 /// Node 0 falls and comes back time and again.
-pub(crate) fn come_back<R: Wait + Abort, A: Answers, N: Falling>(
+pub(crate) fn come_back<R: Wait + Abort, A: Backend, N: Falling>(
     rt: &R,
     server: &mut Server<'_, A>,
     nodes: &N,

@@ -5,8 +5,8 @@ use crate::directing::{CALLERS, Director, NODES, Patience, Pool, Trouble, WORKER
 use crate::falling::Falls;
 use crate::places::Still;
 use nr_blob::Memory;
-use nr_crew::{ClientLimits, Place, Served, Shape, Size, StartError, serve_nodes};
-use nr_service::{Device, Silent};
+use nr_crew::{ClientLimits, Served, Shape, Size, StartError, WorkerPorts, serve_nodes};
+use nr_service::{Poller, Silent};
 use std::alloc::Global;
 use std::collections::VecDeque;
 use std::hash::RandomState;
@@ -49,7 +49,7 @@ impl<R: Wait + Abort> Door<'_, R> {
     }
 }
 
-impl<R: Wait + Abort> Device<Caller> for Door<'_, R> {
+impl<R: Wait + Abort> Poller<Caller> for Door<'_, R> {
     fn accept(&mut self) -> Result<Option<Caller>, Memory> {
         Ok(self.letters.lock(self.rt).pop_front())
     }
@@ -110,11 +110,11 @@ fn doors_of<'a, R: Abort>(
     alloc: Global,
     pool: &'a Pool,
     letters: &'a [Pool],
-) -> Vec<Place<Door<'a, R>, Still>> {
+) -> Vec<WorkerPorts<Door<'a, R>, Still>> {
     let mut places = Vec::new(alloc);
     for letters in letters {
         let device = Door { rt, pool, letters };
-        let put = places.push(Place {
+        let put = places.push(WorkerPorts {
             device,
             clock: Still,
         });
@@ -128,7 +128,7 @@ fn serve_by<'a, R>(
     rt: &'a R,
     alloc: Global,
     places: usize,
-    doors: Vec<Place<Door<'a, R>, Still>>,
+    doors: Vec<WorkerPorts<Door<'a, R>, Still>>,
     director: Director<'a, R>,
     patience: &Patience,
 ) -> Result<(Served<Caller, Door<'a, R>, Still>, Director<'a, R>), StartError>

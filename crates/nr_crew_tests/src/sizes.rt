@@ -1,16 +1,16 @@
-// The desks of all workers of a server, on one thread, at sizes: what no contract says where a call may do less than it could.
+// All workers of a server, on one thread, at sizes: what no contract says where a call may do less than it could.
 ghost use Rattle.std.specs.Prelude.{◌≡◌, ◌≤◌, length};
 ghost use Rattle.nr_oplog.specs.Opening.{name_of, nodes_of, places_of};
 ghost use Rattle.nr_combiner.specs.Opened.{AreNamed, AreOfWorkers};
 
 use crate::asserted::holds;
 use crate::returning::{Falling, Nodes, come_back};
-use nr_combiner::{OpenedSlots, Plan, ServerName, Worker, build, open_slots};
-use nr_crew::{Lane, Place, StartError, lanes_of, share_nodes};
+use nr_combiner::{NodeHandle, OpenedSlots, Plan, ServerName, build, open_slots};
+use nr_crew::{Lane, StartError, WorkerPorts, lanes_of, share_nodes};
 use nr_entry::ConnId;
-use nr_lane::{Crew, ServingDesk};
-use nr_oplog::Opened;
-use nr_service::{Answers, Rings, Silent, Standing};
+use nr_oplog::OpenedLog;
+use nr_service::{Backend, ConnectionState, Rings, Silent};
+use nr_worker_service::{SharedHints, WorkerBackend};
 use std::alloc::Global;
 use std::hash::RandomState;
 use std::marker::Brand;
@@ -126,16 +126,16 @@ impl Bells {
     }
 }
 
-// The desks of all workers, those of node 0 first, and what they share.
+// All workers, those of node 0 first, and what they share.
 #[derive(Drop)]
 pub(crate) struct Server<'c, A> {
     nodes: usize,
     workers: usize,
-    pub(crate) crew: &'c Crew<Bells>,
+    pub(crate) crew: &'c SharedHints<Bells>,
     desks: Vec<A>,
 }
 
-impl<A: Answers> Server<'_, A> {
+impl<A: Backend> Server<'_, A> {
     // The lane of a worker of a node.
     fn lane(&self, node: usize, worker: usize) -> usize {
         node.saturating_mul(self.workers).saturating_add(worker)
@@ -153,30 +153,30 @@ impl<A: Answers> Server<'_, A> {
     }
 }
 
-pub(crate) fn opens<R: Abort, A: Answers>(rt: &R, desk: &mut A) -> ConnId {
+pub(crate) fn opens<R: Abort, A: Backend>(rt: &R, desk: &mut A) -> ConnId {
     let opened = desk.open(0).ok().expect(rt, "memory");
     opened.expect(rt, "it is opened")
 }
 
 // A connection sends this.
-pub(crate) fn sends<R: Abort, A: Answers>(rt: &R, desk: &mut A, conn: ConnId, bytes: &[u8]) {
+pub(crate) fn sends<R: Abort, A: Backend>(rt: &R, desk: &mut A, conn: ConnId, bytes: &[u8]) {
     match desk.standing(conn) {
-        Standing::Open => {
+        ConnectionState::Open => {
             let fed = desk.feed(conn, 0, bytes);
             holds(rt, "it is fed", fed.is_ok());
         }
-        Standing::Over | Standing::Down => panic!(rt; "its bytes are taken"),
+        ConnectionState::Over | ConnectionState::Down => panic!(rt; "its bytes are taken"),
     }
 }
 
 // A work, behind which others are told.
-pub(crate) fn works<R: Abort, A: Answers>(rt: &R, desk: &mut A) {
+pub(crate) fn works<R: Abort, A: Backend>(rt: &R, desk: &mut A) {
     holds(rt, "it works", desk.work().is_ok());
     desk.pass_on();
 }
 
 // Works until so many bytes wait for a connection.
-fn works_for<R: Abort, A: Answers>(rt: &R, desk: &mut A, conn: ConnId, count: usize) {
+fn works_for<R: Abort, A: Backend>(rt: &R, desk: &mut A, conn: ConnId, count: usize) {
     for _ in 0..MOST_WORKS {
         if desk.pending(conn).len() >= count {
             return;
@@ -187,26 +187,26 @@ fn works_for<R: Abort, A: Answers>(rt: &R, desk: &mut A, conn: ConnId, count: us
 }
 
 // What came for a connection is written.
-fn is_written<A: Answers>(desk: &mut A, conn: ConnId) {
+fn is_written<A: Backend>(desk: &mut A, conn: ConnId) {
     let count = desk.pending(conn).len();
     desk.written(conn, count);
 }
 
 // Just this came for a connection.
-fn gets<R: Abort, A: Answers>(rt: &R, desk: &mut A, conn: ConnId, wanted: &[u8]) {
+fn gets<R: Abort, A: Backend>(rt: &R, desk: &mut A, conn: ConnId, wanted: &[u8]) {
     holds(rt, "just that came", desk.pending(conn) == wanted);
     is_written(desk, conn);
 }
 
 // Just so many bytes come for a connection.
-fn gets_length<R: Abort, A: Answers>(rt: &R, desk: &mut A, conn: ConnId, wanted: usize) {
+fn gets_length<R: Abort, A: Backend>(rt: &R, desk: &mut A, conn: ConnId, wanted: usize) {
     works_for(rt, desk, conn, wanted);
     holds(rt, "so many came", desk.pending(conn).len() == wanted);
     is_written(desk, conn);
 }
 
 // A connection asks this, and gets that.
-pub(crate) fn asks<R: Abort, A: Answers>(
+pub(crate) fn asks<R: Abort, A: Backend>(
     rt: &R,
     desk: &mut A,
     conn: ConnId,
@@ -218,7 +218,7 @@ pub(crate) fn asks<R: Abort, A: Answers>(
 }
 
 // A connection of a worker of a node, which has asked this, and got that.
-pub(crate) fn opens_and_asks<R: Abort, A: Answers>(
+pub(crate) fn opens_and_asks<R: Abort, A: Backend>(
     rt: &R,
     server: &mut Server<'_, A>,
     (node, worker): (usize, usize),
@@ -230,7 +230,7 @@ pub(crate) fn opens_and_asks<R: Abort, A: Answers>(
 }
 
 // Each worker in turn serves one, while no other takes a turn.
-fn each_alone<R: Abort, A: Answers>(rt: &R, server: &mut Server<'_, A>) {
+fn each_alone<R: Abort, A: Backend>(rt: &R, server: &mut Server<'_, A>) {
     for lane in 0..server.desks.len() {
         let place = (lane / server.workers.max(1), lane % server.workers.max(1));
         let conn = opens_and_asks(rt, server, place, PING);
@@ -240,7 +240,7 @@ fn each_alone<R: Abort, A: Answers>(rt: &R, server: &mut Server<'_, A>) {
 }
 
 // One subscriber at each worker of node 0.
-fn subscribe_each<R: Abort, A: Answers>(
+fn subscribe_each<R: Abort, A: Backend>(
     rt: &R,
     alloc: Global,
     server: &mut Server<'_, A>,
@@ -254,21 +254,21 @@ fn subscribe_each<R: Abort, A: Answers>(
 }
 
 // One at the first worker of each other node.
-fn open_at_others<R: Abort, A: Answers>(rt: &R, server: &mut Server<'_, A>) {
+fn open_at_others<R: Abort, A: Backend>(rt: &R, server: &mut Server<'_, A>) {
     for node in 1..server.nodes {
         server.opens(rt, node, 0);
     }
 }
 
 // No lane was rung yet.
-fn forget_bells<A: Answers>(server: &Server<'_, A>) {
+fn forget_bells<A: Backend>(server: &Server<'_, A>) {
     for lane in 0..server.desks.len() {
         let _was_rung = server.crew.bells().take(lane);
     }
 }
 
 // The first worker of each other node is woken, which has a connection.
-fn others_are_woken<R: Abort, A: Answers>(rt: &R, server: &Server<'_, A>) {
+fn others_are_woken<R: Abort, A: Backend>(rt: &R, server: &Server<'_, A>) {
     for node in 1..server.nodes {
         let is_woken = server.crew.bells().take(server.lane(node, 0));
         holds(rt, "another node is woken", is_woken);
@@ -276,7 +276,7 @@ fn others_are_woken<R: Abort, A: Answers>(rt: &R, server: &Server<'_, A>) {
 }
 
 // Each subscriber gets the message, and its worker is woken for it, but for the one that published.
-fn are_woken<R: Abort, A: Answers>(rt: &R, server: &mut Server<'_, A>, subscribers: &[ConnId]) {
+fn are_woken<R: Abort, A: Backend>(rt: &R, server: &mut Server<'_, A>, subscribers: &[ConnId]) {
     for (worker, conn) in subscribers.iter().enumerate() {
         let is_woken = server.crew.bells().take(worker);
         holds(rt, "its worker is woken", worker == 0 || is_woken);
@@ -286,7 +286,7 @@ fn are_woken<R: Abort, A: Answers>(rt: &R, server: &mut Server<'_, A>, subscribe
     }
 }
 
-fn woken<R: Abort, A: Answers>(rt: &R, alloc: Global, server: &mut Server<'_, A>) {
+fn woken<R: Abort, A: Backend>(rt: &R, alloc: Global, server: &mut Server<'_, A>) {
     let subscribers = subscribe_each(rt, alloc, server);
     open_at_others(rt, server);
     let publisher = server.opens(rt, 0, 0);
@@ -302,7 +302,7 @@ fn woken<R: Abort, A: Answers>(rt: &R, alloc: Global, server: &mut Server<'_, A>
 }
 
 // One connection asks so often.
-fn batches<R: Abort, A: Answers>(rt: &R, server: &mut Server<'_, A>, count: u32) {
+fn batches<R: Abort, A: Backend>(rt: &R, server: &mut Server<'_, A>, count: u32) {
     let conn = server.opens(rt, 0, 0);
     let desk = server.desk(rt, 0, 0);
     for _ in 0..count {
@@ -311,7 +311,7 @@ fn batches<R: Abort, A: Answers>(rt: &R, server: &mut Server<'_, A>, count: u32)
 }
 
 // So many come and go, at both workers in turn, and one behind them is served.
-fn closes<R: Abort, A: Answers>(rt: &R, server: &mut Server<'_, A>, count: u32) {
+fn closes<R: Abort, A: Backend>(rt: &R, server: &mut Server<'_, A>, count: u32) {
     for number in 0..count {
         let worker = number as usize % 2;
         let conn = server.opens(rt, 0, worker);
@@ -323,14 +323,14 @@ fn closes<R: Abort, A: Answers>(rt: &R, server: &mut Server<'_, A>, count: u32) 
 }
 
 // One connection sends so many requests at once.
-fn at_once<R: Abort, A: Answers>(rt: &R, alloc: Global, server: &mut Server<'_, A>, count: usize) {
+fn at_once<R: Abort, A: Backend>(rt: &R, alloc: Global, server: &mut Server<'_, A>, count: usize) {
     let sent = PING.0.repeat(alloc, count).ok().expect(rt, "memory");
     let wanted = PING.1.repeat(alloc, count).ok().expect(rt, "memory");
     opens_and_asks(rt, server, (0, 0), (&sent, &wanted));
 }
 
 // A value of a mebibyte is asked for so often at once, and none of it is written until all came.
-fn replies<R: Abort, A: Answers>(rt: &R, alloc: Global, server: &mut Server<'_, A>, count: usize) {
+fn replies<R: Abort, A: Backend>(rt: &R, alloc: Global, server: &mut Server<'_, A>, count: usize) {
     let store = (
         b"SETRANGE v 1048575 x\r\n".as_slice(),
         b":1048576\r\n".as_slice(),
@@ -348,14 +348,14 @@ fn replies<R: Abort, A: Answers>(rt: &R, alloc: Global, server: &mut Server<'_, 
 }
 
 // A mebibyte is published so often.
-fn publish_each<R: Abort, A: Answers>(rt: &R, desk: &mut A, conn: ConnId, sent: &[u8], count: u32) {
+fn publish_each<R: Abort, A: Backend>(rt: &R, desk: &mut A, conn: ConnId, sent: &[u8], count: u32) {
     for _ in 0..count {
         asks(rt, desk, conn, (sent, b":1\r\n"));
     }
 }
 
 // So many mebibytes are published to one whose worker does nothing meanwhile: then it gets them all.
-fn messages<R: Abort, A: Answers>(rt: &R, alloc: Global, server: &mut Server<'_, A>, count: u32) {
+fn messages<R: Abort, A: Backend>(rt: &R, alloc: Global, server: &mut Server<'_, A>, count: u32) {
     let subscriber = opens_and_asks(rt, server, (0, 1), SUBSCRIBE);
     let publisher = server.opens(rt, 0, 0);
     let mut sent = Vec::new(alloc);
@@ -370,7 +370,7 @@ fn messages<R: Abort, A: Answers>(rt: &R, alloc: Global, server: &mut Server<'_,
 }
 
 // So many subscribers at one worker.
-fn subscribe_many<R: Abort, A: Answers>(
+fn subscribe_many<R: Abort, A: Backend>(
     rt: &R,
     alloc: Global,
     server: &mut Server<'_, A>,
@@ -385,7 +385,7 @@ fn subscribe_many<R: Abort, A: Answers>(
 }
 
 // Each of these is told of, and gets the message.
-fn each_gets<R: Abort, A: Answers>(rt: &R, desk: &mut A, subscribers: &[ConnId]) {
+fn each_gets<R: Abort, A: Backend>(rt: &R, desk: &mut A, subscribers: &[ConnId]) {
     for (place, conn) in subscribers.iter().enumerate() {
         holds(rt, "it is told of", desk.told(place).is_some());
         gets(rt, desk, *conn, MESSAGE);
@@ -393,7 +393,7 @@ fn each_gets<R: Abort, A: Answers>(rt: &R, desk: &mut A, subscribers: &[ConnId])
 }
 
 // What the other node publishes comes to all of them by one work.
-fn subscribers<R: Abort, A: Answers>(
+fn subscribers<R: Abort, A: Backend>(
     rt: &R,
     alloc: Global,
     server: &mut Server<'_, A>,
@@ -410,9 +410,9 @@ fn subscribers<R: Abort, A: Answers>(
 }
 
 // Works until nothing more comes for a connection.
-fn works_until_cut<R: Abort, A: Answers>(rt: &R, desk: &mut A, conn: ConnId) {
+fn works_until_cut<R: Abort, A: Backend>(rt: &R, desk: &mut A, conn: ConnId) {
     for _ in 0..MOST_WORKS {
-        if desk.standing(conn) == Standing::Over {
+        if desk.standing(conn) == ConnectionState::Over {
             return;
         }
         works(rt, desk);
@@ -421,7 +421,7 @@ fn works_until_cut<R: Abort, A: Answers>(rt: &R, desk: &mut A, conn: ConnId) {
 }
 
 // One more waits for more than its queue holds, beside one that came behind it; and both go.
-fn cut<R: Abort, A: Answers>(rt: &R, server: &mut Server<'_, A>, worker: usize) {
+fn cut<R: Abort, A: Backend>(rt: &R, server: &mut Server<'_, A>, worker: usize) {
     let slow = server.opens(rt, 0, worker);
     let other = opens_and_asks(rt, server, (0, worker), PING);
     let desk = server.desk(rt, 0, worker);
@@ -434,7 +434,7 @@ fn cut<R: Abort, A: Answers>(rt: &R, server: &mut Server<'_, A>, worker: usize) 
 }
 
 // So many are cut and go, one by one, while others stay.
-fn cuts<R: Abort, A: Answers>(rt: &R, alloc: Global, server: &mut Server<'_, A>, count: u32) {
+fn cuts<R: Abort, A: Backend>(rt: &R, alloc: Global, server: &mut Server<'_, A>, count: u32) {
     let worker = server.workers.saturating_sub(1);
     let mut stay = Vec::new(alloc);
     for _ in 0..4 {
@@ -450,24 +450,24 @@ fn cuts<R: Abort, A: Answers>(rt: &R, alloc: Global, server: &mut Server<'_, A>,
 }
 
 // An entry comes, and all nodes pass it.
-fn passes<R: Abort, A: Answers>(rt: &R, server: &mut Server<'_, A>, conn: ConnId) {
+fn passes<R: Abort, A: Backend>(rt: &R, server: &mut Server<'_, A>, conn: ConnId) {
     asks(rt, server.desk(rt, 1, 0), conn, SET);
     works(rt, server.desk(rt, 0, 0));
     works(rt, server.desk(rt, 2, 0));
 }
 
 // Node 0 falls over the first entry, and holds none up of so many more.
-fn falls<R: Abort, A: Answers>(rt: &R, server: &mut Server<'_, A>, count: u32) {
+fn falls<R: Abort, A: Backend>(rt: &R, server: &mut Server<'_, A>, count: u32) {
     let fallen = server.opens(rt, 0, 0);
     let conn = server.opens(rt, 1, 0);
     for _ in 0..count {
         passes(rt, server, conn);
     }
     let standing = server.desk(rt, 0, 0).standing(fallen);
-    holds(rt, "it is down", standing == Standing::Down);
+    holds(rt, "it is down", standing == ConnectionState::Down);
 }
 
-fn does<R: Wait + Abort, A: Answers, N: Falling>(
+fn does<R: Wait + Abort, A: Backend, N: Falling>(
     rt: &R,
     alloc: Global,
     server: &mut Server<'_, A>,
@@ -498,10 +498,10 @@ fn limit_of(task: Task) -> usize {
 }
 
 // Where the connections of no lane come from: a test hands them in itself.
-fn no_places<R: Abort>(rt: &R, alloc: Global, lanes: usize) -> Vec<Place<Silent, Silent>> {
+fn no_places<R: Abort>(rt: &R, alloc: Global, lanes: usize) -> Vec<WorkerPorts<Silent, Silent>> {
     let mut places = Vec::new(alloc);
     for _ in 0..lanes {
-        let put = places.push(Place {
+        let put = places.push(WorkerPorts {
             device: Silent,
             clock: Silent,
         });
@@ -514,20 +514,20 @@ fn desks_of<'c, B: ServerName, R: Wait + Abort>(
     rt: &'c R,
     alloc: Global,
     lanes: Vec<Lane<B, Silent, Silent>>,
-    crew: &'c Crew<Bells>,
+    crew: &'c SharedHints<Bells>,
     limit: usize,
-) -> Vec<ServingDesk<'c, R, B, Bells>> {
+) -> Vec<WorkerBackend<'c, R, B, Bells>> {
     let mut desks = Vec::new(alloc);
     for lane in lanes {
         let Lane { worker, .. } = lane;
-        let desk = ServingDesk::new(alloc, rt, worker, crew, limit, MEBIBYTE);
+        let desk = WorkerBackend::new(alloc, rt, worker, crew, limit, MEBIBYTE);
         desks.push(desk).ok().expect(rt, "memory");
     }
     desks
 }
 
 // The next entry that node 0 applies is refused.
-fn refuse_first<B: ServerName, R: Wait + Abort>(rt: &R, built: &[Vec<Worker<B>>]) {
+fn refuse_first<B: ServerName, R: Wait + Abort>(rt: &R, built: &[Vec<NodeHandle<B>>]) {
     let workers = built.first().expect(rt, "a node");
     workers.first().expect(rt, "a worker").refuse(rt);
 }
@@ -536,7 +536,7 @@ fn does_named<B: ServerName, R: Wait + Abort>(
     rt: &R,
     alloc: Global,
     keys: RandomState,
-    opened: Opened,
+    opened: OpenedLog,
     slots: Vec<OpenedSlots>,
     nodes: usize,
     workers: usize,
@@ -551,7 +551,7 @@ where
 {
     let lanes = nodes.saturating_mul(workers);
     let bells = Bells::new(rt, alloc, lanes);
-    let crew = Crew::new(alloc, bells, nodes, workers, CONNECTIONS)?;
+    let crew = SharedHints::new(alloc, bells, nodes, workers, CONNECTIONS)?;
     let plan = Plan {
         workers,
         connections: CONNECTIONS,
@@ -587,7 +587,7 @@ fn does_row<R: RandomSource + Wait + Abort>(
     if workers < 1 || workers > 16 {
         panic!(rt; "no node has so many workers");
     }
-    let opened = Opened::open(alloc, nodes, places)
+    let opened = OpenedLog::open(alloc, nodes, places)
         .ok()
         .expect(rt, "a log is opened");
     let slots = open_slots(alloc, nodes, workers)

@@ -4,8 +4,8 @@ use crate::line::Line;
 use crate::places::{Breaks, Came, Trial, refuse_memory, serve};
 use crate::watch::Held;
 use nr_crew::ServeError;
-use nr_lane::Crew;
 use nr_service::Silent;
+use nr_worker_service::SharedHints;
 use std::alloc::Global;
 use std::process::Abort;
 use std::random::RandomSource;
@@ -432,7 +432,7 @@ fn ends_where_none_can_come(rt: HostRuntime) {
 // A node that has fallen takes no connection, and the others do; once all have, none does.
 #[test]
 fn a_fallen_node_takes_none(rt: HostRuntime) {
-    let crew = Crew::new(rt.alloc(), Silent, 8, 1, 2);
+    let crew = SharedHints::new(rt.alloc(), Silent, 8, 1, 2);
     let crew = crew.ok().expect(&rt, "memory");
     for node in 0..8 {
         holds(&rt, "one is up", !crew.are_down() && !crew.is_down(node));

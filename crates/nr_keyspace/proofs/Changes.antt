@@ -15,24 +15,24 @@ use Rattle.nr_keyspace.specs.Deadlines.{due_cmp, has_deadline, without_deadline,
 use Rattle.nr_keyspace.specs.Stores.{Store, IsIndexed, redated, written_if, is_undated, bytes_of, store_of, stored_of, deadline_of}
 use Rattle.nr_keyspace.specs.Values.{value_of}
 use Rattle.nr_keyspace.specs.declared.value.Value.{Value}
-use Rattle.nr_keyspace.specs.declared.database.Entry.{Entry}
+use Rattle.nr_keyspace.specs.declared.database.KeyEntry.{KeyEntry}
 use Rattle.nr_keyspace.proofs.Named.{is_name, same_name, get-store, inserted, removed, reordered}
 use Rattle.nr_keyspace.proofs.Replaced.{kept}
 use Rattle.nr_keyspace.proofs.Indexed.{insert_indexed, remove_indexed}
 
 abbrev pub Entries : Type 0
-Entries = List (Bytes × Entry)
+Entries = List (Bytes × KeyEntry)
 
 abbrev pub IsReordered : Entries → Entries → Type 0
 IsReordered old new = (k : Bytes) → lookup (same_name bytes_of k) new ≡ lookup (same_name bytes_of k) old
 
-pub put_store : (old room new : Entries) (name : Bytes) (entry : Entry) → IsReordered old room → lookup (is_name bytes_of name) new ≡ Some entry
+pub put_store : (old room new : Entries) (name : Bytes) (entry : KeyEntry) → IsReordered old room → lookup (is_name bytes_of name) new ≡ Some entry
     → KeepsOthers (same_name bytes_of) (is_name bytes_of name) room new
     → store_of bytes_of new ≡ map.insert (store_of bytes_of old) name (stored_of entry)
 put_store old room new name entry same at_name others =
     inserted bytes_of room new name entry at_name others ∙ ap (λ m. map.insert m name (stored_of entry)) (reordered bytes_of old room same)
 
-pub put_indexed : (old room new : Entries) (dues after : set.FinSet due_cmp) (name : Bytes) (entry : Entry) → IsIndexed (store_of bytes_of old) dues
+pub put_indexed : (old room new : Entries) (dues after : set.FinSet due_cmp) (name : Bytes) (entry : KeyEntry) → IsIndexed (store_of bytes_of old) dues
     → IsReordered old room → lookup (is_name bytes_of name) new ≡ Some entry → KeepsOthers (same_name bytes_of) (is_name bytes_of name) room new
     → IsReplaced dues after entry.deadline name → IsIndexed (store_of bytes_of new) after
 put_indexed old room new dues after name entry was same at_name others replaced =
@@ -44,7 +44,7 @@ pub refused_indexed : (old room : Entries) (dues after : set.FinSet due_cmp) →
 refused_indexed old room dues after was same kept =
     subst (λ store. IsIndexed store after) (sym (reordered bytes_of old room same)) (subst (IsIndexed (store_of bytes_of old)) (sym kept) was)
 
-pub removed_indexed : (old new : Entries) (dues fewer : set.FinSet due_cmp) (name kept_name : Bytes) (entry : Entry) → IsIndexed (store_of bytes_of old) dues
+pub removed_indexed : (old new : Entries) (dues fewer : set.FinSet due_cmp) (name kept_name : Bytes) (entry : KeyEntry) → IsIndexed (store_of bytes_of old) dues
     → Some entry ≡ lookup (is_name bytes_of name) old → name ≡ kept_name
     → lookup (is_name bytes_of name) new ≡ None → KeepsOthers (same_name bytes_of) (is_name bytes_of name) old new
     → fewer ≡ without_deadline dues entry.deadline kept_name → IsIndexed (store_of bytes_of new) fewer
@@ -85,7 +85,7 @@ some_then (Some x) holds then = then holds
 some_then None holds then = tt
 
 -- the entry at a name with another deadline is what is stored there with another deadline
-pub redated_entries : (old new : Entries) (name : Bytes) (found written : Entry) → Some found ≡ lookup (is_name bytes_of name) old
+pub redated_entries : (old new : Entries) (name : Bytes) (found written : KeyEntry) → Some found ≡ lookup (is_name bytes_of name) old
     → lookup (is_name bytes_of name) new ≡ Some written → KeepsOthers (same_name bytes_of) (is_name bytes_of name) old new
     → written.value ≡ found.value → store_of bytes_of new ≡ redated (store_of bytes_of old) name (map.get (store_of bytes_of old) name) written.deadline
 redated_entries old new name found written is at_name others same =
@@ -144,7 +144,7 @@ insert_again store name stored at = map.same_map nat_list_cmp_total exact_bytes 
     ] refl)
 
 -- an entry that is written as it was changes nothing
-pub entry_kept : (old new : Entries) (name : Bytes) (found written : Entry) → Some found ≡ lookup (is_name bytes_of name) old
+pub entry_kept : (old new : Entries) (name : Bytes) (found written : KeyEntry) → Some found ≡ lookup (is_name bytes_of name) old
     → lookup (is_name bytes_of name) new ≡ Some written → KeepsOthers (same_name bytes_of) (is_name bytes_of name) old new
     → stored_of written ≡ stored_of found → store_of bytes_of new ≡ store_of bytes_of old
 entry_kept old new name found written is at_name others same =

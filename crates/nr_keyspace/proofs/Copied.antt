@@ -13,7 +13,7 @@ use Rattle.std.proofs.lemmas.Map.Lookups.{exact_bytes}
 use Rattle.nr_model.specs.Bytes.{Bytes}
 use Rattle.nr_model.specs.Keyspace.{byte_cmp, Stored}
 use Rattle.nr_keyspace.specs.Stores.{Store, stored_of, bytes_of, store_of}
-use Rattle.nr_keyspace.specs.declared.database.Entry.{Entry}
+use Rattle.nr_keyspace.specs.declared.database.KeyEntry.{KeyEntry}
 use Rattle.nr_keyspace.proofs.Named.{is_name, same_name, get-store}
 use Rattle.nr_keyspace.proofs.Changes.{Entries}
 
@@ -34,7 +34,7 @@ copied_none all entries seen distinct = record {
       ∙ ap (λ m. map.get m q) seen;
 }
 
-pub only_once : (e : Bytes × Entry) (left : Entries) → IsDistinct (same_name bytes_of) (keys_of (e ∷ left)) → (q : Bytes) → q ≡ bytes_of e.0
+pub only_once : (e : Bytes × KeyEntry) (left : Entries) → IsDistinct (same_name bytes_of) (keys_of (e ∷ left)) → (q : Bytes) → q ≡ bytes_of e.0
     → map.get (store_of bytes_of left) q ≡ None
 only_once e left distinct q named =
     get-store bytes_of left q
@@ -42,7 +42,7 @@ only_once e left distinct q named =
     ∙ ap (option_map stored_of) (lookup-none (same_name bytes_of e.0) left
     (none_past_head (on_texts_equal bytes_of) e.0 e left distinct (nat_list_eq_equiv.refl (bytes_of e.0))))
 
-pub copied_more : (all copy : Store) (e : Bytes × Entry) (left : Entries) → IsCopied all copy (e ∷ left)
+pub copied_more : (all copy : Store) (e : Bytes × KeyEntry) (left : Entries) → IsCopied all copy (e ∷ left)
     → IsCopied all (map.insert copy (bytes_of e.0) (stored_of e.1)) left
 copied_more all copy e left so_far = record {
   distinct = IsDistinct-tail (same_name bytes_of) e.0 (keys_of left) so_far.distinct;

@@ -13,7 +13,7 @@ use Rattle.nr_zsets.proofs.Crossing.{zset_send, zset_sync}
 use Rattle.nr_keyspace.proofs.databases.sweeps.Sweeps.TheSendSync as sweeps
 use Rattle.nr_keyspace.specs.contracts.deadlines.Deadlines as Deadlines
 use Rattle.nr_keyspace.specs.contracts.value.Value as Value
-use Rattle.nr_keyspace.specs.contracts.database.Entry as Entry
+use Rattle.nr_keyspace.specs.contracts.database.KeyEntry as KeyEntry
 use Rattle.nr_keyspace.specs.contracts.database.Database as Database
 use Rattle.nr_keyspace.specs.contracts.databases.Databases as Databases
 use Rattle.nr_keyspace.specs.contracts.keyspace.Keyspace as Keyspace
@@ -26,10 +26,10 @@ value_send = search (parts, zset_send, str.the_send, list.the_send, hash.the_sen
 value_sync : IsSync (Value.the_field).row
 value_sync = search (parts, zset_sync, str.the_sync, list.the_sync, hash.the_sync, set.the_sync) depth 60 fits 100000
 
-entry_send : IsSend (Entry.the_field).row
+entry_send : IsSend (KeyEntry.the_field).row
 entry_send = search (parts, value_send) depth 60 fits 100000
 
-entry_sync : IsSync (Entry.the_field).row
+entry_sync : IsSync (KeyEntry.the_field).row
 entry_sync = search (parts, value_sync) depth 60 fits 100000
 
 deadlines_send : IsSend Deadlines.the_row

@@ -22,7 +22,7 @@ use Rattle.nr_model.specs.Keyspace.{byte_cmp, Stored, is_live_at, only_live}
 use Rattle.nr_model.proofs.Ordered.{has, has-filter}
 use Rattle.nr_keyspace.specs.Names.{live_store}
 use Rattle.nr_keyspace.specs.Stores.{Store, stored_of, bytes_of, store_of}
-use Rattle.nr_keyspace.specs.declared.database.Entry.{Entry}
+use Rattle.nr_keyspace.specs.declared.database.KeyEntry.{KeyEntry}
 use Rattle.nr_keyspace.proofs.Named.{same_name}
 use Rattle.nr_keyspace.proofs.Names.{get-live_store, keys_rise}
 use Rattle.nr_keyspace.proofs.Changes.{Entries}
@@ -30,7 +30,7 @@ use Rattle.nr_keyspace.proofs.Copied.{only_once}
 use denote.Ref.{Bor}
 
 -- whether an entry is live, and its name matches
-abbrev pub is_wanted : ℕ → Bytes → Bytes × Entry → Bool
+abbrev pub is_wanted : ℕ → Bytes → Bytes × KeyEntry → Bool
 is_wanted now pattern e = is_live_at now e.1.deadline && matches pattern e.0
 
 -- the names of the entries that are wanted

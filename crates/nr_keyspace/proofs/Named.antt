@@ -12,13 +12,13 @@ use Rattle.std.proofs.lemmas.Map.Entries.{place_from_lookup}
 use Rattle.nr_model.specs.Bytes.{Bytes}
 use Rattle.nr_model.specs.Keyspace.{byte_cmp}
 use Rattle.nr_keyspace.specs.Stores.{Store, bytes_of, stored_of, stored_entries, store_of}
-use Rattle.nr_keyspace.specs.declared.database.Entry.{Entry}
+use Rattle.nr_keyspace.specs.declared.database.KeyEntry.{KeyEntry}
 
-cond-map : (b : Bool) (e : Entry) (o : Option Entry) → option_map stored_of (cond b (Some e) o) ≡ cond b (Some (stored_of e)) (option_map stored_of o)
+cond-map : (b : Bool) (e : KeyEntry) (o : Option KeyEntry) → option_map stored_of (cond b (Some e) o) ≡ cond b (Some (stored_of e)) (option_map stored_of o)
 cond-map true e o = refl
 cond-map false e o = refl
 
-cond-put : (b : Bool) (w o : Option Entry) → option_map stored_of (cond b w o) ≡ cond b (option_map stored_of w) (option_map stored_of o)
+cond-put : (b : Bool) (w o : Option KeyEntry) → option_map stored_of (cond b w o) ≡ cond b (option_map stored_of w) (option_map stored_of o)
 cond-put true w o = refl
 cond-put false w o = refl
 
@@ -30,7 +30,7 @@ module _ {Name : Type 0} (bytes : Name → Bytes) where
   abbrev pub same_name : Name → Name → Bool
   same_name a b = bytes_eq (bytes a) (bytes b)
 
-  find-stored : (q : Bytes) (entries : List (Name × Entry))
+  find-stored : (q : Bytes) (entries : List (Name × KeyEntry))
       → map.find byte_cmp q (stored_entries bytes entries) ≡ option_map stored_of (lookup (is_name q) entries)
   find-stored q [] = refl
   find-stored q (e ∷ entries) =
@@ -38,15 +38,15 @@ module _ {Name : Type 0} (bytes : Name → Bytes) where
       ∙ ap (cond (is_name q e.0) (Some (stored_of e.1))) (find-stored q entries)
       ∙ sym (cond-map (is_name q e.0) e.1 (lookup (is_name q) entries))
 
-  pub get-store : (entries : List (Name × Entry)) (q : Bytes) → map.get (store_of bytes entries) q ≡ option_map stored_of (lookup (is_name q) entries)
+  pub get-store : (entries : List (Name × KeyEntry)) (q : Bytes) → map.get (store_of bytes entries) q ≡ option_map stored_of (lookup (is_name q) entries)
   get-store entries q = map.get-from_entries nat_list_cmp_total (stored_entries bytes entries) q ∙ find-stored q entries
 
-  pub get-found : (entries : List (Name × Entry)) (store : Store) (name : Bytes) (found : Option Entry) → store_of bytes entries ≡ store
+  pub get-found : (entries : List (Name × KeyEntry)) (store : Store) (name : Bytes) (found : Option KeyEntry) → store_of bytes entries ≡ store
       → found ≡ lookup (is_name name) entries → map.get store name ≡ option_map stored_of found
   get-found entries store name found seen is = ap (λ m. map.get m name) (sym seen) ∙ get-store entries name ∙ ap (option_map stored_of) (sym is)
 
   -- after a change at one name, any other is found as before
-  changed : (old new : List (Name × Entry)) (name : Bytes) (w : Option Entry) → lookup (is_name name) new ≡ w → KeepsOthers same_name (is_name name) old new
+  changed : (old new : List (Name × KeyEntry)) (name : Bytes) (w : Option KeyEntry) → lookup (is_name name) new ≡ w → KeepsOthers same_name (is_name name) old new
       → (q : Bytes) → map.get (store_of bytes new) q ≡ cond (eq_by_cmp byte_cmp q name) (option_map stored_of w) (map.get (store_of bytes old) q)
   unfolding KeepsOthers
   changed old new name w at_name others q =
@@ -61,18 +61,18 @@ module _ {Name : Type 0} (bytes : Name → Bytes) where
       ∙ ap (λ b. cond b (option_map stored_of w) (option_map stored_of (lookup (is_name q) old))) (texts_ties q name)
       ∙ ap (cond (eq_by_cmp byte_cmp q name) (option_map stored_of w)) (sym (get-store old q))
 
-  pub inserted : (old new : List (Name × Entry)) (name : Bytes) (entry : Entry) → lookup (is_name name) new ≡ Some entry
+  pub inserted : (old new : List (Name × KeyEntry)) (name : Bytes) (entry : KeyEntry) → lookup (is_name name) new ≡ Some entry
       → KeepsOthers same_name (is_name name) old new
       → store_of bytes new ≡ map.insert (store_of bytes old) name (stored_of entry)
   inserted old new name entry at_name others = map.same_map nat_list_cmp_total exact_bytes _ _ (λ q.
       changed old new name (Some entry) at_name others q ∙ sym (map.get-insert nat_list_cmp_total (store_of bytes old) name (stored_of entry) q))
 
-  pub removed : (old new : List (Name × Entry)) (name : Bytes) → lookup (is_name name) new ≡ None → KeepsOthers same_name (is_name name) old new
+  pub removed : (old new : List (Name × KeyEntry)) (name : Bytes) → lookup (is_name name) new ≡ None → KeepsOthers same_name (is_name name) old new
       → store_of bytes new ≡ map.remove (store_of bytes old) name
   removed old new name at_name others = map.same_map nat_list_cmp_total exact_bytes _ _ (λ q.
       changed old new name None at_name others q ∙ sym (map.get-remove nat_list_cmp_total (store_of bytes old) name q))
 
-  found_at : (entries fewer : List (Name × Entry)) → ((k : Name) → lookup (same_name k) fewer ≡ lookup (same_name k) entries) → (q : Bytes) (entry : Entry)
+  found_at : (entries fewer : List (Name × KeyEntry)) → ((k : Name) → lookup (same_name k) fewer ≡ lookup (same_name k) entries) → (q : Bytes) (entry : KeyEntry)
       → lookup (is_name q) entries ≡ Some entry → lookup (is_name q) fewer ≡ lookup (is_name q) entries
   found_at entries fewer same q entry found =
       let at = place_from_lookup (is_name q) entries entry found in
@@ -80,7 +80,7 @@ module _ {Name : Type 0} (bytes : Name → Bytes) where
       ap (λ n. lookup (is_name n) fewer) named ∙ same at.1 ∙ ap (λ n. lookup (is_name n) entries) (sym named)
 
   -- entries at which each stored name finds the same make one map
-  pub reordered : (old new : List (Name × Entry)) → ((k : Name) → lookup (same_name k) new ≡ lookup (same_name k) old) → store_of bytes new ≡ store_of bytes old
+  pub reordered : (old new : List (Name × KeyEntry)) → ((k : Name) → lookup (same_name k) new ≡ lookup (same_name k) old) → store_of bytes new ≡ store_of bytes old
   reordered old new same = map.same_map nat_list_cmp_total exact_bytes _ _ (λ q.
       get-store new q
       ∙ ap (option_map stored_of) (
@@ -93,11 +93,11 @@ module _ {Name : Type 0} (bytes : Name → Bytes) where
       ] refl)
       ∙ sym (get-store old q))
 
-none_either : (b : Bool) → let none : Option Entry = None in none ≡ cond b None none
+none_either : (b : Bool) → let none : Option KeyEntry = None in none ≡ cond b None none
 none_either true = refl
 none_either false = refl
 
-left_without : (own same found : Bool) (entry : Entry) (behind left : Option Entry) → (own ≡ true → found ≡ same) → (same ≡ true → found ≡ own)
+left_without : (own same found : Bool) (entry : KeyEntry) (behind left : Option KeyEntry) → (own ≡ true → found ≡ same) → (same ≡ true → found ≡ own)
     → left ≡ cond same None behind → cond own left (cond found (Some entry) left) ≡ cond same None (cond found (Some entry) behind)
 left_without true true found entry behind left here there is = is
 left_without true false true entry behind left here there is = absurd (true≢false (here refl))
@@ -107,15 +107,15 @@ left_without false true false entry behind left here there is = is
 left_without false false found entry behind left here there is = ap (cond found (Some entry)) is
 
 -- whether an entry is at another name
-abbrev pub is_elsewhere : Bytes → Bytes × Entry → Bool
+abbrev pub is_elsewhere : Bytes → Bytes × KeyEntry → Bool
 is_elsewhere name entry = not (bytes_eq entry.0 name)
 
-lookup-kept : (own : Bool) (q : Bytes) (entry : Bytes × Entry) (kept : List (Bytes × Entry))
+lookup-kept : (own : Bool) (q : Bytes) (entry : Bytes × KeyEntry) (kept : List (Bytes × KeyEntry))
     → lookup (bytes_eq q) (cond (not own) (entry ∷ kept) kept) ≡ cond own (lookup (bytes_eq q) kept) (cond (bytes_eq q entry.0) (Some entry.1) (lookup (bytes_eq q) kept))
 lookup-kept true q entry kept = refl
 lookup-kept false q entry kept = refl
 
-lookup-elsewhere : (name q : Bytes) (entries : List (Bytes × Entry))
+lookup-elsewhere : (name q : Bytes) (entries : List (Bytes × KeyEntry))
     → lookup (bytes_eq q) (filter (is_elsewhere name) entries) ≡ cond (bytes_eq q name) None (lookup (bytes_eq q) entries)
 lookup-elsewhere name q [] = none_either (bytes_eq q name)
 lookup-elsewhere name q (e ∷ entries) =
@@ -126,7 +126,7 @@ lookup-elsewhere name q (e ∷ entries) =
     (lookup-elsewhere name q entries)
 
 -- the entries at other names are those without what is stored at one
-pub others_left : (entries kept : List (Bytes × Entry)) (name : Bytes) → kept ≡ filter (is_elsewhere name) entries
+pub others_left : (entries kept : List (Bytes × KeyEntry)) (name : Bytes) → kept ≡ filter (is_elsewhere name) entries
     → store_of bytes_of kept ≡ map.remove (store_of bytes_of entries) name
 others_left entries kept name is = map.same_map nat_list_cmp_total exact_bytes _ _ (λ q.
     get-store bytes_of kept q

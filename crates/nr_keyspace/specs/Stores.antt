@@ -9,10 +9,10 @@ use Rattle.nr_model.specs.Bytes.{Bytes}
 use Rattle.nr_model.specs.Keyspace.{byte_cmp, Stored, Text, coded_bytes, coded_stored}
 use Rattle.nr_keyspace.specs.Values.{value_of}
 use Rattle.nr_keyspace.specs.Deadlines.{due_cmp, has_deadline}
-use Rattle.nr_keyspace.specs.declared.database.Entry.{Entry}
+use Rattle.nr_keyspace.specs.declared.database.KeyEntry.{KeyEntry}
 
 -- what the definitions store at a name
-abbrev pub stored_of : Entry → Stored
+abbrev pub stored_of : KeyEntry → Stored
 stored_of entry = record { value = value_of entry.value; deadline = entry.deadline }
 
 abbrev pub Store : Type 0
@@ -26,10 +26,10 @@ abbrev pub bytes_of : Bytes → Bytes
 bytes_of name = name
 
 -- each as the bytes of a name and what is stored there
-abbrev pub stored_entries : {Name : Type 0} → (Name → Bytes) → List (Name × Entry) → List (Bytes × Stored)
+abbrev pub stored_entries : {Name : Type 0} → (Name → Bytes) → List (Name × KeyEntry) → List (Bytes × Stored)
 stored_entries bytes entries = prelude.map (λ e. (bytes e.0, stored_of e.1)) entries
 
-abbrev pub store_of : {Name : Type 0} → (Name → Bytes) → List (Name × Entry) → Store
+abbrev pub store_of : {Name : Type 0} → (Name → Bytes) → List (Name × KeyEntry) → Store
 store_of bytes entries = map.from_entries (stored_entries bytes entries)
 
 -- the deadline at a name, if there is one

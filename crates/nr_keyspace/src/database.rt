@@ -28,14 +28,14 @@ const SWEPT_AT_ONCE: usize = 4;
 
 /// A value, and the millisecond from which it is gone, if there is one.
 #[derive(Drop)]
-pub(crate) struct Entry {
+pub(crate) struct KeyEntry {
     value: Value,
     deadline: KeptDeadline,
 }
 
 #[derive(Drop)]
 pub(crate) struct Database {
-    by_name: HashMap<Blob, Entry, RandomState>,
+    by_name: HashMap<Blob, KeyEntry, RandomState>,
     deadlines: Deadlines,
 }
 
@@ -52,7 +52,7 @@ impl Model for Database {
 }
 
 // Writes another deadline to the entry at a name, if there is one.
-fn redate(by_name: &mut HashMap<Blob, Entry, RandomState>, name: &Blob, deadline: KeptDeadline)
+fn redate(by_name: &mut HashMap<Blob, KeyEntry, RandomState>, name: &Blob, deadline: KeptDeadline)
     ensures { let old = store_of bytes_of by_name.old.entries in store_of bytes_of by_name.new.entries ≡ redated old name.now (map.get old name.now) deadline }
 {
     if let Some(entry) = by_name.get_mut(name) {
@@ -62,7 +62,7 @@ fn redate(by_name: &mut HashMap<Blob, Entry, RandomState>, name: &Blob, deadline
 
 // Writes another value to the entry at a name, if there is one and it has no deadline. Else the value comes back.
 fn rewrite(
-    by_name: &mut HashMap<Blob, Entry, RandomState>,
+    by_name: &mut HashMap<Blob, KeyEntry, RandomState>,
     name: &Blob,
     value: Value,
 ) -> Option<Value>
@@ -85,7 +85,7 @@ fn rewrite(
 
 // Writes a text to the entry at a name, if there is one and it has no deadline, and says whether there was.
 fn write_text(
-    by_name: &mut HashMap<Blob, Entry, RandomState>,
+    by_name: &mut HashMap<Blob, KeyEntry, RandomState>,
     name: &Blob,
     text: &[u8],
 ) -> Result<bool, Memory>
@@ -106,7 +106,7 @@ fn write_text(
 
 // Has the value at a live name edited, if there is one.
 fn edit_at<E: Edit>(
-    by_name: &mut HashMap<Blob, Entry, RandomState>,
+    by_name: &mut HashMap<Blob, KeyEntry, RandomState>,
     now: u64,
     name: &Blob,
     edit: E,
@@ -126,7 +126,7 @@ fn edit_at<E: Edit>(
 }
 
 // Takes out what is stored at a name, if there is something. Where there is no memory for a copy of a long name, each name is looked at.
-fn forget(by_name: &mut HashMap<Blob, Entry, RandomState>, alloc: Global, name: &[u8])
+fn forget(by_name: &mut HashMap<Blob, KeyEntry, RandomState>, alloc: Global, name: &[u8])
     ensures { store_of bytes_of by_name.new.entries ≡ map.remove (store_of bytes_of by_name.old.entries) name.now }
 {
     let Ok(name) = Blob::from_slice(alloc, name) else {
@@ -137,7 +137,7 @@ fn forget(by_name: &mut HashMap<Blob, Entry, RandomState>, alloc: Global, name: 
 }
 
 // Whether an entry is live, and its name matches a pattern.
-fn is_wanted(now: u64, pattern: &[u8], name: &Blob, entry: &Entry) -> bool
+fn is_wanted(now: u64, pattern: &[u8], name: &Blob, entry: &KeyEntry) -> bool
     ensures { result ≡ is_live_at now entry.now.deadline && matches pattern.now name.now }
 {
     entry.deadline.is_live(now) && matches(pattern, name.bytes())
@@ -166,7 +166,7 @@ impl Database {
     }
 
     // What is stored at a live name.
-    fn live(&self, now: u64, name: &Blob) -> Option<&Entry>
+    fn live(&self, now: u64, name: &Blob) -> Option<&KeyEntry>
         ensures { option_map (λ entry. stored_of entry.now) result ≡ only_live now (map.get self.now name.now) }
     {
         let entry = self.by_name.get(name)?;
@@ -242,7 +242,7 @@ impl Database {
         let before = self.deadline_at(&name);
         self.by_name.reserve(1)?;
         self.deadlines.replace(before, deadline, &name)?;
-        let entry = Entry {
+        let entry = KeyEntry {
             value,
             deadline: kept,
         };

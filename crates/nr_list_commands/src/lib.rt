@@ -1,7 +1,7 @@
 //! What the commands on lists do. A body reads the words behind the name of its command, and looks at the keyspace or changes it.
 #![tactic(auto)]
 
-mod held;
+mod stored;
 /// The commands that only look.
 pub mod looks;
 /// LMOVE and RPOPLPUSH.

@@ -12,8 +12,8 @@ ghost use Rattle.nr_resp.specs.Seen.{reply_of};
 ghost use Rattle.nr_resp.specs.Done.{Answers};
 ghost use Rattle.nr_resp.specs.Shown.{item_reply, shown_reply};
 
-use crate::held::items_at;
 use crate::places::{PlaceOptions, place_options};
+use crate::stored::items_at;
 use crate::words::range_request;
 use nr_blob::{Blob, Memory};
 use nr_keyspace::{Db, Keyspace};

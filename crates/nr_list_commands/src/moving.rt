@@ -10,8 +10,8 @@ ghost use Rattle.nr_resp.specs.Done.{Performs};
 ghost use Rattle.nr_resp.specs.Failures.{IfRefused};
 ghost use Rattle.nr_list_commands.specs.Relisted.{IsPushed};
 
-use crate::held::{Relisting, edit_items, items_at, put_items};
 use crate::popping::PopOne;
+use crate::stored::{Relisting, edit_items, items_at, put_items};
 use crate::words::end_of;
 use nr_blob::{Blob, Memory};
 use nr_keyspace::{Db, Keyspace, Touched};

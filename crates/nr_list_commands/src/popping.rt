@@ -13,7 +13,7 @@ ghost use Rattle.nr_resp.specs.Done.{Performs};
 ghost use Rattle.nr_list_commands.specs.Options.{valued};
 ghost use Rattle.nr_list_commands.specs.Popped.{none_popped};
 
-use crate::held::{Relisting, edit_items, items_at};
+use crate::stored::{Relisting, edit_items, items_at};
 use crate::words::end_of;
 use nr_blob::{Blob, Memory};
 use nr_keyspace::{Db, Keyspace, Touched};

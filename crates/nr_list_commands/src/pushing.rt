@@ -7,7 +7,7 @@ ghost use Rattle.nr_model.specs.Commands.Held.{items_at, kept_under};
 ghost use Rattle.nr_model.specs.Commands.Lists as lists;
 ghost use Rattle.nr_resp.specs.Done.{Performs};
 
-use crate::held::{Relisting, edit_items, put_items};
+use crate::stored::{Relisting, edit_items, put_items};
 use nr_blob::{Blob, Memory};
 use nr_keyspace::{Db, Keyspace, Touched};
 use nr_lists::List;

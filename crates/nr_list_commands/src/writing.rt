@@ -6,7 +6,7 @@ ghost use Rattle.nr_model.specs.Commands.Reading.{fault};
 ghost use Rattle.nr_model.specs.Commands.Lists as lists;
 ghost use Rattle.nr_resp.specs.Done.{Performs};
 
-use crate::held::{Relisting, edit_items, items_at};
+use crate::stored::{Relisting, edit_items, items_at};
 use crate::words::range_request;
 use nr_blob::{Blob, Memory};
 use nr_keyspace::{Db, Keyspace, Touched};

@@ -18,16 +18,16 @@ use Rattle.nr_entry.specs.Entry.{are_of}
 use Rattle.nr_entry.specs.Jobs.{item_of, items_of}
 use Rattle.nr_entry.specs.declared.entry.Entry.{Entry}
 use Rattle.nr_log_end.specs.Numbers.{IsRising, numbers_of, connection_at}
-use Rattle.nr_log_end.specs.declared.standing.Turn.{Turn}
-use Rattle.nr_log_end.specs.declared.standing.Turn.TheVariants.{Applied, Ran, Opened}
+use Rattle.nr_log_end.specs.declared.standing.LogEvent.{LogEvent}
+use Rattle.nr_log_end.specs.declared.standing.LogEvent.TheVariants.{Applied, Ran, Opened}
 use Rattle.nr_log_end.specs.Standings.{applied_of, items_of_turn, record_of, own_from, own_entries, jobs_reserved, jobs_in, EachRises}
 use Rattle.nr_log_end.proofs.Rising.{rising_left_out, rising_front}
 
 -- one history behind another
-pub record-append : (turns more : List Turn) → record_of (turns ++ more) ≡ record_of turns ++ record_of more
+pub record-append : (turns more : List LogEvent) → record_of (turns ++ more) ≡ record_of turns ++ record_of more
 record-append turns more = flat_map-append items_of_turn turns more
 
-pub applied-append : (turns more : List Turn) → applied_of (turns ++ more) ≡ applied_of turns ++ applied_of more
+pub applied-append : (turns more : List LogEvent) → applied_of (turns ++ more) ≡ applied_of turns ++ applied_of more
 applied-append [] more = refl
 applied-append (Applied entry ∷ turns) more = ap (λ (es : List Entry). entry ∷ es) (applied-append turns more)
 applied-append (Ran job ∷ turns) more = applied-append turns more
@@ -137,7 +137,7 @@ pub numbers_in_both : (c : Connection) (xs ys : List Entry) → numbers_of c (jo
 numbers_in_both c xs ys = ap (numbers_of c) (jobs_in-append xs ys) ∙ numbers-append c (jobs_in xs) (jobs_in ys)
 
 -- an entry that is passed has the numbers in the record that it had in the log
-pub numbers_passed : (c : Connection) (turns : List Turn) (entry : Entry) (rest : List Entry)
+pub numbers_passed : (c : Connection) (turns : List LogEvent) (entry : Entry) (rest : List Entry)
     → numbers_of c (record_of (turns ++ Applied entry ∷ []) ++ jobs_in rest) ≡ numbers_of c (record_of turns ++ jobs_in (entry ∷ rest))
 numbers_passed c turns entry rest =
     let done = record_of turns in
@@ -156,7 +156,7 @@ pub numbers_behind : (c : Connection) (done xs ys : Jobs) → numbers_of c xs �
 numbers_behind c done xs ys e = numbers-append c done xs ∙ ap (λ (ns : List ℕ). numbers_of c done ++ ns) e ∙ sym (numbers-append c done ys)
 
 -- the entries alone of what a node did: the reads between them are left out
-entries_rise : (c : Connection) (front : List ℕ) (turns : List Turn) (back : List ℕ) → IsRising (front ++ (numbers_of c (record_of turns) ++ back))
+entries_rise : (c : Connection) (front : List ℕ) (turns : List LogEvent) (back : List ℕ) → IsRising (front ++ (numbers_of c (record_of turns) ++ back))
     → IsRising (front ++ (numbers_of c (jobs_in (applied_of turns)) ++ back))
 entries_rise c front [] back h = h
 entries_rise c front (Applied entry ∷ turns) back h =
@@ -182,7 +182,7 @@ entries_rise c front (Ran job ∷ turns) back h =
 entries_rise c front (Opened worker ∷ turns) back h = entries_rise c front turns back h
 
 -- along the whole log, too
-pub log_rises : (c : Connection) (past : List Turn) (log behind : List Entry) → applied_of past ++ behind ≡ log
+pub log_rises : (c : Connection) (past : List LogEvent) (log behind : List Entry) → applied_of past ++ behind ≡ log
     → IsRising (numbers_of c (record_of past ++ jobs_in behind)) → IsRising (numbers_of c (jobs_in log))
 log_rises c past log behind whole h =
     let entries = entries_rise c [] past (numbers_of c (jobs_in behind)) (subst IsRising (numbers-append c (record_of past) (jobs_in behind)) h) in
@@ -203,7 +203,7 @@ begins_drop (suc n) (x ∷ xs) (y ∷ ys) b = let e : xs ++ b.0 ≡ ys = ap (dro
 
 -- A beginning of what a node did, and of what is known of the log: where the numbers rise along all that the node did and the log behind it, they rise
 -- along the beginning and what is known behind that.
-pub part_rises : (c : Connection) (turns past : List Turn) (known log behind : List Entry) → IsBeginningOf turns past → IsBeginningOf known log
+pub part_rises : (c : Connection) (turns past : List LogEvent) (known log behind : List Entry) → IsBeginningOf turns past → IsBeginningOf known log
     → applied_of past ++ behind ≡ log → IsRising (numbers_of c (record_of past ++ jobs_in behind))
     → IsRising (numbers_of c (record_of turns ++ jobs_in (drop (length (applied_of turns)) known)))
 part_rises c turns past known log behind b k whole h =

@@ -9,37 +9,37 @@ use Rattle.nr_entry.specs.declared.entry.Entry.{Entry}
 use Rattle.nr_entry.specs.declared.job.Job.{Job}
 use Rattle.nr_log_end.specs.Numbers.{AreRising}
 use Rattle.nr_log_end.specs.declared.standing.Standing.{Standing}
-use Rattle.nr_log_end.specs.declared.standing.Turn.{Turn}
-use Rattle.nr_log_end.specs.declared.standing.Turn.TheVariants.{Applied, Ran, Opened}
+use Rattle.nr_log_end.specs.declared.standing.LogEvent.{LogEvent}
+use Rattle.nr_log_end.specs.declared.standing.LogEvent.TheVariants.{Applied, Ran, Opened}
 
 -- the entries that were passed, in order
-abbrev pub applied_of : List Turn → List Entry
+abbrev pub applied_of : List LogEvent → List Entry
 applied_of [] = []
 applied_of (Applied entry ∷ turns) = entry ∷ applied_of turns
 applied_of (Ran job ∷ turns) = applied_of turns
 applied_of (Opened worker ∷ turns) = applied_of turns
 
 -- the reads that were run, each with how many entries had been applied before it, from so many on
-abbrev pub ran_from : ℕ → List Turn → List (Job × ℕ)
+abbrev pub ran_from : ℕ → List LogEvent → List (Job × ℕ)
 ran_from count [] = []
 ran_from count (Applied entry ∷ turns) = ran_from (suc count) turns
 ran_from count (Ran job ∷ turns) = (job, count) ∷ ran_from count turns
 ran_from count (Opened worker ∷ turns) = ran_from count turns
 
-abbrev pub ran_of : List Turn → List (Job × ℕ)
+abbrev pub ran_of : List LogEvent → List (Job × ℕ)
 ran_of history = ran_from 0 history
 
 -- the items of what was done: those of an entry at its moment, and each read at its place
-abbrev pub items_of_turn : Turn → List Item
+abbrev pub items_of_turn : LogEvent → List Item
 items_of_turn (Applied entry) = entry_items (items_of entry.jobs.items)
 items_of_turn (Ran job) = item_of job ∷ []
 items_of_turn (Opened worker) = []
 
-abbrev pub record_of : List Turn → List Item
+abbrev pub record_of : List LogEvent → List Item
 record_of history = flat_map items_of_turn history
 
 -- which workers serve the connections that were opened, by their serials
-abbrev pub opened_of : List Turn → List ℕ
+abbrev pub opened_of : List LogEvent → List ℕ
 opened_of [] = []
 opened_of (Applied entry ∷ turns) = opened_of turns
 opened_of (Ran job ∷ turns) = opened_of turns
@@ -129,7 +129,7 @@ abbrev pub passed_on : Standing → Standing
 passed_on s = record s { history = s.history ++ map Applied (option_to_list s.held); held = None }
 
 -- this was done behind all that was done before, and the tail met is `seen`
-abbrev pub done_with : List Turn → ℕ → Standing → Standing
+abbrev pub done_with : List LogEvent → ℕ → Standing → Standing
 done_with turns seen s = record s { history = s.history ++ turns; seen = seen }
 
 -- these reads were run

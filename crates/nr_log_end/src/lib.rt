@@ -3,7 +3,7 @@
 
 pub use log_end::LogEnd;
 pub use reserve::Reserve;
-pub use standing::{Look, Standing, Turn};
+pub use standing::{Load, LogEvent, Standing};
 
 mod log_end;
 mod reserve;

@@ -6,7 +6,7 @@ ghost use Rattle.nr_log_end.specs.Reserves.{IfTaken, IfFull, IfLost};
 ghost use Rattle.nr_log_end.specs.Tries.{IsTaken, IsFull, IsLost};
 
 use crate::reserve::Reserve;
-use crate::standing::{Look, Standing};
+use crate::standing::{Load, Standing};
 use nr_entry::{Entry, Job, Shares};
 use std::alloc::Global;
 use std::sync::Arc;
@@ -16,7 +16,7 @@ use std::sync::Arc;
 pub trait LogEnd {
     ghost use Rattle.std.specs.Prelude.{ℕ, List};
     ghost use Rattle.nr_log_end.specs.declared.standing.Standing.{Standing};
-    ghost use Rattle.nr_log_end.specs.declared.standing.Look.{Look};
+    ghost use Rattle.nr_log_end.specs.declared.standing.Load.{Load};
 
     /// What an end knew at one moment.
     type Token;
@@ -26,7 +26,7 @@ pub trait LogEnd {
     ghost kept_by: { Self.Token → Standing };
 
     /// The loads that an end has made, in order: of the tail, of passed counts, and of its next cell where that wasn't filled.
-    ghost looks: { Self → List Look };
+    ghost looks: { Self → List Load };
 
     /// How many places the log has.
     ghost places: { ℕ };
@@ -53,7 +53,7 @@ pub trait LogEnd {
         ensures none { IfNone result (standing self.new ≡ standing self.old) }
         ensures in_log { StandsInLog (standing self.new) }
         ensures looks_some { IfSome result (λ _. looks self.new ≡ looks self.old) }
-        ensures looks_none { IfNone result (looks self.new ≡ looks self.old ++ Look.Unfilled (passed_of (standing self.old)) ∷ []) };
+        ensures looks_none { IfNone result (looks self.new ≡ looks self.old ++ Load.Unfilled (passed_of (standing self.old)) ∷ []) };
 
     /// Passes the entry that was fetched last. Its place may be reserved again once all nodes passed it.
     fn pass(&mut self)
@@ -65,7 +65,7 @@ pub trait LogEnd {
     fn tail(&mut self) -> u64
         ensures tail { result ≡ (standing self.new).seen }
         ensures standing { LooksOn (standing self.old) (standing self.new) }
-        ensures looks { looks self.new ≡ looks self.old ++ Look.Tail result ∷ [] }
+        ensures looks { looks self.new ≡ looks self.old ++ Load.Tail result ∷ [] }
         ensures in_log { StandsInLog (standing self.new) };
 
     /// Notes that this node's replica has run these reads, in this order, behind the entries that were passed so far. Their numbers go on rising.
@@ -73,13 +73,13 @@ pub trait LogEnd {
         requires rising { AreNextReads jobs.now (standing self.old) }
         ensures noted { standing self.new ≡ noted_with jobs.now (standing self.new).seen (standing self.old) }
         ensures seen { (standing self.old).seen ≤ (standing self.new).seen }
-        ensures looks { looks self.new ≡ looks self.old ++ Look.Tail (standing self.new).seen ∷ [] };
+        ensures looks { looks self.new ≡ looks self.old ++ Load.Tail (standing self.new).seen ∷ [] };
 
     /// Notes that this node opened its next connection, which a worker serves.
     fn note_opened(&mut self, worker: u8)
         ensures opened { standing self.new ≡ opened_with worker (standing self.new).seen (standing self.old) }
         ensures seen { (standing self.old).seen ≤ (standing self.new).seen }
-        ensures looks { looks self.new ≡ looks self.old ++ Look.Tail (standing self.new).seen ∷ [] };
+        ensures looks { looks self.new ≡ looks self.old ++ Load.Tail (standing self.new).seen ∷ [] };
 
     /// A token that keeps how this end stands now.
     fn token(&mut self) -> Self::Token

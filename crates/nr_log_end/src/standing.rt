@@ -3,7 +3,7 @@ use nr_entry::{Entry, Job};
 use std::collections::LinkedList;
 
 /// What a replica did, in the order in which it did it. No value of it is made: contracts alone speak of it.
-pub enum Turn {
+pub enum LogEvent {
     /// It passed this entry, which it had applied.
     Applied(Entry),
     /// It ran this read.
@@ -13,7 +13,7 @@ pub enum Turn {
 }
 
 /// A load that an end made, and what it found. No value of it is made: contracts alone speak of it.
-pub enum Look {
+pub enum Load {
     /// The tail.
     Tail(u64),
     /// The count of entries that a node has passed.
@@ -28,7 +28,7 @@ pub struct Standing {
     pub node: u64,
     pub nodes: u64,
     /// What was done since the log was opened.
-    pub history: LinkedList<Turn>,
+    pub history: LinkedList<LogEvent>,
     /// The entry that was fetched and isn't passed yet.
     pub held: Option<Entry>,
     /// The greatest tail that was met. All entries of lower numbers are reserved.

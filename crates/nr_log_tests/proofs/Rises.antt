@@ -9,7 +9,7 @@ use Rattle.nr_entry.specs.declared.entry.Entry.{Entry}
 use Rattle.nr_entry.specs.declared.job.Job.{Job}
 use Rattle.nr_log_end.specs.Numbers.{IsRising, AreRising, numbers_of, connection_at}
 use Rattle.nr_log_end.specs.declared.standing.Standing.{Standing}
-use Rattle.nr_log_end.specs.declared.standing.Turn.TheVariants.{Applied}
+use Rattle.nr_log_end.specs.declared.standing.LogEvent.TheVariants.{Applied}
 use Rattle.nr_log_end.specs.Standings.{applied_of, record_of, passed_of, own_from, own_entries, unpassed, jobs_reserved, jobs_in, logged, StandsInLog, reservation, reserved_as, fetched_with, passed_on}
 use Rattle.nr_log_end.proofs.Rising.{rising_front}
 use Rattle.nr_log_end.proofs.Numbered.{applied-append, numbers-append, numbers_behind, numbers_own, numbers_passed, behind_known, unpassed_behind}

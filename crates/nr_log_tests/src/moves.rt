@@ -5,7 +5,7 @@ ghost use Rattle.nr_oplog.specs.Opening.{name_of, nodes_of, places_of};
 use crate::node::{Node, Tried};
 use crate::nodes::nodes;
 use nr_blob::Memory;
-use nr_oplog::{LogName, OpenError, Opened};
+use nr_oplog::{LogName, LogOpenError, OpenedLog};
 use std::alloc::Global;
 use std::marker::Brand;
 
@@ -47,16 +47,16 @@ pub(crate) fn play(
     nodes: usize,
     places: usize,
     moves: &[(usize, Move)],
-) -> Result<Vec<Outcome>, OpenError>
+) -> Result<Vec<Outcome>, LogOpenError>
     ensures { IfOk result (λ outcomes. length outcomes.items ≡ length moves.now) }
 {
-    let opened = Opened::open(alloc, nodes, places)?;
+    let opened = OpenedLog::open(alloc, nodes, places)?;
     Ok(play_named::<Brand>(alloc, opened, moves)?)
 }
 
 fn play_named<B: LogName>(
     alloc: Global,
-    opened: Opened,
+    opened: OpenedLog,
     moves: &[(usize, Move)],
 ) -> Result<Vec<Outcome>, Memory>
     requires name { name_of opened ≡ B.log }

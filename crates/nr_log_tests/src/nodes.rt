@@ -5,12 +5,12 @@ ghost use Rattle.nr_oplog.specs.Opening.{name_of, nodes_of, places_of};
 
 use crate::node::Node;
 use nr_blob::Memory;
-use nr_oplog::{End, LogName, LogSeat, Opened, Oplog};
+use nr_oplog::{End, LogName, LogSeat, OpenedLog, Oplog};
 use std::alloc::Global;
 use std::sync::Arc;
 
 // The nodes of a log that was opened, the first one node 0.
-pub(crate) fn nodes<B: LogName>(alloc: Global, opened: Opened) -> Result<Vec<Node<B>>, Memory>
+pub(crate) fn nodes<B: LogName>(alloc: Global, opened: OpenedLog) -> Result<Vec<Node<B>>, Memory>
     requires name { name_of opened ≡ B.log }
     requires shape { (nodes_of opened ≡ B.nodes) × (places_of opened ≡ B.places) }
     ensures { IfOk result (λ all. length all.items ≡ B.nodes) }

@@ -2,7 +2,7 @@ ghost use Rattle.std.specs.Prelude.{◌≡◌, ◌<◌, length};
 ghost use Rattle.nr_slots.specs.Names.{Names};
 
 use nr_entry::{Answer, Batch, Outcome};
-use nr_slots::{CombinerSeat, OpenError, Slots, Uncollected, WorkerSeat};
+use nr_slots::{CombinerSeat, Slots, SlotsOpenError, Uncollected, WorkerSeat};
 use std::alloc::Global;
 use std::process::Abort;
 use std::test::Fail;
@@ -143,7 +143,12 @@ fn last_of_16(rt: HostRuntime) -> Result<(), Fail> {
 #[test]
 fn opens_for_1_to_16(rt: HostRuntime) -> Result<(), Fail> {
     for workers in [0, 17, usize::MAX] {
-        assert!(rt; matches!(Slots::open(rt.alloc(), workers), Err(OpenError::BadShape)));
+        assert!(rt;
+            matches!(
+                Slots::open(rt.alloc(), workers),
+                Err(SlotsOpenError::BadShape)
+            )
+        );
     }
     for workers in [1, 16] {
         assert!(rt; Slots::open(rt.alloc(), workers).is_ok());

@@ -6,7 +6,7 @@ use Rattle.nr_blob.proofs.memory.Memory.TheSendSync as memory
 use Rattle.nr_keyspace.proofs.Crossing.{keyspace_send, keyspace_sync}
 use Rattle.nr_pubsub.proofs.subs.Subs.TheSendSync as subs
 use Rattle.nr_watch.proofs.watches.Watches.TheSendSync as watches
-use Rattle.nr_machine.proofs.databases.Databases.TheSendSync as databases
+use Rattle.nr_machine.proofs.databases.SelectedDatabases.TheSendSync as databases
 use Rattle.nr_machine.specs.contracts.state.State as State
 use Rattle.nr_machine.specs.contracts.machine.Machine as Machine
 

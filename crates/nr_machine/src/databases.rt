@@ -14,11 +14,11 @@ use std::marker::Model;
 
 /// The databases of connections, where they are not 0.
 #[derive(Drop)]
-pub(crate) struct Databases {
+pub(crate) struct SelectedDatabases {
     by_conn: BTreeMap<ConnId, Db>,
 }
 
-impl Model for Databases {
+impl Model for SelectedDatabases {
     ghost use Rattle.std.specs.Prelude.{ℕ};
     ghost use Rattle.std.specs.FinMap as map;
     ghost use Rattle.nr_model.specs.Items.{connection_cmp};
@@ -31,20 +31,20 @@ impl Model for Databases {
     ghost view = { λ d. databases_of d.by_conn.entries };
 }
 
-impl Databases {
-    pub(crate) fn new(alloc: Global) -> Databases
+impl SelectedDatabases {
+    pub(crate) fn new(alloc: Global) -> SelectedDatabases
         ensures { result ≡ map.empty }
     {
-        Databases {
+        SelectedDatabases {
             by_conn: BTreeMap::new(alloc),
         }
     }
 
     /// The same once more. Linear in the databases that are not 0.
-    pub(crate) fn copy(&self, alloc: Global) -> Result<Databases, Memory>
+    pub(crate) fn copy(&self, alloc: Global) -> Result<SelectedDatabases, Memory>
         ensures { IfOk result (λ copied. copied ≡ self.now) }
     {
-        let mut copied = Databases::new(alloc);
+        let mut copied = SelectedDatabases::new(alloc);
         for (conn, database) in self.by_conn.iter() {
             copied.put(*conn, *database)?;
         }

@@ -15,7 +15,7 @@ ghost use Rattle.nr_emission.specs.Emitted.{all_after};
 ghost use Rattle.nr_machine.specs.Steps.{after_deed, emitted_by, left_by, keys_of};
 
 use crate::answering::{answer, answer_some};
-use crate::databases::Databases;
+use crate::databases::SelectedDatabases;
 use crate::running::run_all;
 use crate::watching::watch_all;
 use nr_blob::{Blob, Memory};
@@ -37,7 +37,7 @@ pub(crate) struct State {
     alloc: Global,
     pub keyspace: Keyspace,
     pub logged: u64,
-    pub databases: Databases,
+    pub databases: SelectedDatabases,
     pub subs: Subs,
     pub watches: Watches,
 }
@@ -61,7 +61,7 @@ impl State {
             alloc,
             keyspace: Keyspace::new(alloc, keys)?,
             logged: 0,
-            databases: Databases::new(alloc),
+            databases: SelectedDatabases::new(alloc),
             subs: Subs::new(alloc),
             watches: Watches::new(alloc),
         })

@@ -1,7 +1,7 @@
 // The commands of the section on hashes.
 
 mod edited;
-mod held;
+mod stored;
 /// The commands that only look.
 pub mod looks;
 /// HINCRBY.

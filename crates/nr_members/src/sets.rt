@@ -6,7 +6,7 @@ pub mod changing;
 pub mod combining;
 /// SINTERCARD.
 pub mod counting;
-mod held;
+mod stored;
 /// The commands that look at one set.
 pub mod looks;
 /// SMOVE.

@@ -13,21 +13,21 @@ use Rattle.nr_entry.specs.Jobs.{items_of}
 use Rattle.nr_entry.specs.declared.entry.Entry.{Entry}
 use Rattle.nr_entry.specs.declared.job.Job.{Job}
 use Rattle.nr_log_end.specs.declared.standing.Standing.{Standing}
-use Rattle.nr_log_end.specs.declared.standing.Look.{Look}
-use Rattle.nr_log_end.specs.declared.standing.Look.TheVariants.{Tail, Unfilled}
-use Rattle.nr_log_end.specs.declared.standing.Turn.{Turn}
-use Rattle.nr_log_end.specs.declared.standing.Turn.TheVariants.{Applied}
+use Rattle.nr_log_end.specs.declared.standing.Load.{Load}
+use Rattle.nr_log_end.specs.declared.standing.Load.TheVariants.{Tail, Unfilled}
+use Rattle.nr_log_end.specs.declared.standing.LogEvent.{LogEvent}
+use Rattle.nr_log_end.specs.declared.standing.LogEvent.TheVariants.{Applied}
 use Rattle.nr_log_end.specs.Standings.{record_of, applied_of, passed_of, StandsInLog, LooksOn, fetched_with, passed_on}
 use Rattle.nr_oplog.specs.declared.view.LogView.{LogView}
-use Rattle.nr_accounts.specs.Book.{Book, without_ended, HasGoneBack}
-use Rattle.nr_accounts.proofs.Steps.{closed-append}
+use Rattle.nr_job_numbers.specs.Book.{Book, without_ended, HasGoneBack}
+use Rattle.nr_job_numbers.proofs.Steps.{closed-append}
 use Rattle.nr_replica.specs.Members.{worker_of}
 use Rattle.nr_replica.specs.declared.fall.Fall.{Fall}
 use Rattle.nr_replica.specs.declared.fall.Fall.TheVariants.{Refused}
 use Rattle.nr_replica.specs.Replicas.{ReplicaState, IsApplied, owed_from}
 use Rattle.nr_node.specs.declared.next.Next.{Next}
 use Rattle.nr_node.specs.Level.{unpassed, jobs_reserved, IsInOrder, IsLevel}
-use Rattle.nr_node.specs.Keeping.{AreAhead}
+use Rattle.nr_node.specs.OwnEntries.{AreAhead}
 use Rattle.nr_node.specs.Next.{jobs_next}
 use Rattle.nr_node.specs.Owing.{IsOwing, awaited, unexecuted}
 use Rattle.nr_node.specs.Advanced.{IsTakenIn, HasPassed, GoesOn, HasAsked, HasClosed, HasLost, HaveGot, MeetsNoTail, HasStopped, jobs_of_own, jobs_of_all}
@@ -102,11 +102,11 @@ passed_then es fs s t u a b =
     let seen : s.seen ≤ u.seen = omega (arith, a.seen, b.seen) in
     let history : t.history ++ map Applied fs ≡ s.history ++ map Applied (es ++ fs) =
     ap (λ (x : Standing). x.history ++ map Applied fs) a.standing ∙ append_assoc s.history (map Applied es) (map Applied fs)
-    ∙ ap (λ (h : List Turn). s.history ++ h) (sym (map-append Applied es fs)) in
+    ∙ ap (λ (h : List LogEvent). s.history ++ h) (sym (map-append Applied es fs)) in
     record {
       seen = seen;
       standing = b.standing ∙ ap (λ (x : Standing). record x { history = t.history ++ map Applied fs; seen = u.seen }) a.standing
-          ∙ ap (λ (h : List Turn). record s { history = h; seen = u.seen }) history;
+          ∙ ap (λ (h : List LogEvent). record s { history = h; seen = u.seen }) history;
     }
 
 -- the record has become longer
@@ -129,7 +129,7 @@ ended_then es fs x y z first last =
 pub ahead_on : (es : List Entry) (s t : Standing) → HasPassed es s t → (es ≢ [] → AreAhead t) → AreAhead s → AreAhead t
 ahead_on [] s t passed more ahead =
     subst AreAhead (sym passed.standing)
-    (subst (λ (h : List Turn). AreAhead (record s { history = h; seen = t.seen })) (sym (append-nil s.history)) ahead)
+    (subst (λ (h : List LogEvent). AreAhead (record s { history = h; seen = t.seen })) (sym (append-nil s.history)) ahead)
 ahead_on (e ∷ es) s t passed more ahead = more (λ none. absurd (cc none))
 
 ahead_then : (es fs : List Entry) (t u : Standing) → HasPassed fs t u → (es ≢ [] → AreAhead t) → (fs ≢ [] → AreAhead u) → es ++ fs ≢ [] → AreAhead u
@@ -483,15 +483,15 @@ log_further true s t more none stands = more refl
 log_further false s t more none stands = subst StandsInLog (sym (none refl)) stands
 
 -- looks behind looks
-pub more_looks : (a b c : List Look) → (more : List Look) × (b ≡ a ++ more) → (more : List Look) × (c ≡ b ++ more) → (more : List Look) × (c ≡ a ++ more)
+pub more_looks : (a b c : List Load) → (more : List Load) × (b ≡ a ++ more) → (more : List Load) × (c ≡ b ++ more) → (more : List Load) × (c ≡ a ++ more)
 more_looks a b c first last =
-    (first.0 ++ last.0, last.1 ∙ ap (λ (ls : List Look). ls ++ last.0) first.1 ∙ append_assoc a first.0 last.0)
+    (first.0 ++ last.0, last.1 ∙ ap (λ (ls : List Load). ls ++ last.0) first.1 ∙ append_assoc a first.0 last.0)
 
 -- it made no look, or one
 pub no_looks : (v w : LogView) → w.standing.seen ≡ v.standing.seen → w.looks ≡ v.looks → MeetsNoTail v w
 no_looks v w seen looks = (seen, ([], looks ∙ sym (append-nil v.looks)))
 
-pub one_look : (v w : LogView) (look : Look) → w.standing.seen ≡ v.standing.seen → w.looks ≡ v.looks ++ look ∷ [] → MeetsNoTail v w
+pub one_look : (v w : LogView) (look : Load) → w.standing.seen ≡ v.standing.seen → w.looks ≡ v.looks ++ look ∷ [] → MeetsNoTail v w
 one_look v w look seen looks = (seen, (look ∷ [], looks))
 
 -- it found the next cell empty
@@ -501,21 +501,21 @@ found_none v w replica same looks =
     inr ([], looks ∙ ap (λ (s : Standing). v.looks ++ Unfilled (passed_of s) ∷ []) (sym same))
 
 -- what came before is no matter
-pub stopped_then : (a b : List Look) (w : LogView) (replica : ReplicaState) → (more : List Look) × (b ≡ a ++ more) → HasStopped b w replica → HasStopped a w replica
+pub stopped_then : (a b : List Load) (w : LogView) (replica : ReplicaState) → (more : List Load) × (b ≡ a ++ more) → HasStopped b w replica → HasStopped a w replica
 stopped_then a b w replica more (inl held) = inl held
 stopped_then a b w replica more (inr found) =
     let last = Unfilled (passed_of w.standing) ∷ [] in
     inr (
       more.0 ++ found.0,
-      found.1 ∙ ap (λ (ls : List Look). ls ++ (found.0 ++ last)) more.1 ∙ append_assoc a more.0 (found.0 ++ last)
-          ∙ ap (λ (ls : List Look). a ++ ls) (sym (append_assoc more.0 found.0 last)),
+      found.1 ∙ ap (λ (ls : List Load). ls ++ (found.0 ++ last)) more.1 ∙ append_assoc a more.0 (found.0 ++ last)
+          ∙ ap (λ (ls : List Load). a ++ ls) (sym (append_assoc more.0 found.0 last)),
     )
 
 -- a loop that took so many entries in
 pub record WentOn (x : ℕ) (first now : LogView) (old new : ReplicaState) (next after : Option Next) (book later : Book) : Type 0 where
   pub idle : now.standing.held ≡ None
   pub seen : now.standing.seen ≡ first.standing.seen
-  pub looks : (more : List Look) × (now.looks ≡ first.looks ++ more)
+  pub looks : (more : List Load) × (now.looks ≡ first.looks ++ more)
   pub entries : List Entry
   pub many : length entries ≡ x
   pub goes : GoesOn entries first.standing now.standing old new next after book later
@@ -584,17 +584,17 @@ pub met_on : (v w x : LogView) → MeetsNoTail v w → MeetsNoTail w x → Meets
 met_on v w x first last = (last.0 ∙ first.0, more_looks v.looks w.looks x.looks first.1 last.1)
 
 pub looks_on : (u v w x : LogView) (tail : ℕ) → v.looks ≡ u.looks ++ Tail tail ∷ [] → tail ≡ v.standing.seen → w.standing ≡ v.standing
-    → (more : List Look) × (w.looks ≡ v.looks ++ more) → MeetsNoTail w x → (more : List Look) × (x.looks ≡ u.looks ++ (Tail x.standing.seen ∷ more))
+    → (more : List Load) × (w.looks ≡ v.looks ++ more) → MeetsNoTail w x → (more : List Load) × (x.looks ≡ u.looks ++ (Tail x.standing.seen ∷ more))
 looks_on u v w x tail loaded at same let_go met =
     let seen : tail ≡ x.standing.seen = at ∙ ap (λ (s : Standing). s.seen) (sym same) ∙ sym met.0 in
     let more = more_looks v.looks w.looks x.looks let_go met.1 in (
       more.0,
-      more.1 ∙ ap (λ (ls : List Look). ls ++ more.0) loaded ∙ append_assoc u.looks (Tail tail ∷ []) more.0
+      more.1 ∙ ap (λ (ls : List Load). ls ++ more.0) loaded ∙ append_assoc u.looks (Tail tail ∷ []) more.0
           ∙ ap (λ (n : ℕ). u.looks ++ (Tail n ∷ more.0)) seen,
     )
 
 -- what came between the begin of the call and a loop
-pub stopped_on : (u v w x : LogView) (tail : ℕ) (replica : ReplicaState) → v.looks ≡ u.looks ++ Tail tail ∷ [] → (more : List Look) × (w.looks ≡ v.looks ++ more)
+pub stopped_on : (u v w x : LogView) (tail : ℕ) (replica : ReplicaState) → v.looks ≡ u.looks ++ Tail tail ∷ [] → (more : List Load) × (w.looks ≡ v.looks ++ more)
     → HasStopped w.looks x replica → HasStopped u.looks x replica
 stopped_on u v w x tail replica loaded let_go stopped =
     stopped_then u.looks w.looks x replica (more_looks u.looks v.looks w.looks (Tail tail ∷ [], loaded) let_go) stopped

@@ -12,11 +12,11 @@ use Rattle.nr_entry.specs.Shares.{entry_of}
 use Rattle.nr_entry.specs.declared.entry.Entry.{Entry}
 use Rattle.nr_entry.specs.declared.job.Job.{Job}
 use Rattle.nr_log_end.specs.declared.standing.Standing.{Standing}
-use Rattle.nr_log_end.specs.declared.standing.Look.{Look}
-use Rattle.nr_log_end.specs.declared.standing.Look.TheVariants.{Tail}
-use Rattle.nr_log_end.specs.declared.standing.Turn.TheVariants.{Applied, Ran}
+use Rattle.nr_log_end.specs.declared.standing.Load.{Load}
+use Rattle.nr_log_end.specs.declared.standing.Load.TheVariants.{Tail}
+use Rattle.nr_log_end.specs.declared.standing.LogEvent.TheVariants.{Applied, Ran}
 use Rattle.nr_log_end.specs.Standings.{LooksOn, passed_of, record_of}
-use Rattle.nr_accounts.specs.Book.{Book, without_ended}
+use Rattle.nr_job_numbers.specs.Book.{Book, without_ended}
 use Rattle.nr_oplog.specs.declared.view.LogView.{LogView}
 use Rattle.nr_replica.specs.Replicas.{ReplicaState}
 use Rattle.nr_replica.specs.Replicas as of_replica
@@ -47,7 +47,7 @@ read_got old mid new got read =
 -- by entries alone
 pub caught_by : (es : List Entry) (end last : LogView) (old new : ReplicaState) (book later : Book) (next after : Option Next) (n : NodeState)
     → record { seat = end; replica = old; book = book; next = jobs_next next } ≡ n → GoesOn es end.standing last.standing old new next after book later
-    → ((later : List Look) × (last.looks ≡ end.looks ++ (Tail last.standing.seen ∷ later)))
+    → ((later : List Load) × (last.looks ≡ end.looks ++ (Tail last.standing.seen ∷ later)))
     → passed_of last.standing ≤ (passed_of end.standing + (last.standing.seen - passed_of end.standing)) + 1 → IsInOrder end.standing old book (jobs_next next)
     → GoesOnBy es [] last.standing.seen n (record { seat = last; replica = new; book = later; next = jobs_next after })
 caught_by es end last old new book later next after n is g looks few order =
@@ -101,9 +101,9 @@ noted_more t u ran noted =
     (record_of (map Ran ran), sym (record-append t.history (map Ran ran)) ∙ ap (λ (x : Standing). record_of x.history) (sym noted.standing))
 
 -- by entries, and reads behind them
-pub read_on : (n m : NodeState) (t : Standing) (es : List Entry) (ran : List Job) (looks more : List Look) → HasPassed es n.seat.standing t
+pub read_on : (n m : NodeState) (t : Standing) (es : List Entry) (ran : List Job) (looks more : List Load) → HasPassed es n.seat.standing t
     → jobs_reserved (unpassed n.seat.standing) ≡ jobs_of_own n.seat.standing.node es ++ jobs_reserved (unpassed t) → n.book.node ≡ n.seat.standing.node → HasNoted ran t m.seat.standing
-    → ((later : List Look) × (looks ≡ n.seat.looks ++ (Tail t.seen ∷ later))) → m.seat.looks ≡ looks ++ more → HasClosed (record_of t.history) n.book m.book
+    → ((later : List Load) × (looks ≡ n.seat.looks ++ (Tail t.seen ∷ later))) → m.seat.looks ≡ looks ++ more → HasClosed (record_of t.history) n.book m.book
     → m.book ≡ without_ended (jobs_of_all es) n.book → awaited m.replica.owed ≡ awaited n.replica.owed
     → HaveGot n.replica.members m.replica.members → (m.replica.down ≡ false → m.replica.refused ≡ n.replica.refused) → n.replica.down ≡ false → m.replica.down ≡ false
     → passed_of t ≤ (passed_of n.seat.standing + (t.seen - passed_of n.seat.standing)) + 1 → GoesOnBy es ran t.seen n m
@@ -111,7 +111,7 @@ read_on n m t es ran looks more passed own same noted first last closed ended ow
   standing = noted.standing ∙ ap (λ (s : Standing). record s { history = s.history ++ map Ran ran; seen = m.seat.standing.seen }) passed.standing
       ∙ (λ i. record n.seat.standing { history = append_assoc n.seat.standing.history (map Applied es) (map Ran ran) i; seen = m.seat.standing.seen });
   own = own ∙ (λ i. jobs_of_own (sym same i) es ++ jobs_reserved (sym (still_unpassed t m.seat.standing ran noted) i));
-  loaded = (first.0 ++ more, last ∙ ap (λ (ls : List Look). ls ++ more) first.1 ∙ append_assoc n.seat.looks (Tail t.seen ∷ first.0) more);
+  loaded = (first.0 ++ more, last ∙ ap (λ (ls : List Load). ls ++ more) first.1 ∙ append_assoc n.seat.looks (Tail t.seen ∷ first.0) more);
   closed = closed_then (record_of t.history) (record_of m.seat.standing.history) n.book m.book m.book (noted_more t m.seat.standing ran noted) closed
       (still_closed (record_of m.seat.standing.history) m.book);
   ended = λ _. ended;

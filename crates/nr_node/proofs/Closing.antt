@@ -16,11 +16,11 @@ use Rattle.nr_entry.specs.Jobs.{items_of}
 use Rattle.nr_entry.specs.declared.job.Job.{Job}
 use Rattle.nr_log_end.specs.declared.standing.Standing.{Standing}
 use Rattle.nr_log_end.specs.Standings.{record_of}
-use Rattle.nr_accounts.specs.declared.account.Account.{Account}
-use Rattle.nr_accounts.specs.Account.{ends_with, back_to, back_by}
-use Rattle.nr_accounts.specs.Held.{Held, numbers_in, CountsTo, ends_by, closed_one}
-use Rattle.nr_accounts.specs.Book.{Book, without_ended, HasGoneBack}
-use Rattle.nr_accounts.proofs.Counts.{closed_counts}
+use Rattle.nr_job_numbers.specs.declared.account.Account.{Account}
+use Rattle.nr_job_numbers.specs.Account.{ends_with, back_to, back_by}
+use Rattle.nr_job_numbers.specs.Stored.{Held, numbers_in, CountsTo, ends_by, closed_one}
+use Rattle.nr_job_numbers.specs.Book.{Book, without_ended, HasGoneBack}
+use Rattle.nr_job_numbers.proofs.Counts.{closed_counts}
 use Rattle.nr_replica.specs.Members.{Member, worker_of}
 use Rattle.nr_replica.specs.Replicas.{ReplicaState}
 use Rattle.nr_node.specs.Level.{IsCount, IsInOrder, connection_at, unpassed, jobs_reserved, logged, all_jobs}

@@ -16,7 +16,7 @@ use Rattle.nr_node.specs.Collected.{IsHanded, AreHanded, HandsOver, Collects}
 use Rattle.nr_node.specs.Level.{NodeState, IsLevel, connection_at, emitted_to, queue_at}
 use Rattle.nr_node.specs.Sound.{IsSound}
 use Rattle.nr_node.specs.Steps.{nobody, HasHandedOut, IsStill}
-use Rattle.nr_node.specs.declared.collecting.Handed.{Handed}
+use Rattle.nr_node.specs.declared.collecting.LastPiece.{LastPiece}
 use Rattle.nr_node.proofs.Ready.{none_left, found_passes, found_has, first_leads, ascends, all_within, none_past, agree_behind, from_zero}
 
 some_bytes : (bytes : Bytes) → is_some_bytes bytes ≡ true → bytes ≢ []
@@ -53,7 +53,7 @@ ready_behind worker serial members x =
     ap (is_ready worker) (get_or-set_other members serial s x nobody apart))
     ∙ ap (λ (n : ℕ). filter (nat_le (serial + 1)) (filter q (range_with_len 0 n))) (length-set members serial x)
 
-pub handed_more : (most serial : ℕ) (serials : List ℕ) (one : Handed) (pieces : List Handed) (n m k : NodeState)
+pub handed_more : (most serial : ℕ) (serials : List ℕ) (one : LastPiece) (pieces : List LastPiece) (n m k : NodeState)
     → AreHanded most serials pieces n m → IsHanded most serial one m k → AreHanded most (serials ++ serial ∷ []) (pieces ++ one ∷ []) n k
 handed_more most serial [] one [] n m k all h = (k, subst (λ (x : NodeState). IsHanded most serial one x k) all h, refl)
 handed_more most serial [] one (p ∷ ps) n m k all h = absurd all
@@ -61,16 +61,16 @@ handed_more most serial (s ∷ ss) one [] n m k all h = absurd all
 handed_more most serial (s ∷ ss) one (p ∷ ps) n m k (mid, first, rest) h = (mid, first, handed_more most serial ss one ps mid m k rest h)
 
 -- so far: what was handed out to those before a serial, and the others wait as they did
-pub record HasCollectedTo (worker most from : ℕ) (old new : List Handed) (n m : NodeState) : Type 0 where
+pub record HasCollectedTo (worker most from : ℕ) (old new : List LastPiece) (n m : NodeState) : Type 0 where
   pub serials : List ℕ
-  pub pieces : List Handed
+  pub pieces : List LastPiece
   pub behind : new ≡ old ++ pieces
   pub handed : AreHanded most serials pieces n m
   pub ready : serials ++ filter (nat_le from) (ready_of worker m.replica.members) ≡ ready_of worker n.replica.members
   pub long : length m.replica.members ≡ length n.replica.members
   pub owed : length m.replica.owed ≡ length n.replica.owed
 
-pub none_yet : (worker most : ℕ) (old : List Handed) (n : NodeState) → HasCollectedTo worker most 0 old old n n
+pub none_yet : (worker most : ℕ) (old : List LastPiece) (n : NodeState) → HasCollectedTo worker most 0 old old n n
 none_yet worker most old n = record {
   serials = [];
   pieces = [];
@@ -81,7 +81,7 @@ none_yet worker most old n = record {
   owed = refl;
 }
 
-pub one_further : (worker most from serial : ℕ) (old mid new : List Handed) (n m k : NodeState) → HasCollectedTo worker most from old mid n m
+pub one_further : (worker most from serial : ℕ) (old mid new : List LastPiece) (n m k : NodeState) → HasCollectedTo worker most from old mid n m
     → next_ready worker from m.replica.members ≡ Some serial → HandsOver most serial mid new m k → HasCollectedTo worker most (serial + 1) old new n k
 one_further worker most from serial old mid new n m k so found over =
     let one = over.one in
@@ -97,7 +97,7 @@ one_further worker most from serial old mid new n m k so found over =
     record {
       serials = so.serials ++ serial ∷ [];
       pieces = so.pieces ++ one ∷ [];
-      behind = over.behind ∙ ap (λ (xs : List Handed). xs ++ one ∷ []) so.behind ∙ append_assoc old so.pieces (one ∷ []);
+      behind = over.behind ∙ ap (λ (xs : List LastPiece). xs ++ one ∷ []) so.behind ∙ append_assoc old so.pieces (one ∷ []);
       handed = handed_more most serial so.serials one so.pieces n m k so.handed handed;
       ready = append_assoc so.serials (serial ∷ []) rest ∙ ap (λ (r : List ℕ). so.serials ++ serial ∷ r) others ∙ ap (λ (r : List ℕ). so.serials ++ r) (sym leads) ∙ so.ready;
       long = ap (λ (ms : List Member). length ms) now ∙ length-set members serial x ∙ so.long;
@@ -105,7 +105,7 @@ one_further worker most from serial old mid new n m k so found over =
     }
 
 -- where it ends: none waits from there on, or none is there
-pub none_further : (worker most from : ℕ) (old new : List Handed) (n m : NodeState) → HasCollectedTo worker most from old new n m
+pub none_further : (worker most from : ℕ) (old new : List LastPiece) (n m : NodeState) → HasCollectedTo worker most from old new n m
     → next_ready worker from m.replica.members ≡ None → Collects worker most old new (Ok tt) n m
 none_further worker most from old new n m so none = record {
   serials = so.serials;
@@ -119,7 +119,7 @@ none_further worker most from old new n m so none = record {
 }
 
 -- where memory runs out for the next one
-stopped_at : (worker most from serial : ℕ) (old new : List Handed) (n m : NodeState) (r : Result (Unit {0}) Memory) → HasCollectedTo worker most from old new n m
+stopped_at : (worker most from serial : ℕ) (old new : List LastPiece) (n m : NodeState) (r : Result (Unit {0}) Memory) → HasCollectedTo worker most from old new n m
     → next_ready worker from m.replica.members ≡ Some serial → is_err r ≡ true → Collects worker most old new r n m
 stopped_at worker most from serial old new n m (Ok done) so found failed = absurd (cc failed)
 stopped_at worker most from serial old new n m (Err memory) so found failed =
@@ -137,14 +137,14 @@ stopped_at worker most from serial old new n m (Err memory) so found failed =
       some = λ none. absurd (cc (sym leads ∙ none));
     }
 
-pub stopped : (worker most from serial : ℕ) (old now new : List Handed) (n m k : NodeState) (r : Result (Unit {0}) Memory)
+pub stopped : (worker most from serial : ℕ) (old now new : List LastPiece) (n m k : NodeState) (r : Result (Unit {0}) Memory)
     → HasCollectedTo worker most from old now n m → next_ready worker from m.replica.members ≡ Some serial → (new ≡ now) × (k ≡ m) → is_err r ≡ true
     → Collects worker most old new r n k
 stopped worker most from serial old now new n m k r so found same failed =
     subst (λ (x : NodeState). Collects worker most old new r n x) (sym same.1)
-    (subst (λ (xs : List Handed). Collects worker most old xs r n m) (sym same.0) (stopped_at worker most from serial old now n m r so found failed))
+    (subst (λ (xs : List LastPiece). Collects worker most old xs r n m) (sym same.0) (stopped_at worker most from serial old now n m r so found failed))
 
-pub all_passed : (worker most from end : ℕ) (old new : List Handed) (n m : NodeState) → HasCollectedTo worker most from old new n m
+pub all_passed : (worker most from end : ℕ) (old new : List LastPiece) (n m : NodeState) → HasCollectedTo worker most from old new n m
     → end ≡ length n.replica.members → end ≤ from → Collects worker most old new (Ok tt) n m
 all_passed worker most from end old new n m so is past =
     let members = m.replica.members in
@@ -162,15 +162,15 @@ all_passed worker most from end old new n m so is past =
     }
 
 -- one is handed out, behind those before
-pub handed_over : (serial most : ℕ) (old mid new : List Handed) (given : Option Handed) (one : Handed) (n m : NodeState) → mid ≡ old → new ≡ mid ++ one ∷ []
-    → given ≡ Some one → IfSome given (λ (h : Handed). IsHanded most serial h n m) → HandsOver most serial old new n m
+pub handed_over : (serial most : ℕ) (old mid new : List LastPiece) (given : Option LastPiece) (one : LastPiece) (n m : NodeState) → mid ≡ old → new ≡ mid ++ one ∷ []
+    → given ≡ Some one → IfSome given (λ (h : LastPiece). IsHanded most serial h n m) → HandsOver most serial old new n m
 handed_over serial most old mid new None one n m kept is none handed = absurd (cc none)
 handed_over serial most old mid new (Some h) one n m kept is some handed =
     let same : h ≡ one = cc some in
     record {
       one = one;
-      handed = subst (λ (x : Handed). IsHanded most serial x n m) same handed;
-      behind = is ∙ ap (λ (xs : List Handed). xs ++ one ∷ []) kept;
+      handed = subst (λ (x : LastPiece). IsHanded most serial x n m) same handed;
+      behind = is ∙ ap (λ (xs : List LastPiece). xs ++ one ∷ []) kept;
     }
 
 -- all that waits is handed out, where it is less than is asked for
@@ -184,7 +184,7 @@ whole_piece : (most from : ℕ) (q : Queue) (emitted bytes : Bytes) → bytes �
 whole_piece most from q emitted bytes is at few whole =
     is ∙ take_less most q.waiting (subst (λ (bs : Bytes). length bs < most) is few) ∙ whole ∙ ap (λ (k : ℕ). drop k emitted) (sym at)
 
-pub is_handed : (most serial : ℕ) (one : Handed) (n m : NodeState) → IsPiece n (connection_at n.replica.node serial) most one.piece n.seat.standing
+pub is_handed : (most serial : ℕ) (one : LastPiece) (n m : NodeState) → IsPiece n (connection_at n.replica.node serial) most one.piece n.seat.standing
     → one.is_cut ≡ (queue_at serial n.replica.members).cut → IsLevel n.seat.standing n.replica → IsSound n.seat.standing → HasHandedOut serial most n m
     → IsHanded most serial one n m
 is_handed most serial one n m piece cut level sound handed = record {
@@ -198,7 +198,7 @@ is_handed most serial one n m piece cut level sound handed = record {
 }
 
 -- a token behind it leaves all as it was
-pub piece_told : (most serial : ℕ) (one : Handed) (c : Connection) (n m : NodeState) (s : Standing) → IsOpened n c → c.serial ≡ serial → s ≡ m.seat.standing
+pub piece_told : (most serial : ℕ) (one : LastPiece) (c : Connection) (n m : NodeState) (s : Standing) → IsOpened n c → c.serial ≡ serial → s ≡ m.seat.standing
     → IsHanded most serial one n m → IsPiece n c most one.piece s
 piece_told most serial one c n m s opened same is h =
     let named : connection_at n.replica.node serial ≡ c = λ i. record { node = sym opened.0 i; serial = sym same i } in

@@ -8,12 +8,12 @@ use Rattle.nr_entry.proofs.Crossing.{sent}
 use Rattle.nr_oplog.specs.declared.log.LogName.{Ghosts}
 use Rattle.nr_oplog.proofs.Crossing.{end_send, token_send}
 use Rattle.nr_replica.proofs.Crossing.{offer_send, replica_send}
-use Rattle.nr_accounts.proofs.accounts.Accounts.TheSendSync as accounts
-use Rattle.nr_node.specs.contracts.keeping.Kept as Kept
-use Rattle.nr_node.specs.contracts.keeping.OwnEntries as OwnEntries
+use Rattle.nr_job_numbers.proofs.job_numbers.JobNumbers.TheSendSync as accounts
+use Rattle.nr_node.specs.contracts.own_entries.Kept as Kept
+use Rattle.nr_node.specs.contracts.own_entries.OwnEntries as OwnEntries
 use Rattle.nr_node.specs.contracts.next.Next as Next
-use Rattle.nr_node.specs.contracts.reviving.Offer as Offer
-use Rattle.nr_node.specs.contracts.within.Core as Core
+use Rattle.nr_node.specs.contracts.reviving.NodeOffer as NodeOffer
+use Rattle.nr_node.specs.contracts.node_core.Core as Core
 
 next_send : IsSend (Option.the_row Next.the_row)
 next_send = search sent depth 60 fits 100000
@@ -28,6 +28,6 @@ pub core_send : (B : RattleType) (g : Ghosts B.Denot) → IsSend (Core.the_row B
 core_send B g = view_send (Core.TheInside.the_row B g) _ _ _ _ (declared_send (Core.TheInside.the_type B g)
     (send, (search sent, (end_send B g, (own_send, (replica_send, (accounts.the_send, (next_send, tt))))))))
 
-pub node_offer_send : (B : RattleType) (g : Ghosts B.Denot) → IsSend (Offer.the_row B g)
-node_offer_send B g = view_send (Offer.TheInside.the_row B g) _ _ _ _ (declared_send (Offer.TheInside.the_type B g)
+pub node_offer_send : (B : RattleType) (g : Ghosts B.Denot) → IsSend (NodeOffer.the_row B g)
+node_offer_send B g = view_send (NodeOffer.TheInside.the_row B g) _ _ _ _ (declared_send (NodeOffer.TheInside.the_type B g)
     (offer_send, (token_send B g, (search sent depth 60, tt))))

@@ -7,13 +7,13 @@ use Rattle.nr_model.specs.Items.{Connection}
 use Rattle.nr_model.specs.Entries.{Jobs}
 use Rattle.nr_model.specs.Asked.{own_jobs, first_number}
 use Rattle.nr_model.proofs.NodesExecutedLists.{lt_or_le}
-use Rattle.nr_accounts.specs.declared.account.Account.{Account}
-use Rattle.nr_accounts.specs.Account.{back_by}
-use Rattle.nr_accounts.specs.Held.{Held, put_at, changed, gone_back, ComesAfter}
-use Rattle.nr_accounts.specs.Book.{Book}
-use Rattle.nr_accounts.proofs.Seen.{put_same}
-use Rattle.nr_accounts.proofs.Steps.{put_here}
-use Rattle.nr_accounts.proofs.Strangers.{put_elsewhere}
+use Rattle.nr_job_numbers.specs.declared.account.Account.{Account}
+use Rattle.nr_job_numbers.specs.Account.{back_by}
+use Rattle.nr_job_numbers.specs.Stored.{Held, put_at, changed, gone_back, ComesAfter}
+use Rattle.nr_job_numbers.specs.Book.{Book}
+use Rattle.nr_job_numbers.proofs.Seen.{put_same}
+use Rattle.nr_job_numbers.proofs.Steps.{put_here}
+use Rattle.nr_job_numbers.proofs.Strangers.{put_elsewhere}
 use Rattle.nr_node.specs.Level.{connection_at}
 
 -- what is found where an account changed

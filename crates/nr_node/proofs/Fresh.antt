@@ -3,9 +3,9 @@ use Rattle.std.proofs.Common.{◌≡◌, ℕ, [], arith, refl, sym, ◌∙◌, s
 use Rattle.std.specs.Prelude.{Option, None}
 use Rattle.std.specs.Ordering.{nat_cmp}
 use Rattle.std.specs.FinMap as finmap
-use Rattle.nr_accounts.specs.declared.account.Account.{Account}
-use Rattle.nr_accounts.specs.Held.{CountsTo}
-use Rattle.nr_accounts.specs.Book.{Book}
+use Rattle.nr_job_numbers.specs.declared.account.Account.{Account}
+use Rattle.nr_job_numbers.specs.Stored.{CountsTo}
+use Rattle.nr_job_numbers.specs.Book.{Book}
 use Rattle.nr_oplog.specs.Rule.{opening_view}
 use Rattle.nr_oplog.specs.declared.view.LogView.{LogView}
 use Rattle.nr_replica.specs.Replicas.{ReplicaState}

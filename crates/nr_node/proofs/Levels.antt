@@ -17,8 +17,8 @@ use Rattle.nr_entry.specs.Jobs.{item_of, items_of}
 use Rattle.nr_entry.specs.declared.entry.Entry.{Entry}
 use Rattle.nr_entry.specs.declared.job.Job.{Job}
 use Rattle.nr_log_end.specs.declared.standing.Standing.{Standing}
-use Rattle.nr_log_end.specs.declared.standing.Turn.{Turn}
-use Rattle.nr_log_end.specs.declared.standing.Turn.TheVariants.{Applied, Ran, Opened}
+use Rattle.nr_log_end.specs.declared.standing.LogEvent.{LogEvent}
+use Rattle.nr_log_end.specs.declared.standing.LogEvent.TheVariants.{Applied, Ran, Opened}
 use Rattle.nr_log_end.specs.Standings.{applied_of, opened_of, record_of, passed_of, fetched_with, opened_with, passed_on}
 use Rattle.nr_replica.specs.Members.{Member, fresh_member, closed_member, handed_member, AreNumbered, AreReceived, AreDelivered}
 use Rattle.nr_replica.specs.Replicas.{ReplicaState, HasRead}
@@ -138,7 +138,7 @@ pub none_applied : (ran : List Job) → applied_of (map Ran ran) ≡ []
 none_applied [] = refl
 none_applied (job ∷ ran) = none_applied ran
 
-pub applied_noted : (history : List Turn) (ran : List Job) → applied_of (history ++ map Ran ran) ≡ applied_of history
+pub applied_noted : (history : List LogEvent) (ran : List Job) → applied_of (history ++ map Ran ran) ≡ applied_of history
 applied_noted history ran =
     applied-append history (map Ran ran) ∙ ap (λ (es : List Entry). applied_of history ++ es) (none_applied ran) ∙ append-nil (applied_of history)
 
@@ -162,8 +162,8 @@ same_level s t old new node history same members down server applied l = record 
   node = node ∙ l.node ∙ sym same;
   named = subst (λ (n : ℕ). AreNumbered n 0 new.members) (sym same) (subst (AreNumbered old.node 0) (sym members) l.named);
   opened = ap workers_of members ∙ l.opened ∙ ap opened_of (sym history);
-  server = λ up. server ∙ l.server (sym down ∙ up) ∙ ap (λ (h : List Turn). after_all fresh (record_of h)) (sym history);
-  applied = λ up. applied ∙ l.applied (sym down ∙ up) ∙ ap (λ (h : List Turn). length (applied_of h)) (sym history);
+  server = λ up. server ∙ l.server (sym down ∙ up) ∙ ap (λ (h : List LogEvent). after_all fresh (record_of h)) (sym history);
+  applied = λ up. applied ∙ l.applied (sym down ∙ up) ∙ ap (λ (h : List LogEvent). length (applied_of h)) (sym history);
   behind = λ serial below.
       let before : serial < length old.members = omega (arith, ap length members) in
       let text : emitted_to t serial ≡ emitted_to s serial = λ i. emitted_for (connection_at (node i) serial) (record_of (history i)) in

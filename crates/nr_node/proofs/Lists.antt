@@ -13,17 +13,17 @@ use Rattle.nr_entry.specs.Shares.{shares_of}
 use Rattle.nr_entry.specs.declared.entry.Entry.{Entry}
 use Rattle.nr_entry.specs.declared.job.Job.{Job}
 use Rattle.nr_log_end.specs.declared.standing.Standing.{Standing}
-use Rattle.nr_log_end.specs.declared.standing.Turn.{Turn}
-use Rattle.nr_log_end.specs.declared.standing.Turn.TheVariants.{Applied, Ran, Opened}
+use Rattle.nr_log_end.specs.declared.standing.LogEvent.{LogEvent}
+use Rattle.nr_log_end.specs.declared.standing.LogEvent.TheVariants.{Applied, Ran, Opened}
 use Rattle.nr_log_end.specs.Standings.{applied_of, opened_of, ran_from, ran_of, record_of, passed_of, own_from, own_entries, StandsInLog, reservation, reserved_as, opened_with, fetched_with, passed_on, noted_with, EachRises}
 pub use Rattle.nr_log_end.proofs.Numbered.{record-append, applied-append, own-append, numbers-append, numbers_entry, numbers_other}
 use Rattle.nr_log_end.proofs.Numbered.{behind_known, each_rises_front, numbers_front, unpassed_behind}
-use Rattle.nr_accounts.specs.Held.{numbers_in}
-use Rattle.nr_node.specs.Keeping.{AreAhead}
+use Rattle.nr_job_numbers.specs.Stored.{numbers_in}
+use Rattle.nr_node.specs.OwnEntries.{AreAhead}
 use Rattle.nr_node.specs.Level.{unpassed, jobs_reserved, logged}
 
 -- which connections were opened, in one history behind another
-pub opened-append : (turns more : List Turn) → opened_of (turns ++ more) ≡ opened_of turns ++ opened_of more
+pub opened-append : (turns more : List LogEvent) → opened_of (turns ++ more) ≡ opened_of turns ++ opened_of more
 opened-append [] more = refl
 opened-append (Applied entry ∷ turns) more = opened-append turns more
 opened-append (Ran job ∷ turns) more = opened-append turns more
@@ -40,7 +40,7 @@ pub unpassed_opened : (s : Standing) (worker seen : ℕ) → unpassed (opened_wi
 unpassed_opened s worker seen = ap (λ (es : List Entry). drop (length (own_entries s.node es)) s.reservations) (applied_opened s worker)
 
 -- none is opened by what is applied or run
-pub opened_still : (turns more : List Turn) → opened_of more ≡ [] → opened_of (turns ++ more) ≡ opened_of turns
+pub opened_still : (turns more : List LogEvent) → opened_of more ≡ [] → opened_of (turns ++ more) ≡ opened_of turns
 opened_still turns more none = opened-append turns more ∙ ap (λ (workers : List ℕ). opened_of turns ++ workers) none ∙ append-nil (opened_of turns)
 
 pub none_opened : (jobs : List Job) → opened_of (map Ran jobs) ≡ []
@@ -48,21 +48,21 @@ none_opened [] = refl
 none_opened (job ∷ jobs) = none_opened jobs
 
 -- what holds of the jobs that were run
-ran_anyhow : (P : Job → Type 0) (m n : ℕ) (turns : List Turn) → AllByRecursion (λ (r : Job × ℕ). P r.0) (ran_from m turns)
+ran_anyhow : (P : Job → Type 0) (m n : ℕ) (turns : List LogEvent) → AllByRecursion (λ (r : Job × ℕ). P r.0) (ran_from m turns)
     → AllByRecursion (λ (r : Job × ℕ). P r.0) (ran_from n turns)
 ran_anyhow P m n [] all = tt
 ran_anyhow P m n (Applied entry ∷ turns) all = ran_anyhow P (suc m) (suc n) turns all
 ran_anyhow P m n (Ran job ∷ turns) all = (all.0, ran_anyhow P m n turns all.1)
 ran_anyhow P m n (Opened worker ∷ turns) all = ran_anyhow P m n turns all
 
-ran_behind : (P : Job → Type 0) (n : ℕ) (turns more : List Turn) → AllByRecursion (λ (r : Job × ℕ). P r.0) (ran_from n turns)
+ran_behind : (P : Job → Type 0) (n : ℕ) (turns more : List LogEvent) → AllByRecursion (λ (r : Job × ℕ). P r.0) (ran_from n turns)
     → AllByRecursion (λ (r : Job × ℕ). P r.0) (ran_of more) → AllByRecursion (λ (r : Job × ℕ). P r.0) (ran_from n (turns ++ more))
 ran_behind P n [] more all both = ran_anyhow P 0 n more both
 ran_behind P n (Applied entry ∷ turns) more all both = ran_behind P (suc n) turns more all both
 ran_behind P n (Ran job ∷ turns) more all both = (all.0, ran_behind P n turns more all.1 both)
 ran_behind P n (Opened worker ∷ turns) more all both = ran_behind P n turns more all both
 
-pub ran-append : (P : Job → Type 0) (turns more : List Turn) → AllByRecursion (λ (r : Job × ℕ). P r.0) (ran_of turns)
+pub ran-append : (P : Job → Type 0) (turns more : List LogEvent) → AllByRecursion (λ (r : Job × ℕ). P r.0) (ran_of turns)
     → AllByRecursion (λ (r : Job × ℕ). P r.0) (ran_of more) → AllByRecursion (λ (r : Job × ℕ). P r.0) (ran_of (turns ++ more))
 ran-append P turns more all both = ran_behind P 0 turns more all both
 

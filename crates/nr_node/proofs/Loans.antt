@@ -12,13 +12,13 @@ use Rattle.nr_entry.specs.Jobs.{item_of, items_of}
 use Rattle.nr_entry.specs.declared.entry.Entry.{Entry}
 use Rattle.nr_entry.specs.declared.job.Job.{Job}
 use Rattle.nr_log_end.specs.declared.standing.Standing.{Standing}
-use Rattle.nr_log_end.specs.declared.standing.Look.TheVariants.{Tail}
-use Rattle.nr_log_end.specs.declared.standing.Turn.{Turn}
-use Rattle.nr_log_end.specs.declared.standing.Turn.TheVariants.{Applied, Ran, Opened}
+use Rattle.nr_log_end.specs.declared.standing.Load.TheVariants.{Tail}
+use Rattle.nr_log_end.specs.declared.standing.LogEvent.{LogEvent}
+use Rattle.nr_log_end.specs.declared.standing.LogEvent.TheVariants.{Applied, Ran, Opened}
 use Rattle.nr_log_end.specs.Standings.{LooksOn, StandsInLog, applied_of, known_of, passed_of, ran_from, record_of}
 use Rattle.nr_oplog.specs.Plays.{AreComparable}
 use Rattle.nr_oplog.specs.declared.view.LogView.{LogView}
-use Rattle.nr_accounts.specs.Book.{Book}
+use Rattle.nr_job_numbers.specs.Book.{Book}
 use Rattle.nr_replica.specs.Lent.{AreRepliesTo}
 use Rattle.nr_replica.specs.Replicas.{ReplicaState}
 use Rattle.nr_node.specs.declared.next.Next.{Next}
@@ -94,7 +94,7 @@ items_in [] = []
 items_in (e ∷ es) = entry_items (items_of e.jobs.items) ++ items_in es
 
 -- reads leave a server as it is, so it is the one after the entries alone
-by_entries : (node count : ℕ) (server : Server) (history : List Turn) → AllByRecursion (λ (r : Job × ℕ). IsReadOf node (item_of r.0)) (ran_from count history)
+by_entries : (node count : ℕ) (server : Server) (history : List LogEvent) → AllByRecursion (λ (r : Job × ℕ). IsReadOf node (item_of r.0)) (ran_from count history)
     → after_all server (record_of history) ≡ after_all server (items_in (applied_of history))
 by_entries node count server [] reads = refl
 by_entries node count server (Applied e ∷ turns) reads =

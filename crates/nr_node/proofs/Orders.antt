@@ -15,13 +15,13 @@ use Rattle.nr_entry.specs.declared.job.Job.{Job}
 use Rattle.nr_log_end.specs.Numbers.{IsRising, AreRising}
 use Rattle.nr_log_end.proofs.Rising.{range_rises}
 use Rattle.nr_log_end.specs.declared.standing.Standing.{Standing}
-use Rattle.nr_log_end.specs.declared.standing.Turn.{Turn}
-use Rattle.nr_log_end.specs.declared.standing.Turn.TheVariants.{Applied, Ran, Opened}
+use Rattle.nr_log_end.specs.declared.standing.LogEvent.{LogEvent}
+use Rattle.nr_log_end.specs.declared.standing.LogEvent.TheVariants.{Applied, Ran, Opened}
 use Rattle.nr_log_end.specs.Standings.{applied_of, opened_of, ran_from, ran_of, record_of, passed_of, own_entries, StandsInLog, fetched_with, opened_with, passed_on, reserved_as, EachRises}
-use Rattle.nr_accounts.specs.declared.account.Account.{Account}
-use Rattle.nr_accounts.specs.Held.{numbers_in, CountsTo}
-use Rattle.nr_accounts.specs.Book.{Book, HasGoneBack}
-use Rattle.nr_accounts.proofs.GoingBack.{back_taken}
+use Rattle.nr_job_numbers.specs.declared.account.Account.{Account}
+use Rattle.nr_job_numbers.specs.Stored.{numbers_in, CountsTo}
+use Rattle.nr_job_numbers.specs.Book.{Book, HasGoneBack}
+use Rattle.nr_job_numbers.proofs.GoingBack.{back_taken}
 use Rattle.nr_replica.specs.Members.{Member}
 use Rattle.nr_replica.specs.Replicas.{ReplicaState}
 use Rattle.nr_node.specs.Level.{IsCount, IsReadOf, connection_at, workers_of, unpassed, jobs_reserved, logged, all_jobs, IsInOrder}
@@ -238,13 +238,13 @@ reserved_order s t at e old new book next some reserved due left o =
     (λ serial. first_counted (connection_at s.node serial) (logged t) (items_of new.waiting) (all_jobs s next old.waiting) (apart serial) (all_counted s old book next o serial))
     (λ serial. numbers-append (connection_at s.node serial) (logged t) (items_of new.waiting) ∙ apart serial)
     (subst (AreOfNode s.node) (sym left.waiting) (left_own s.node next old.waiting o.own))
-    (subst (λ (h : List Turn). AllByRecursion (λ (x : Job × ℕ). IsReadOf s.node (item_of x.0)) (ran_of h)) (sym history) o.reads)
+    (subst (λ (h : List LogEvent). AllByRecursion (λ (x : Job × ℕ). IsReadOf s.node (item_of x.0)) (ran_of h)) (sym history) o.reads)
     (let long = length-append s.reservations ((at, e) ∷ []) in
     let passed : length (own_entries t.node (applied_of t.history)) ≡ length (own_entries s.node (applied_of s.history)) = λ i. length (own_entries (node i) (applied_of (history i))) in
     omega (arith, passed, o.passed, ap length reservations, long))
     (subst (λ (rs : List (ℕ × Entry)). AllByRecursion (λ (x : ℕ × Entry). x.0 < t.seen) rs) (sym reservations)
     (All-append (λ (x : ℕ × Entry). x.0 < t.seen) s.reservations ((at, e) ∷ []) (further s.seen t.seen s.reservations on o.met) (here, tt)))
-    (subst (λ (h : List Turn). EachRises (applied_of h)) (sym history) o.entries)
+    (subst (λ (h : List LogEvent). EachRises (applied_of h)) (sym history) o.entries)
     o
 
 -- a tail was met
@@ -266,13 +266,13 @@ due_order s t old new book next after met due left o =
     ∙ ap (λ (ns : List ℕ). numbers_in c (logged s) ++ ns) (due_and_left c next old.waiting)
     ∙ sym (joined c (logged s) (items_of next) (items_of old.waiting)))
     (subst (AreOfNode s.node) (sym left.waiting) (left_own s.node next old.waiting o.own))
-    (subst (λ (h : List Turn). AllByRecursion (λ (x : Job × ℕ). IsReadOf s.node (item_of x.0)) (ran_of h)) (sym history) o.reads)
+    (subst (λ (h : List LogEvent). AllByRecursion (λ (x : Job × ℕ). IsReadOf s.node (item_of x.0)) (ran_of h)) (sym history) o.reads)
     (let passed : length (own_entries t.node (applied_of t.history)) ≡ length (own_entries s.node (applied_of s.history)) = λ i. length (own_entries (met.standing i).node (applied_of (met.standing i).history)) in
     let same_length = ap (λ (x : Standing). length x.reservations) met.standing in
     omega (arith, passed, o.passed, same_length))
     (subst (λ (rs : List (ℕ × Entry)). AllByRecursion (λ (x : ℕ × Entry). x.0 < t.seen) rs) (sym (ap (λ (x : Standing). x.reservations) met.standing))
     (further s.seen t.seen s.reservations met.seen o.met))
-    (subst (λ (h : List Turn). EachRises (applied_of h)) (sym (ap (λ (x : Standing). x.history) met.standing)) o.entries)
+    (subst (λ (h : List LogEvent). EachRises (applied_of h)) (sym (ap (λ (x : Standing). x.history) met.standing)) o.entries)
     o
 
 -- nothing happened at the log but that a tail was met
@@ -283,13 +283,13 @@ met_order s t old book next met o =
     (λ serial. subst (λ (js : Jobs). IsCount (numbers_in (connection_at s.node serial) js)) (sym same) (o.numbered serial))
     (λ serial. ap (λ (js : Jobs). numbers_in (connection_at s.node serial) (js ++ (items_of next ++ items_of old.waiting))) same)
     o.own
-    (subst (λ (h : List Turn). AllByRecursion (λ (x : Job × ℕ). IsReadOf s.node (item_of x.0)) (ran_of h)) (sym (ap (λ (x : Standing). x.history) met.standing)) o.reads)
+    (subst (λ (h : List LogEvent). AllByRecursion (λ (x : Job × ℕ). IsReadOf s.node (item_of x.0)) (ran_of h)) (sym (ap (λ (x : Standing). x.history) met.standing)) o.reads)
     (let passed : length (own_entries t.node (applied_of t.history)) ≡ length (own_entries s.node (applied_of s.history)) = λ i. length (own_entries (met.standing i).node (applied_of (met.standing i).history)) in
     let same_length = ap (λ (x : Standing). length x.reservations) met.standing in
     omega (arith, passed, o.passed, same_length))
     (subst (λ (rs : List (ℕ × Entry)). AllByRecursion (λ (x : ℕ × Entry). x.0 < t.seen) rs) (sym (ap (λ (x : Standing). x.reservations) met.standing))
     (further s.seen t.seen s.reservations met.seen o.met))
-    (subst (λ (h : List Turn). EachRises (applied_of h)) (sym (ap (λ (x : Standing). x.history) met.standing)) o.entries)
+    (subst (λ (h : List LogEvent). EachRises (applied_of h)) (sym (ap (λ (x : Standing). x.history) met.standing)) o.entries)
     o
 
 -- nothing changed but whether the server is lent
@@ -308,7 +308,7 @@ lent_order s r lent book next o = record {
 }
 
 -- it was noted at the end of the log that a connection was opened
-ran_opened : (n : ℕ) (turns : List Turn) (worker : ℕ) → ran_from n (turns ++ Opened worker ∷ []) ≡ ran_from n turns
+ran_opened : (n : ℕ) (turns : List LogEvent) (worker : ℕ) → ran_from n (turns ++ Opened worker ∷ []) ≡ ran_from n turns
 ran_opened n [] worker = refl
 ran_opened n (Applied entry ∷ turns) worker = ran_opened (suc n) turns worker
 ran_opened n (Ran job ∷ turns) worker = ap (λ (rs : List (Job × ℕ)). (job, n) ∷ rs) (ran_opened n turns worker)

@@ -14,11 +14,11 @@ use Rattle.nr_model.proofs.NodesExecutedLists.{entry_parts, reads_parts}
 use Rattle.nr_model.proofs.NodesOwnLists.{All-weaker, All-entry, All-left_by_entry, All-left_by_reads, none_own}
 use Rattle.nr_entry.specs.Jobs.{items_of}
 use Rattle.nr_entry.specs.declared.job.Job.{Job}
-use Rattle.nr_accounts.specs.declared.account.Account.{Account}
-use Rattle.nr_accounts.specs.Account.{fresh_account, is_of, is_next, taken}
-use Rattle.nr_accounts.specs.Held.{Held, numbers_in, takes_by, takes_all, taken_all, takes_one, taken_one}
-use Rattle.nr_accounts.proofs.Steps.{found, put_here}
-use Rattle.nr_accounts.proofs.Strangers.{put_elsewhere, once_taken}
+use Rattle.nr_job_numbers.specs.declared.account.Account.{Account}
+use Rattle.nr_job_numbers.specs.Account.{fresh_account, is_of, is_next, taken}
+use Rattle.nr_job_numbers.specs.Stored.{Held, numbers_in, takes_by, takes_all, taken_all, takes_one, taken_one}
+use Rattle.nr_job_numbers.proofs.Steps.{found, put_here}
+use Rattle.nr_job_numbers.proofs.Strangers.{put_elsewhere, once_taken}
 use Rattle.nr_model.specs.Bytes.{Bytes}
 use Rattle.nr_replica.specs.Members.{Member, fresh_member, AreReceived, worker_of, jobs_of_worker}
 use Rattle.nr_replica.specs.Replicas.{owing_less, owed_from}

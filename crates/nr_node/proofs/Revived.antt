@@ -14,19 +14,19 @@ use Rattle.nr_entry.specs.Jobs.{item_of, items_of}
 use Rattle.nr_entry.specs.declared.entry.Entry.{Entry}
 use Rattle.nr_entry.specs.declared.job.Job.{Job}
 use Rattle.nr_log_end.specs.declared.standing.Standing.{Standing}
-use Rattle.nr_log_end.specs.declared.standing.Look.{Look}
-use Rattle.nr_log_end.specs.declared.standing.Look.TheVariants.{Unfilled}
-use Rattle.nr_log_end.specs.declared.standing.Turn.{Turn}
-use Rattle.nr_log_end.specs.declared.standing.Turn.TheVariants.{Applied, Ran, Opened}
+use Rattle.nr_log_end.specs.declared.standing.Load.{Load}
+use Rattle.nr_log_end.specs.declared.standing.Load.TheVariants.{Unfilled}
+use Rattle.nr_log_end.specs.declared.standing.LogEvent.{LogEvent}
+use Rattle.nr_log_end.specs.declared.standing.LogEvent.TheVariants.{Applied, Ran, Opened}
 use Rattle.nr_log_end.specs.Standings.{applied_of, ran_from, ran_of, record_of, known_of, passed_of, own_entries}
 use Rattle.nr_oplog.specs.Plays.{AreOfOneLog}
-use Rattle.nr_accounts.specs.Book.{Book}
+use Rattle.nr_job_numbers.specs.Book.{Book}
 use Rattle.nr_replica.specs.Members.{Member, cut_member, fresh_member, AreNumbered}
 use Rattle.nr_replica.specs.Replicas.{ReplicaState}
 use Rattle.nr_node.specs.declared.next.Next.{Next}
 use Rattle.nr_oplog.specs.declared.view.LogView.{LogView}
 use Rattle.nr_node.specs.Level.{NodeState, IsBehind, IsWhole, IsLevel, IsInOrder, IsReadOf, connection_at, queue_at, emitted_to, workers_of, unpassed, jobs_reserved}
-use Rattle.nr_node.specs.Keeping.{is_from, last_number}
+use Rattle.nr_node.specs.OwnEntries.{is_from, last_number}
 use Rattle.nr_node.specs.Kept.{IsKept}
 use Rattle.nr_node.specs.Next.{jobs_next}
 use Rattle.nr_node.specs.Owing.{IsOwing, count_owed, unexecuted}
@@ -123,7 +123,7 @@ same_entries s t one idle quiet same =
     sym first ∙ whole (known_of s) (known_of t) long (one.0.0 (omega (arith, long))) ∙ second
 
 -- reads change no server, so it is the one after the entries
-by_entries : (s : Server) (node n : ℕ) (turns : List Turn) → AllByRecursion (λ (r : Job × ℕ). IsReadOf node (item_of r.0)) (ran_from n turns)
+by_entries : (s : Server) (node n : ℕ) (turns : List LogEvent) → AllByRecursion (λ (r : Job × ℕ). IsReadOf node (item_of r.0)) (ran_from n turns)
     → after_all s (record_of turns) ≡ after_all s (flat_map (λ (e : Entry). entry_items (items_of e.jobs.items)) (applied_of turns))
 by_entries s node n [] reads = refl
 by_entries s node n (Applied e ∷ turns) reads =
@@ -337,10 +337,10 @@ has_revived es v w old mid new next after book later last offer nodes r b within
     }
 
 -- why it doesn't yet
-pub why_not : (looks : List Look) (w : LogView) (mid : ReplicaState) (last : Option ℕ) (place : ℕ) → mid.down ≡ true → last ≡ last_number w.standing.reservations
+pub why_not : (looks : List Load) (w : LogView) (mid : ReplicaState) (last : Option ℕ) (place : ℕ) → mid.down ≡ true → last ≡ last_number w.standing.reservations
     → ((passed_of w.standing < place) × HasStopped looks w mid) ⊎ ((passed_of w.standing ≡ place) × (is_from place last ≡ true))
     → (passed_of w.standing ≤ place)
-    × (((passed_of w.standing < place) × ((more : List Look) × (w.looks ≡ looks ++ (more ++ Unfilled (passed_of w.standing) ∷ []))))
+    × (((passed_of w.standing < place) × ((more : List Load) × (w.looks ≡ looks ++ (more ++ Unfilled (passed_of w.standing) ∷ []))))
     ⊎ ((front : List (ℕ × Entry)) × ((r : ℕ × Entry) × (w.standing.reservations ≡ front ++ r ∷ []) × (place ≤ r.0))))
 why_not looks w mid last place down is (inl (less, inl held)) = absurd (cc (held.0, down))
 why_not looks w mid last place down is (inl (less, inr found)) = (omega (arith, less), inl (less, found))

@@ -21,16 +21,16 @@ use Rattle.nr_entry.specs.declared.entry.Entry.{Entry}
 use Rattle.nr_entry.specs.declared.job.Job.{Job}
 use Rattle.nr_entry.specs.declared.batch.Batch.{Batch}
 use Rattle.nr_log_end.specs.declared.standing.Standing.{Standing}
-use Rattle.nr_log_end.specs.declared.standing.Turn.{Turn}
-use Rattle.nr_log_end.specs.declared.standing.Turn.TheVariants.{Ran}
+use Rattle.nr_log_end.specs.declared.standing.LogEvent.{LogEvent}
+use Rattle.nr_log_end.specs.declared.standing.LogEvent.TheVariants.{Ran}
 use Rattle.nr_log_end.specs.Standings.{applied_of, ran_of, ran_from, record_of, own_entries, noted_with, EachRises}
-use Rattle.nr_accounts.specs.declared.account.Account.{Account}
-use Rattle.nr_accounts.specs.Account.{fresh_account, taken}
-use Rattle.nr_accounts.specs.Held.{Held, numbers_in, CountsTo, takes_all, taken_all, takes_one, taken_one}
-use Rattle.nr_accounts.specs.Book.{Book, HasTaken, refusal_of, with_batch}
-use Rattle.nr_accounts.proofs.Steps.{found, put_here}
-use Rattle.nr_accounts.proofs.Strangers.{put_elsewhere, once_taken}
-use Rattle.nr_accounts.proofs.Batches.{all_of_due}
+use Rattle.nr_job_numbers.specs.declared.account.Account.{Account}
+use Rattle.nr_job_numbers.specs.Account.{fresh_account, taken}
+use Rattle.nr_job_numbers.specs.Stored.{Held, numbers_in, CountsTo, takes_all, taken_all, takes_one, taken_one}
+use Rattle.nr_job_numbers.specs.Book.{Book, HasTaken, refusal_of, with_batch}
+use Rattle.nr_job_numbers.proofs.Steps.{found, put_here}
+use Rattle.nr_job_numbers.proofs.Strangers.{put_elsewhere, once_taken}
+use Rattle.nr_job_numbers.proofs.Batches.{all_of_due}
 use Rattle.nr_replica.specs.Members.{Member}
 use Rattle.nr_replica.specs.Replicas.{ReplicaState, HasRead}
 use Rattle.nr_node.specs.Level.{connection_at, unpassed, jobs_reserved, logged, all_jobs, IsReadOf, IsInOrder}
@@ -115,7 +115,7 @@ noted_order s t ran old new book noted none read ran_is o =
     (λ serial. first_counted (connection_at s.node serial) (logged t) (items_of new.waiting) (all_jobs s [] old.waiting) (apart serial) (all_counted s old book [] o serial))
     (λ serial. numbers-append (connection_at s.node serial) (logged t) (items_of new.waiting) ∙ apart serial)
     (subst (AreOfNode s.node) (sym read.left) (All-left_by_reads (λ (job : Item). job.connection.node ≡ s.node) (items_of old.waiting) o.own))
-    (subst (λ (h : List Turn). AllByRecursion (λ (x : Job × ℕ). IsReadOf s.node (item_of x.0)) (ran_of h)) (sym history)
+    (subst (λ (h : List LogEvent). AllByRecursion (λ (x : Job × ℕ). IsReadOf s.node (item_of x.0)) (ran_of h)) (sym history)
     (ran-append (λ (job : Job). IsReadOf s.node (item_of job)) s.history (map Ran ran) o.reads
     (ran_own s.node 0 ran (subst (AllByRecursion (IsReadOf s.node)) (sym ran_is) (led_reads s.node (items_of old.waiting) o.own)))))
     (let passed : length (own_entries t.node (applied_of t.history)) ≡ length (own_entries s.node (applied_of s.history)) = λ i. length (own_entries (node i) (applied i)) in

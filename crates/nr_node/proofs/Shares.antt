@@ -7,28 +7,28 @@ use Rattle.nr_entry.specs.declared.entry.Entry.{Entry}
 use Rattle.nr_entry.specs.Shares.{shares_of}
 use Rattle.nr_log_end.specs.declared.standing.Standing.{Standing}
 use Rattle.nr_log_end.specs.Standings.{reservation, IsSharesFor, LooksOn}
-use Rattle.nr_log_end.specs.declared.standing.Look.{Look}
-use Rattle.nr_log_end.specs.declared.standing.Look.TheVariants.{Tail}
+use Rattle.nr_log_end.specs.declared.standing.Load.{Load}
+use Rattle.nr_log_end.specs.declared.standing.Load.TheVariants.{Tail}
 use Rattle.nr_oplog.specs.Calls.{LoadsCounts, IsLeastOf, loads_from}
 use Rattle.nr_oplog.specs.declared.view.LogView.{LogView}
 use Rattle.nr_entry.specs.declared.job.Job.{Job}
 use Rattle.nr_node.specs.Advanced.{HasNoted, HasPassed, MeetsNoTail}
 use Rattle.nr_node.specs.Reserved.{HasMet, IsReserved}
-use Rattle.nr_node.specs.Keeping.{OwnState, last_number, AreLast, AreBelow, Frees, IsFirst, IsFromOn, IsSeenPassed, LetsGo}
+use Rattle.nr_node.specs.OwnEntries.{OwnState, last_number, AreLast, AreBelow, Frees, IsFirst, IsFromOn, IsSeenPassed, LetsGo}
 
 -- what was seen is seen on
-seen_on : (nodes number : ℕ) (looks more after : List Look) → after ≡ looks ++ more → IsSeenPassed nodes looks number → IsSeenPassed nodes after number
+seen_on : (nodes number : ℕ) (looks more after : List Load) → after ≡ looks ++ more → IsSeenPassed nodes looks number → IsSeenPassed nodes after number
 seen_on nodes number looks more after is p = record {
   before = p.before;
   counts = p.counts;
   behind = p.behind ++ more;
-  loaded = is ∙ ap (λ (ls : List Look). ls ++ more) p.loaded ∙ append_assoc p.before (loads_from 0 p.counts ++ p.behind) more
-      ∙ ap (λ (ls : List Look). p.before ++ ls) (append_assoc (loads_from 0 p.counts) p.behind more);
+  loaded = is ∙ ap (λ (ls : List Load). ls ++ more) p.loaded ∙ append_assoc p.before (loads_from 0 p.counts ++ p.behind) more
+      ∙ ap (λ (ls : List Load). p.before ++ ls) (append_assoc (loads_from 0 p.counts) p.behind more);
   all = p.all;
   above = p.above;
 }
 
-all_seen_on : (nodes : ℕ) (looks more after : List Look) (gone : List (ℕ × Entry)) → after ≡ looks ++ more
+all_seen_on : (nodes : ℕ) (looks more after : List Load) (gone : List (ℕ × Entry)) → after ≡ looks ++ more
     → AllByRecursion (λ (one : ℕ × Entry). IsSeenPassed nodes looks one.0) gone → AllByRecursion (λ (one : ℕ × Entry). IsSeenPassed nodes after one.0) gone
 all_seen_on nodes looks more after [] is all = tt
 all_seen_on nodes looks more after (one ∷ gone) is all = (seen_on nodes one.0 looks more after is all.0, all_seen_on nodes looks more after gone is all.1)
@@ -39,7 +39,7 @@ all_both P (x ∷ xs) ys all more = (all.0, all_both P xs ys all.1 more)
 
 -- they are so of whoever has the same reservations, and made more loads
 pub still_last : (own : OwnState) (v w : LogView) → w.standing.reservations ≡ v.standing.reservations → w.standing.nodes ≡ v.standing.nodes
-    → (more : List Look) × (w.looks ≡ v.looks ++ more) → AreLast own v → AreLast own w
+    → (more : List Load) × (w.looks ≡ v.looks ++ more) → AreLast own v → AreLast own w
 still_last own v w same nodes more last = (
   last.0,
   last.1 ∙ sym same,
@@ -63,7 +63,7 @@ last_behind (q ∷ (next ∷ rs)) r = last_behind (next ∷ rs) r
 
 pub kept_more : (own new : OwnState) (at : ℕ) (shares : List (Option Entry)) (e : Entry) (v w : LogView) → slice_index_or shares 0 None ≡ Some e
     → new ≡ record { kept = own.kept ++ reservation at shares; last = Some at }
-    → w.standing.reservations ≡ v.standing.reservations ++ reservation at shares → w.standing.nodes ≡ v.standing.nodes → (more : List Look) × (w.looks ≡ v.looks ++ more)
+    → w.standing.reservations ≡ v.standing.reservations ++ reservation at shares → w.standing.nodes ≡ v.standing.nodes → (more : List Load) × (w.looks ≡ v.looks ++ more)
     → AreLast own v → AreLast new w
 kept_more own new at shares e v w first is longer nodes more last = (
   last.0,
@@ -76,7 +76,7 @@ kept_more own new at shares e v w first is longer nodes more last = (
 )
 
 -- some of the first are let go of, which were seen to be passed
-seen_below : (nodes least number : ℕ) (looks before behind after : List Look) (counts : List ℕ) → after ≡ looks ++ (before ++ (loads_from 0 counts ++ behind))
+seen_below : (nodes least number : ℕ) (looks before behind after : List Load) (counts : List ℕ) → after ≡ looks ++ (before ++ (loads_from 0 counts ++ behind))
     → length counts ≡ nodes → IsLeastOf least counts → number < least → IsSeenPassed nodes after number
 seen_below nodes least number looks before behind after counts loaded every is under = record {
   before = looks ++ before;
@@ -87,7 +87,7 @@ seen_below nodes least number looks before behind after counts loaded every is u
   above = λ node near. let most = is.0 node near in omega (arith, under, most);
 }
 
-all_seen_below : (nodes least : ℕ) (looks before behind after : List Look) (counts : List ℕ) (gone : List (ℕ × Entry)) → after ≡ looks ++ (before ++ (loads_from 0 counts ++ behind))
+all_seen_below : (nodes least : ℕ) (looks before behind after : List Load) (counts : List ℕ) (gone : List (ℕ × Entry)) → after ≡ looks ++ (before ++ (loads_from 0 counts ++ behind))
     → length counts ≡ nodes → IsLeastOf least counts → AreBelow least gone → AllByRecursion (λ (one : ℕ × Entry). IsSeenPassed nodes after one.0) gone
 all_seen_below nodes least looks before behind after counts [] loaded every is below = tt
 all_seen_below nodes least looks before behind after counts (one ∷ gone) loaded every is below = (
@@ -96,7 +96,7 @@ all_seen_below nodes least looks before behind after counts (one ∷ gone) loade
 )
 
 pub freed_last : (old new : OwnState) (v w : LogView) → Frees old.kept new.kept v.standing.nodes v.looks w.looks → new.last ≡ old.last
-    → w.standing.reservations ≡ v.standing.reservations → w.standing.nodes ≡ v.standing.nodes → (more : List Look) × (w.looks ≡ v.looks ++ more) → AreLast old v → AreLast new w
+    → w.standing.reservations ≡ v.standing.reservations → w.standing.nodes ≡ v.standing.nodes → (more : List Load) × (w.looks ≡ v.looks ++ more) → AreLast old v → AreLast new w
 freed_last old new v w (inl none) still same nodes more last =
     let here = still_last old v w same nodes more last in
     (here.0, ap (λ (xs : List (ℕ × Entry)). here.0 ++ xs) (none.1 ∙ sym none.0) ∙ here.1, here.2, still ∙ here.3)
@@ -112,7 +112,7 @@ freed_last old new v w (inr by) still same nodes more last = (
 
 -- the steps of a node
 pub went_last : (es : List Entry) (old new : OwnState) (v w : LogView) → HasPassed es v.standing w.standing → Frees old.kept new.kept v.standing.nodes v.looks w.looks
-    → new.last ≡ old.last → (more : List Look) × (w.looks ≡ v.looks ++ (Tail w.standing.seen ∷ more)) → AreLast old v → AreLast new w
+    → new.last ≡ old.last → (more : List Load) × (w.looks ≡ v.looks ++ (Tail w.standing.seen ∷ more)) → AreLast old v → AreLast new w
 went_last es old new v w passed freed still more last =
     freed_last old new v w freed still (ap (λ (s : Standing). s.reservations) passed.standing) (ap (λ (s : Standing). s.nodes) passed.standing)
     (Tail w.standing.seen ∷ more.0, more.1) last
@@ -125,7 +125,7 @@ pub ended_last : (kept : OwnState) (v w : LogView) → w ≡ v → AreLast kept 
 ended_last kept v w same last = subst (AreLast kept) (sym same) last
 
 pub noted_last : (kept : OwnState) (ran : List Job) (v w : LogView) → HasNoted ran v.standing w.standing
-    → (more : List Look) × (length more ≤ 1) × (w.looks ≡ v.looks ++ more) → AreLast kept v → AreLast kept w
+    → (more : List Load) × (length more ≤ 1) × (w.looks ≡ v.looks ++ more) → AreLast kept v → AreLast kept w
 noted_last kept ran v w noted more last =
     still_last kept v w (ap (λ (s : Standing). s.reservations) noted.standing) (ap (λ (s : Standing). s.nodes) noted.standing) (more.0, more.2) last
 
@@ -137,7 +137,7 @@ pub looked_last : (kept : OwnState) (v w : LogView) (tail : ℕ) → LooksOn v.s
 looked_last kept v w tail on looks last =
     still_last kept v w (ap (λ (s : Standing). s.reservations) on.1) (ap (λ (s : Standing). s.nodes) on.1) (Tail tail ∷ [], looks) last
 
-pub met_last : (kept new : OwnState) (v w : LogView) → new ≡ kept → HasMet v.standing w.standing → (more : List Look) × (w.looks ≡ v.looks ++ more)
+pub met_last : (kept new : OwnState) (v w : LogView) → new ≡ kept → HasMet v.standing w.standing → (more : List Load) × (w.looks ≡ v.looks ++ more)
     → AreLast kept v → AreLast new w
 met_last kept new v w same met more last =
     subst (λ (o : OwnState). AreLast o w) (sym same)
@@ -152,13 +152,13 @@ reserved_nodes v w at shares r = ap (λ (s : Standing). s.nodes) r.standing
 
 -- a call that lets go, between a load of the tail and others
 pub lets_free : (old new : List (ℕ × Entry)) (u v w x : LogView) (tail : ℕ) → v.looks ≡ u.looks ++ Tail tail ∷ [] → v.standing.nodes ≡ u.standing.nodes
-    → LetsGo old new v w → (more : List Look) × (x.looks ≡ w.looks ++ more) → Frees old new u.standing.nodes u.looks x.looks
+    → LetsGo old new v w → (more : List Load) × (x.looks ≡ w.looks ++ more) → Frees old new u.standing.nodes u.looks x.looks
 lets_free old new u v w x tail loaded nodes (inl none) met = inl (none.0, none.1)
 lets_free old new u v w x tail loaded nodes (inr by) met = inr record {
   before = Tail tail ∷ [];
   counts = w.met;
   behind = met.0;
-  loaded = met.1 ∙ ap (λ (ls : List Look). ls ++ met.0) (ap (λ (y : LogView). y.looks) by.loads.loads ∙ ap (λ (ls : List Look). ls ++ loads_from 0 w.met) loaded)
+  loaded = met.1 ∙ ap (λ (ls : List Load). ls ++ met.0) (ap (λ (y : LogView). y.looks) by.loads.loads ∙ ap (λ (ls : List Load). ls ++ loads_from 0 w.met) loaded)
       ∙ append_assoc (u.looks ++ Tail tail ∷ []) (loads_from 0 w.met) met.0 ∙ append_assoc u.looks (Tail tail ∷ []) (loads_from 0 w.met ++ met.0);
   every = by.loads.counts ∙ nodes;
   least = by.least;
@@ -173,7 +173,7 @@ pub lets_stand : (old new : List (ℕ × Entry)) (v w : LogView) → LetsGo old 
 lets_stand old new v w (inl none) = ap (λ (x : LogView). x.standing) none.2
 lets_stand old new v w (inr by) = ap (λ (x : LogView). x.standing) by.loads.loads
 
-pub lets_look : (old new : List (ℕ × Entry)) (v w : LogView) → LetsGo old new v w → (more : List Look) × (w.looks ≡ v.looks ++ more)
+pub lets_look : (old new : List (ℕ × Entry)) (v w : LogView) → LetsGo old new v w → (more : List Load) × (w.looks ≡ v.looks ++ more)
 lets_look old new v w (inl none) = ([], ap (λ (x : LogView). x.looks) none.2 ∙ sym (append-nil v.looks))
 lets_look old new v w (inr by) = (loads_from 0 w.met, ap (λ (x : LogView). x.looks) by.loads.loads)
 

@@ -23,11 +23,11 @@ use Rattle.nr_entry.specs.declared.job.Job.{Job}
 use Rattle.nr_log_end.specs.declared.standing.Standing.{Standing}
 use Rattle.nr_log_end.specs.Standings.{IsAllFilled, LooksOn, StandsInLog, opened_with, record_of, applied_of, passed_of, own_entries}
 use Rattle.nr_oplog.specs.declared.view.LogView.{LogView}
-use Rattle.nr_accounts.specs.declared.account.Account.{Account}
-use Rattle.nr_accounts.specs.Account.{fresh_account}
-use Rattle.nr_accounts.specs.Held.{Held, numbers_in, CountsTo, taken_all}
-use Rattle.nr_accounts.specs.Book.{Book, HasTaken, refusal_of, with_batch}
-use Rattle.nr_accounts.proofs.Batches.{all_of_due}
+use Rattle.nr_job_numbers.specs.declared.account.Account.{Account}
+use Rattle.nr_job_numbers.specs.Account.{fresh_account}
+use Rattle.nr_job_numbers.specs.Stored.{Held, numbers_in, CountsTo, taken_all}
+use Rattle.nr_job_numbers.specs.Book.{Book, HasTaken, refusal_of, with_batch}
+use Rattle.nr_job_numbers.proofs.Batches.{all_of_due}
 use Rattle.nr_replica.specs.Members.{Member, fresh_member, closed_member, handed_member, worker_of, jobs_of_worker}
 use Rattle.nr_replica.specs.declared.outbox.Piece.{Piece}
 use Rattle.nr_replica.specs.Replicas.{ReplicaState, HasRead, owed_from}
@@ -37,7 +37,7 @@ use Rattle.nr_node.specs.Level.{NodeState, IsLevel, IsInOrder, connection_at, qu
 use Rattle.nr_node.specs.Batches.{IsOpened, IsPiece}
 use Rattle.nr_node.specs.Next.{jobs_shared, jobs_next, IsNextOf, HasLeft}
 use Rattle.nr_node.specs.Owing.{unexecuted, count_owed, awaited, answer_by, answered_node, IsOwing, IsServedBy, HasAccounts, HasAllExecuted}
-use Rattle.nr_node.specs.Keeping.{AreAhead}
+use Rattle.nr_node.specs.OwnEntries.{AreAhead}
 use Rattle.nr_node.specs.Kept.{IsKept}
 use Rattle.nr_node.proofs.Advances.{ahead_on, goes_tail}
 use Rattle.nr_node.specs.Advanced.{HasNoted, GoesOn}

@@ -4,10 +4,10 @@ use Rattle.std.specs.Prelude.{not, Option, Some, None, option_map, IfSome}
 use Rattle.std.specs.FinMap as finmap
 use Rattle.std.specs.List.{range_with_len}
 use Rattle.std.proofs.lemmas.Bool.{and_parts, eqb-true, ltb-true}
-use Rattle.nr_accounts.specs.declared.account.Account.{Account}
-use Rattle.nr_accounts.specs.declared.account.Unended.{Unended}
-use Rattle.nr_accounts.specs.Account.{is_of}
-use Rattle.nr_accounts.specs.Held.{is_unended, numbers_in, CountsTo, ComesAfter}
+use Rattle.nr_job_numbers.specs.declared.account.Account.{Account}
+use Rattle.nr_job_numbers.specs.declared.account.Unended.{Unended}
+use Rattle.nr_job_numbers.specs.Account.{is_of}
+use Rattle.nr_job_numbers.specs.Stored.{is_unended, numbers_in, CountsTo, ComesAfter}
 use Rattle.nr_replica.specs.Members.{worker_of}
 use Rattle.nr_node.specs.declared.next.Next.{Next}
 use Rattle.nr_node.specs.Level.{NodeState, all_jobs, connection_at}

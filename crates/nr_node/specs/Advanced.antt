@@ -11,15 +11,15 @@ use Rattle.nr_entry.specs.Jobs.{items_of}
 use Rattle.nr_entry.specs.declared.entry.Entry.{Entry}
 use Rattle.nr_entry.specs.declared.job.Job.{Job}
 use Rattle.nr_log_end.specs.declared.standing.Standing.{Standing}
-use Rattle.nr_log_end.specs.declared.standing.Look.{Look}
-use Rattle.nr_log_end.specs.declared.standing.Look.TheVariants.{Unfilled}
-use Rattle.nr_log_end.specs.declared.standing.Turn.TheVariants.{Applied, Ran}
+use Rattle.nr_log_end.specs.declared.standing.Load.{Load}
+use Rattle.nr_log_end.specs.declared.standing.Load.TheVariants.{Unfilled}
+use Rattle.nr_log_end.specs.declared.standing.LogEvent.TheVariants.{Applied, Ran}
 use Rattle.nr_log_end.specs.Standings.{record_of, passed_of}
 use Rattle.nr_oplog.specs.declared.view.LogView.{LogView}
-use Rattle.nr_accounts.specs.declared.account.Account.{Account}
-use Rattle.nr_accounts.specs.Account.{back_to}
-use Rattle.nr_accounts.specs.Held.{numbers_in}
-use Rattle.nr_accounts.specs.Book.{Book, without_ended, HasGoneBack}
+use Rattle.nr_job_numbers.specs.declared.account.Account.{Account}
+use Rattle.nr_job_numbers.specs.Account.{back_to}
+use Rattle.nr_job_numbers.specs.Stored.{numbers_in}
+use Rattle.nr_job_numbers.specs.Book.{Book, without_ended, HasGoneBack}
 use Rattle.nr_replica.specs.Members.{Member, worker_of}
 use Rattle.nr_replica.specs.Backlogs.{HasBacklog}
 use Rattle.nr_replica.specs.declared.fall.Fall.{Fall}
@@ -27,7 +27,7 @@ use Rattle.nr_replica.specs.declared.fall.Fall.TheVariants.{Refused}
 use Rattle.nr_replica.specs.Replicas.{ReplicaState, IsApplied, fallen}
 use Rattle.nr_node.specs.declared.next.Next.{Next}
 use Rattle.nr_node.specs.Level.{IsLevel, IsInOrder, connection_at, unpassed, jobs_reserved}
-use Rattle.nr_node.specs.Keeping.{AreAhead}
+use Rattle.nr_node.specs.OwnEntries.{AreAhead}
 use Rattle.nr_node.specs.Next.{jobs_next}
 use Rattle.nr_node.specs.Owing.{IsOwing, awaited, unexecuted}
 
@@ -42,14 +42,14 @@ IsTakenIn entry old new =
 
 -- whatever was loaded, the greatest tail that was met stays
 abbrev pub MeetsNoTail : LogView → LogView → Type 0
-MeetsNoTail v w = (w.standing.seen ≡ v.standing.seen) × ((more : List Look) × (w.looks ≡ v.looks ++ more))
+MeetsNoTail v w = (w.standing.seen ≡ v.standing.seen) × ((more : List Load) × (w.looks ≡ v.looks ++ more))
 
 -- why a node stops before the tail: much waits for a connection of its replica, which isn't down, or its server is lent; or it loaded the stamp of the next entry's cell last,
 -- which wasn't filled
-abbrev pub HasStopped : List Look → LogView → ReplicaState → Type 0
+abbrev pub HasStopped : List Load → LogView → ReplicaState → Type 0
 HasStopped looks v replica =
     ((replica.down ≡ false) × (HasBacklog replica.members ⊎ (replica.lent ≡ true)))
-    ⊎ ((more : List Look) × (v.looks ≡ looks ++ (more ++ Unfilled (passed_of v.standing) ∷ [])))
+    ⊎ ((more : List Load) × (v.looks ≡ looks ++ (more ++ Unfilled (passed_of v.standing) ∷ [])))
 
 -- it was asked of a replica that isn't down whether its server is lent: nothing else changed of it
 pub record HasAsked (old new : ReplicaState) : Type 0 where

@@ -11,7 +11,7 @@ use Rattle.nr_entry.specs.declared.batch.Refusal.TheVariants as refusals
 use Rattle.nr_log_end.specs.declared.standing.Standing.{Standing}
 use Rattle.nr_log_end.specs.Standings.{record_of}
 use Rattle.nr_replica.specs.declared.outbox.Piece.{Piece}
-use Rattle.nr_accounts.specs.Book.{refusal_of}
+use Rattle.nr_job_numbers.specs.Book.{refusal_of}
 use Rattle.nr_node.specs.Level.{NodeState, queue_at}
 use Rattle.nr_node.specs.declared.answers.TakeError.{TakeError}
 use Rattle.nr_node.specs.declared.answers.TakeError.TheVariants as errors

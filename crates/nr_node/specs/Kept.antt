@@ -1,11 +1,11 @@
 -- What holds of a node between two calls.
 use Rattle.std.specs.Prelude.{◌≡◌, ℕ, true, false, [], length, Option}
 use Rattle.nr_log_end.specs.declared.standing.Standing.{Standing}
-use Rattle.nr_accounts.specs.Book.{Book}
+use Rattle.nr_job_numbers.specs.Book.{Book}
 use Rattle.nr_replica.specs.Replicas.{ReplicaState}
 use Rattle.nr_node.specs.declared.next.Next.{Next}
 use Rattle.nr_node.specs.Level.{IsLevel, IsInOrder}
-use Rattle.nr_node.specs.Keeping.{AreAhead}
+use Rattle.nr_node.specs.OwnEntries.{AreAhead}
 use Rattle.nr_node.specs.Next.{jobs_next, IsNextOf}
 use Rattle.nr_node.specs.Owing.{IsOwing, HasAccounts, unexecuted}
 

@@ -4,7 +4,7 @@ use Rattle.std.specs.Coded.{Coded, code_by, coded×, coded_list}
 use Rattle.nr_model.specs.Entries.{Jobs}
 use Rattle.nr_model.specs.Servers.{fresh, after_all}
 use Rattle.nr_log_end.specs.declared.standing.Standing.{Standing}
-use Rattle.nr_log_end.specs.declared.standing.Look.TheVariants.{Tail}
+use Rattle.nr_log_end.specs.declared.standing.Load.TheVariants.{Tail}
 use Rattle.nr_log_end.specs.contracts.standing.Standing as of_standing
 use Rattle.nr_log_end.specs.Standings.{LooksOn, passed_of, record_of}
 use Rattle.nr_replica.specs.Lent.{RepliesState, coded_replies, AreRepliesTo}

@@ -19,8 +19,8 @@ pub use Rattle.nr_log_end.specs.Standings.{unpassed, jobs_reserved, logged}
 use Rattle.nr_log_end.specs.Standings.{applied_of, opened_of, ran_of, record_of, passed_of, own_entries, EachRises}
 use Rattle.nr_oplog.specs.declared.view.LogView.{LogView}
 use Rattle.nr_oplog.specs.contracts.view.LogView as of_view
-use Rattle.nr_accounts.specs.Held.{numbers_in}
-use Rattle.nr_accounts.specs.Book.{Book, coded_book, HasTaken}
+use Rattle.nr_job_numbers.specs.Stored.{numbers_in}
+use Rattle.nr_job_numbers.specs.Book.{Book, coded_book, HasTaken}
 use Rattle.nr_replica.specs.Members.{Member, fresh_member, AreNumbered}
 use Rattle.nr_replica.specs.Replicas.{ReplicaState, coded_replica}
 

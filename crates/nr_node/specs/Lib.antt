@@ -8,6 +8,6 @@ pub mod Steps
 pub mod Sound
 pub mod Kept
 pub mod Collected
-pub mod Keeping
+pub mod OwnEntries
 pub mod Revived
 pub mod Lending

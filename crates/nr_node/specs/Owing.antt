@@ -10,8 +10,8 @@ use Rattle.nr_entry.specs.declared.batch.Outcome.TheVariants as outcomes
 use Rattle.nr_entry.specs.declared.job.Job.{Job}
 use Rattle.nr_log_end.specs.declared.standing.Standing.{Standing}
 use Rattle.nr_log_end.specs.Standings.{record_of}
-use Rattle.nr_accounts.specs.declared.account.Account.{Account}
-use Rattle.nr_accounts.specs.Held.{Held, numbers_in}
+use Rattle.nr_job_numbers.specs.declared.account.Account.{Account}
+use Rattle.nr_job_numbers.specs.Stored.{Held, numbers_in}
 use Rattle.nr_replica.specs.Members.{Member, worker_of, jobs_of_worker}
 use Rattle.nr_node.specs.Level.{NodeState, connection_at, unpassed, jobs_reserved}
 

@@ -5,11 +5,11 @@ use Rattle.std.specs.Coded.{Coded, code_by, coded×}
 use Rattle.nr_model.specs.Servers.{Server, fresh, after_all}
 use Rattle.nr_entry.specs.declared.entry.Entry.{Entry}
 use Rattle.nr_log_end.specs.declared.standing.Standing.{Standing}
-use Rattle.nr_log_end.specs.declared.standing.Look.{Look}
-use Rattle.nr_log_end.specs.declared.standing.Look.TheVariants.{Unfilled}
+use Rattle.nr_log_end.specs.declared.standing.Load.{Load}
+use Rattle.nr_log_end.specs.declared.standing.Load.TheVariants.{Unfilled}
 use Rattle.nr_log_end.specs.contracts.standing.Standing as of_standing
 use Rattle.nr_log_end.specs.Standings.{passed_of, record_of}
-use Rattle.nr_accounts.specs.Book.{without_ended}
+use Rattle.nr_job_numbers.specs.Book.{without_ended}
 use Rattle.nr_replica.specs.contracts.offer.Offer as of_offer
 use Rattle.nr_replica.specs.Members.{cut_member}
 use Rattle.nr_replica.specs.Replicas.{ReplicaState}
@@ -59,7 +59,7 @@ pub record HasRevived (offer : OfferState) (n m : NodeState) : Type 0 where
   pub entries : List Entry
   pub passed : HasPassed entries n.seat.standing m.seat.standing
   pub seen : m.seat.standing.seen ≡ n.seat.standing.seen
-  pub looks : (more : List Look) × (m.seat.looks ≡ n.seat.looks ++ more)
+  pub looks : (more : List Load) × (m.seat.looks ≡ n.seat.looks ++ more)
   pub place : passed_of m.seat.standing ≡ place_of offer
   pub own : jobs_reserved (unpassed n.seat.standing) ≡ jobs_of_own n.book.node entries
   pub none : unpassed m.seat.standing ≡ []
@@ -81,5 +81,5 @@ pub record IsNotYet (offer : OfferState) (n m : NodeState) : Type 0 where
   pub same : m ≡ record n { seat = m.seat; book = m.book }
   pub book : m.book ≡ without_ended (jobs_of_all entries) n.book
   pub why : ((passed_of m.seat.standing < place_of offer)
-      × ((more : List Look) × (m.seat.looks ≡ n.seat.looks ++ (more ++ Unfilled (passed_of m.seat.standing) ∷ []))))
+      × ((more : List Load) × (m.seat.looks ≡ n.seat.looks ++ (more ++ Unfilled (passed_of m.seat.standing) ∷ []))))
       ⊎ ((front : List (ℕ × Entry)) × ((last : ℕ × Entry) × (m.seat.standing.reservations ≡ front ++ last ∷ []) × (place_of offer ≤ last.0)))

@@ -6,7 +6,7 @@ use Rattle.nr_entry.specs.Jobs.{item_of}
 use Rattle.nr_entry.specs.declared.job.Job.{Job}
 use Rattle.nr_log_end.specs.declared.standing.Standing.{Standing}
 use Rattle.nr_log_end.specs.Standings.{applied_of, opened_of, ran_of, record_of, EachRises}
-use Rattle.nr_accounts.specs.Held.{numbers_in}
+use Rattle.nr_job_numbers.specs.Stored.{numbers_in}
 use Rattle.nr_node.specs.Level.{IsCount, IsReadOf, connection_at}
 
 -- the jobs that the node ran by itself are reads of its connections; and the jobs of each of these in the record have the numbers 0, 1, 2 and so on, in
@@ -20,7 +20,7 @@ pub record IsSound (s : Standing) : Type 0 where
   pub idle : s.held ≡ None
 
 -- a connection of the node that was opened there, for this worker
-pub record Serves (s : Standing) (worker : ℕ) (c : Connection) : Type 0 where
+pub record ServesOpened (s : Standing) (worker : ℕ) (c : Connection) : Type 0 where
   pub node : c.node ≡ s.node
   pub opened : c.serial < length (opened_of s.history)
   pub worker_is : slice_index_or (opened_of s.history) c.serial 0 ≡ worker

@@ -9,13 +9,13 @@ use Rattle.nr_entry.specs.Waiting.{has_some}
 use Rattle.nr_entry.specs.declared.batch.Batch.{Batch}
 use Rattle.nr_entry.specs.declared.entry.Entry.{Entry}
 use Rattle.nr_entry.specs.declared.job.Job.{Job}
-use Rattle.nr_log_end.specs.declared.standing.Look.{Look}
-use Rattle.nr_log_end.specs.declared.standing.Look.TheVariants.{Tail}
-use Rattle.nr_log_end.specs.declared.standing.Turn.TheVariants.{Applied, Ran}
+use Rattle.nr_log_end.specs.declared.standing.Load.{Load}
+use Rattle.nr_log_end.specs.declared.standing.Load.TheVariants.{Tail}
+use Rattle.nr_log_end.specs.declared.standing.LogEvent.TheVariants.{Applied, Ran}
 use Rattle.nr_log_end.specs.Standings.{opened_with, passed_of, record_of}
 use Rattle.nr_oplog.specs.declared.view.LogView.{LogView}
-use Rattle.nr_accounts.specs.Account.{fresh_account}
-use Rattle.nr_accounts.specs.Book.{with_batch, without_ended}
+use Rattle.nr_job_numbers.specs.Account.{fresh_account}
+use Rattle.nr_job_numbers.specs.Book.{with_batch, without_ended}
 use Rattle.nr_replica.specs.Members.{Member, fresh_member, closed_member, handed_member}
 use Rattle.nr_replica.specs.declared.fall.Fall.TheVariants.{Refused}
 use Rattle.nr_node.specs.Level.{NodeState, connection_at, unpassed, jobs_reserved}
@@ -98,8 +98,8 @@ pub record HasNoneDue (n m : NodeState) : Type 0 where
   pub same : m ≡ record n { replica = m.replica }
 
 -- the tail was loaded in the call, and was so
-abbrev pub HasLoaded : ℕ → List Look → List Look → Type 0
-HasLoaded tail looks after = (more : List Look) × (after ≡ looks ++ (Tail tail ∷ more))
+abbrev pub HasLoaded : ℕ → List Load → List Load → Type 0
+HasLoaded tail looks after = (more : List Load) × (after ≡ looks ++ (Tail tail ∷ more))
 
 -- Entries were passed, and then reads were run, behind all that was in the record. The entries of the node's own among them are the first that it had reserved and
 -- hadn't passed. The same workers wait for an answer. One entry at most is passed behind the tail that the call loaded. The account of each of its connections

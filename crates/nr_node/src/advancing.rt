@@ -3,19 +3,19 @@ ghost use Rattle.std.specs.Prelude.{◌≡◌, ◌<◌, ◌≤◌, ◌+◌, ◌-
 ghost use Rattle.nr_entry.specs.declared.entry.Entry.{Entry};
 ghost use Rattle.nr_entry.specs.Jobs.{items_of};
 ghost use Rattle.nr_log_end.specs.Standings.{StandsInLog, passed_of};
-ghost use Rattle.nr_accounts.specs.Book.{without_ended, HasGoneBack};
+ghost use Rattle.nr_job_numbers.specs.Book.{without_ended, HasGoneBack};
 ghost use Rattle.nr_replica.specs.Backlogs.{HasBacklog};
-ghost use Rattle.nr_node.specs.Keeping.{Frees};
+ghost use Rattle.nr_node.specs.OwnEntries.{Frees};
 ghost use Rattle.nr_node.specs.Level.{IsLevel};
 ghost use Rattle.nr_node.specs.Next.{jobs_next, HasFirst};
 ghost use Rattle.nr_node.specs.Advanced.{IsTakenIn, GoesOn, MeetsNoTail, HasAsked, HasStopped};
 
 use crate::falling::drop_lifted;
-use crate::keeping::OwnEntries;
 use crate::next::Next;
-use nr_accounts::Accounts;
+use crate::own_entries::OwnEntries;
 use nr_entry::Entry;
-use nr_log_end::{LogEnd, Look};
+use nr_job_numbers::JobNumbers;
+use nr_log_end::{Load, LogEnd};
 use nr_oplog::{End, LogName};
 use nr_replica::Replica;
 use std::hint;
@@ -33,7 +33,7 @@ pub(crate) fn catch_up<B: LogName>(
     end: &mut End<B>,
     kept: &mut OwnEntries,
     replica: &mut Replica,
-    accounts: &mut Accounts,
+    accounts: &mut JobNumbers,
     next: &mut Option<Next>,
 ) -> bool
     requires idle { end.old.standing.held ≡ None }
@@ -41,7 +41,7 @@ pub(crate) fn catch_up<B: LogName>(
     requires next { HasFirst next.old }
     ensures idle { end.new.standing.held ≡ None }
     ensures goes { (entries : List Entry) × GoesOn entries end.old.standing end.new.standing replica.old replica.new next.old next.new accounts.old accounts.new }
-    ensures looks { (more : List Look) × (end.new.looks ≡ end.old.looks ++ Look.Tail end.new.standing.seen ∷ more) }
+    ensures looks { (more : List Load) × (end.new.looks ≡ end.old.looks ++ Load.Tail end.new.standing.seen ∷ more) }
     ensures freed { Frees kept.old.kept kept.new.kept end.old.standing.nodes end.old.looks end.new.looks }
     ensures last { kept.new.last ≡ kept.old.last }
     ensures reached { result ≡ true → (end.new.standing.seen ≤ passed_of end.new.standing) × StandsInLog end.new.standing }
@@ -97,7 +97,7 @@ fn outlasts(replica: &mut Replica) -> bool
 pub(crate) fn advance_by<B: LogName>(
     end: &mut End<B>,
     replica: &mut Replica,
-    accounts: &mut Accounts,
+    accounts: &mut JobNumbers,
     next: &mut Option<Next>,
     count: u64,
 ) -> bool
@@ -122,7 +122,7 @@ pub(crate) fn advance_by<B: LogName>(
 fn advance_further<B: LogName>(
     end: &mut End<B>,
     replica: &mut Replica,
-    accounts: &mut Accounts,
+    accounts: &mut JobNumbers,
     next: &mut Option<Next>,
     count: u64,
 ) -> bool
@@ -146,7 +146,7 @@ fn advance_further<B: LogName>(
 fn advance_unless_held<B: LogName>(
     end: &mut End<B>,
     replica: &mut Replica,
-    accounts: &mut Accounts,
+    accounts: &mut JobNumbers,
     next: &mut Option<Next>,
 ) -> bool
     requires idle { end.old.standing.held ≡ None }
@@ -177,7 +177,7 @@ fn is_held_back(replica: &mut Replica) -> bool
 fn advance<B: LogName>(
     end: &mut End<B>,
     replica: &mut Replica,
-    accounts: &mut Accounts,
+    accounts: &mut JobNumbers,
     next: &mut Option<Next>,
 ) -> bool
     requires idle { end.old.standing.held ≡ None }
@@ -199,7 +199,7 @@ fn advance<B: LogName>(
 }
 
 // Takes an entry in, unless the replica is down. Where it falls over it, what it has lifted is dropped, and the accounts go back by that.
-fn take_in(replica: &mut Replica, accounts: &mut Accounts, next: &mut Option<Next>, entry: &Entry)
+fn take_in(replica: &mut Replica, accounts: &mut JobNumbers, next: &mut Option<Next>, entry: &Entry)
     requires { HasFirst next.old }
     ensures replica { IsTakenIn entry.now replica.old replica.new }
     ensures stays { replica.new.down ≡ replica.old.down → (next.new ≡ next.old) × (accounts.new ≡ accounts.old) }
@@ -215,7 +215,7 @@ fn take_in(replica: &mut Replica, accounts: &mut Accounts, next: &mut Option<Nex
 }
 
 // The account of each connection whose end is in an entry goes.
-fn close_ended(accounts: &mut Accounts, entry: &Entry)
+fn close_ended(accounts: &mut JobNumbers, entry: &Entry)
     ensures { accounts.new ≡ without_ended (items_of entry.now.jobs.items) accounts.old }
 {
     accounts.close(&entry.jobs);

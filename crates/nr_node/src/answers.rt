@@ -31,7 +31,7 @@ pub struct Looked {
 
 /// Why a connection wasn't opened.
 #[derive(Clone, Copy, Debug, PartialEq, Eq)]
-pub enum OpenError {
+pub enum CoreOpenError {
     /// The replica is down.
     Down,
     /// There was no memory.

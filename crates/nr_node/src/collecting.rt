@@ -5,7 +5,7 @@ ghost use Rattle.nr_node.specs.Batches.{IsOpened};
 ghost use Rattle.nr_node.specs.Collected.{Collects, HandsOver, IsHanded};
 ghost use Rattle.nr_node.specs.Level.{queue_at};
 
-use crate::within::Core;
+use crate::node_core::Core;
 use nr_blob::Memory;
 use nr_entry::ConnId;
 use nr_oplog::LogName;
@@ -13,7 +13,7 @@ use nr_replica::{Piece, Spares};
 
 /// What was handed out for a connection.
 #[derive(Drop)]
-pub struct Handed {
+pub struct LastPiece {
     pub piece: Piece,
     /// Whether nothing more comes to wait for it: its queue was cut, or it was closed. Bytes that were left behind the piece are still handed out.
     pub is_cut: bool,
@@ -29,7 +29,7 @@ impl<B: LogName> Core<B> {
         worker: usize,
         most: usize,
         spares: &mut Spares,
-        taken: &mut Vec<Handed>,
+        taken: &mut Vec<LastPiece>,
     ) -> Result<(), Memory>
         requires some { 0 < most }
         requires worker { worker < length self.old.replica.owed }
@@ -53,7 +53,7 @@ impl<B: LogName> Core<B> {
         conn: ConnId,
         most: usize,
         spares: &mut Spares,
-        taken: &mut Vec<Handed>,
+        taken: &mut Vec<LastPiece>,
     ) -> Result<(), Memory>
         requires some { 0 < most }
         requires opened { IsOpened self.old (connection_of conn) }

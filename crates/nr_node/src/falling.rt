@@ -3,20 +3,20 @@ ghost use Rattle.std.specs.Prelude.{◌≡◌, ◌<◌, ◌++◌, [], None, Some
 ghost use Rattle.nr_model.specs.Asked.{own_jobs, first_number};
 ghost use Rattle.nr_entry.specs.Jobs.{connection_of, items_of};
 ghost use Rattle.nr_entry.specs.Shares.{entry_of};
-ghost use Rattle.nr_accounts.specs.Held.{changed, gone_back};
-ghost use Rattle.nr_accounts.specs.Book.{HasGoneBack};
+ghost use Rattle.nr_job_numbers.specs.Stored.{changed, gone_back};
+ghost use Rattle.nr_job_numbers.specs.Book.{HasGoneBack};
 ghost use Rattle.nr_node.specs.Level.{connection_at};
 ghost use Rattle.nr_node.specs.Next.{jobs_next, jobs_shared, HasFirst};
 
 use crate::next::Next;
-use nr_accounts::Accounts;
 use nr_entry::{ConnId, Job, Shares, Unshared};
+use nr_job_numbers::JobNumbers;
 use nr_replica::Replica;
 
 /// What the node has lifted and not reserved is dropped: the next entry, and what waits. The account of each connection that has a job there goes back to the
 /// first of these. It takes no memory. It is linear in the accounts, times the jobs of the next entry, of which there are at most 1,024, and the runs of jobs
 /// that wait.
-pub(crate) fn drop_lifted(replica: &mut Replica, accounts: &mut Accounts, next: &mut Option<Next>)
+pub(crate) fn drop_lifted(replica: &mut Replica, accounts: &mut JobNumbers, next: &mut Option<Next>)
     requires { HasFirst next.old }
     ensures waiting { replica.new ≡ record replica.old { waiting = [] } }
     ensures next { next.new ≡ None }
@@ -28,7 +28,7 @@ pub(crate) fn drop_lifted(replica: &mut Replica, accounts: &mut Accounts, next: 
 }
 
 // The account of each connection that has a job in the next entry, or among those that wait, goes back to the first of these.
-fn go_back(replica: &Replica, next: &Option<Next>, accounts: &mut Accounts)
+fn go_back(replica: &Replica, next: &Option<Next>, accounts: &mut JobNumbers)
     requires { HasFirst next.now }
     ensures { HasGoneBack (items_of (jobs_next next.now) ++ items_of replica.now.waiting) accounts.old accounts.new }
 {
@@ -40,7 +40,7 @@ fn go_back(replica: &Replica, next: &Option<Next>, accounts: &mut Accounts)
 }
 
 // The account of this serial goes back so.
-fn go_back_one(replica: &Replica, next: &Option<Next>, accounts: &mut Accounts, serial: u64)
+fn go_back_one(replica: &Replica, next: &Option<Next>, accounts: &mut JobNumbers, serial: u64)
     requires { HasFirst next.now }
     ensures { accounts.new ≡ record accounts.old { held = changed (gone_back (items_of (jobs_next next.now) ++ items_of replica.now.waiting) (connection_at accounts.old.node serial)) serial accounts.old.held } }
 {

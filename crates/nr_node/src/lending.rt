@@ -10,7 +10,7 @@ ghost use Rattle.nr_node.specs.Level.{IsLevel};
 ghost use Rattle.nr_node.specs.Sound.{IsSound};
 
 use nr_entry::Job;
-use nr_log_end::{LogEnd, Look};
+use nr_log_end::{Load, LogEnd};
 use nr_oplog::{End, LogName, Token};
 use nr_replica::{Lent, Replica, Replies, Spares};
 use std::alloc::Global;
@@ -108,7 +108,7 @@ pub(crate) fn lend<B: LogName>(end: &mut End<B>, replica: &mut Replica) -> Optio
     ensures replica { replica.new ≡ record replica.old { lent = replica.new.lent } }
     ensures met { LooksOn end.old.standing end.new.standing }
     ensures in_log { StandsInLog end.new.standing }
-    ensures looks { end.new.looks ≡ end.old.looks ++ Look.Tail end.new.standing.seen ∷ [] }
+    ensures looks { end.new.looks ≡ end.old.looks ++ Load.Tail end.new.standing.seen ∷ [] }
 {
     let tail = end.tail();
     if end.passed() < tail {

@@ -13,7 +13,7 @@ ghost use Rattle.nr_node.specs.Sound.{IsSound};
 use crate::lending::{Prepared, replies_for};
 use nr_blob::Memory;
 use nr_entry::Job;
-use nr_log_end::{LogEnd, Look};
+use nr_log_end::{Load, LogEnd};
 use nr_oplog::{End, LogName};
 use nr_replica::{Replica, Spares};
 
@@ -33,7 +33,7 @@ pub(crate) fn read<B: LogName>(
     ensures ran { IfOk result (λ ran. items_of ran.items ≡ read_jobs (items_of replica.old.waiting)) }
     ensures noted { IfOk result (λ ran. HasNoted ran.items end.old.standing end.new.standing) }
     ensures read { OnOk result (HasRead replica.old replica.new) }
-    ensures looks { OnOk result ((more : List Look) × (length more ≤ 1) × (end.new.looks ≡ end.old.looks ++ more)) }
+    ensures looks { OnOk result ((more : List Load) × (length more ≤ 1) × (end.new.looks ≡ end.old.looks ++ more)) }
     ensures end { OnErr result (end.new ≡ end.old) }
     ensures replica { OnErr result (replica.new ≡ replica.old) }
 {
@@ -68,7 +68,7 @@ fn run<B: LogName>(
 fn note_all<B: LogName>(end: &mut End<B>, ran: &[Job])
     requires { AreNextReads ran.now end.old.standing }
     ensures noted { HasNoted ran.now end.old.standing end.new.standing }
-    ensures looks { (more : List Look) × (length more ≤ 1) × (end.new.looks ≡ end.old.looks ++ more) }
+    ensures looks { (more : List Load) × (length more ≤ 1) × (end.new.looks ≡ end.old.looks ++ more) }
 {
     if ran.is_empty() {
         return;

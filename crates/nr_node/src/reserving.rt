@@ -4,15 +4,15 @@ ghost use Rattle.nr_entry.specs.declared.entry.Entry.{Entry};
 ghost use Rattle.nr_entry.specs.Shares.{shares_of, entry_of};
 ghost use Rattle.nr_log_end.specs.Standings.{IsSharesFor, IsAllFilled, reservation};
 ghost use Rattle.nr_log_end.specs.Tries.{IsFull, IsLost};
-ghost use Rattle.nr_node.specs.Keeping.{IfBack, IfTaken, IfFull, IfLost, IfRefused};
+ghost use Rattle.nr_node.specs.OwnEntries.{IfBack, IfTaken, IfFull, IfLost, IfRefused};
 ghost use Rattle.nr_node.specs.Next.{IsNextOf, HasLeft};
 ghost use Rattle.nr_node.specs.Reserved.{AreTaken, AreNone, AreDue, IsReserved, HasMet, IsFresh, IsFilled};
 
-use crate::keeping::{OwnEntries, Put};
 use crate::next::Next;
+use crate::own_entries::{EntryPut, OwnEntries};
 use nr_blob::Memory;
 use nr_entry::{Shares, Unshared};
-use nr_log_end::{LogEnd, Look};
+use nr_log_end::{Load, LogEnd};
 use nr_oplog::{End, LogName};
 use nr_replica::Replica;
 use std::alloc::Global;
@@ -69,7 +69,7 @@ pub(crate) fn put_in<B: LogName>(
     kept: &mut OwnEntries,
     nodes: usize,
     shares: Shares,
-) -> Put
+) -> EntryPut
     requires nodes { (nodes ≡ end.old.standing.nodes) × (0 < nodes) }
     requires shares { IsSharesFor end.old.standing shares }
     requires filled { IsAllFilled end.old.standing }
@@ -82,16 +82,16 @@ pub(crate) fn put_in<B: LogName>(
     ensures filled { IsAllFilled end.new.standing }
     ensures kept { IfTaken result (λ at. kept.new ≡ record { kept = kept.old.kept ++ reservation at shares; last = Some at }) }
     ensures others { IfBack result (kept.new ≡ kept.old) }
-    ensures looks { (more : List Look) × (end.new.looks ≡ end.old.looks ++ more) }
+    ensures looks { (more : List Load) × (end.new.looks ≡ end.old.looks ++ more) }
 {
     match kept.reserve(end, shares) {
-        Put::Taken(at) => {
+        EntryPut::Taken(at) => {
             fill_all(end, nodes, at);
-            Put::Taken(at)
+            EntryPut::Taken(at)
         }
-        Put::Full(back) => Put::Full(back),
-        Put::Lost(back) => Put::Lost(back),
-        Put::Refused(back, memory) => Put::Refused(back, memory),
+        EntryPut::Full(back) => EntryPut::Full(back),
+        EntryPut::Lost(back) => EntryPut::Lost(back),
+        EntryPut::Refused(back, memory) => EntryPut::Refused(back, memory),
     }
 }
 

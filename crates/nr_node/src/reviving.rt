@@ -3,29 +3,29 @@ ghost use Rattle.std.specs.Prelude.{◌≡◌, ◌⊎◌, ◌<◌, ◌≤◌, []
 ghost use Rattle.nr_entry.specs.declared.entry.Entry.{Entry};
 ghost use Rattle.nr_log_end.specs.Standings.{passed_of};
 ghost use Rattle.nr_oplog.specs.Plays.{AreOfOneLog};
-ghost use Rattle.nr_node.specs.Keeping.{is_from};
+ghost use Rattle.nr_node.specs.OwnEntries.{is_from};
 ghost use Rattle.nr_node.specs.Next.{HasFirst};
 ghost use Rattle.nr_node.specs.Advanced.{GoesOn, MeetsNoTail, HasStopped};
 ghost use Rattle.nr_node.specs.Revived.{IsOffered, is_busy, place_of, revived_replica};
 
 use crate::advancing::advance_by;
-use crate::keeping::OwnEntries;
 use crate::next::Next;
-use nr_accounts::Accounts;
+use crate::own_entries::OwnEntries;
+use nr_job_numbers::JobNumbers;
 use nr_oplog::{End, LogName, Token};
 use nr_replica::Replica;
 use std::marker::Model;
 
 /// A copy of a node's server, with which another node of the log that is down comes back, and how its end of the log stood.
 #[derive(Drop)]
-pub struct Offer<B: LogName> {
+pub struct NodeOffer<B: LogName> {
     pub(crate) server: nr_replica::Offer,
     pub(crate) token: Token<B>,
     // How many entries of the log the server has.
     pub(crate) place: u64,
 }
 
-impl<B: LogName> Model for Offer<B> {
+impl<B: LogName> Model for NodeOffer<B> {
     ghost use Rattle.std.specs.Prelude.{◌≡◌};
     ghost use Rattle.nr_log_end.specs.Standings.{passed_of};
     ghost use Rattle.nr_node.specs.Revived.{OfferState, coded_offer, IsOffered};
@@ -39,7 +39,7 @@ impl<B: LogName> Model for Offer<B> {
     ghost invariant = { λ o. (o.place ≡ passed_of o.token.standing) × IsOffered (record { server = o.server; standing = o.token.standing }) };
 }
 
-impl<B: LogName> Offer<B> {
+impl<B: LogName> NodeOffer<B> {
     /// How many entries of the log its server has. Whoever made the offer, and whatever was done since, the server is the sequential Redis after the record of the
     /// end of the log that it keeps.
     pub fn place(&self) -> u64
@@ -50,7 +50,7 @@ impl<B: LogName> Offer<B> {
     }
 }
 
-impl<B: LogName> Offer<B> {
+impl<B: LogName> NodeOffer<B> {
     /// How many keys its server has: [`Offer::keys`](nr_replica::Offer::keys).
     pub fn keys(&self) -> u64 {
         self.server.keys()
@@ -88,7 +88,7 @@ pub(crate) fn reach<B: LogName>(
     end: &mut End<B>,
     kept: &OwnEntries,
     replica: &mut Replica,
-    accounts: &mut Accounts,
+    accounts: &mut JobNumbers,
     next: &mut Option<Next>,
     place: u64,
 ) -> bool
@@ -109,14 +109,14 @@ pub(crate) fn reach<B: LogName>(
 }
 
 /// A replica that is down comes back with an offer of the log.
-pub(crate) fn come_back<B: LogName>(end: &mut End<B>, replica: &mut Replica, offer: Offer<B>)
+pub(crate) fn come_back<B: LogName>(end: &mut End<B>, replica: &mut Replica, offer: NodeOffer<B>)
     requires { replica.old.down ≡ true }
     ensures replica { replica.new ≡ revived_replica offer replica.old }
     ensures of_one_log { AreOfOneLog end.old.standing offer.standing }
     ensures end { end.new ≡ end.old }
     ensures offered { IsOffered offer }
 {
-    let Offer {
+    let NodeOffer {
         server,
         mut token,
         place,

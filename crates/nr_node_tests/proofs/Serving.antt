@@ -18,19 +18,19 @@ use Rattle.nr_entry.specs.declared.batch.Batch.{Batch}
 use Rattle.nr_entry.specs.declared.job.Job.{Job}
 use Rattle.nr_log_end.specs.declared.standing.Standing.{Standing}
 use Rattle.nr_oplog.specs.declared.view.LogView.{LogView}
-use Rattle.nr_slots.specs.declared.view.Desk.{Desk}
+use Rattle.nr_slots.specs.declared.view.CombinerPast.{CombinerPast}
 use Rattle.nr_slots.specs.Seats.{WorkerView, with_heard, with_posted}
 use Rattle.nr_session.specs.SessionState.{SessionState, asked}
 use Rattle.nr_node.specs.Sound.{IsSound}
-use Rattle.nr_node.specs.declared.collecting.Handed.{Handed}
+use Rattle.nr_node.specs.declared.collecting.LastPiece.{LastPiece}
 use Rattle.nr_combiner.specs.Heard.{HasHeard}
 use Rattle.nr_combiner.specs.Turned.{tells_down}
-use Rattle.nr_combiner.specs.Workers.{HasPosted, WorkerState, told_of}
+use Rattle.nr_combiner.specs.Workers.{HasPosted, NodeHandleState, told_of}
 use Rattle.nr_combiner.specs.declared.answering.Turned.{Turned}
 use Rattle.nr_taps.specs.Marks.{Adopts}
 use Rattle.nr_taps.specs.Sequence.{AreAllOfOneLog}
 use Rattle.nr_taps.specs.Taps.{HaveMet}
-use Rattle.nr_worker.specs.Desk.{CountsFrom, DeskState, IsLed, Served, all_asked, asked_of}
+use Rattle.nr_worker.specs.Worker.{CountsFrom, WorkerState, IsLed, Served, all_asked, asked_of}
 use Rattle.nr_worker.specs.Law.{AreAnswered, HoldsOfDesks}
 use Rattle.nr_worker.specs.Moves.{fresh_desk}
 use Rattle.nr_node_tests.specs.Answered.{HasGotFirst, HasOpened, desk_of_one, served_one}
@@ -82,20 +82,20 @@ each_known one (job ∷ jobs) all = ((one, first_in one [], sym all.0), each_kno
 
 -- ---- a turn
 -- what it told
-abbrev AreHeard : WorkerState → ℕ → Desk → List Handed → List Handed → Option (Turned × LogView) → Type 0
+abbrev AreHeard : NodeHandleState → ℕ → CombinerPast → List LastPiece → List LastPiece → Option (Turned × LogView) → Type 0
 AreHeard w most desk before pieces told =
     IfSome told (λ (t : Turned × LogView). HasHeard w.seat.worker most (tells_down t.0.combined) desk t.1.standing w.seat.lane before pieces)
 
-abbrev AreSound : WorkerState → Option (Turned × LogView) → Type 0
+abbrev AreSound : NodeHandleState → Option (Turned × LogView) → Type 0
 AreSound w told = IfSome told (λ (t : Turned × LogView). IsSound t.1.standing × (t.1.standing.node ≡ w.node))
 
-last_in : (pieces left : List Handed) (o : Option Handed) (one : Handed) → pieces ≡ left ++ option_to_list o → o ≡ Some one → Contains pieces one
+last_in : (pieces left : List LastPiece) (o : Option LastPiece) (one : LastPiece) → pieces ≡ left ++ option_to_list o → o ≡ Some one → Contains pieces one
 last_in pieces left o one is some =
-    let whole = is ∙ ap (λ (p : Option Handed). left ++ option_to_list p) some in
-    subst (λ (l : List Handed). Contains l one) (sym whole) (in_middle one left [])
+    let whole = is ∙ ap (λ (p : Option LastPiece). left ++ option_to_list p) some in
+    subst (λ (l : List LastPiece). Contains l one) (sym whole) (in_middle one left [])
 
-pub got_first : (w : WorkerState) (c : Connection) (old new : Option Standing) (most : ℕ) (desk : Desk) (before pieces left : List Handed)
-    (told : Option (Turned × LogView)) (turned : Turned) (token : LogView) (o : Option Handed) (one : Handed) (got : Bytes)
+pub got_first : (w : NodeHandleState) (c : Connection) (old new : Option Standing) (most : ℕ) (desk : CombinerPast) (before pieces left : List LastPiece)
+    (told : Option (Turned × LogView)) (turned : Turned) (token : LogView) (o : Option LastPiece) (one : LastPiece) (got : Bytes)
     → told ≡ Some (turned, token) → before ≡ [] → AreHeard w most desk before pieces told → AreSound w told
     → Adopts old token.standing new → HaveMet old (Some token.standing) → pieces ≡ left ++ option_to_list o → o ≡ Some one
     → connection_of one.piece.conn ≡ c → one.piece.from ≡ 0 → got ≡ one.piece.bytes.items → HasGotFirst w c old new desk got
@@ -104,7 +104,7 @@ got_first w c old new most desk before pieces left told turned token o one got i
   down = tells_down turned.combined;
   standing = token.standing;
   pieces = pieces;
-  heard = subst (λ (l : List Handed). AreHeard w most desk l pieces (Some (turned, token))) none (subst (AreHeard w most desk before pieces) is heard);
+  heard = subst (λ (l : List LastPiece). AreHeard w most desk l pieces (Some (turned, token))) none (subst (AreHeard w most desk before pieces) is heard);
   sound = subst (AreSound w) is sound;
   adopted = adopted;
   met = met;
@@ -120,8 +120,8 @@ alone : (mark : Option Standing) → AreAllOfOneLog (option_to_list mark ++ [])
 alone None = tt
 alone (Some s) = (tt, tt)
 
-module _ (law : HoldsOfDesks) (w : WorkerState) (c : Connection) (sent : Bytes) (none : w.seat.lane.posted ≡ []) where
-  abbrev at : List Batch → Desk → Option Standing → Served → DeskState
+module _ (law : HoldsOfDesks) (w : NodeHandleState) (c : Connection) (sent : Bytes) (none : w.seat.lane.posted ≡ []) where
+  abbrev at : List Batch → CombinerPast → Option Standing → Served → WorkerState
   at posted heard mark one = record { node = w.node; worker = w.seat.worker; posted = posted; heard = heard; mark = mark; served = one ∷ [] }
 
   abbrev new_one : Served
@@ -130,10 +130,10 @@ module _ (law : HoldsOfDesks) (w : WorkerState) (c : Connection) (sent : Bytes) 
   abbrev asks : Served
   asks = served_one c sent []
 
-  abbrev behind : Batch → WorkerState
+  abbrev behind : Batch → NodeHandleState
   behind batch = record w { seat = with_posted batch w.seat; next = suc w.next }
 
-  abbrev IsAnsweredBy : List Batch → Desk → Option Standing → Bytes → Type 0
+  abbrev IsAnsweredBy : List Batch → CombinerPast → Option Standing → Bytes → Type 0
   IsAnsweredBy posted heard mark got = AreAnswered (desk_of_one w.node w.seat.worker posted heard mark c sent got ∷ [])
 
   opens : (m : Option Standing) (o : HasOpened w c m) → IsLed (at [] o.desk m new_one)
@@ -150,7 +150,7 @@ module _ (law : HoldsOfDesks) (w : WorkerState) (c : Connection) (sent : Bytes) 
         opened = refl;
       }).0
 
-  is_fed : (h : Desk) (m : Option Standing) → IsLed (at [] h m new_one) → IsLed (at [] h m asks)
+  is_fed : (h : CombinerPast) (m : Option Standing) → IsLed (at [] h m new_one) → IsLed (at [] h m asks)
   is_fed h m led = (law.asked asks.fed None (at [] h m new_one) (at [] h m asks) led record {
     front = [];
     one = new_one;
@@ -162,7 +162,7 @@ module _ (law : HoldsOfDesks) (w : WorkerState) (c : Connection) (sent : Bytes) 
     changed = refl;
   }).0
 
-  posts : (h : Desk) (m : Option Standing) (batch : Batch) → items_of batch.jobs.items ≡ asked_of asks → IsLed (at [] h m asks) → IsLed (at (batch ∷ []) h m asks)
+  posts : (h : CombinerPast) (m : Option Standing) (batch : Batch) → items_of batch.jobs.items ≡ asked_of asks → IsLed (at [] h m asks) → IsLed (at (batch ∷ []) h m asks)
   posts h m batch is led =
       let items = items_of batch.jobs.items in
       let mine = subst (λ (jobs : Jobs). AllByRecursion (λ (job : Item). job.connection ≡ c) jobs) (sym (is ∙ asked_once c sent []))
@@ -174,10 +174,10 @@ module _ (law : HoldsOfDesks) (w : WorkerState) (c : Connection) (sent : Bytes) 
         posted = refl;
       }).0
 
-  gets : (h desk : Desk) (m n : Option Standing) (batch : Batch) (got : Bytes) → HasGotFirst (behind batch) c m n desk got → IsLed (at (batch ∷ []) h m asks)
+  gets : (h desk : CombinerPast) (m n : Option Standing) (batch : Batch) (got : Bytes) → HasGotFirst (behind batch) c m n desk got → IsLed (at (batch ∷ []) h m asks)
       → IsLed (at (batch ∷ []) desk n (served_one c sent got))
   gets h desk m n batch got g led =
-      let there = subst (λ (l : List Handed). Contains l g.one) g.heard.added.behind g.there in
+      let there = subst (λ (l : List LastPiece). Contains l g.one) g.heard.added.behind g.there in
       let before = at (batch ∷ []) h m asks in
       let after = at (batch ∷ []) desk n (served_one c sent got) in
       (law.turned g.most g.down g.standing (behind batch).seat.lane [] g.pieces before after led record {
@@ -190,26 +190,26 @@ module _ (law : HoldsOfDesks) (w : WorkerState) (c : Connection) (sent : Bytes) 
         same = refl;
       }).0
 
-  answered_at : (desk : Desk) (m n : Option Standing) (batch : Batch) (got : Bytes) → HasOpened w c m → items_of batch.jobs.items ≡ asked_of asks
+  answered_at : (desk : CombinerPast) (m n : Option Standing) (batch : Batch) (got : Bytes) → HasOpened w c m → items_of batch.jobs.items ≡ asked_of asks
       → HasGotFirst (behind batch) c m n desk got → IsAnsweredBy (w.seat.lane.posted ++ batch ∷ []) desk n got
   answered_at desk m n batch got o is g =
       let led = gets o.desk desk m n batch got g (posts o.desk m batch is (is_fed o.desk m (opens m o))) in
       subst (λ (l : List Batch). IsAnsweredBy (l ++ batch ∷ []) desk n got) (sym none)
       (law.answered [] (at (batch ∷ []) desk n (served_one c sent got) ∷ []) tt (led, tt) (alone n))
 
-  answered_one : (v : WorkerState) (desk : Desk) (jobs : List Job) (m n : Option Standing) (got : Bytes) → HasOpened w c m → items_of jobs ≡ asked_of asks
+  answered_one : (v : NodeHandleState) (desk : CombinerPast) (jobs : List Job) (m n : Option Standing) (got : Bytes) → HasOpened w c m → items_of jobs ≡ asked_of asks
       → HasPosted jobs w v → HasGotFirst v c m n desk got → IsAnsweredBy v.seat.lane.posted desk n got
   answered_one v desk jobs m n got o is p g =
-      subst (λ (x : WorkerState). HasGotFirst x c m n desk got → IsAnsweredBy x.seat.lane.posted desk n got) (sym p.posted)
+      subst (λ (x : NodeHandleState). HasGotFirst x c m n desk got → IsAnsweredBy x.seat.lane.posted desk n got) (sym p.posted)
       (answered_at desk m n p.batch got o (ap items_of p.holds ∙ is)) g
 
 -- where opening left the worker as it was, and the turn its seat, but for what they heard
-pub answered_by : (law : HoldsOfDesks) (first : WorkerState) (c : Connection) (sent : Bytes) → first.seat.lane.posted ≡ [] → (opened posted last : WorkerState) (jobs : List Job) (m n : Option Standing)
+pub answered_by : (law : HoldsOfDesks) (first : NodeHandleState) (c : Connection) (sent : Bytes) → first.seat.lane.posted ≡ [] → (opened posted last : NodeHandleState) (jobs : List Job) (m n : Option Standing)
     (got : Bytes) → opened ≡ told_of opened.seat.noted first → last.seat ≡ with_heard last.seat.noted posted.seat
     → HasOpened first c m → items_of jobs ≡ asked_of (served_one c sent []) → HasPosted jobs opened posted → HasGotFirst posted c m n last.seat.noted got
     → AreAnswered (desk_of_one first.node first.seat.worker last.seat.lane.posted last.seat.noted n c sent got ∷ [])
 answered_by law first c sent none opened posted last jobs m n got same kept o is p g =
-    let w : WorkerState = told_of opened.seat.noted first in
+    let w : NodeHandleState = told_of opened.seat.noted first in
     let at : HasOpened w c m = record { standing = o.standing; desk = o.desk; knows = o.knows; serves = o.serves; sound = o.sound; adopted = o.adopted } in
     subst (λ (x : WorkerView). AreAnswered (desk_of_one first.node first.seat.worker x.lane.posted last.seat.noted n c sent got ∷ [])) (sym kept)
-    (answered_one law w c sent none posted last.seat.noted jobs m n got at is (subst (λ (x : WorkerState). HasPosted jobs x posted) same p) g)
+    (answered_one law w c sent none posted last.seat.noted jobs m n got at is (subst (λ (x : NodeHandleState). HasPosted jobs x posted) same p) g)

@@ -6,8 +6,8 @@ ghost use Rattle.nr_combiner.specs.Opened.{AreNamed, AreOfWorkers};
 use crate::asserted::holds;
 use crate::desk::{Desk, MANY};
 use nr_combiner::{OpenedSlots, Plan, ServerName, open_slots};
-use nr_held::{Station, stations};
-use nr_oplog::Opened;
+use nr_oplog::OpenedLog;
+use nr_test_parts::{Station, stations};
 use std::alloc::Global;
 use std::hash::RandomState;
 use std::marker::Brand;
@@ -140,7 +140,7 @@ fn count_up<B: ServerName + Send + Sync, R: Threads + Wait + Abort + Sync>(
     rt: &R,
     alloc: Global,
     keys: RandomState,
-    opened: Opened,
+    opened: OpenedLog,
     slots: Vec<OpenedSlots>,
     counting: Counting,
 ) -> Vec<Vec<u64>>
@@ -192,7 +192,7 @@ fn count_together<R: Threads + Wait + Abort + Sync>(
     (nodes, places): (usize, usize),
     counting: Counting,
 ) {
-    let opened = Opened::open(alloc, nodes, places)
+    let opened = OpenedLog::open(alloc, nodes, places)
         .ok()
         .expect(rt, "a log is opened");
     let slots = open_slots(alloc, nodes, counting.workers)

@@ -4,9 +4,9 @@ ghost use Rattle.std.specs.Prelude.{◌<◌};
 use crate::asserted::{holds, same};
 use nr_blob::Memory;
 use nr_combiner::{AskError, Lifts, OpenError, ServerName};
-use nr_held::{Client, Offered, Station};
 use nr_node::Round;
 use nr_replica::Spares;
+use nr_test_parts::{Client, Offered, Station};
 use std::process::Abort;
 use std::sync::Wait;
 

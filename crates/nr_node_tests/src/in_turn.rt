@@ -16,11 +16,11 @@ use crate::layouts::{
 use crate::reviving::{come_back, come_back_in_turn, drop_late_ones};
 use nr_blob::int_text;
 use nr_combiner::{Lifts, OpenError, OpenedSlots, Plan, ServerName, open_slots};
-use nr_held::{Client, Offered, Turn, stations};
 use nr_node::Round;
-use nr_oplog::Opened;
+use nr_oplog::OpenedLog;
 use nr_replica::Spares;
 use nr_taps::Refused;
+use nr_test_parts::{Client, Offered, Turn, stations};
 use std::alloc::Global;
 use std::cmp::Ordering;
 use std::hash::RandomState;
@@ -63,7 +63,7 @@ fn desks<B: ServerName, R: Wait + Abort>(
     rt: &R,
     alloc: Global,
     keys: RandomState,
-    opened: Opened,
+    opened: OpenedLog,
     slots: Vec<OpenedSlots>,
     plan: Plan,
 ) -> Vec<Desk<B>>
@@ -84,7 +84,7 @@ fn perform<B: ServerName, R: Wait + Abort>(
     rt: &R,
     alloc: Global,
     keys: RandomState,
-    opened: Opened,
+    opened: OpenedLog,
     slots: Vec<OpenedSlots>,
     plan: Plan,
     play: Play<'_>,
@@ -116,7 +116,7 @@ fn play_at<R: RandomSource + Wait + Abort>(rt: &R, alloc: Global, layout: Layout
     let keys = RandomState::new(rt)
         .ok()
         .expect(rt, "there are random bytes");
-    let opened = Opened::open(alloc, layout.nodes, layout.places)
+    let opened = OpenedLog::open(alloc, layout.nodes, layout.places)
         .ok()
         .expect(rt, "a log is opened");
     let slots = open_slots(alloc, layout.nodes, layout.plan.workers)

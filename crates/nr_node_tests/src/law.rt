@@ -5,20 +5,20 @@ ghost use Rattle.nr_entry.specs.Jobs.{connection_of, items_of};
 ghost use Rattle.nr_slots.specs.Seats.{with_heard};
 ghost use Rattle.nr_combiner.specs.Opened.{AreNamed, AreOfWorkers};
 ghost use Rattle.nr_combiner.specs.Workers.{told_of};
-ghost use Rattle.nr_worker.specs.Desk.{asked_of};
+ghost use Rattle.nr_worker.specs.Worker.{asked_of};
 ghost use Rattle.nr_worker.specs.Law.{AreAnswered};
 ghost use Rattle.nr_node_tests.specs.Answered.{HasGotFirst, HasOpened, desk_of_one, served_one};
 
 use crate::asserted::same;
 use crate::desk::MANY;
-use nr_combiner::{Lifts, MOST_JOBS, OpenedSlots, ServerName, Worker, open_slots};
+use nr_combiner::{Lifts, MOST_JOBS, NodeHandle, OpenedSlots, ServerName, open_slots};
 use nr_entry::{ConnId, Job};
-use nr_held::Alone;
-use nr_node::Handed;
-use nr_oplog::Opened;
+use nr_node::LastPiece;
+use nr_oplog::OpenedLog;
 use nr_replica::Spares;
 use nr_session::Session;
 use nr_taps::Mark;
+use nr_test_parts::Alone;
 use nr_worker::desk_law;
 use std::alloc::Global;
 use std::hash::RandomState;
@@ -36,7 +36,7 @@ struct Answered<B: ServerName> {
 }
 
 // Opens a connection, and keeps what its node had done by then.
-fn open_one<B: ServerName, R: Wait + Abort>(rt: &R, worker: &mut Worker<B>) -> (ConnId, Mark<B>)
+fn open_one<B: ServerName, R: Wait + Abort>(rt: &R, worker: &mut NodeHandle<B>) -> (ConnId, Mark<B>)
     ensures opened { HasOpened worker.old (connection_of result.0) result.1.standing }
     ensures heard { worker.new ≡ told_of worker.new.seat.noted worker.old }
 {
@@ -64,7 +64,7 @@ fn ask<R: Abort>(rt: &R, alloc: Global, conn: ConnId, sent: &[u8]) -> Vec<Job>
 }
 
 // The first bytes for this connection, which are in this piece.
-fn first_bytes(rt: &impl Abort, conn: ConnId, handed: Handed) -> Vec<u8>
+fn first_bytes(rt: &impl Abort, conn: ConnId, handed: LastPiece) -> Vec<u8>
     ensures named { connection_of handed.piece.conn ≡ connection_of conn }
     ensures from { handed.piece.from ≡ 0 }
     ensures bytes { result.items ≡ handed.piece.bytes.items }
@@ -78,7 +78,7 @@ fn first_bytes(rt: &impl Abort, conn: ConnId, handed: Handed) -> Vec<u8>
 fn take_first<B: ServerName, R: Wait + Abort>(
     rt: &R,
     alloc: Global,
-    worker: &mut Worker<B>,
+    worker: &mut NodeHandle<B>,
     mark: &mut Mark<B>,
     conn: ConnId,
 ) -> Vec<u8>
@@ -102,7 +102,7 @@ fn take_first<B: ServerName, R: Wait + Abort>(
 fn answer<B: ServerName, R: Wait + Abort>(
     rt: &R,
     alloc: Global,
-    worker: &mut Worker<B>,
+    worker: &mut NodeHandle<B>,
     sent: &[u8],
 ) -> Answered<B>
     requires { worker.old.seat.lane.posted ≡ [] }
@@ -124,7 +124,7 @@ fn serve<B: ServerName, R: Wait + Abort>(
     rt: &R,
     alloc: Global,
     keys: RandomState,
-    opened: Opened,
+    opened: OpenedLog,
     slots: Vec<OpenedSlots>,
 )
     requires name { name_of opened ≡ B.log }
@@ -149,7 +149,9 @@ fn serve_at_new<R: RandomSource + Wait + Abort>(rt: &R, alloc: Global) {
     let keys = RandomState::new(rt)
         .ok()
         .expect(rt, "there are random bytes");
-    let opened = Opened::open(alloc, 1, 4).ok().expect(rt, "a log is opened");
+    let opened = OpenedLog::open(alloc, 1, 4)
+        .ok()
+        .expect(rt, "a log is opened");
     let slots = open_slots(alloc, 1, 1).ok().expect(rt, "slots are opened");
     serve::<Brand, R>(rt, alloc, keys, opened, slots);
 }

@@ -7,8 +7,8 @@ use crate::asserted::holds;
 use nr_blob::{Blob, Memory};
 use nr_entry::{Batch, ConnId, Job, JobKind, Update};
 use nr_model::command::{Change, StringsChange};
-use nr_node::{Core, Loan, Round, Shape};
-use nr_oplog::{End, LogName, Opened};
+use nr_node::{Core, Loan, NodeShape, Round};
+use nr_oplog::{End, LogName, OpenedLog};
 use std::alloc::Global;
 use std::hash::RandomState;
 use std::marker::Brand;
@@ -16,7 +16,7 @@ use std::process::Abort;
 use std::sync::Arc;
 
 // The end of a log of one node.
-fn end_of<B: LogName>(rt: &impl Abort, alloc: Global, opened: Opened) -> End<B>
+fn end_of<B: LogName>(rt: &impl Abort, alloc: Global, opened: OpenedLog) -> End<B>
     requires nodes { B.nodes ≡ 1 }
     requires name { name_of opened ≡ B.log }
     requires shape { (nodes_of opened ≡ B.nodes) × (places_of opened ≡ B.places) }
@@ -80,12 +80,12 @@ fn looks<B: LogName>(rt: &impl Abort, core: &mut Core<B>, round: Round, is_behin
 }
 
 // One node lends its server, and takes an entry in once the loan has ended.
-fn lends<B: LogName>(rt: &impl Abort, alloc: Global, keys: RandomState, opened: Opened)
+fn lends<B: LogName>(rt: &impl Abort, alloc: Global, keys: RandomState, opened: OpenedLog)
     requires nodes { B.nodes ≡ 1 }
     requires name { name_of opened ≡ B.log }
     requires shape { (nodes_of opened ≡ B.nodes) × (places_of opened ≡ B.places) }
 {
-    let shape = Shape {
+    let shape = NodeShape {
         node: 0,
         nodes: 1,
         workers: 1,
@@ -105,7 +105,7 @@ fn entry_waits_for_a_loan(rt: HostRuntime) {
     let keys = RandomState::new(&rt)
         .ok()
         .expect(&rt, "there are random bytes");
-    let opened = Opened::open(rt.alloc(), 1, 4)
+    let opened = OpenedLog::open(rt.alloc(), 1, 4)
         .ok()
         .expect(&rt, "a log is opened");
     lends::<Brand>(&rt, rt.alloc(), keys, opened);

@@ -6,8 +6,8 @@ use crate::desk::Act::{
 use crate::desk::{Act, Desk, MANY};
 use nr_combiner::{Lifts, OpenError, RevivalError, ServerName};
 use nr_entry::{ConnId, Job, JobKind, Outcome, Refusal, Update};
-use nr_held::Client;
 use nr_node::Round;
+use nr_test_parts::Client;
 use std::cmp::Ordering;
 use std::mem;
 use std::process::Abort;

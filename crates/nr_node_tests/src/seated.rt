@@ -2,19 +2,19 @@
 use crate::asserted::{holds, same};
 use nr_blob::Memory;
 use nr_entry::{ConnId, Job};
-use nr_node::Handed;
-use nr_replica::{Cut, Piece, Spares};
-use nr_seats::{Closed, Seat, Seats};
+use nr_node::LastPiece;
+use nr_replica::{CutReason, Piece, Spares};
+use nr_worker::{Closed, OpenConnection, OpenConnections};
 use std::alloc::Global;
 use std::process::Abort;
 
 const CONN: ConnId = ConnId { node: 1, serial: 7 };
 
 // Bytes that were handed out for the connection, behind so many.
-fn handed(rt: &impl Abort, alloc: Global, from: u64, bytes: &[u8], is_cut: bool) -> Handed {
+fn handed(rt: &impl Abort, alloc: Global, from: u64, bytes: &[u8], is_cut: bool) -> LastPiece {
     let mut all = Vec::new(alloc);
     all.extend_from_slice(bytes).expect(rt, "memory");
-    Handed {
+    LastPiece {
         piece: Piece {
             conn: CONN,
             from,
@@ -25,14 +25,14 @@ fn handed(rt: &impl Abort, alloc: Global, from: u64, bytes: &[u8], is_cut: bool)
 }
 
 // Puts these in, for which at most eight bytes wait.
-fn put(rt: &impl Abort, alloc: Global, seats: &mut Seats, piece: Handed) {
+fn put(rt: &impl Abort, alloc: Global, seats: &mut OpenConnections, piece: LastPiece) {
     let mut pieces = Vec::new(alloc);
     pieces.push(piece).expect(rt, "memory");
     seats.put_each(&mut pieces, 8);
 }
 
 // Feeds bytes to the connection, which takes them.
-fn feed(rt: &impl Abort, seats: &mut Seats, bytes: &[u8], jobs: &mut Vec<Job>) {
+fn feed(rt: &impl Abort, seats: &mut OpenConnections, bytes: &[u8], jobs: &mut Vec<Job>) {
     if !seats.takes(CONN.serial) {
         panic!(rt; "the connection takes bytes");
     }
@@ -41,7 +41,7 @@ fn feed(rt: &impl Abort, seats: &mut Seats, bytes: &[u8], jobs: &mut Vec<Job>) {
 }
 
 // Lets go of so many bytes that wait.
-fn write(rt: &impl Abort, alloc: Global, seats: &mut Seats, count: usize) {
+fn write(rt: &impl Abort, alloc: Global, seats: &mut OpenConnections, count: usize) {
     if count > seats.pending(CONN.serial).len() {
         panic!(rt; "so many bytes wait");
     }
@@ -53,7 +53,7 @@ fn write(rt: &impl Abort, alloc: Global, seats: &mut Seats, count: usize) {
 #[test]
 fn a_seat_from_first_to_last(rt: HostRuntime) {
     let alloc = rt.alloc();
-    let mut seats = Seats::new(alloc);
+    let mut seats = OpenConnections::new(alloc);
     let mut jobs = Vec::new(alloc);
     holds(&rt, "it is opened", seats.open(CONN).is_ok());
     feed(&rt, &mut seats, b"PI", &mut jobs);
@@ -99,8 +99,14 @@ fn want_of_memory(alloc: Global) -> Result<Vec<u8>, Memory> {
 }
 
 // A seat for which at most eight bytes wait, behind a piece of so many bytes from so many on.
-fn behind_a_piece(rt: &impl Abort, alloc: Global, from: u64, bytes: &[u8], is_cut: bool) -> Seat {
-    let mut seat = Seat::new(alloc, CONN);
+fn behind_a_piece(
+    rt: &impl Abort,
+    alloc: Global,
+    from: u64,
+    bytes: &[u8],
+    is_cut: bool,
+) -> OpenConnection {
+    let mut seat = OpenConnection::new(alloc, CONN);
     seat.take_in(handed(rt, alloc, from, bytes, is_cut), 8);
     seat
 }
@@ -112,21 +118,27 @@ fn a_cut_keeps_its_first_reason(rt: HostRuntime) {
     let memory = want_of_memory(alloc)
         .err()
         .expect(&rt, "no block has so many bytes");
-    let mut refused = Seat::new(alloc, CONN);
-    refused.cut(Cut::Refused(memory));
-    refused.cut(Cut::Full);
+    let mut refused = OpenConnection::new(alloc, CONN);
+    refused.cut(CutReason::Refused(memory));
+    refused.cut(CutReason::Full);
     let mut last = behind_a_piece(&rt, alloc, 0, b"12345678", true);
-    last.cut(Cut::Fallen);
+    last.cut(CutReason::Fallen);
     let rows = [
         (behind_a_piece(&rt, alloc, 0, b"12345678", false), None),
         (
             behind_a_piece(&rt, alloc, 0, b"123456789", false),
-            Some(Cut::Full),
+            Some(CutReason::Full),
         ),
-        (behind_a_piece(&rt, alloc, 1, b"1", false), Some(Cut::Full)),
-        (behind_a_piece(&rt, alloc, 1, b"1", true), Some(Cut::Full)),
-        (last, Some(Cut::Closed)),
-        (refused, Some(Cut::Refused(memory))),
+        (
+            behind_a_piece(&rt, alloc, 1, b"1", false),
+            Some(CutReason::Full),
+        ),
+        (
+            behind_a_piece(&rt, alloc, 1, b"1", true),
+            Some(CutReason::Full),
+        ),
+        (last, Some(CutReason::Closed)),
+        (refused, Some(CutReason::Refused(memory))),
     ];
     for (seat, why) in &rows {
         assert!(&rt; seat.why_cut() == *why);

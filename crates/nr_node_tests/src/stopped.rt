@@ -10,13 +10,13 @@ use crate::desk::MANY;
 use nr_blob::{Blob, Memory};
 use nr_combiner::{Combiner, ServerName};
 use nr_entry::{Batch, ConnId, Entry, Job, JobKind, Outcome, Shares, Unshared, Update};
-use nr_held::let_go;
 use nr_log_end::{LogEnd, Reserve};
 use nr_model::command::{Change, StringsChange};
-use nr_node::{Core, Round, Shape};
-use nr_oplog::{End, Opened};
+use nr_node::{Core, NodeShape, Round};
+use nr_oplog::{End, OpenedLog};
 use nr_session::Session;
 use nr_slots::{CombinerSeat, Slots, WorkerSeat};
+use nr_test_parts::let_go;
 use std::alloc::Global;
 use std::hash::RandomState;
 use std::marker::Brand;
@@ -114,7 +114,7 @@ fn combiner_of<B: ServerName>(
     requires slots { (slots.id ≡ B.slots 1) × (desk ≡ new_combiner slots.id 1) }
     ensures { (arc_value result.1).id ≡ B.slots 1 }
 {
-    let shape = Shape {
+    let shape = NodeShape {
         node: 1,
         nodes: 2,
         workers: 1,
@@ -177,7 +177,7 @@ fn gets<B: ServerName>(rt: &impl Abort, combiner: &mut Combiner<B>, conn: ConnId
 }
 
 // The ends of both nodes.
-fn ends<B: ServerName>(rt: &impl Abort, alloc: Global, opened: Opened) -> (End<B>, End<B>)
+fn ends<B: ServerName>(rt: &impl Abort, alloc: Global, opened: OpenedLog) -> (End<B>, End<B>)
     requires nodes { B.nodes ≡ 2 }
     requires name { name_of opened ≡ B.log }
     requires shape { (nodes_of opened ≡ B.nodes) × (places_of opened ≡ B.places) }
@@ -206,7 +206,7 @@ fn stops<B: ServerName>(
     rt: &impl Abort,
     alloc: Global,
     keys: RandomState,
-    opened: Opened,
+    opened: OpenedLog,
     slots: Slots,
     desk: CombinerSeat,
     seat: WorkerSeat,
@@ -226,7 +226,7 @@ fn unfilled_entry_holds_up_what_is_behind(rt: HostRuntime) {
     let keys = RandomState::new(&rt)
         .ok()
         .expect(&rt, "there are random bytes");
-    let opened = Opened::open(rt.alloc(), 2, 4)
+    let opened = OpenedLog::open(rt.alloc(), 2, 4)
         .ok()
         .expect(&rt, "a log is opened");
     let Ok((slots, seats, desk)) = Slots::open(rt.alloc(), 1) else {

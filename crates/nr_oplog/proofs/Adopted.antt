@@ -6,7 +6,7 @@ use Rattle.atomic_table.specs.Table.{Me, keeps, Allows}
 use Rattle.nr_model.specs.Bytes.{IsBeginningOf}
 use Rattle.nr_entry.specs.declared.entry.Entry.{Entry}
 use Rattle.nr_log_end.specs.declared.standing.Standing.{Standing}
-use Rattle.nr_log_end.specs.declared.standing.Turn.{Turn}
+use Rattle.nr_log_end.specs.declared.standing.LogEvent.{LogEvent}
 use Rattle.nr_log_end.specs.Standings.{applied_of, known_of}
 use Rattle.nr_oplog.specs.declared.view.LogView.{LogView}
 use Rattle.nr_oplog.specs.Rule.{Share, IsPartOf, SeatOk, LogRule}
@@ -22,7 +22,7 @@ later_is P s t n true p q = q
 later_is P s t n false p q = p
 
 -- as many entries are known to it as the one knows that knows more
-applied_few : (x y : List Turn) → IsBeginningOf x y → length (applied_of x) ≤ length (applied_of y)
+applied_few : (x y : List LogEvent) → IsBeginningOf x y → length (applied_of x) ≤ length (applied_of y)
 applied_few x y b =
     begins_length (applied_of x) (applied_of y) (applied_of b.0, sym (applied_append x b.0) ∙ ap applied_of b.1)
 

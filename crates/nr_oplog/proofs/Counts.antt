@@ -4,7 +4,7 @@ use mathlib.Core.Logic.{dite}
 use native.Mathlib.Decide.{ℕ_discrete, dec_le}
 use Rattle.atomic_table.specs.Table.{Me}
 use Rattle.nr_oplog.specs.declared.view.LogView.{LogView}
-use Rattle.nr_log_end.specs.declared.standing.Look.TheVariants.{Passed}
+use Rattle.nr_log_end.specs.declared.standing.Load.TheVariants.{Passed}
 use Rattle.nr_oplog.specs.Rule.{Share}
 use Rattle.nr_oplog.specs.Plays.{with_passed}
 use Rattle.nr_log_end.specs.Standings.{passed_of}

@@ -20,8 +20,8 @@ use Rattle.nr_oplog.specs.contracts.end.End as End
 use Rattle.nr_oplog.specs.contracts.token.Token as Token
 use Rattle.nr_oplog.specs.contracts.view.LogView as View
 use Rattle.nr_oplog.specs.contracts.view.LogLaw as Law
-use Rattle.nr_oplog.specs.contracts.view.Shape as Shape
-use Rattle.nr_oplog.specs.contracts.view.LogLawTableRuleOptionArcEntryGlobalLogViewShape.TheImpl as law
+use Rattle.nr_oplog.specs.contracts.view.LogShape as LogShape
+use Rattle.nr_oplog.specs.contracts.view.LogLawTableRuleOptionArcEntryGlobalLogViewLogShape.TheImpl as law
 
 abbrev Share : RattleType
 Share = Option.the_row (Arc.the_row Entry.the_row Heap.the_row ghosts)
@@ -39,12 +39,12 @@ module _ (B : RattleType) (g : Ghosts B.Denot) where
 
   pub log_send : IsSend (Oplog.the_row B g)
   log_send =
-      let in_table = table.the_send Share View.the_row Shape.the_row Law.the_row Heap.the_row law.ghosts ghosts share_send send frees in
+      let in_table = table.the_send Share View.the_row LogShape.the_row Law.the_row Heap.the_row law.ghosts ghosts share_send send frees in
       declared_send (Oplog.the_type B g) (in_table, (search sent, (search sent, (phantom.the_send B, tt))))
 
   pub log_sync : IsSync (Oplog.the_row B g)
   log_sync =
-      let in_table = table.the_sync Share View.the_row Shape.the_row Law.the_row Heap.the_row law.ghosts ghosts share_send send sync frees in
+      let in_table = table.the_sync Share View.the_row LogShape.the_row Law.the_row Heap.the_row law.ghosts ghosts share_send send sync frees in
       declared_sync (Oplog.the_type B g) (in_table, (search sent, (search sent, (phantom.the_sync B, tt))))
 
   pub end_send : IsSend (End.the_row B g)

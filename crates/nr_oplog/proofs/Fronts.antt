@@ -5,8 +5,8 @@ use lib.ListN.{get_elem?}
 use Rattle.nr_model.specs.Bytes.{IsBeginningOf}
 use Rattle.nr_entry.specs.declared.entry.Entry.{Entry}
 use Rattle.nr_entry.specs.declared.job.Job.{Job}
-use Rattle.nr_log_end.specs.declared.standing.Turn.{Turn}
-use Rattle.nr_log_end.specs.declared.standing.Turn.TheVariants.{Applied, Ran, Opened}
+use Rattle.nr_log_end.specs.declared.standing.LogEvent.{LogEvent}
+use Rattle.nr_log_end.specs.declared.standing.LogEvent.TheVariants.{Applied, Ran, Opened}
 use Rattle.nr_log_end.specs.Standings.{applied_of, own_from}
 
 module _ {A : Type 0} where
@@ -49,7 +49,7 @@ module _ {A : Type 0} where
       let both : take (length xs) ys ≡ xs = ap (take (length xs)) (sym second) ∙ take_shorter (length xs) (length ys) zs h ∙ first in
       (drop (length xs) ys, ap (λ l. l ++ drop (length xs) ys) (sym both) ∙ take-append-drop (length xs) ys)
 
-pub applied_append : (xs ys : List Turn) → applied_of (xs ++ ys) ≡ applied_of xs ++ applied_of ys
+pub applied_append : (xs ys : List LogEvent) → applied_of (xs ++ ys) ≡ applied_of xs ++ applied_of ys
 applied_append [] ys = refl
 applied_append (Applied e ∷ xs) ys = ap (λ z. e ∷ z) (applied_append xs ys)
 applied_append (Ran j ∷ xs) ys = applied_append xs ys
@@ -61,7 +61,7 @@ none_passed [] = refl
 none_passed (j ∷ js) = none_passed js
 
 -- what is no passing of an entry leaves those that were passed
-pub passed_still : (xs turns : List Turn) → applied_of turns ≡ [] → applied_of (xs ++ turns) ≡ applied_of xs
+pub passed_still : (xs turns : List LogEvent) → applied_of turns ≡ [] → applied_of (xs ++ turns) ≡ applied_of xs
 passed_still xs turns none = applied_append xs turns ∙ ap (λ l. applied_of xs ++ l) none ∙ append-nil (applied_of xs)
 
 abbrev Own : Type 0

@@ -7,7 +7,7 @@ use lib.ListN.{get_elem?}
 use Rattle.atomic_table.specs.Table.{State, Me, keeps, step, Allows}
 use Rattle.nr_model.specs.Bytes.{IsBeginningOf}
 use Rattle.nr_entry.specs.declared.entry.Entry.{Entry}
-use Rattle.nr_log_end.specs.declared.standing.Turn.{Turn}
+use Rattle.nr_log_end.specs.declared.standing.LogEvent.{LogEvent}
 use Rattle.nr_log_end.specs.Standings.{applied_of}
 use Rattle.nr_oplog.specs.declared.view.LogView.{LogView}
 use Rattle.nr_oplog.specs.Layout.{passed_word}
@@ -102,7 +102,7 @@ module _ (nodes places : ℕ) where
       )
 
   -- what is no passing of an entry, behind what the seat's node did: its history goes on, what it has applied stays
-  module _ (id : ℕ) (m : Sat) (turns : List Turn) (none : applied_of turns ≡ []) (may : MayFollow turns m.0.standing)
+  module _ (id : ℕ) (m : Sat) (turns : List LogEvent) (none : applied_of turns ≡ []) (may : MayFollow turns m.0.standing)
       (mine : IsOfNode m.0 nodes places) (s : St) (r : LogRule nodes places s) (at : get_elem? s.views id ≡ some m.0) where
     abbrev node : ℕ
     node = m.0.standing.node
@@ -113,7 +113,7 @@ module _ (nodes places : ℕ) where
     abbrev w : LogView
     w = with_done turns n m.0
 
-    abbrev past : ℕ → List Turn
+    abbrev past : ℕ → List LogEvent
     past = change r.past node (m.0.standing.history ++ turns)
 
     has : Owns nodes places m.0 node
@@ -125,7 +125,7 @@ module _ (nodes places : ℕ) where
     whole : r.past node ≡ m.0.standing.history
     whole = ((r.each_seat id m.0 at).owns node has).whole
 
-    longer : (h : List Turn) (x : ℕ) → IsBeginningOf h (r.past x) → IsBeginningOf h (past x)
+    longer : (h : List LogEvent) (x : ℕ) → IsBeginningOf h (r.past x) → IsBeginningOf h (past x)
     longer h x b = at_change r.past node (m.0.standing.history ++ turns) (λ y p. y ≡ x → IsBeginningOf h p) x
         (λ e. begins_more h m.0.standing.history turns (subst (IsBeginningOf h) (ap r.past (sym e) ∙ whole) b)) (λ _ _. b) refl
 
@@ -183,7 +183,7 @@ module _ (nodes places : ℕ) where
       apart = apart_set nodes places s.views id m.0 w at (λ _ o. o) r.apart;
     }
 
-  pub does : (slots id : ℕ) (m : Sat) (turns : List Turn) → applied_of turns ≡ [] → MayFollow turns m.0.standing → IsOfNode m.0 nodes places
+  pub does : (slots id : ℕ) (m : Sat) (turns : List LogEvent) → applied_of turns ≡ [] → MayFollow turns m.0.standing → IsOfNode m.0 nodes places
       → Allows (LogRule nodes places) slots id m 0 (λ k. k) (saw_tail_and_did turns m)
   does slots id m turns none may mine s r wide at small =
       let n : ℕ = get_or s.words 0 0 in let w : LogView = with_done turns n m.0 in (

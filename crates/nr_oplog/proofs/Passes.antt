@@ -9,8 +9,8 @@ use Rattle.atomic_table.specs.Table.{State, Me, gives, homes_after, Allows}
 use Rattle.atomic_table.proofs.Lists.{set_here, set_else}
 use Rattle.nr_model.specs.Bytes.{IsBeginningOf}
 use Rattle.nr_entry.specs.declared.entry.Entry.{Entry}
-use Rattle.nr_log_end.specs.declared.standing.Turn.{Turn}
-use Rattle.nr_log_end.specs.declared.standing.Turn.TheVariants.{Applied}
+use Rattle.nr_log_end.specs.declared.standing.LogEvent.{LogEvent}
+use Rattle.nr_log_end.specs.declared.standing.LogEvent.TheVariants.{Applied}
 use Rattle.nr_log_end.specs.Standings.{applied_of, known_of, passed_of, passed_on}
 use Rattle.nr_oplog.specs.declared.view.LogView.{LogView}
 use Rattle.nr_oplog.specs.Layout.{passed_word, stamp_word, slot_of}
@@ -62,10 +62,10 @@ module _ (nodes places : ℕ) where
     near : node < nodes
     near = own.3
 
-    abbrev history : List Turn
+    abbrev history : List LogEvent
     history = m.0.standing.history ++ Applied entry ∷ []
 
-    abbrev past : ℕ → List Turn
+    abbrev past : ℕ → List LogEvent
     past = change r.past node history
 
     abbrev applied : ℕ → List Entry
@@ -110,7 +110,7 @@ module _ (nodes places : ℕ) where
     away : (j : ℕ) (u : LogView) → j ≢ id → get_elem? s.views j ≡ some u → (x : ℕ) → Owns nodes places u x → x ≢ node
     away j u apart e x o is = apart (r.apart j id u m.0 x e at o (subst (Owns nodes places m.0) (sym is) has))
 
-    longer : (h : List Turn) (x : ℕ) → IsBeginningOf h (r.past x) → IsBeginningOf h (past x)
+    longer : (h : List LogEvent) (x : ℕ) → IsBeginningOf h (r.past x) → IsBeginningOf h (past x)
     longer h x b = at_change r.past node history (λ y p. y ≡ x → IsBeginningOf h p) x
         (λ e. begins_more h m.0.standing.history (Applied entry ∷ []) (subst (IsBeginningOf h) (ap r.past (sym e) ∙ mine.whole) b)) (λ _ _. b) refl
 

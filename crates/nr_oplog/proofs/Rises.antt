@@ -8,8 +8,8 @@ use Rattle.nr_entry.specs.Jobs.{items_of}
 use Rattle.nr_entry.specs.declared.entry.Entry.{Entry}
 use Rattle.nr_log_end.specs.Numbers.{IsRising, numbers_of, connection_at, AreRising}
 use Rattle.nr_log_end.specs.declared.standing.Standing.{Standing}
-use Rattle.nr_log_end.specs.declared.standing.Turn.{Turn}
-use Rattle.nr_log_end.specs.declared.standing.Turn.TheVariants.{Applied}
+use Rattle.nr_log_end.specs.declared.standing.LogEvent.{LogEvent}
+use Rattle.nr_log_end.specs.declared.standing.LogEvent.TheVariants.{Applied}
 use Rattle.nr_log_end.specs.Standings.{applied_of, record_of, known_of, own_entries, unpassed, jobs_reserved, logged, jobs_in, done_with, EachRises, RisesBefore}
 use Rattle.nr_log_end.proofs.Numbered.{log_rises, record-append, numbers-append, numbers_behind, numbers_in_both, numbers_other, numbers_own, numbers_passed, part_rises, unpassed_behind}
 use Rattle.nr_oplog.specs.Rule.{RisesAlong}
@@ -55,7 +55,7 @@ rises_claimed s log entry own numbered r = (
 )
 
 -- another node did, so it has no job of this one's connections
-pub rises_beside : (node : ℕ) (log : List Entry) (entry : Entry) (turns : List Turn) → (entry.node ≡ node → ⊥)
+pub rises_beside : (node : ℕ) (log : List Entry) (entry : Entry) (turns : List LogEvent) → (entry.node ≡ node → ⊥)
     → RisesAlong log node turns → RisesAlong (log ++ entry ∷ []) node turns
 rises_beside node log entry turns other r = (
   r.0 ++ entry ∷ [],
@@ -72,7 +72,7 @@ rises_beside node log entry turns other r = (
 )
 
 -- the next entry is passed
-pub rises_passed : (log : List Entry) (node : ℕ) (turns : List Turn) (entry : Entry) → IsBeginningOf (applied_of turns ++ entry ∷ []) log
+pub rises_passed : (log : List Entry) (node : ℕ) (turns : List LogEvent) (entry : Entry) → IsBeginningOf (applied_of turns ++ entry ∷ []) log
     → RisesAlong log node turns → RisesAlong log node (turns ++ Applied entry ∷ [])
 rises_passed log node turns entry b r =
     let applied = applied_of turns in
@@ -87,7 +87,7 @@ rises_passed log node turns entry b r =
     )
 
 -- what the node may do next is done, and passes no entry
-pub rises_done : (s : Standing) (turns : List Turn) (log : List Entry) → applied_of turns ≡ [] → MayFollow turns s → s.reservations ≡ own_entries s.node log
+pub rises_done : (s : Standing) (turns : List LogEvent) (log : List Entry) → applied_of turns ≡ [] → MayFollow turns s → s.reservations ≡ own_entries s.node log
     → RisesAlong log s.node s.history → RisesAlong log s.node (s.history ++ turns)
 rises_done s turns log none may own r =
     let whole : applied_of (s.history ++ turns) ++ r.0 ≡ log = ap (λ (es : List Entry). es ++ r.0) (passed_still s.history turns none) ∙ r.1 in
@@ -105,10 +105,10 @@ rises_done s turns log none may own r =
     ]
 
 -- of each connection
-pub each_rises : (log : List Entry) (past : ℕ → List Turn) → ((node : ℕ) → RisesAlong log node (past node)) → EachRises log
+pub each_rises : (log : List Entry) (past : ℕ → List LogEvent) → ((node : ℕ) → RisesAlong log node (past node)) → EachRises log
 each_rises log past r = λ node serial. log_rises (connection_at node serial) (past node) log (r node).0 (r node).1 ((r node).2 serial)
 
 -- what two standings at the log know
-pub rises_before : (s t : Standing) (log : List Entry) (past : ℕ → List Turn) → IsBeginningOf (known_of s) log × IsBeginningOf s.history (past s.node)
+pub rises_before : (s t : Standing) (log : List Entry) (past : ℕ → List LogEvent) → IsBeginningOf (known_of s) log × IsBeginningOf s.history (past s.node)
     → IsBeginningOf (known_of t) log × IsBeginningOf t.history (past t.node) → RisesAlong log s.node (past s.node) → RisesBefore s (known_of t)
 rises_before s t log past p q r = λ serial. part_rises (connection_at s.node serial) s.history (past s.node) (known_of t) log r.0 p.1 q.0 r.1 (r.2 serial)

@@ -5,15 +5,15 @@ use Rattle.atomic_table.specs.Table.{Me, rest}
 use Rattle.nr_entry.specs.declared.entry.Entry.{Entry}
 use Rattle.nr_entry.specs.Shares.{shares_of}
 use Rattle.nr_log_end.specs.declared.standing.Standing.{Standing}
-use Rattle.nr_log_end.specs.declared.standing.Turn.{Turn}
-use Rattle.nr_log_end.specs.declared.standing.Turn.TheVariants.{Applied}
+use Rattle.nr_log_end.specs.declared.standing.LogEvent.{LogEvent}
+use Rattle.nr_log_end.specs.declared.standing.LogEvent.TheVariants.{Applied}
 use Rattle.nr_log_end.specs.declared.reserve.Reserve.{Reserve}
 use Rattle.nr_log_end.specs.declared.reserve.Reserve.TheVariants.{Taken, Full, Lost}
 use Rattle.nr_log_end.specs.Reserves.{IfTaken, IfFull, IfLost}
 use Rattle.nr_log_end.specs.Standings.{applied_of, passed_of, passed_on, reserved_as, IsSharesFor}
 use Rattle.nr_oplog.specs.declared.view.LogView.{LogView}
-use Rattle.nr_log_end.specs.declared.standing.Look.{Look}
-use Rattle.nr_log_end.specs.declared.standing.Look.TheVariants.{Tail, Passed}
+use Rattle.nr_log_end.specs.declared.standing.Load.{Load}
+use Rattle.nr_log_end.specs.declared.standing.Load.TheVariants.{Tail, Passed}
 use Rattle.nr_oplog.specs.Layout.{slot_of}
 use Rattle.nr_oplog.specs.Rule.{Share}
 use Rattle.nr_oplog.specs.Plays.{with_done}
@@ -35,7 +35,7 @@ first_share entry zero h = absurd (omega arith)
 first_share entry (suc n) h = refl
 
 -- what is no passing of an entry changes the history and the tail that was seen alone
-pub seated_done : (m m' : Sat) (turns : List Turn) → applied_of turns ≡ [] → (n node passed : ℕ) (held : Bool) (seen at : ℕ) (shares : List (Option Entry)) (least : ℕ) → IsSeated m node passed held seen at shares least → m' ≡ (with_done turns n m.0, m.1)
+pub seated_done : (m m' : Sat) (turns : List LogEvent) → applied_of turns ≡ [] → (n node passed : ℕ) (held : Bool) (seen at : ℕ) (shares : List (Option Entry)) (least : ℕ) → IsSeated m node passed held seen at shares least → m' ≡ (with_done turns n m.0, m.1)
     → IsSeated m' node passed held n at shares least
 seated_done m m' turns none n node passed held seen at shares least s is = subst (λ z. IsSeated z node passed held n at shares least) (sym is) record {
   node_is = s.node_is;
@@ -88,7 +88,7 @@ seated_pass m m' node passed held seen at shares least s has is =
     }
 
 -- passed counts alone were loaded
-pub only_counts : (v : LogView) (m n : Sat) → v ≡ m.0 → CountsOf m n → ((more : List Look) × (n.0.looks ≡ m.0.looks ++ more)) → OnlyCounts v n.0
+pub only_counts : (v : LogView) (m n : Sat) → v ≡ m.0 → CountsOf m n → ((more : List Load) × (n.0.looks ≡ m.0.looks ++ more)) → OnlyCounts v n.0
 only_counts v m n is c more = subst (λ z. OnlyCounts z n.0) (sym is) (c.1, more)
 
 -- the log has taken all entries that it can
@@ -105,7 +105,7 @@ module _ (v t w : LogView) (l : LooksAtTail v t) (o : OnlyCounts t w) where
   began : w.standing ≡ record v.standing { seen = t.standing.seen }
   began = standing_is ∙ ap (λ (z : LogView). z.standing) l.1
 
-  looked : (more : List Look) → w.looks ≡ t.looks ++ more → w.looks ≡ v.looks ++ (Tail t.standing.seen ∷ more)
+  looked : (more : List Load) → w.looks ≡ t.looks ++ more → w.looks ≡ v.looks ++ (Tail t.standing.seen ∷ more)
   looked more is = is ∙ ap (λ (z : LogView). z.looks ++ more) l.1 ∙ append_assoc v.looks (Tail t.standing.seen ∷ []) more
 
   -- a node is all places behind

@@ -4,8 +4,8 @@ use Rattle.atomic_table.specs.Table.{Me}
 use Rattle.nr_entry.specs.declared.entry.Entry.{Entry}
 use Rattle.nr_log_end.specs.Standings.{passed_of}
 use Rattle.nr_oplog.specs.declared.view.LogView.{LogView}
-use Rattle.nr_log_end.specs.declared.standing.Look.{Look}
-use Rattle.nr_log_end.specs.declared.standing.Look.TheVariants.{Tail, Passed}
+use Rattle.nr_log_end.specs.declared.standing.Load.{Load}
+use Rattle.nr_log_end.specs.declared.standing.Load.TheVariants.{Tail, Passed}
 use Rattle.nr_oplog.specs.Layout.{slot_of}
 use Rattle.nr_oplog.specs.Rule.{Share}
 use Rattle.nr_oplog.specs.Plays.{with_tail}
@@ -39,10 +39,10 @@ LookedOnce v w = (tail : ℕ) × (w.looks ≡ v.looks ++ Tail tail ∷ [])
 
 -- passed counts were loaded, and nothing else happened
 abbrev pub OnlyCounts : LogView → LogView → Type 0
-OnlyCounts v w = (w ≡ record v { met = w.met; looks = w.looks }) × ((more : List Look) × (w.looks ≡ v.looks ++ more))
+OnlyCounts v w = (w ≡ record v { met = w.met; looks = w.looks }) × ((more : List Load) × (w.looks ≡ v.looks ++ more))
 
 -- the loads of these passed counts, of the nodes from one on
-abbrev pub loads_from : ℕ → List ℕ → List Look
+abbrev pub loads_from : ℕ → List ℕ → List Load
 loads_from node [] = []
 loads_from node (count ∷ counts) = Passed node count ∷ loads_from (suc node) counts
 

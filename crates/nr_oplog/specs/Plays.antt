@@ -8,10 +8,10 @@ use Rattle.nr_entry.specs.declared.entry.Entry.{Entry}
 use Rattle.nr_entry.specs.Shares.{shares_of}
 use Rattle.nr_log_end.specs.Numbers.{AreRising}
 use Rattle.nr_log_end.specs.declared.standing.Standing.{Standing}
-use Rattle.nr_log_end.specs.declared.standing.Turn.{Turn}
+use Rattle.nr_log_end.specs.declared.standing.LogEvent.{LogEvent}
 use Rattle.nr_log_end.specs.Standings.{done_with, record_of, known_of, passed_of, logged, StandsInLog, RisesBefore, reserved_as, filled_for, fetched_with, passed_on}
 use Rattle.nr_oplog.specs.declared.view.LogView.{LogView}
-use Rattle.nr_log_end.specs.declared.standing.Look.TheVariants.{Tail, Passed, Unfilled}
+use Rattle.nr_log_end.specs.declared.standing.Load.TheVariants.{Tail, Passed, Unfilled}
 use Rattle.nr_oplog.specs.Layout.{passed_word, stamp_word, slot_of}
 use Rattle.nr_oplog.specs.Rule.{Share, opening_view}
 
@@ -26,11 +26,11 @@ abbrev pub with_tail : ℕ → LogView → LogView
 with_tail n v = record v { standing = record v.standing { seen = n }; looks = v.looks ++ Tail n ∷ [] }
 
 -- the tail was loaded, and this is noted that the node did
-abbrev pub with_done : List Turn → ℕ → LogView → LogView
+abbrev pub with_done : List LogEvent → ℕ → LogView → LogView
 with_done turns n v = record v { standing = done_with turns n v.standing; looks = v.looks ++ Tail n ∷ [] }
 
 -- the node may do this next: it adds nothing to its record, or the numbers of its connections go on rising behind those that it has logged
-abbrev pub MayFollow : List Turn → Standing → Type 0
+abbrev pub MayFollow : List LogEvent → Standing → Type 0
 MayFollow turns s = (record_of turns ≡ []) ⊎ AreRising s.node (logged (done_with turns s.seen s))
 
 -- a node's passed count was loaded, and is n
@@ -40,7 +40,7 @@ with_passed node n v = record v { met = slice_set v.met node n; looks = v.looks 
 abbrev pub saw_tail : Sat → ℕ → Sat → Type 0
 saw_tail m n m' = (m'.1 ≡ m.1) × (m'.0 ≡ with_tail n m.0) × (m.0.standing.seen ≤ n) × StandsInLog m'.0.standing
 
-abbrev pub saw_tail_and_did : List Turn → Sat → ℕ → Sat → Type 0
+abbrev pub saw_tail_and_did : List LogEvent → Sat → ℕ → Sat → Type 0
 saw_tail_and_did turns m n m' = (m'.1 ≡ m.1) × (m'.0 ≡ with_done turns n m.0) × (m.0.standing.seen ≤ n)
 
 abbrev pub saw_passed : At → Sat → ℕ → Sat → Type 0

@@ -12,7 +12,7 @@ use Rattle.nr_model.specs.Bytes.{IsBeginningOf}
 use Rattle.nr_entry.specs.declared.entry.Entry.{Entry}
 use Rattle.nr_log_end.specs.Numbers.{AreRising}
 use Rattle.nr_log_end.specs.declared.standing.Standing.{Standing}
-use Rattle.nr_log_end.specs.declared.standing.Turn.{Turn}
+use Rattle.nr_log_end.specs.declared.standing.LogEvent.{LogEvent}
 use Rattle.nr_log_end.specs.Standings.{applied_of, record_of, known_of, own_entries, jobs_in}
 use Rattle.atomic_table.specs.Table.{State}
 use Rattle.nr_oplog.specs.declared.view.LogView.{LogView}
@@ -33,7 +33,7 @@ pub data Phase : Type 0 where
   lifted : Phase
 
 -- the log begins with the entries that the node has passed, and the numbers of each of its connections rise along what it did and the log behind that
-abbrev pub RisesAlong : List Entry → ℕ → List Turn → Type 0
+abbrev pub RisesAlong : List Entry → ℕ → List LogEvent → Type 0
 RisesAlong log node past = (behind : List Entry) × (applied_of past ++ behind ≡ log) × AreRising node (record_of past ++ jobs_in behind)
 
 module _ (nodes places : ℕ) where
@@ -59,12 +59,12 @@ module _ (nodes places : ℕ) where
   Owns v node = (v.standing.node ≤ node) × (node < v.upto)
 
   -- the log begins with what was known, and the node's history with what was done
-  abbrev pub IsPartOf : List Entry → (ℕ → List Turn) → Standing → Type 0
+  abbrev pub IsPartOf : List Entry → (ℕ → List LogEvent) → Standing → Type 0
   IsPartOf log past s = IsBeginningOf (known_of s) log × IsBeginningOf s.history (past s.node)
 
   -- What the seat of a node knows: the node's whole history, its reservations, which are the node's entries in the log, and whether the
   -- cell of the next entry is lifted.
-  pub record OwnerOk (log : List Entry) (past : ℕ → List Turn) (applied : ℕ → List Entry) (phase : ℕ → ℕ → Phase) (shape : ℕ × ℕ) (history : List Turn)
+  pub record OwnerOk (log : List Entry) (past : ℕ → List LogEvent) (applied : ℕ → List Entry) (phase : ℕ → ℕ → Phase) (shape : ℕ × ℕ) (history : List LogEvent)
       (reservations : List (ℕ × Entry)) (held : Option Entry) (node : ℕ) : Type 0 where
     pub there : node < nodes
     pub shaped : (shape.0 ≡ nodes) × (shape.1 ≡ places)
@@ -82,7 +82,7 @@ module _ (nodes places : ℕ) where
     pub idle : busy ≢ suc node → phase node at ≡ empty
     pub taken : busy ≡ suc node → phase node at ≡ filling
 
-  pub record SeatOk (log : List Entry) (past : ℕ → List Turn) (applied : ℕ → List Entry) (phase : ℕ → ℕ → Phase) (v : LogView) : Type 0 where
+  pub record SeatOk (log : List Entry) (past : ℕ → List LogEvent) (applied : ℕ → List Entry) (phase : ℕ → ℕ → Phase) (v : LogView) : Type 0 where
     pub part : IsPartOf log past v.standing
     pub told : IsPartOf log past v.told
     pub seen : v.standing.seen ≤ length log
@@ -93,7 +93,7 @@ module _ (nodes places : ℕ) where
 
   pub record LogRule (s : State (Option Share) LogView) : Type 0 where
     pub log : List Entry
-    pub past : ℕ → List Turn
+    pub past : ℕ → List LogEvent
     pub applied : ℕ → List Entry
     pub phase : ℕ → ℕ → Phase
     pub some_place : 0 < places

@@ -8,8 +8,8 @@ use Rattle.nr_entry.specs.declared.entry.Entry.{Entry}
 use Rattle.nr_log_end.specs.Numbers.{AreRising}
 use Rattle.nr_log_end.specs.Standings.{logged}
 use Rattle.nr_oplog.specs.declared.view.LogView.{LogView}
-use Rattle.nr_log_end.specs.declared.standing.Look.{Look}
-use Rattle.nr_log_end.specs.declared.standing.Look.TheVariants.{Passed}
+use Rattle.nr_log_end.specs.declared.standing.Load.{Load}
+use Rattle.nr_log_end.specs.declared.standing.Load.TheVariants.{Passed}
 use Rattle.nr_oplog.specs.Rule.{Share}
 
 abbrev Sat : Type 0
@@ -34,5 +34,5 @@ CountsOf m n = (n.1 ≡ m.1) × (n.0 ≡ record m.0 { met = n.0.met; looks = n.0
 
 -- the last of the loads made since found that the count of one of the nodes is all places behind the tail
 abbrev pub IsBehind : ℕ → ℕ → ℕ → LogView → LogView → Type 0
-IsBehind nodes places tail v w = (before : List Look) × (node : ℕ) × (count : ℕ)
+IsBehind nodes places tail v w = (before : List Load) × (node : ℕ) × (count : ℕ)
     × (w.looks ≡ v.looks ++ (before ++ Passed node count ∷ [])) × (count + places ≤ tail) × (node < nodes)

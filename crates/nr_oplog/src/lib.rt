@@ -39,10 +39,10 @@
 pub use end::End;
 pub use law::log_law;
 pub use log::{LogName, Oplog};
-pub use open::{OpenError, Opened};
+pub use open::{LogOpenError, OpenedLog};
 pub use seat::{LogSeat, MOST_ENTRIES};
 pub use token::Token;
-pub use view::{LogView, Shape};
+pub use view::{LogShape, LogView};
 
 mod end;
 mod law;

@@ -8,27 +8,27 @@ use nr_blob::Memory;
 
 /// Why a log isn't opened.
 #[derive(Clone, Copy, Debug, PartialEq, Eq)]
-pub enum OpenError {
+pub enum LogOpenError {
     /// The nodes aren't 1 to 8, or the places aren't 2 to 65,536.
     BadShape,
     /// There is no memory for it.
     Memory(Memory),
 }
 
-impl From<Memory> for OpenError {
+impl From<Memory> for LogOpenError {
     ghost use Rattle.std.specs.Prelude.{◌≡◌};
-    ghost use Rattle.nr_oplog.specs.declared.open.OpenError.TheVariants as errors;
+    ghost use Rattle.nr_oplog.specs.declared.open.LogOpenError.TheVariants as errors;
 
     ghost from_gives = { λ memory e. e ≡ errors.Memory memory };
 
-    fn from(memory: Memory) -> OpenError {
-        OpenError::Memory(memory)
+    fn from(memory: Memory) -> LogOpenError {
+        LogOpenError::Memory(memory)
     }
 }
 
 /// A log that was opened, and has no name yet.
 #[derive(Drop)]
-pub struct Opened {
+pub struct OpenedLog {
     pub(crate) table: LogTable,
     pub(crate) seat: LogSlotSeat,
     pub(crate) nodes: usize,

@@ -5,40 +5,40 @@ ghost use Rattle.nr_oplog.specs.Names.{IsShape};
 ghost use Rattle.nr_oplog.specs.Opening.{name_of, nodes_of, places_of};
 
 use crate::log::{LogName, Oplog};
-use crate::open::{OpenError, Opened};
+use crate::open::{LogOpenError, OpenedLog};
 use crate::seat::LogSeat;
-use crate::view::{LogSlotSeat, Shape};
+use crate::view::{LogShape, LogSlotSeat};
 use atomic_table::Table;
 use nr_blob::Memory;
 use std::alloc::Global;
 use std::marker::PhantomData;
 
-impl Opened {
+impl OpenedLog {
     /// A log of `nodes` nodes, 1 to 8, and `places` places, 2 to 65,536. It takes a block of a word and one of a slot for each place of each
     /// node, and some words more.
-    pub fn open(alloc: Global, nodes: usize, places: usize) -> Result<Opened, OpenError>
+    pub fn open(alloc: Global, nodes: usize, places: usize) -> Result<OpenedLog, LogOpenError>
         ensures ok { IfOk result (λ opened. (nodes_of opened ≡ nodes) × (places_of opened ≡ places)) }
-        ensures shape { (result ≡ Err OpenError.BadShape) ↔ (IsShape nodes places → ⊥) }
+        ensures shape { (result ≡ Err LogOpenError.BadShape) ↔ (IsShape nodes places → ⊥) }
     {
         if nodes < 1 || nodes > 8 || places < 2 || places > 65536 {
-            return Err(OpenError::BadShape);
+            return Err(LogOpenError::BadShape);
         }
-        Ok(Opened::laid(alloc, nodes, places)?)
+        Ok(OpenedLog::laid(alloc, nodes, places)?)
     }
 
     // The words and slots of a log of this shape.
-    fn laid(alloc: Global, nodes: usize, places: usize) -> Result<Opened, Memory>
+    fn laid(alloc: Global, nodes: usize, places: usize) -> Result<OpenedLog, Memory>
         requires { IsShape nodes places }
         ensures { IfOk result (λ opened. (nodes_of opened ≡ nodes) × (places_of opened ≡ places)) }
     {
         let row = places + 16;
         let words = Vec::from_elem(alloc, 0u64, 16 * nodes + 16 + nodes * row)?;
-        let shape = Shape {
+        let shape = LogShape {
             nodes: nodes as u64,
             places: places as u64,
         };
         let (table, seat) = Table::vacant(alloc, words.as_slice(), nodes * places, &shape)?;
-        Ok(Opened {
+        Ok(OpenedLog {
             table,
             seat,
             nodes,
@@ -52,7 +52,7 @@ impl Opened {
         requires shape { (nodes_of self ≡ B.nodes) × (places_of self ≡ B.places) }
         ensures seats { IfOk result (λ r. (length r.1.items ≡ B.nodes) × ((node : ℕ) → node < B.nodes → slice_get r.1.items node ≡ Some (opening_view B.nodes B.places node (node + 1)))) }
     {
-        let Opened {
+        let OpenedLog {
             table,
             seat,
             nodes,

@@ -17,9 +17,9 @@ impl Play<Option<Arc<Entry, Global>>, LogView> for SeeTail {
 /// Names what was done.
 pub trait DoneTurns {
     ghost use Rattle.std.specs.Prelude.{List};
-    ghost use Rattle.nr_log_end.specs.declared.standing.Turn.{Turn};
+    ghost use Rattle.nr_log_end.specs.declared.standing.LogEvent.{LogEvent};
 
-    ghost turns: { List Turn };
+    ghost turns: { List LogEvent };
 }
 
 impl DoneTurns for Brand {

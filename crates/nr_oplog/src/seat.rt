@@ -5,7 +5,7 @@ ghost use Rattle.std.specs.Arc.{arc_value};
 ghost use Rattle.nr_log_end.specs.Reserves.{IfTaken, IfFull, IfLost};
 ghost use Rattle.nr_log_end.specs.Tries.{IsTaken, IsFull, IsLost};
 ghost use Rattle.nr_log_end.specs.Standings.{IsSharesFor, IsAllFilled, StandsInLog, passed_of, reserved_as, filled_for, fetched_with, passed_on, noted_with, opened_with, AreNextReads};
-ghost use Rattle.nr_log_end.specs.declared.standing.Turn.TheVariants.{Ran, Opened};
+ghost use Rattle.nr_log_end.specs.declared.standing.LogEvent.TheVariants.{Ran, Opened};
 ghost use Rattle.nr_oplog.specs.Rule.{opening_view};
 ghost use Rattle.nr_oplog.specs.Plays.{with_done};
 ghost use Rattle.nr_oplog.specs.Seats.{IsBehind};
@@ -16,7 +16,7 @@ use crate::plays::DoneTurns;
 use crate::token::Token;
 use crate::view::LogSlotSeat;
 use nr_entry::{Entry, Job, Shares};
-use nr_log_end::{Look, Reserve};
+use nr_log_end::{Load, Reserve};
 use std::alloc::Global;
 use std::marker::{Brand, Model, PhantomData};
 use std::sync::Arc;
@@ -145,7 +145,7 @@ impl<B: LogName> LogSeat<B> {
     pub fn fetch(&mut self, log: &Oplog<B>) -> Option<Arc<Entry, Global>>
         requires { self.old.standing.held ≡ None }
         ensures some { IfSome result (λ entry. self.new ≡ record self.old { standing = fetched_with (arc_value entry) self.old.standing }) }
-        ensures none { IfNone result (self.new ≡ record self.old { looks = self.old.looks ++ Look.Unfilled (passed_of self.old.standing) ∷ [] }) }
+        ensures none { IfNone result (self.new ≡ record self.old { looks = self.old.looks ++ Load.Unfilled (passed_of self.old.standing) ∷ [] }) }
         ensures in_log { StandsInLog self.new.standing }
     {
         let share = log.lift(&mut self.seat, self.node, self.passed)?;
@@ -195,7 +195,7 @@ impl<B: LogName> LogSeat<B> {
         requires rising { AreNextReads jobs.now self.old.standing }
         ensures noted { self.new.standing ≡ noted_with jobs.now self.new.standing.seen self.old.standing }
         ensures seen { self.old.standing.seen ≤ self.new.standing.seen }
-        ensures looks { self.new.looks ≡ self.old.looks ++ Look.Tail self.new.standing.seen ∷ [] }
+        ensures looks { self.new.looks ≡ self.old.looks ++ Load.Tail self.new.standing.seen ∷ [] }
     {
         self.note_named::<Brand>(log, jobs);
     }
@@ -213,7 +213,7 @@ impl<B: LogName> LogSeat<B> {
     pub fn note_opened(&mut self, log: &Oplog<B>, worker: u8)
         ensures opened { self.new.standing ≡ opened_with worker self.new.standing.seen self.old.standing }
         ensures seen { self.old.standing.seen ≤ self.new.standing.seen }
-        ensures looks { self.new.looks ≡ self.old.looks ++ Look.Tail self.new.standing.seen ∷ [] }
+        ensures looks { self.new.looks ≡ self.old.looks ++ Load.Tail self.new.standing.seen ∷ [] }
     {
         self.note_opened_named::<Brand>(log, worker);
     }

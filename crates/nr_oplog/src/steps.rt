@@ -4,7 +4,7 @@ ghost use Rattle.std.specs.Arc.{arc_value};
 ghost use Rattle.atomic_table.specs.Table.{rest};
 ghost use Rattle.nr_entry.specs.Shares.{shares_of};
 ghost use Rattle.nr_log_end.specs.Standings.{applied_of, passed_of, IsAllFilled, StandsInLog, reserved_as, filled_for, fetched_with, passed_on};
-ghost use Rattle.nr_log_end.specs.declared.standing.Look.{Look};
+ghost use Rattle.nr_log_end.specs.declared.standing.Load.{Load};
 ghost use Rattle.nr_oplog.specs.Layout.{passed_word, stamp_word, slot_of, words_of, slots_of};
 ghost use Rattle.nr_oplog.specs.Plays.{with_tail, with_done, with_passed, with_unfilled, token_view, with_told, with_look, with_later, AreOfOneLog, MayFollow};
 ghost use Rattle.nr_oplog.specs.Calls.{LoadsCounts, IsLeastOf};
@@ -96,7 +96,7 @@ impl<B: LogName> Oplog<B> {
         requires { (seat.old.table_id ≡ B.log) × (length seat.old.me.0.met ≡ self.now.table.shared.key.nodes) }
         ensures seat { IsSameSeat seat.old seat.new }
         ensures view { CountsOf seat.old.me seat.new.me }
-        ensures looks { (more : List Look) × (seat.new.me.0.looks ≡ seat.old.me.0.looks ++ more) }
+        ensures looks { (more : List Load) × (seat.new.me.0.looks ≡ seat.old.me.0.looks ++ more) }
         ensures found { MatchOption result (IsBehind self.now.table.shared.key.nodes self.now.table.shared.key.places tail seat.old.me.0 seat.new.me.0) (λ least. (tail < least + self.now.table.shared.key.places) × ((node : ℕ) → node < self.now.table.shared.key.nodes → least ≤ slice_index seat.new.me.0.met node)) }
     {
         let places = self.places as u64;

@@ -1,7 +1,7 @@
 -- What a node of the tree is seen as, and what holds of it.
 use Rattle.std.specs.Prelude.{◌≡◌, ℕ, ◌+◌, ◌-◌, ◌/◌, ◌^◌, ◌<◌, ◌≤◌, min, max, List, [], ◌++◌, length}
 use Rattle.nr_ordered.specs.Lists.{Item}
-use Rattle.nr_ordered.specs.declared.tree.Node.{Node}
+use Rattle.nr_ordered.specs.declared.tree.TreeNode.{TreeNode}
 use Rattle.nr_ordered.specs.declared.tree.Link.{Link}
 use Rattle.nr_ordered.specs.declared.tree.Link.TheVariants.{Leaf, Fork}
 
@@ -10,7 +10,7 @@ abbrev pub joined : List Item × ℕ → List Item → List Item × ℕ → List
 joined left block right = left.0 ++ (block ++ right.0)
 
 -- those of a node
-abbrev pub items_of : Node → List Item
+abbrev pub items_of : TreeNode → List Item
 items_of n = joined n.left n.block n.right
 
 -- the items in order, and the height that is stored
@@ -35,7 +35,7 @@ abbrev pub counted : ℕ → ℕ
 counted items = min items (2 ^ 32 - 1)
 
 -- the stored count and height are right, the sides differ by at most one level, and the block is not empty
-abbrev pub IsEven : ℕ → ℕ → Node → Type 0
+abbrev pub IsEven : ℕ → ℕ → TreeNode → Type 0
 IsEven height count n = (count ≡ counted (length (items_of n)))
     × (height ≡ max n.left.1 n.right.1 + 1)
     × DifferByAtMost 1 n.left.1 n.right.1

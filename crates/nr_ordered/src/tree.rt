@@ -32,14 +32,14 @@ enum Link {
     Fork {
         height: u8,
         count: u32,
-        node: Box<Node>,
+        node: Box<TreeNode>,
     },
 }
 
 // A block of items, and what stands before it and behind it.
 #[cycle(tree)]
 #[derive(Drop)]
-struct Node {
+struct TreeNode {
     left: Tree,
     right: Tree,
     block: Block,
@@ -63,12 +63,12 @@ impl Model for Tree {
     ghost size_decreases = { λ t h. Prim.grind (arith, length-append) };
 }
 
-impl Node {
+impl TreeNode {
     // A node of its own.
-    fn new(alloc: Global, block: Block) -> Result<Box<Node>, Memory>
+    fn new(alloc: Global, block: Block) -> Result<Box<TreeNode>, Memory>
         ensures { IfOk result (λ node. node.value.block ≡ block) }
     {
-        let node = Node {
+        let node = TreeNode {
             left: Tree::new(),
             right: Tree::new(),
             block,
@@ -137,7 +137,7 @@ impl Tree {
         else {
             return Ok(Tree::new());
         };
-        let copied = Node {
+        let copied = TreeNode {
             left: node.left.copy(alloc)?,
             right: node.right.copy(alloc)?,
             block: node.block.copy(alloc)?,
@@ -178,7 +178,7 @@ fn sides_len(left: &Tree, block: &Block, right: &Tree) -> usize
 
 // A node without its sides.
 #[inline(always)]
-fn apart(mut node: Box<Node>) -> (Tree, Box<Node>, Tree)
+fn apart(mut node: Box<TreeNode>) -> (Tree, Box<TreeNode>, Tree)
     ensures left { result.0 ≡ node.value.left }
     ensures block { result.1.value.block ≡ node.value.block }
     ensures right { result.2 ≡ node.value.right }

@@ -7,8 +7,8 @@ use Rattle.nr_model.specs.Commands.SortedSets as sorted_sets
 use Rattle.nr_zbounds.specs.Ranges.{seen_bounds}
 use Rattle.nr_zsets.specs.Lists.{shown}
 use Rattle.nr_ranked.specs.declared.scoring.reading.AddRequest.{AddRequest}
-use Rattle.nr_ranked.specs.declared.ranges.ends.Ends.{Ends}
-use Rattle.nr_ranked.specs.declared.ranges.ends.Ends.TheVariants.{Places, Within}
+use Rattle.nr_ranked.specs.declared.ranges.ends.RangeEnds.{RangeEnds}
+use Rattle.nr_ranked.specs.declared.ranges.ends.RangeEnds.TheVariants.{Places, Within}
 
 -- what is read behind one item, or behind several
 abbrev pub with_first : {A : Type 0} → A → Read (List A) → Read (List A)
@@ -21,7 +21,7 @@ abbrev pub add_request_of : AddRequest → sorted_sets.AddRequest
 add_request_of request = record { name = request.name.now; options = request.options; pairs = map shown request.pairs.items }
 
 -- the ends of a range
-abbrev pub ends_of : Ends → model.Ends
+abbrev pub ends_of : RangeEnds → model.Ends
 ends_of (Places first last) = model.Places first last
 ends_of (Within bounds) = model.Within (seen_bounds bounds)
 

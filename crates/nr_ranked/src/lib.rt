@@ -3,7 +3,7 @@
 
 mod changing;
 mod edited;
-mod held;
+mod stored;
 /// The commands that look members up by name.
 pub mod looks;
 /// ZPOPMIN and ZPOPMAX.

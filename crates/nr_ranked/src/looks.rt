@@ -9,7 +9,7 @@ ghost use Rattle.nr_resp.specs.Seen.{reply_of};
 ghost use Rattle.nr_resp.specs.Done.{Answers};
 ghost use Rattle.nr_resp.specs.Shown.{item_reply};
 
-use crate::held::zset_at;
+use crate::stored::zset_at;
 use nr_blob::{Blob, Memory};
 use nr_keyspace::{Db, Keyspace};
 use nr_model::command::Direction;

@@ -8,9 +8,9 @@ ghost use Rattle.nr_resp.specs.Done.{Answers};
 ghost use Rattle.nr_resp.specs.Shown.{item_reply};
 ghost use Rattle.nr_zsets.specs.Lists.{shown};
 
-use crate::held::zset_at;
 use crate::ranges::reading::{ends_request, range_request};
 use crate::ranges::telling::{count_in, told_in};
+use crate::stored::zset_at;
 use nr_blob::{Blob, Memory};
 use nr_keyspace::{Db, Keyspace};
 use nr_model::command::{Direction, RangeBy, RangeForm};

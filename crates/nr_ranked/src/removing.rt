@@ -9,7 +9,7 @@ ghost use Rattle.nr_resp.specs.Seen.{reply_of};
 ghost use Rattle.nr_resp.specs.Done.{Performs};
 
 use crate::changing::{Change, change_at};
-use crate::ranges::ends::Ends;
+use crate::ranges::ends::RangeEnds;
 use crate::ranges::reading::{EndsRequest, ends_request};
 use crate::ranges::telling::take_out;
 use nr_blob::{Blob, Memory};
@@ -95,7 +95,7 @@ pub fn remove_range<T: Touched>(
 // The members of a range, which are taken out.
 #[derive(Clone, Copy)]
 struct RangeRemoval<'k> {
-    ends: Ends<'k>,
+    ends: RangeEnds<'k>,
 }
 
 impl<'k> SortedSetEdit for RangeRemoval<'k> {

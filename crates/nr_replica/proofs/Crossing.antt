@@ -17,7 +17,7 @@ use Rattle.nr_machine.proofs.Crossing.{machine_send, machine_sync}
 use Rattle.nr_machine.specs.contracts.machine.Machine as Machine
 use Rattle.nr_replica.specs.contracts.lending.Lender as Lender
 use Rattle.nr_replica.specs.contracts.lending.Lent as Lent
-use Rattle.nr_replica.specs.contracts.members.Members as Members
+use Rattle.nr_replica.specs.contracts.members.NodeMembers as NodeMembers
 use Rattle.nr_replica.specs.contracts.offer.Offer as Offer
 use Rattle.nr_replica.specs.contracts.outbox.Outbox as Outbox
 use Rattle.nr_replica.specs.contracts.replica.Replica as Replica
@@ -31,7 +31,7 @@ outbox_send : IsSend Outbox.the_row
 outbox_send = view_send Outbox.TheInside.the_row _ _ _ _ (declared_send Outbox.TheInside.the_type
     (search parts depth 60, (search parts depth 60, (search parts depth 60, (search parts depth 60, (search parts depth 60, (search parts depth 60, tt)))))))
 
-members_send : IsSend Members.the_row
+members_send : IsSend NodeMembers.the_row
 members_send = search (parts, map.the_send, set.the_send, outbox_send) depth 60 fits 100000
 
 shared_send : IsSend (Arc.the_row Machine.the_row Heap.the_row ghosts)

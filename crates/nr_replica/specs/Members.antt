@@ -12,7 +12,7 @@ use Rattle.nr_model.specs.Queues.{Queue, coded_queue, received, cut_off, handing
 use Rattle.nr_model.specs.Sequential.Events.{Emission}
 use Rattle.nr_model.specs.Nodes.Steps.{texts_for}
 use Rattle.nr_emission.specs.Emitted.{Written}
-use Rattle.nr_replica.specs.declared.members.Members.{Members}
+use Rattle.nr_replica.specs.declared.members.NodeMembers.{NodeMembers}
 
 -- A connection of the node: the worker that serves it, what waits for it, and whether it was closed
 pub record Member : Type 0 where
@@ -113,5 +113,5 @@ member_at node workers queues serial = member_with node serial (slice_index_or w
 abbrev pub members_of : ℕ → List ℕ → Queues → List Member
 members_of node workers queues = map (member_at node workers queues) (range_with_len 0 (length workers))
 
-abbrev pub members_seen : ℕ → Members → List Member
+abbrev pub members_seen : ℕ → NodeMembers → List Member
 members_seen node members = members_of node members.workers.items members.outboxes.entries

@@ -3,7 +3,7 @@ use nr_blob::Memory;
 
 /// Why nothing more comes to wait for a connection.
 #[derive(Clone, Copy, Debug, PartialEq, Eq)]
-pub enum Cut {
+pub enum CutReason {
     /// More would have waited for it than its queue holds.
     Full,
     /// Memory was refused for what came for it.

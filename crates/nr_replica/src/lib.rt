@@ -2,7 +2,7 @@
 #![tactic(auto)]
 
 pub use answering::Replies;
-pub use cut::Cut;
+pub use cut::CutReason;
 pub use fall::Fall;
 pub use lending::Lent;
 pub use offer::{Offer, OfferError};

@@ -9,7 +9,7 @@ ghost use Rattle.nr_replica.specs.Members.{Member, AreNumbered, fresh_member, cl
 ghost use Rattle.nr_replica.specs.Ready.{has_serial, IsMarked, AreReady};
 
 use crate::outbox::{Outbox, Piece, cut_all};
-use crate::ready::Ready;
+use crate::ready::ReadySerials;
 use crate::spares::Spares;
 use nr_blob::Memory;
 use nr_entry::ConnId;
@@ -19,23 +19,23 @@ use std::collections::BTreeMap;
 /// The connections of a node, by serial: of each that was ever opened the worker that serves it, a byte, and of those that aren't closed
 /// what waits for them; and for each worker those for which bytes wait.
 #[derive(Drop)]
-pub(crate) struct Members {
+pub(crate) struct NodeMembers {
     pub(crate) workers: Vec<u8>,
     // One past the workers is of nobody, and gives way to the next that is opened.
     pub(crate) outboxes: BTreeMap<u64, Outbox>,
-    pub(crate) ready: Ready,
+    pub(crate) ready: ReadySerials,
 }
 
-impl Members {
+impl NodeMembers {
     /// None yet, of so many workers.
-    pub(crate) fn new(alloc: Global, workers: usize) -> Result<Members, Memory>
+    pub(crate) fn new(alloc: Global, workers: usize) -> Result<NodeMembers, Memory>
         ensures workers { IfOk result (λ members. members.workers.items ≡ []) }
         ensures ready { IfOk result (λ members. members.ready.sets.items ≡ []) }
     {
-        Ok(Members {
+        Ok(NodeMembers {
             workers: Vec::new(alloc),
             outboxes: BTreeMap::new(alloc),
-            ready: Ready::new(alloc, workers)?,
+            ready: ReadySerials::new(alloc, workers)?,
         })
     }
 
@@ -210,7 +210,7 @@ fn take_piece(
     worker: usize,
     serial: u64,
     outbox: &mut Outbox,
-    ready: &mut Ready,
+    ready: &mut ReadySerials,
     spares: &mut Spares,
 ) -> Result<Option<Piece>, Memory>
     requires { 0 < most }

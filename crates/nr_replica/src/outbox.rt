@@ -10,7 +10,7 @@ ghost use Rattle.nr_replica.specs.Backlogs.{IsBacklog, share_of};
 ghost use Rattle.nr_replica.specs.declared.outbox.Put.TheVariants as outcomes;
 ghost use Rattle.nr_model.specs.Queues.{Queue, put, takes, with_bytes, cut_off, handing, most_bytes};
 
-use crate::cut::Cut;
+use crate::cut::CutReason;
 use crate::spares::{MOST_ROOM, Spares};
 use nr_blob::Memory;
 use nr_emission::Sink;
@@ -51,7 +51,7 @@ pub struct Outbox {
     handed: u64,
     limit: usize,
     // Why it takes nothing more, where it doesn't.
-    cut: Option<Cut>,
+    cut: Option<CutReason>,
 }
 
 impl Model for Outbox {
@@ -132,7 +132,7 @@ impl Outbox {
         shown.write(&mut self.buffer)?;
         if !fits(self.buffer.len() - self.start, self.limit, self.handed) {
             self.buffer.truncate(end);
-            self.end(Cut::Full);
+            self.end(CutReason::Full);
         }
         Ok(())
     }
@@ -190,7 +190,7 @@ impl Outbox {
     {
         let waiting = self.buffer.len() - self.start;
         if self.is_cut() || !has_room(waiting, bytes.len(), self.limit, self.handed) {
-            self.end(Cut::Full);
+            self.end(CutReason::Full);
             return Ok(());
         }
         self.buffer.extend_from_slice(bytes)?;
@@ -225,18 +225,18 @@ impl Outbox {
     pub fn refuse(&mut self, memory: Memory)
         ensures { self.new ≡ cut_off self.old }
     {
-        self.end(Cut::Refused(memory));
+        self.end(CutReason::Refused(memory));
     }
 
     // Takes no more from now on, for this reason where there was none before.
-    fn end(&mut self, why: Cut)
+    fn end(&mut self, why: CutReason)
         ensures { self.new ≡ cut_off self.old }
     {
         self.cut = Some(self.cut.unwrap_or(why));
     }
 
     /// Why it takes no more, where it doesn't.
-    pub fn why_cut(&self) -> Option<Cut>
+    pub fn why_cut(&self) -> Option<CutReason>
         ensures { is_some result ≡ self.now.cut }
     {
         self.cut
@@ -316,7 +316,7 @@ pub(crate) fn cut_all(outboxes: &mut BTreeMap<u64, Outbox>)
     ensures { outboxes.new.entries ≡ map (λ (entry : ℕ × Queue). (entry.0, cut_off entry.1)) outboxes.old.entries }
 {
     outboxes.retain(|_, outbox| {
-        outbox.end(Cut::Fallen);
+        outbox.end(CutReason::Fallen);
         true
     });
 }

@@ -14,9 +14,9 @@ ghost use Rattle.nr_replica.specs.Members.{AreNumbered, AreDelivered, AreReads, 
 ghost use Rattle.nr_replica.specs.Ready.{has_serial, IsMarked, AreReady};
 
 use crate::answering::Replies;
-use crate::members::Members;
+use crate::members::NodeMembers;
 use crate::outbox::Outbox;
-use crate::ready::Ready;
+use crate::ready::ReadySerials;
 use crate::spares::Spares;
 use nr_blob::Memory;
 use nr_entry::{Job, JobKind};
@@ -27,7 +27,7 @@ pub(crate) fn run_reads<'k>(
     machine: &'k Machine,
     reads: &'k [Job],
     node: usize,
-    members: &mut Members,
+    members: &mut NodeMembers,
 )
     requires reads { AreReads (items_of reads.now) }
     requires numbered { AreNumbered node 0 (members_seen node members.old) }
@@ -46,7 +46,7 @@ pub(crate) fn take_all<'k>(
     reads: &'k [Job],
     replies: Vec<Replies>,
     node: usize,
-    members: &mut Members,
+    members: &mut NodeMembers,
     spares: &mut Spares,
 )
     requires reads { AreReads (items_of reads.now) }
@@ -70,7 +70,7 @@ fn take_run<'k>(
     reads: &'k [Job],
     run: Replies,
     node: usize,
-    members: &mut Members,
+    members: &mut NodeMembers,
     spares: &mut Spares,
 )
     requires prepared { AreRunBy machine.now.state (items_of reads.now) run }
@@ -85,7 +85,7 @@ fn take_run<'k>(
 }
 
 // The replies to a run of reads, if it is of one of the node's connections that are open, and they fit. False, and nothing changes, where not.
-fn hand_over(run: Replies, node: usize, members: &mut Members, spares: &mut Spares) -> bool
+fn hand_over(run: Replies, node: usize, members: &mut NodeMembers, spares: &mut Spares) -> bool
     requires numbered { AreNumbered node 0 (members_seen node members.old) }
     requires ready { AreReady members.old.ready.sets.items (members_seen node members.old) }
     ensures delivered { (s : Server) (own : Jobs) → AreRunBy s own run → OnTrue result (AreDelivered (emitted_all s own) (members_seen node members.old) (members_seen node members.new)) }
@@ -125,7 +125,7 @@ fn join(
     worker: usize,
     serial: u64,
     outbox: &mut Outbox,
-    ready: &mut Ready,
+    ready: &mut ReadySerials,
     spares: &mut Spares,
 ) -> bool
     requires { has_serial ready.old.sets.items worker serial ≡ is_some_bytes outbox.old.waiting }
@@ -142,7 +142,7 @@ fn join(
 }
 
 // A read, if it is one of the node's connections that are open.
-fn run_read<'k>(machine: &'k Machine, job: &'k Job, node: usize, members: &mut Members)
+fn run_read<'k>(machine: &'k Machine, job: &'k Job, node: usize, members: &mut NodeMembers)
     requires read { is_update (deed_of job.now.kind) ≡ false }
     requires numbered { AreNumbered node 0 (members_seen node members.old) }
     requires ready { AreReady members.old.ready.sets.items (members_seen node members.old) }
@@ -170,7 +170,7 @@ fn answer<'k>(
     job: &'k Job,
     worker: usize,
     outbox: &mut Outbox,
-    ready: &mut Ready,
+    ready: &mut ReadySerials,
 )
     requires read { is_update (deed_of job.now.kind) ≡ false }
     requires ready { has_serial ready.old.sets.items worker job.now.conn.serial ≡ is_some_bytes outbox.old.waiting }

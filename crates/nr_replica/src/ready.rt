@@ -12,19 +12,19 @@ use std::collections::BTreeSet;
 
 /// For each worker the serials of its connections for which bytes wait, and how far these hold their node up.
 #[derive(Drop)]
-pub(crate) struct Ready {
+pub(crate) struct ReadySerials {
     alloc: Global,
     // They are made as far as bytes ever came to a worker. One past them has none.
     pub(crate) sets: Vec<BTreeSet<u64>>,
     pub(crate) backlogs: Backlogs,
 }
 
-impl Ready {
+impl ReadySerials {
     /// Bytes wait for none of the connections of so many workers.
-    pub(crate) fn new(alloc: Global, workers: usize) -> Result<Ready, Memory>
+    pub(crate) fn new(alloc: Global, workers: usize) -> Result<ReadySerials, Memory>
         ensures { IfOk result (λ ready. ready.sets.items ≡ []) }
     {
-        Ok(Ready {
+        Ok(ReadySerials {
             alloc,
             sets: Vec::new(alloc),
             backlogs: Backlogs::new(alloc, workers)?,

@@ -16,7 +16,7 @@ use crate::answering::Replies;
 use crate::delivering::deliver;
 use crate::fall::Fall;
 use crate::lending::{Lender, Lent};
-use crate::members::Members;
+use crate::members::NodeMembers;
 use crate::offer::{Offer, OfferError};
 use crate::outbox::Piece;
 use crate::reading::{run_reads, take_all};
@@ -39,7 +39,7 @@ pub struct Replica {
     node: usize,
     // None where it is down.
     machine: Lender,
-    members: Members,
+    members: NodeMembers,
     owed: Vec<Option<usize>>,
     waiting: Waiting,
     // What the entry at hand has emitted.
@@ -96,7 +96,7 @@ impl Replica {
             alloc,
             node,
             machine: Lender::new(alloc, Machine::new(alloc, keys)?)?,
-            members: Members::new(alloc, workers)?,
+            members: NodeMembers::new(alloc, workers)?,
             owed,
             waiting: Waiting::new(alloc),
             staging: Staging::new(alloc),

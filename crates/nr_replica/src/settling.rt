@@ -4,11 +4,11 @@ ghost use Rattle.nr_entry.specs.Jobs.{connection_of, items_of};
 ghost use Rattle.nr_replica.specs.Members as specs;
 ghost use Rattle.nr_replica.specs.Replicas.{owed_from, owing_less};
 
-use crate::members::Members;
+use crate::members::NodeMembers;
 use nr_entry::{ConnId, Entry, Job};
 
 /// Takes these jobs off what is owed. Linear in them.
-pub(crate) fn settle(jobs: &[Job], members: &Members, owed: &mut [Option<usize>])
+pub(crate) fn settle(jobs: &[Job], members: &NodeMembers, owed: &mut [Option<usize>])
     ensures { (n : ℕ) → owed.new ≡ owed_from 0 (specs.members_seen n members.now) (items_of jobs.now) owed.old }
 {
     for job in jobs {
@@ -21,7 +21,7 @@ pub(crate) fn settle_counted(
     counted: bool,
     entry: &Entry,
     node: usize,
-    members: &Members,
+    members: &NodeMembers,
     owed: &mut [Option<usize>],
 )
     ensures { (n : ℕ) → owed.new
@@ -33,7 +33,7 @@ pub(crate) fn settle_counted(
 }
 
 // The same for an entry's jobs, if it is one of the node.
-fn settle_own(entry: &Entry, node: usize, members: &Members, owed: &mut [Option<usize>])
+fn settle_own(entry: &Entry, node: usize, members: &NodeMembers, owed: &mut [Option<usize>])
     ensures { (n : ℕ) → owed.new ≡ cond (entry.now.node == node) (owed_from 0 (specs.members_seen n members.now) (items_of entry.now.jobs.items) owed.old) owed.old }
 {
     if entry.node == node {
@@ -42,7 +42,7 @@ fn settle_own(entry: &Entry, node: usize, members: &Members, owed: &mut [Option<
 }
 
 // A job fewer for the worker of its connection.
-fn settle_one(job: &Job, members: &Members, owed: &mut [Option<usize>])
+fn settle_one(job: &Job, members: &NodeMembers, owed: &mut [Option<usize>])
     ensures { (n : ℕ) → owed.new ≡ owed_from 0 (specs.members_seen n members.now) (items_of (job.now ∷ [])) owed.old }
 {
     let worker = worker_of(job.conn, members);
@@ -52,7 +52,7 @@ fn settle_one(job: &Job, members: &Members, owed: &mut [Option<usize>])
 }
 
 // The worker that serves a connection.
-fn worker_of(conn: ConnId, members: &Members) -> usize
+fn worker_of(conn: ConnId, members: &NodeMembers) -> usize
     ensures { (n : ℕ) → result ≡ specs.worker_of (specs.members_seen n members.now) (connection_of conn) }
 {
     let serial = conn.serial as usize;

@@ -1,7 +1,7 @@
 // The connections of a row, by the numbers that the row gives them, with what each was handed.
 use nr_blob::Memory;
 use nr_entry::ConnId;
-use nr_nodes::Handed;
+use nr_world::HandedBytes;
 use std::alloc::Global;
 use std::mem;
 
@@ -47,7 +47,7 @@ impl Clients {
     }
 
     /// Gives a part that was handed out to its connection.
-    pub(crate) fn receive(&mut self, part: &Handed) -> Result<(), Memory> {
+    pub(crate) fn receive(&mut self, part: &HandedBytes) -> Result<(), Memory> {
         for client in self.list.iter_mut() {
             if client.conn == part.conn {
                 client.received.extend_from_slice(&part.bytes)?;

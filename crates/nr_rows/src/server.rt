@@ -4,7 +4,7 @@ use crate::failure::Failure;
 use crate::rows::Action;
 use nr_blob::Memory;
 use nr_entry::ConnId;
-use nr_nodes::{Outcome, Setup, World};
+use nr_world::{Setup, StepOutcome, World};
 use std::alloc::Global;
 use std::hash::RandomState;
 
@@ -40,11 +40,11 @@ impl Server {
         let node = number % setup.nodes();
         let worker = number / setup.nodes() % setup.workers();
         match self.world.open(node, worker)? {
-            Outcome::Opened(conn) => {
+            StepOutcome::Opened(conn) => {
                 self.clients.add(alloc, name, conn)?;
                 Ok(conn)
             }
-            Outcome::Done | Outcome::Idle(_) => Err(Failure::Full),
+            StepOutcome::Done | StepOutcome::Idle(_) => Err(Failure::Full),
         }
     }
 

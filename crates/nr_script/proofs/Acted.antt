@@ -4,17 +4,17 @@ use Rattle.std.specs.Option.{option_map}
 use Rattle.nr_model.specs.Bytes.{Bytes}
 use Rattle.nr_model.specs.Items.{Connection}
 use Rattle.nr_model.specs.Nodes.Steps as steps
-use Rattle.nr_nodes.specs.declared.step.Outcome.{Outcome}
-use Rattle.nr_nodes.specs.declared.step.Outcome.TheVariants as outcomes
+use Rattle.nr_world.specs.declared.step.StepOutcome.{StepOutcome}
+use Rattle.nr_world.specs.declared.step.StepOutcome.TheVariants as outcomes
 use Rattle.nr_model.specs.declared.reason.Reason.TheVariants as reasons
-use Rattle.nr_nodes.specs.Seen.{outcome_seen}
-use Rattle.nr_nodes.specs.WorldState.{WorldState}
-use Rattle.nr_nodes.specs.Taken.{Steps}
+use Rattle.nr_world.specs.Seen.{outcome_seen}
+use Rattle.nr_world.specs.WorldState.{WorldState}
+use Rattle.nr_world.specs.Taken.{Steps}
 use Rattle.nr_script.specs.declared.line.Line.{Line}
 use Rattle.nr_script.specs.Receivers.{Received, connection_at}
 use Rattle.nr_script.specs.Acts.{Asked, Step, Nobody, asking, asked_by, outcome_line, opened_by, IsDone}
 
-pub took : (asked : Asked) (step : steps.Step) (o : Outcome) (old new : WorldState) (all more : List Received) (before after : Bytes) → asked ≡ Step step
+pub took : (asked : Asked) (step : steps.Step) (o : StepOutcome) (old new : WorldState) (all more : List Received) (before after : Bytes) → asked ≡ Step step
     → Steps old new step (outcome_seen o) → more ≡ opened_by o all → after ≡ before ++ outcome_line (length all) o
     → IsDone asked old new all more before after
 took asked step o old new all more before after is takes opened printed =

@@ -11,7 +11,7 @@ use Rattle.nr_script.specs.declared.line.Line.{Line}
 use Rattle.nr_script.specs.declared.line.Line.TheVariants as lines
 use Rattle.nr_script.specs.Lines.{parted, natural, number_of, number_then, two_numbers, setup_of, feed_of, of_two, of_one, numbered, plain_step, named_step, bare_step, step_of, is_skipped, line_of}
 use Rattle.nr_script.specs.Texts.{text_of}
-use Rattle.nr_script.specs.Said.{Says, step_name, step_numbers, EndsStep, numbers_before}
+use Rattle.nr_script.specs.Said.{SaysStep, step_name, step_numbers, EndsStep, numbers_before}
 use Rattle.nr_script.proofs.Spelled.{read_spelled}
 
 -- what an answer came from
@@ -131,7 +131,7 @@ of_one_back name n step is =
 
 -- a step said by its name and numbers alone
 plain_says : (name : Bytes) (numbers : List ℕ) (step : Line) (line : Bytes) → IsPlain name numbers step → line ≡ name ++ numbers_before numbers []
-    → AllByRecursion (λ n. n < 2 ^ 63) numbers → Says step line
+    → AllByRecursion (λ n. n < 2 ^ 63) numbers → SaysStep step line
 unfolding IsPlain
 plain_says name numbers step line plain is fit = record {
   rest = [];
@@ -147,7 +147,7 @@ cases_Option : {A : Type 0} (o : Option A) → (o ≡ None) ⊎ ((x : A) × (o �
 cases_Option None = inl refl
 cases_Option (Some x) = inr (x, refl)
 
-numbered_back : (name rest : Bytes) (step : Line) (line : Bytes) → numbered name rest ≡ Some step → line ≡ name ++ 32 ∷ rest → Says step line
+numbered_back : (name rest : Bytes) (step : Line) (line : Bytes) → numbered name rest ≡ Some step → line ≡ name ++ 32 ∷ rest → SaysStep step line
 unfolding by_numbers
 numbered_back name rest step line is text =
     elim (cases_Option (two_numbers rest)) [
@@ -166,7 +166,7 @@ numbered_back name rest step line is text =
           (numbers.1, (numbers.2, tt))
     ]
 
-setup_back : (rest : Bytes) (step : Line) (line : Bytes) → setup_of rest ≡ Some step → line ≡ codes "setup" ++ 32 ∷ rest → Says step line
+setup_back : (rest : Bytes) (step : Line) (line : Bytes) → setup_of rest ≡ Some step → line ≡ codes "setup" ++ 32 ∷ rest → SaysStep step line
 setup_back rest step line is text =
     let nodes = then_some (λ (nodes : ℕ × Bytes).
     option_and_then (λ (places : ℕ × Bytes).
@@ -182,15 +182,15 @@ setup_back rest step line is text =
     ∙ ap (λ text. decimal nodes.0.0 ++ 32 ∷ text) (second.0
     ∙ ap (λ text. decimal places.0.0 ++ 32 ∷ text) (others.0
     ∙ ap (λ text. decimal last.0.0 ++ 32 ∷ text) (sym (append-nil (decimal last.0.1))))) in
-    let says : Says (lines.Setup nodes.0.0 places.0.0 last.0.0 last.0.1) line = record {
+    let says : SaysStep (lines.Setup nodes.0.0 places.0.0 last.0.0 last.0.1) line = record {
       rest = [];
       is = text ∙ ap (λ rest. codes "setup" ++ 32 ∷ rest) all;
       fit = (first.1, (second.1, (others.1, (others.2, tt))));
       ends = refl;
     } in
-    subst (λ step. Says step line) last.2 says
+    subst (λ step. SaysStep step line) last.2 says
 
-feed_back : (rest : Bytes) (step : Line) (line : Bytes) → feed_of rest ≡ Some step → line ≡ codes "feed" ++ 32 ∷ rest → Says step line
+feed_back : (rest : Bytes) (step : Line) (line : Bytes) → feed_of rest ≡ Some step → line ≡ codes "feed" ++ 32 ∷ rest → SaysStep step line
 feed_back rest step line is text =
     let connection = then_some (λ (connection : ℕ × Bytes).
     option_and_then (λ (moment : ℕ × Bytes).
@@ -200,15 +200,15 @@ feed_back rest step line is text =
     let bytes = map_some (λ bytes. lines.Feed connection.0.0 moment.0.0 bytes) (text_of moment.0.1) step moment.2 in
     let first = first_back rest connection.0 connection.1 in
     let second = first_back connection.0.1 moment.0 moment.1 in
-    let says : Says (lines.Feed connection.0.0 moment.0.0 bytes.0) line = record {
+    let says : SaysStep (lines.Feed connection.0.0 moment.0.0 bytes.0) line = record {
       rest = 32 ∷ moment.0.1;
       is = text ∙ ap (λ rest. codes "feed" ++ 32 ∷ rest) (first.0 ∙ ap (λ text. decimal connection.0.0 ++ 32 ∷ text) second.0);
       fit = (first.1, (second.1, tt));
       ends = (moment.0.1, refl, read_spelled moment.0.1 bytes.0 bytes.1);
     } in
-    subst (λ step. Says step line) bytes.2 says
+    subst (λ step. SaysStep step line) bytes.2 says
 
-named_back : (name rest : Bytes) (step : Line) (line : Bytes) → named_step name rest ≡ Some step → line ≡ name ++ 32 ∷ rest → Says step line
+named_back : (name rest : Bytes) (step : Line) (line : Bytes) → named_step name rest ≡ Some step → line ≡ name ++ 32 ∷ rest → SaysStep step line
 named_back name rest step line is text =
     elim (chosen (bytes_eq name (codes "feed")) (feed_of rest) (plain_step name rest) (Some step) is) [
       | inl feed ↦ feed_back rest step line feed.1 (text ∙ ap (λ name. name ++ 32 ∷ rest) (same_name name (codes "feed") feed.0))
@@ -221,7 +221,7 @@ named_back name rest step line is text =
 by_parts : Bytes → Option (Bytes × Bytes) → Option Line
 by_parts line o = elim o [ Some x ↦ named_step x.0 x.1 | None ↦ bare_step line ]
 
-step_back : (line : Bytes) (step : Line) → step_of line ≡ Some step → Says step line
+step_back : (line : Bytes) (step : Line) → step_of line ≡ Some step → SaysStep step line
 unfolding by_parts
 step_back line step is =
     elim (cases_Option (parted 32 line)) [
@@ -229,8 +229,8 @@ step_back line step is =
           let bare : bare_step line ≡ Some step = sym (ap (by_parts line) none) ∙ is in
           elim (chosen (bytes_eq line (codes "settle")) (Some lines.Settle) None (Some step) bare) [
             | inl settle ↦
-                let says : Says lines.Settle line = record { rest = []; is = same_name line (codes "settle") settle.0; fit = tt; ends = refl } in
-                subst (λ step. Says step line) (some_same lines.Settle step settle.1) says
+                let says : SaysStep lines.Settle line = record { rest = []; is = same_name line (codes "settle") settle.0; fit = tt; ends = refl } in
+                subst (λ step. SaysStep step line) (some_same lines.Settle step settle.1) says
             | inr other ↦ none_some step other.1
           ]
       | inr parts ↦
@@ -238,7 +238,7 @@ step_back line step is =
           named_back parts.0.0 parts.0.1 step line named (parted_back 32 line parts.0 parts.1)
     ]
 
-pub read_said : (step : Line) (line : Bytes) → line_of line ≡ Some (Some step) → Says step line
+pub read_said : (step : Line) (line : Bytes) → line_of line ≡ Some (Some step) → SaysStep step line
 read_said step line is =
     elim (chosen (is_skipped line) (Some None) (option_map Some (step_of line)) (Some (Some step)) is) [
       | inl skipped ↦ none_some step (some_same None (Some step) skipped.1)

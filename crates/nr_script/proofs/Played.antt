@@ -1,7 +1,7 @@
 -- What a line of a script comes to.
 use Rattle.std.proofs.Common.{◌≡◌, ◌++◌, Option, Some, None, List, Result, Ok, Err, OnOk, codes, sym, subst, refl}
 use Rattle.nr_model.specs.Bytes.{Bytes}
-use Rattle.nr_nodes.specs.WorldState.{WorldState}
+use Rattle.nr_world.specs.WorldState.{WorldState}
 use Rattle.nr_script.specs.declared.line.Line.{Line}
 use Rattle.nr_script.specs.Lines.{line_of}
 use Rattle.nr_script.specs.Receivers.{Received}

@@ -5,8 +5,8 @@ use Rattle.std.proofs.lemmas.List.Edits.{map_over_more}
 use Rattle.nr_model.specs.Bytes.{Bytes}
 use Rattle.nr_model.specs.Connections.{Handed, handed_to}
 use Rattle.nr_model.proofs.Exchanged.{handed_to-append}
-use Rattle.nr_nodes.specs.declared.step.Handed as out
-use Rattle.nr_nodes.specs.Seen.{handed_seen}
+use Rattle.nr_world.specs.declared.step.HandedBytes as out
+use Rattle.nr_world.specs.Seen.{handed_seen}
 use Rattle.nr_script.specs.Receivers.{Received, with_handed, emptied, received_line, received_lines}
 
 -- nothing was handed out
@@ -87,13 +87,13 @@ printed_more xs ys i bytes before now after below is taken first more =
     ∙ ap (λ (b : Bytes). before ++ b) (sym lines)
 
 -- a part more was handed out
-pub part_more : (handed : List out.Handed) (i : ℕ) (part : out.Handed) (all ys zs : List Received) → i < length handed → part ≡ get_or handed i part
+pub part_more : (handed : List out.HandedBytes) (i : ℕ) (part : out.HandedBytes) (all ys zs : List Received) → i < length handed → part ≡ get_or handed i part
     → ys ≡ map (with_handed (map handed_seen (take i handed))) all → zs ≡ map (with_handed (handed_seen part ∷ [])) ys
     → zs ≡ map (with_handed (map handed_seen (take (i + 1) handed))) all
 part_more handed i part all ys zs below is before more =
     let grown : map handed_seen (take (i + 1) handed) ≡ map handed_seen (take i handed) ++ handed_seen part ∷ [] =
     ap (map handed_seen) (take_more handed i part below) ∙ map-append handed_seen (take i handed) (get_or handed i part ∷ [])
-    ∙ ap (λ (h : out.Handed). map handed_seen (take i handed) ++ handed_seen h ∷ []) (sym is) in
+    ∙ ap (λ (h : out.HandedBytes). map handed_seen (take i handed) ++ handed_seen h ∷ []) (sym is) in
     more ∙ ap (map (with_handed (handed_seen part ∷ []))) before ∙ handed_both (map handed_seen (take i handed)) (handed_seen part ∷ []) all
     ∙ ap (λ (hs : List Handed). map (with_handed hs) all) (sym grown)
 

@@ -13,7 +13,7 @@ use Rattle.nr_script.specs.declared.line.Line.{Line}
 use Rattle.nr_script.specs.declared.line.Line.TheVariants as lines
 use Rattle.nr_script.specs.Lines.{parted, natural, number_of, number_then, two_numbers, setup_of, feed_of, of_two, of_one, numbered, line_of}
 use Rattle.nr_script.specs.Texts.{text_of}
-use Rattle.nr_script.specs.Said.{Says, numbers_before}
+use Rattle.nr_script.specs.Said.{SaysStep, numbers_before}
 use Rattle.nr_script.proofs.Spelled.{spelled_read}
 
 -- a digit is no space
@@ -115,7 +115,7 @@ four_line name line a b c d rest is none =
     ∙ ap (λ rest. name ++ numbers_before (a ∷ b ∷ c ∷ d ∷ []) rest) none
     ∙ ap (λ text. name ++ 32 ∷ (decimal a ++ 32 ∷ (decimal b ++ 32 ∷ (decimal c ++ 32 ∷ text)))) (append-nil (decimal d))
 
-pub said_read : (step : Line) (line : Bytes) → Says step line → line_of line ≡ Some (Some step)
+pub said_read : (step : Line) (line : Bytes) → SaysStep step line → line_of line ≡ Some (Some step)
 said_read (lines.Setup a b c d) line says =
     ap line_of (four_line (codes "setup") line a b c d says.rest says.is says.ends)
     ∙ ap (option_map Some) (setup_read a b c d says.fit.0 says.fit.1.0 says.fit.1.1.0 says.fit.1.1.1.0)

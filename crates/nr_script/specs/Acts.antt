@@ -5,13 +5,13 @@ use Rattle.nr_model.specs.Bytes.{Bytes}
 use Rattle.nr_model.specs.Connections.{Handed}
 use Rattle.nr_model.specs.Nodes.Steps as steps
 use Rattle.nr_entry.specs.Jobs.{connection_of}
-use Rattle.nr_nodes.specs.Seen.{outcome_seen, handed_seen, answer_seen}
-use Rattle.nr_nodes.specs.WorldState.{WorldState}
-use Rattle.nr_nodes.specs.Taken.{Steps, Takes}
-use Rattle.nr_nodes.specs.Settles.{Settles}
-use Rattle.nr_nodes.specs.declared.step.Happened.{Happened}
-use Rattle.nr_nodes.specs.declared.step.Outcome.{Outcome}
-use Rattle.nr_nodes.specs.declared.step.Outcome.TheVariants as outcomes
+use Rattle.nr_world.specs.Seen.{outcome_seen, handed_seen, answer_seen}
+use Rattle.nr_world.specs.WorldState.{WorldState}
+use Rattle.nr_world.specs.Taken.{Steps, Takes}
+use Rattle.nr_world.specs.Settles.{SettlesWorld}
+use Rattle.nr_world.specs.declared.step.Happened.{Happened}
+use Rattle.nr_world.specs.declared.step.StepOutcome.{StepOutcome}
+use Rattle.nr_world.specs.declared.step.StepOutcome.TheVariants as outcomes
 use Rattle.nr_model.specs.declared.reason.Reason.TheVariants as reasons
 use Rattle.nr_script.specs.declared.line.Line.{Line}
 use Rattle.nr_script.specs.declared.line.Line.TheVariants as lines
@@ -49,25 +49,25 @@ asked_by all (lines.Refuse node) = Step (steps.Refuse node)
 asked_by all lines.Settle = Settle
 
 -- the line of an outcome, where so many connections were opened before
-abbrev pub outcome_line : ℕ → Outcome → Bytes
+abbrev pub outcome_line : ℕ → StepOutcome → Bytes
 outcome_line count (outcomes.Opened conn) = opened_line count
 outcome_line count outcomes.Done = codes "done\n"
 outcome_line count (outcomes.Idle reason) = idle_line reason
 
 -- a connection that was opened stands behind the others
-abbrev pub opened_by : Outcome → List Received → List Received
+abbrev pub opened_by : StepOutcome → List Received → List Received
 opened_by (outcomes.Opened conn) all = all ++ record { connection = connection_of conn; bytes = [] } ∷ []
 opened_by outcomes.Done all = all
 opened_by (outcomes.Idle reason) all = all
 
 -- the line of a collect
-abbrev pub collected_line : Outcome → Bytes
+abbrev pub collected_line : StepOutcome → Bytes
 collected_line (outcomes.Opened conn) = codes "done\n"
 collected_line outcomes.Done = codes "done\n"
 collected_line (outcomes.Idle reason) = idle_line reason
 
 -- an outcome is shown: by its line, and a connection that was opened gets the next number
-pub record IsShown (outcome : Outcome) (all more : List Received) (before after : Bytes) : Type 0 where
+pub record IsShown (outcome : StepOutcome) (all more : List Received) (before after : Bytes) : Type 0 where
   pub opened : more ≡ opened_by outcome all
   pub printed : after ≡ before ++ outcome_line (length all) outcome
 
@@ -77,7 +77,7 @@ pub record AreShown (line : Bytes) (handed : List Handed) (all more : List Recei
   pub printed : after ≡ before ++ (line ++ handed_lines handed all)
 
 pub record HasTaken (step : steps.Step) (old new : WorldState) (all more : List Received) (before after : Bytes) : Type 0 where
-  pub outcome : Outcome
+  pub outcome : StepOutcome
   pub takes : Steps old new step (outcome_seen outcome)
   pub shown : IsShown outcome all more before after
 
@@ -89,7 +89,7 @@ pub record HasCollected (n w : ℕ) (old new : WorldState) (all more : List Rece
 
 pub record HasSettled (old new : WorldState) (all more : List Received) (before after : Bytes) : Type 0 where
   pub handed : List Handed
-  pub settles : Settles old new handed
+  pub settles : SettlesWorld old new handed
   pub shown : AreShown (codes "settled\n") handed all more before after
 
 -- nothing happens

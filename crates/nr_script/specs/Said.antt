@@ -68,7 +68,7 @@ numbers_before [] rest = rest
 numbers_before (n ∷ ns) rest = 32 ∷ (decimal n ++ numbers_before ns rest)
 
 -- A line says a step: its name, its numbers, and what ends it.
-pub record Says (step : Line) (line : Bytes) : Type 0 where
+pub record SaysStep (step : Line) (line : Bytes) : Type 0 where
   pub rest : Bytes
   pub is : line ≡ step_name step ++ numbers_before (step_numbers step) rest
   pub fit : AllByRecursion (λ n. n < 2 ^ 63) (step_numbers step)
@@ -76,8 +76,8 @@ pub record Says (step : Line) (line : Bytes) : Type 0 where
 
 -- a line that says a step is read as that step
 abbrev pub SaidIsRead : Type 0
-SaidIsRead = (step : Line) (line : Bytes) → Says step line → line_of line ≡ Some (Some step)
+SaidIsRead = (step : Line) (line : Bytes) → SaysStep step line → line_of line ≡ Some (Some step)
 
 -- and no other line is
 abbrev pub ReadIsSaid : Type 0
-ReadIsSaid = (step : Line) (line : Bytes) → line_of line ≡ Some (Some step) → Says step line
+ReadIsSaid = (step : Line) (line : Bytes) → line_of line ≡ Some (Some step) → SaysStep step line

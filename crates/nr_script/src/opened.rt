@@ -1,12 +1,12 @@
 // The connections of a script, by the order in which they were opened, with what each was handed.
 ghost use Rattle.std.specs.Prelude.{◌≡◌, ◌<◌, ◌≤◌, ◌++◌, ◌∷◌, [], length, map, slice_index_or, slice_set, IfOk, OnOk, MatchOption};
 ghost use Rattle.nr_entry.specs.Jobs.{connection_of};
-ghost use Rattle.nr_nodes.specs.Seen.{handed_seen};
+ghost use Rattle.nr_world.specs.Seen.{handed_seen};
 ghost use Rattle.nr_script.specs.Receivers.{Received, with_handed};
 
 use nr_blob::Memory;
 use nr_entry::ConnId;
-use nr_nodes::Handed;
+use nr_world::HandedBytes;
 use std::alloc::Global;
 use std::marker::Model;
 use std::mem;
@@ -45,7 +45,7 @@ impl Model for Opened {
 
 impl Receiver {
     // Takes a part, where it is its own.
-    fn receive(&mut self, part: &Handed) -> Result<(), Memory>
+    fn receive(&mut self, part: &HandedBytes) -> Result<(), Memory>
         ensures { OnOk result (self.new ≡ with_handed (handed_seen part.now ∷ []) self.old) }
     {
         if part.conn == self.conn {
@@ -97,7 +97,7 @@ impl Opened {
     }
 
     /// Gives to each what it was handed. Linear in the connections for each part.
-    pub(crate) fn receive(&mut self, handed: &[Handed]) -> Result<(), Memory>
+    pub(crate) fn receive(&mut self, handed: &[HandedBytes]) -> Result<(), Memory>
         ensures { OnOk result (self.new ≡ map (with_handed (map handed_seen handed.now)) self.old) }
     {
         receive_each(&mut self.list, handed)?;
@@ -118,7 +118,7 @@ impl Opened {
     }
 }
 
-fn receive_each(receivers: &mut [Receiver], handed: &[Handed]) -> Result<(), Memory>
+fn receive_each(receivers: &mut [Receiver], handed: &[HandedBytes]) -> Result<(), Memory>
     ensures { OnOk result (receivers.new ≡ map (with_handed (map handed_seen handed.now)) receivers.old) }
 {
     for part in handed {
@@ -127,7 +127,7 @@ fn receive_each(receivers: &mut [Receiver], handed: &[Handed]) -> Result<(), Mem
     Ok(())
 }
 
-fn receive_part(receivers: &mut [Receiver], part: &Handed) -> Result<(), Memory>
+fn receive_part(receivers: &mut [Receiver], part: &HandedBytes) -> Result<(), Memory>
     ensures { OnOk result (receivers.new ≡ map (with_handed (handed_seen part.now ∷ [])) receivers.old) }
 {
     for receiver in receivers.iter_mut() {

@@ -1,6 +1,6 @@
 // A script that is played: each line is taken by a server of several nodes, and what comes of it is printed.
 ghost use Rattle.std.specs.Prelude.{◌≡◌, ◌↔◌, ◌++◌, [], length, map, IfOk, OnOk, Err, None};
-ghost use Rattle.nr_nodes.specs.Seen.{handed_seen};
+ghost use Rattle.nr_world.specs.Seen.{handed_seen};
 ghost use Rattle.nr_script.specs.declared.player.PlayError.TheVariants as errors;
 ghost use Rattle.nr_script.specs.Receivers.{emptied, received_line, received_lines, handed_lines};
 ghost use Rattle.nr_script.specs.Acts.{Setup as AsksSetup, asked_by, collected_line, outcome_line, opened_by, HasCollected, HasSettled, IsDone};
@@ -11,7 +11,7 @@ use crate::opened::Opened;
 use crate::written::{write_done, write_handed, write_idle, write_ok, write_opened, write_settled};
 use nr_blob::Memory;
 use nr_model::reason::Reason;
-use nr_nodes::{Handed, Outcome, Setup, World};
+use nr_world::{HandedBytes, Setup, StepOutcome, World};
 use std::alloc::Global;
 use std::hash::RandomState;
 use std::marker::Model;
@@ -176,7 +176,7 @@ fn act(
             bytes,
         } => {
             let Some(conn) = opened.conn_of(*connection) else {
-                show(alloc, opened, Outcome::Idle(Reason::NoSuch), out)?;
+                show(alloc, opened, StepOutcome::Idle(Reason::NoSuch), out)?;
                 return Ok(());
             };
             let outcome = world.feed(conn, *moment, bytes.bytes())?;
@@ -185,7 +185,7 @@ fn act(
         }
         Line::Close { connection, moment } => {
             let Some(conn) = opened.conn_of(*connection) else {
-                show(alloc, opened, Outcome::Idle(Reason::NoSuch), out)?;
+                show(alloc, opened, StepOutcome::Idle(Reason::NoSuch), out)?;
                 return Ok(());
             };
             let outcome = world.close(conn, *moment)?;
@@ -249,19 +249,19 @@ fn act(
 fn show(
     alloc: Global,
     opened: &mut Opened,
-    outcome: Outcome,
+    outcome: StepOutcome,
     out: &mut Vec<u8>,
 ) -> Result<(), Memory>
     ensures opened { OnOk result (opened.new ≡ opened_by outcome opened.old) }
     ensures out { OnOk result (out.new.items ≡ out.old.items ++ outcome_line (length opened.old) outcome) }
 {
     match outcome {
-        Outcome::Opened(conn) => {
+        StepOutcome::Opened(conn) => {
             let number = opened.add(alloc, conn)?;
             write_opened(number, out)?;
         }
-        Outcome::Done => write_done(out)?,
-        Outcome::Idle(reason) => write_idle(reason, out)?,
+        StepOutcome::Done => write_done(out)?,
+        StepOutcome::Idle(reason) => write_idle(reason, out)?,
     }
     Ok(())
 }
@@ -283,12 +283,12 @@ fn collect(
     Ok(())
 }
 
-fn write_collected(outcome: Outcome, out: &mut Vec<u8>) -> Result<(), Memory>
+fn write_collected(outcome: StepOutcome, out: &mut Vec<u8>) -> Result<(), Memory>
     ensures { OnOk result (out.new.items ≡ out.old.items ++ collected_line outcome) }
 {
     match outcome {
-        Outcome::Idle(reason) => write_idle(reason, out)?,
-        Outcome::Done | Outcome::Opened(_) => write_done(out)?,
+        StepOutcome::Idle(reason) => write_idle(reason, out)?,
+        StepOutcome::Done | StepOutcome::Opened(_) => write_done(out)?,
     }
     Ok(())
 }
@@ -305,7 +305,7 @@ fn settle(world: &mut World, opened: &mut Opened, out: &mut Vec<u8>) -> Result<(
 }
 
 // Prints what was handed out: a line for each connection that was handed bytes, with all of them.
-fn show_handed(opened: &mut Opened, handed: &[Handed], out: &mut Vec<u8>) -> Result<(), Memory>
+fn show_handed(opened: &mut Opened, handed: &[HandedBytes], out: &mut Vec<u8>) -> Result<(), Memory>
     ensures taken { OnOk result (opened.new ≡ map emptied opened.old) }
     ensures printed { OnOk result (out.new.items ≡ out.old.items ++ handed_lines (map handed_seen handed.now) opened.old) }
 {

@@ -12,7 +12,7 @@ use Rattle.nr_service.specs.Serving.{connection, IsLeft}
 use Rattle.nr_service.specs.Readings.{AreFedByClock}
 use Rattle.nr_service.specs.Stories.{Story, fed_in, closings_in, closed_in, bytes_fed, bytes_handed}
 use Rattle.nr_service.proofs.Occurrences.{no_closings}
-use Rattle.nr_answering.specs.Led.{IsOf}
+use Rattle.nr_world_service.specs.Led.{IsOf}
 use Rattle.nr_server.specs.Runs.{alone, IsBegun}
 use Rattle.nr_server.proofs.Pasts.{past_explained, feedings_in, bytes_fed_in, bytes_handed_in, none_closed}
 use Rattle.std.specs.Prelude.{List}

@@ -13,7 +13,7 @@ use Rattle.nr_server.specs.declared.fault.Fault.{Fault}
 use Rattle.nr_server.specs.declared.line.Ran.{Ran}
 use Rattle.nr_server.specs.declared.run.Done.{Done}
 use Rattle.nr_server.specs.declared.run.Done.TheVariants as dones
-use Rattle.nr_server.specs.declared.run.Served.{Served}
+use Rattle.nr_server.specs.declared.run.ServedConnection.{ServedConnection}
 use Rattle.nr_service.specs.Streams.{Course}
 
 -- what may be told
@@ -41,7 +41,7 @@ over all read c world has_ended ends (inr why) = inr why
 -- What was served on a stream that knows what was read and written, and how it stands, was served on a reader and a writer.
 pub has_run : {R W S M : Type 0} (remaining : R → Option Bytes) (contents : W → Option Bytes) (gives : M → M → Option ℕ → Type 0) (clock : M)
     (reader : R) (writer : W) (ran : Ran R W) (all before : Option Bytes) (was_received was_sent : S → Option Bytes) (course : S → Option Course)
-    (served : Served S) (has_ended has_failed is_full has_read_failed is_stuck : Bool) → remaining reader ≡ all → contents writer ≡ before
+    (served : ServedConnection S) (has_ended has_failed is_full has_read_failed is_stuck : Bool) → remaining reader ≡ all → contents writer ≡ before
     → was_received served.stream ≡ Some ran.read.bytes → was_sent served.stream ≡ Some ran.written.bytes
     → course served.stream ≡ Some (record { ended = has_ended; failed = has_failed; full = is_full })
     → Consumes all (remaining ran.reader) ran.read.bytes → Appends before (contents ran.writer) ran.written.bytes

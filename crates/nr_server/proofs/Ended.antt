@@ -12,10 +12,10 @@ use Rattle.nr_service.proofs.Left.{still_left}
 use Rattle.nr_service.specs.Stories.{Occurrence, Story, beginning, fed_in, closings_in, closed_in, going_on}
 use Rattle.nr_service.proofs.Occurrences.{closed_both, closings_still, fed_on}
 use Rattle.nr_service.proofs.Timed.{fed_unread, none_fed, none_timed}
-use Rattle.nr_answering.specs.Kept.{kept_at}
-use Rattle.nr_answering.specs.Led.{HasLedTo, HasOnceLed, IsAtRest}
-use Rattle.nr_answering.specs.Stands.{Stands}
-use Rattle.nr_answering.specs.State.{AnsweringState}
+use Rattle.nr_world_service.specs.Kept.{kept_at}
+use Rattle.nr_world_service.specs.Led.{HasLedTo, HasOnceLed, IsAtRest}
+use Rattle.nr_world_service.specs.Stands.{Stands}
+use Rattle.nr_world_service.specs.State.{WorldBackendState}
 use Rattle.nr_server.specs.Going.{HasEnded}
 use Rattle.nr_server.specs.Runs.{alone, IsServed}
 use Rattle.nr_server.specs.declared.run.Done.{Done}
@@ -24,11 +24,11 @@ use Rattle.nr_server.proofs.Begun.{begins}
 use Rattle.nr_server.proofs.Whole.{whole}
 use Rattle.nr_service.specs.Streams.{Course}
 
-abbrev pub Kept : AnsweringState → Connection → Option Bytes
+abbrev pub Kept : WorldBackendState → Connection → Option Bytes
 Kept a c = kept_at c a.taps
 
 -- no client is served yet
-pub none_served : {S : Type 0} (was_received was_sent : S → Option Bytes) (course : S → Option Course) (a : AnsweringState) (clients : List (Client S))
+pub none_served : {S : Type 0} (was_received was_sent : S → Option Bytes) (course : S → Option Course) (a : WorldBackendState) (clients : List (Client S))
     → clients ≡ [] → HasLedTo a (beginning alone) → AreServed was_received was_sent course (HasLedTo a) (Kept a) (beginning alone) clients
 unfolding IsDistinct
 none_served was_received was_sent course a clients none led =
@@ -55,7 +55,7 @@ begun_fed gives clock made admitted made_at admitted_at next more is none calm m
 
 -- the first one was served so
 first_served : {S M : Type 0} (was_received was_sent : S → Option Bytes) (course : S → Option Course) (gives : M → M → Option ℕ → Type 0)
-    (first last : M) (now : ℕ) (a : AnsweringState) (story : Story) (client : Client S)
+    (first last : M) (now : ℕ) (a : WorldBackendState) (story : Story) (client : Client S)
     (more : List (Client S)) (done : Done) → story.setup ≡ alone → closed_in story.occurrences ≡ []
     → HasEnded was_received was_sent course HasLedTo (λ _. HasOnceLed) IsAtRest Kept Stands (AreFedByClock gives first last now) story a (client ∷ more) done
     → IsServed was_received was_sent course gives first (record { stream = client.stream; done = done })
@@ -94,7 +94,7 @@ first_served was_received was_sent course gives first last now a story client mo
     )
 
 pub served : {S M : Type 0} (was_received was_sent : S → Option Bytes) (course : S → Option Course) (gives : M → M → Option ℕ → Type 0)
-    (first last : M) (now : ℕ) (a : AnsweringState) (story : Story)
+    (first last : M) (now : ℕ) (a : WorldBackendState) (story : Story)
     (clients : List (Client S)) (client : Client S) (done : Done) → story.setup ≡ alone → closed_in story.occurrences ≡ [] → 0 < length clients
     → client ≡ get_or clients 0 client → HasEnded was_received was_sent course HasLedTo (λ _. HasOnceLed) IsAtRest Kept Stands
     (AreFedByClock gives first last now) story a clients done

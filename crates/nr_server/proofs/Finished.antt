@@ -1,8 +1,8 @@
 -- Lists of which one member after another changes, and who is let go of by that.
 use Rattle.std.proofs.Common.{◌≡◌, ℕ, zero, suc, ◌+◌, ◌<◌, ◌≤◌, List, [], ◌∷◌, map, length, get_or, set, refl, sym, subst, arith, Option, ◌∙◌}
 use Rattle.nr_crew.specs.Together.{AllPairs}
-use Rattle.nr_crew.specs.declared.lane.Left.{Left}
-use Rattle.nr_service.specs.Devices.{Parting, Finished, PartsWith}
+use Rattle.nr_crew.specs.declared.lane.WorkerEnd.{WorkerEnd}
+use Rattle.nr_service.specs.Pollers.{Parting, Finished, PartsWith}
 use Rattle.nr_service.specs.declared.client.Client.{Client}
 use Rattle.nr_service.proofs.Closing.{parts_none, parts_then}
 use Rattle.nr_server.specs.Parting.{HasParted, PartsFrom, PartsWithNone}
@@ -44,14 +44,14 @@ module _ {X : Type 0} (R : X → X → Type 0) where
   all_of (suc n) (old ∷ olds) (new ∷ news) k h = (h.0, all_of n olds news (omega arith) h.1)
 
 module _ {S D M : Type 0} (parted : D → Option (List (Parting S))) where
-  none_beside : (a b c : Left S D M) → HasParted parted a b → PartsWithNone parted b c → HasParted parted a c
+  none_beside : (a b c : WorkerEnd S D M) → HasParted parted a b → PartsWithNone parted b c → HasParted parted a c
   none_beside a b c h w = record {
     none = w.same ∙ h.none;
     parts = subst (λ (known : Option (List (Parting S))). PartsFrom a.clients.items (parted a.device) known) (sym w.parts_none) h.parts;
   }
 
   -- what waits parts with nobody more
-  pub still_parted : (xs ys zs : List (Left S D M)) → AllPairs (HasParted parted) xs ys → AllPairs (PartsWithNone parted) ys zs → AllPairs (HasParted parted) xs zs
+  pub still_parted : (xs ys zs : List (WorkerEnd S D M)) → AllPairs (HasParted parted) xs ys → AllPairs (PartsWithNone parted) ys zs → AllPairs (HasParted parted) xs zs
   still_parted [] [] [] h w = tt
   still_parted [] [] (z ∷ zs) h w = absurd w
   still_parted [] (y ∷ ys) zs h w = absurd h

@@ -5,14 +5,14 @@ use Rattle.std.proofs.lemmas.List.Elements.{All-head, All-weaker}
 use Rattle.nr_model.specs.Bytes.{Bytes}
 use Rattle.nr_model.specs.Items.{Connection}
 use Rattle.nr_service.specs.declared.client.Client.{Client}
-use Rattle.nr_service.specs.Readings.{AreFedByClock, IsFedAmong, IsFedAt, IsFedAtRest, Reads}
+use Rattle.nr_service.specs.Readings.{AreFedByClock, IsFedAmong, IsFedAt, IsFedAtRest, ReadsClock}
 use Rattle.nr_service.specs.Serving.{connection, AreServed, IsLeft, IsServed}
 use Rattle.nr_service.specs.Steps.{Exchanges, Leaves}
 use Rattle.nr_service.proofs.Left.{still_left}
 use Rattle.nr_service.proofs.Timed.{fed_alone}
 use Rattle.nr_service.specs.Stories.{Occurrence, Story, Past, Kept, IsLeftOf, opened_in, fed_in, closings_in, closed_in, going_on}
 use Rattle.nr_service.proofs.Occurrences.{opened_both, closed_both, closings_still, fed_on, going_none, going_both}
-use Rattle.nr_service.specs.declared.answers.Standing.{Standing}
+use Rattle.nr_service.specs.declared.backend.ConnectionState.{ConnectionState}
 use Rattle.nr_server.specs.Going.{AreCutOff, HasEnded, HasFirstFailed, InTime, IsDone}
 use Rattle.nr_service.proofs.Known.{course_failed}
 use Rattle.nr_server.specs.declared.run.Done.{Done}
@@ -48,7 +48,7 @@ pub record Rests {A S : Type 0} (was_received was_sent : S → Option Bytes) (co
 pub exchanged : {A S M : Type 0} (was_received was_sent : S → Option Bytes) (course : S → Option Course) (is_past is_settled : A → Past) (keeps : A → Kept)
     (busy : A → Bool)
     (gives : M → M → Option ℕ → Type 0) (first clock read : M) (before now : ℕ) (story : Story) (a b : A) (old new : List (Client S))
-    → Reads gives clock read before now
+    → ReadsClock gives clock read before now
     → Goes was_received was_sent course is_past keeps (AreFedByClock gives first clock before) story a old
     → Exchanges was_received was_sent course is_past is_settled keeps busy now a b old new
     → Rests was_received was_sent course is_past is_settled keeps (AreFedByClock gives first read now) story b new
@@ -74,7 +74,7 @@ exchanged was_received was_sent course is_past is_settled keeps busy gives first
 -- or where memory ran out in it
 pub failed : {A S M : Type 0} (was_received was_sent : S → Option Bytes) (course : S → Option Course) (is_past is_left : A → Past) (keeps : A → Kept)
     (gives : M → M → Option ℕ → Type 0) (first clock read : M) (before now : ℕ) (story : Story) (a b : A) (old new : List (Client S))
-    → Reads gives clock read before now
+    → ReadsClock gives clock read before now
     → Goes was_received was_sent course is_past keeps (AreFedByClock gives first clock before) story a old
     → Leaves was_received was_sent course is_past is_left keeps (IsFedAmong now (map connection old)) a b old new
     → AreCutOff was_received was_sent is_left (AreFedByClock gives first read now) story b new
@@ -111,7 +111,7 @@ goes_left was_received was_sent course is_past is_left keeps in_time story answe
 
 -- the stream of the first one failed, where it is broken
 first_failed : {A S : Type 0} (was_received was_sent : S → Option Bytes) (course : S → Option Course) (keeps : A → Kept)
-    (stands : A → Connection → Standing → Type 0) (story : Story) (a : A) (clients : List (Client S)) (done : Done)
+    (stands : A → Connection → ConnectionState → Type 0) (story : Story) (a : A) (clients : List (Client S)) (done : Done)
     → All (IsServed was_received was_sent course (keeps a) story) clients → IsDone keeps stands a clients done → done ≡ dones.Broken
     → HasFirstFailed course clients
 first_failed was_received was_sent course keeps stands story a [] done all is e = tt
@@ -121,8 +121,8 @@ first_failed was_received was_sent course keeps stands story a (client ∷ clien
 
 -- so they end, however that is
 pub ends_failed : {A S M : Type 0} (was_received was_sent : S → Option Bytes) (course : S → Option Course) (is_past is_left is_settled : A → Past) (keeps : A → Kept)
-    (stands : A → Connection → Standing → Type 0) (gives : M → M → Option ℕ → Type 0) (first clock read : M) (before now : ℕ) (story : Story) (a b : A)
-    (old new : List (Client S)) → Reads gives clock read before now
+    (stands : A → Connection → ConnectionState → Type 0) (gives : M → M → Option ℕ → Type 0) (first clock read : M) (before now : ℕ) (story : Story) (a b : A)
+    (old new : List (Client S)) → ReadsClock gives clock read before now
     → Goes was_received was_sent course is_past keeps (AreFedByClock gives first clock before) story a old
     → Leaves was_received was_sent course is_past is_left keeps (IsFedAmong now (map connection old)) a b old new
     → HasEnded was_received was_sent course is_past is_left is_settled keeps stands (AreFedByClock gives first read now) story b new dones.Memory
@@ -134,7 +134,7 @@ ends_failed was_received was_sent course is_past is_left is_settled keeps stands
     }
 
 pub ends_by : {A S : Type 0} (was_received was_sent : S → Option Bytes) (course : S → Option Course) (is_past is_left is_settled : A → Past) (keeps : A → Kept)
-    (stands : A → Connection → Standing → Type 0) (in_time : InTime) (story : Story) (a : A) (clients : List (Client S)) (done : Done)
+    (stands : A → Connection → ConnectionState → Type 0) (in_time : InTime) (story : Story) (a : A) (clients : List (Client S)) (done : Done)
     → IsLeftOf (is_past a) (is_left a)
     → Rests was_received was_sent course is_past is_settled keeps in_time story a clients → IsDone keeps stands a clients done
     → HasEnded was_received was_sent course is_past is_left is_settled keeps stands in_time story a clients done
@@ -156,7 +156,7 @@ ends_by was_received was_sent course is_past is_left is_settled keeps stands in_
     }
 
 pub ends_at_last : {A S : Type 0} (was_received was_sent : S → Option Bytes) (course : S → Option Course) (is_past is_left is_settled : A → Past) (keeps : A → Kept)
-    (stands : A → Connection → Standing → Type 0) (in_time : InTime) (story : Story) (a : A) (clients : List (Client S))
+    (stands : A → Connection → ConnectionState → Type 0) (in_time : InTime) (story : Story) (a : A) (clients : List (Client S))
     → IsLeftOf (is_past a) (is_left a) → Goes was_received was_sent course is_past keeps in_time story a clients
     → HasEnded was_received was_sent course is_past is_left is_settled keeps stands in_time story a clients dones.Memory
 ends_at_last was_received was_sent course is_past is_left is_settled keeps stands in_time story a clients left goes =

@@ -10,10 +10,10 @@ use Rattle.nr_model.proofs.NodesExplained.{nodes_are_explained}
 use Rattle.nr_model.proofs.NodesOwnHolds.{IsOwn, each_own}
 use Rattle.nr_model.proofs.NodesOwnOwned.{is_shut}
 use Rattle.nr_service.specs.Stories.{Occurrence, Story, fed_in, handed_in as pieces_in, closed_in, bytes_fed, bytes_handed}
-use Rattle.nr_answering.specs.Led.{IsOf}
-use Rattle.nr_answering.proofs.Apart.{IsApart}
-use Rattle.nr_answering.proofs.Occurred.{told_handed}
-use Rattle.nr_answering.proofs.Pasts.{past_led}
+use Rattle.nr_world_service.specs.Led.{IsOf}
+use Rattle.nr_world_service.proofs.Apart.{IsApart}
+use Rattle.nr_world_service.proofs.Occurred.{told_handed}
+use Rattle.nr_world_service.proofs.Pasts.{past_led}
 
 -- what was taken, in order, explains a past
 pub past_explained : (setup : Setup) (events : List Event) (world : World) → IsPast setup events world → Explains (sequence_of world) setup events world

@@ -11,24 +11,24 @@ use Rattle.nr_model.specs.Nodes.Steps.{is_client}
 use Rattle.nr_model.specs.Nodes.Pasts.{Event, IsPast}
 use Rattle.nr_model.proofs.NodesSteps.{a_client, each_sized}
 use Rattle.nr_model.proofs.NodesAlone.{alone_since}
-use Rattle.nr_nodes.specs.Standing.{has_ended as takes_no_more}
+use Rattle.nr_world.specs.Standing.{has_ended as takes_no_more}
 use Rattle.nr_service.proofs.Known.{course_ended, course_sound}
 use Rattle.nr_service.specs.declared.client.Client.{Client}
 use Rattle.nr_service.specs.Serving.{connection, IsServed}
 use Rattle.nr_service.specs.Stories.{Story, kept_bytes, closed_in, bytes_fed, bytes_handed}
-use Rattle.nr_service.specs.declared.answers.Standing.{Standing}
-use Rattle.nr_service.specs.declared.answers.Standing.TheVariants as standings
-use Rattle.nr_answering.specs.Kept.{kept_at}
-use Rattle.nr_answering.specs.Led.{IsAtRest}
-use Rattle.nr_answering.specs.Stands.{Stands}
-use Rattle.nr_answering.specs.State.{AnsweringState}
+use Rattle.nr_service.specs.declared.backend.ConnectionState.{ConnectionState}
+use Rattle.nr_service.specs.declared.backend.ConnectionState.TheVariants as standings
+use Rattle.nr_world_service.specs.Kept.{kept_at}
+use Rattle.nr_world_service.specs.Led.{IsAtRest}
+use Rattle.nr_world_service.specs.Stands.{Stands}
+use Rattle.nr_world_service.specs.State.{WorldBackendState}
 use Rattle.nr_server.specs.Going.{IsOver}
 use Rattle.nr_server.specs.Runs.{alone, IsOver as IsAtEnd, IsWhole}
 use Rattle.nr_server.proofs.Pasts.{unclosed, bytes_fed_in, bytes_handed_in, none_closed}
 use Rattle.nr_service.specs.Streams.{Course}
 
 -- a node that isn't down, and whether a connection of it takes more
-up_where : (down ended : Bool) (s : Standing) → s ≡ cond down standings.Down (cond ended standings.Over standings.Open)
+up_where : (down ended : Bool) (s : ConnectionState) → s ≡ cond down standings.Down (cond ended standings.Over standings.Open)
     → (s ≡ standings.Over) ⊎ (s ≡ standings.Open) → down ≡ false
 up_where true ended s is (inl e) = absurd (cc (sym e ∙ is))
 up_where true ended s is (inr e) = absurd (cc (sym e ∙ is))
@@ -48,7 +48,7 @@ ended_or_cut true false true false p q h = absurd (cc q)
 ended_or_cut false false k false p q h = absurd (cc p)
 
 -- where something is kept it is there
-kept_there : (a : AnsweringState) (world : World) (c : Connection) (pending : Bytes) → ((d : Connection) → is_client world d ≡ false → kept_at d a.taps ≡ None)
+kept_there : (a : WorldBackendState) (world : World) (c : Connection) (pending : Bytes) → ((d : Connection) → is_client world d ≡ false → kept_at d a.taps ≡ None)
     → kept_at c a.taps ≡ Some pending → is_client world c ≡ true
 kept_there a world c pending absent kept =
     elim (cases_Bool (is_client world c)) [
@@ -76,10 +76,10 @@ all_sent (Some bytes) handed pending all none same is =
 all_fed : (known : Option Bytes) (fed other : Bytes) → fed ≡ other → IfSome known (λ bytes. bytes ≡ fed) → IfSome known (λ bytes. bytes ≡ other)
 all_fed known fed other e is = subst (λ (b : Bytes). IfSome known (λ bytes. bytes ≡ b)) e is
 
-pub whole : {S : Type 0} (was_received was_sent : S → Option Bytes) (course : S → Option Course) (a : AnsweringState) (story : Story) (client : Client S)
+pub whole : {S : Type 0} (was_received was_sent : S → Option Bytes) (course : S → Option Course) (a : WorldBackendState) (story : Story) (client : Client S)
     → story.setup ≡ alone → closed_in story.occurrences ≡ [] → (rest : IsAtRest a story)
     → IsServed was_received was_sent course (λ c. kept_at c a.taps) story client
-    → IsOver (λ (b : AnsweringState) c. kept_at c b.taps) Stands a client
+    → IsOver (λ (b : WorldBackendState) c. kept_at c b.taps) Stands a client
     → IsWhole was_received was_sent course (connection client) rest.world client.stream
 whole was_received was_sent course a story client sized calm rest served over =
     let c = connection client in

@@ -2,11 +2,11 @@
 use Rattle.std.specs.Prelude.{◌≡◌, ◌⊎◌, ℕ, Bool, List, Option, Result, Ok, Err}
 use Rattle.nr_model.specs.Bytes.{Bytes}
 use Rattle.nr_replica.specs.Replicas.{ReplicaState}
-use Rattle.nr_service.specs.Devices.{Parting}
+use Rattle.nr_service.specs.Pollers.{Parting}
 use Rattle.nr_crew.specs.Ended.{HasEnded}
 use Rattle.nr_crew.specs.Left.{AreServedWithin}
 use Rattle.nr_crew.specs.Together.{AreServedTogether}
-use Rattle.nr_crew.specs.declared.lane.Left.{Left}
+use Rattle.nr_crew.specs.declared.lane.WorkerEnd.{WorkerEnd}
 use Rattle.nr_crew.specs.declared.running.ServeError.{ServeError}
 use Rattle.nr_crew.specs.declared.serving.ClientLimits.{ClientLimits}
 use Rattle.nr_server.specs.Serving.{ended_by}
@@ -17,7 +17,7 @@ use Rattle.nr_server.specs.declared.fault.Fault.TheVariants as faults
 -- All is well only where each of them was stopped, and it could be said where the server listens.
 pub record HasServedByTcp {S D M : Type 0} (was_received was_sent : S → Option Bytes) (gives : M → M → Option ℕ → Type 0) (parted : D → Option (List (Parting S)))
     (workers : ℕ) (limits : ClientLimits) (told : Result (Unit {0}) Fault) : Type 0 where
-  pub lefts : List (Left S D M)
+  pub lefts : List (WorkerEnd S D M)
   pub replicas : List ReplicaState
   pub together : AreServedTogether was_received was_sent gives parted lefts replicas
   pub within : AreServedWithin limits lefts

@@ -11,7 +11,7 @@ use Rattle.nr_config.specs.Faults.{Refuses, Sets}
 use Rattle.nr_config.specs.Given.{BlamesFirstWord}
 use Rattle.nr_config.specs.Keys.{HasNoFault}
 use Rattle.nr_config.specs.Places.{IsPlaceIn}
-use Rattle.nr_config.specs.declared.place.Place.{Place}
+use Rattle.nr_config.specs.declared.place.TextPlace.{TextPlace}
 use Rattle.nr_server.specs.declared.fault.Fault.{Fault}
 use Rattle.nr_server.specs.declared.fault.Fault.TheVariants as faults
 
@@ -32,7 +32,7 @@ pub record AreSet (bytes : List ℕ) (settings : Settings) : Type 0 where
 
 -- the bytes are no text, and this is told of them
 abbrev pub IsNoText : List ℕ → Fault → Type 0
-IsNoText bytes fault = (¬ (IsUtf8 bytes)) × ((place : Place) × (fault ≡ faults.NotToml place) × IsPlaceIn bytes place)
+IsNoText bytes fault = (¬ (IsUtf8 bytes)) × ((place : TextPlace) × (fault ≡ faults.NotToml place) × IsPlaceIn bytes place)
 
 -- what is told of bytes, or want of memory
 abbrev pub IsToldOf : List ℕ → Fault → Type 0

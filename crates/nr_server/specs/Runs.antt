@@ -11,7 +11,7 @@ use Rattle.nr_model.specs.Nodes.Pasts.{Event, IsPast}
 use Rattle.nr_model.specs.Nodes.Explained.{jobs_executed, asked_jobs, Explains}
 use Rattle.nr_service.specs.Readings.{AreFedFrom}
 use Rattle.nr_server.specs.declared.run.Done.TheVariants as dones
-use Rattle.nr_server.specs.declared.run.Served.{Served}
+use Rattle.nr_server.specs.declared.run.ServedConnection.{ServedConnection}
 use Rattle.nr_service.specs.Streams.{Course, fresh_course}
 
 -- one node, one worker and one connection
@@ -61,7 +61,7 @@ pub record IsWhole {S : Type 0} (was_received was_sent : S → Option Bytes) (co
 
 -- There are a connection, events of a server of one connection, and the world that they led to; and the whole holds where it didn't fail. It is broken only
 -- where its stream failed.
-abbrev pub IsServed : {S M : Type 0} → (S → Option Bytes) → (S → Option Bytes) → (S → Option Course) → (M → M → Option ℕ → Type 0) → M → Served S → Type 0
+abbrev pub IsServed : {S M : Type 0} → (S → Option Bytes) → (S → Option Bytes) → (S → Option Course) → (M → M → Option ℕ → Type 0) → M → ServedConnection S → Type 0
 IsServed was_received was_sent course gives clock served =
     (c : Connection) × (events : List Event) × (world : World)
     × IsBegun was_received was_sent gives clock c events world served.stream

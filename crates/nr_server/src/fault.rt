@@ -2,9 +2,9 @@
 ghost use Rattle.std.specs.Prelude.{◌≡◌};
 ghost use Rattle.nr_server.specs.Faults.{status_of};
 
-use crate::refusal::Refusal;
+use crate::refusal::SystemRefusal;
 use nr_blob::Memory;
-use nr_config::{Kind, Place};
+use nr_config::{Kind, TextPlace};
 use nr_crew::StartError;
 use nr_script::ScriptError;
 use std::alloc::AllocError;
@@ -22,17 +22,17 @@ pub enum Fault {
     /// The line of a script with this number, from 1, says no step that can be taken.
     BadStep(u64),
     /// The script of this name could not be read.
-    Script(String, Refusal),
+    Script(String, SystemRefusal),
     /// The settings file of this name could not be read.
-    Settings(String, Refusal),
+    Settings(String, SystemRefusal),
     /// The settings aren't TOML from this place on.
-    NotToml(Place),
+    NotToml(TextPlace),
     /// No setting has this name.
     UnknownKey(String),
     /// The value of the setting of this name isn't what it has to be.
     BadValue(String, Kind),
     /// The server could not listen at this address.
-    CannotListen(String, Refusal),
+    CannotListen(String, SystemRefusal),
     /// No connection can come any more.
     Listener,
     /// The system gave no thread.

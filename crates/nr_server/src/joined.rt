@@ -33,7 +33,7 @@ impl Beginning for Brand {
 /// A reader and a writer as one stream, which knows how it stands, and, in proofs, what it received and sent since a beginning. A read waits for bytes,
 /// and a write until some are taken.
 #[derive(Drop)]
-pub(crate) struct Line<R: Read, W: Write, B: Beginning> {
+pub(crate) struct JoinedStream<R: Read, W: Write, B: Beginning> {
     pub(crate) reader: R,
     pub(crate) writer: W,
     pub(crate) received: Transcript,
@@ -51,7 +51,7 @@ pub(crate) struct Line<R: Read, W: Write, B: Beginning> {
     pub ghost writes: { Appends B.output (W.contents writer) sent.bytes } by { Appends-prop B.output (W.contents writer) sent.bytes },
 }
 
-impl<R: Read, W: Write, B: Beginning> Line<R, W, B> {
+impl<R: Read, W: Write, B: Beginning> JoinedStream<R, W, B> {
     /// Nothing was read or written yet.
     pub(crate) fn new(reader: R, writer: W) -> Self
         requires input { R.remaining reader ≡ B.input }
@@ -64,7 +64,7 @@ impl<R: Read, W: Write, B: Beginning> Line<R, W, B> {
         ensures sound { (result.has_read_failed ≡ false) × (result.has_write_failed ≡ false) }
         ensures empty { result.is_full ≡ false }
     {
-        Line {
+        JoinedStream {
             reader,
             writer,
             received: Transcript::new(),
@@ -79,7 +79,7 @@ impl<R: Read, W: Write, B: Beginning> Line<R, W, B> {
     }
 }
 
-impl<R: Read, W: Write, B: Beginning> Stream for Line<R, W, B> {
+impl<R: Read, W: Write, B: Beginning> Stream for JoinedStream<R, W, B> {
     ghost use Rattle.std.specs.Prelude.{Some, ◌||◌};
 
     ghost received = { λ line. Some line.received.bytes };

@@ -5,8 +5,8 @@
 pub use fault::Fault;
 pub use line::{Ran, run_on};
 pub use notice::Notice;
-pub use refusal::Refusal;
-pub use run::{Done, Served, serve_stream};
+pub use refusal::SystemRefusal;
+pub use run::{Done, ServedConnection, serve_stream};
 pub use script::play_on;
 pub use serve::{Remains, listen_on, serve_by_tcp, serve_on};
 pub use settings::{settings_on, with_words};

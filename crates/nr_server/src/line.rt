@@ -3,8 +3,8 @@ ghost use Rattle.std.specs.Prelude.{◌≡◌, IfOk};
 ghost use Rattle.nr_server.specs.Ran.{run_answer, HasRunOn};
 
 use crate::fault::Fault;
-use crate::joined::{Beginning, Line};
-use crate::run::{Done, Served, serve_stream};
+use crate::joined::{Beginning, JoinedStream};
+use crate::run::{Done, ServedConnection, serve_stream};
 use nr_service::Moments;
 use nr_transcript::Transcript;
 use std::alloc::Global;
@@ -54,10 +54,10 @@ where
     requires output { W.contents writer ≡ B.output }
     ensures { IfOk result (HasRunOn R.remaining W.contents M.gives clock reader writer) }
 {
-    let line = Line::<R, W, B>::new(reader, writer);
-    let Served { stream, done } = serve_stream(alloc, keys, line, clock)?;
+    let line = JoinedStream::<R, W, B>::new(reader, writer);
+    let ServedConnection { stream, done } = serve_stream(alloc, keys, line, clock)?;
     let done = answer_of(done, stream.has_read_failed, stream.is_stuck);
-    let Line {
+    let JoinedStream {
         reader,
         writer,
         received,

@@ -2,8 +2,8 @@
 ghost use Rattle.std.specs.Prelude.{◌≡◌, length};
 ghost use Rattle.nr_server.specs.Parting.{HasParted, HaveParted, PartWithNone, PartsFrom, PartsWithNone};
 
-use nr_crew::Left;
-use nr_service::{Client, Device, Moments, Stream};
+use nr_crew::WorkerEnd;
+use nr_service::{Client, Moments, Poller, Stream};
 use std::alloc::Global;
 use std::mem;
 
@@ -14,7 +14,7 @@ const MOST_MILLISECONDS: u64 = 1_000;
 const MOST_WAITS: u32 = 100_000;
 
 // Lets go of the streams of the clients that a worker left, each as one of which all was sent. How many there were.
-fn finish_each<S: Stream + Drop, D: Device<S>>(device: &mut D, clients: Vec<Client<S>>) -> usize
+fn finish_each<S: Stream + Drop, D: Poller<S>>(device: &mut D, clients: Vec<Client<S>>) -> usize
     ensures count { result ≡ length clients.items }
     ensures parted { PartsFrom clients.items (D.parted device.old) (D.parted device.new) }
 {
@@ -27,14 +27,17 @@ fn finish_each<S: Stream + Drop, D: Device<S>>(device: &mut D, clients: Vec<Clie
 }
 
 // Looks once at what the peers of streams that a worker let go of still send. Where it isn't busy it waits for that, at most 10 milliseconds.
-fn look_at<S: Stream + Drop, D: Device<S> + Drop, M: Drop>(left: &mut Left<S, D, M>, is_busy: bool)
+fn look_at<S: Stream + Drop, D: Poller<S> + Drop, M: Drop>(
+    left: &mut WorkerEnd<S, D, M>,
+    is_busy: bool,
+)
     ensures { PartsWithNone D.parted left.old left.new }
 {
     let _goes_on = left.device.wait(is_busy);
 }
 
 // The same at all: it waits at the first device.
-fn look_once<S: Stream + Drop, D: Device<S> + Drop, M: Drop>(lefts: &mut [Left<S, D, M>])
+fn look_once<S: Stream + Drop, D: Poller<S> + Drop, M: Drop>(lefts: &mut [WorkerEnd<S, D, M>])
     ensures { PartWithNone D.parted lefts.old lefts.new }
 {
     let mut is_first = true;
@@ -45,9 +48,9 @@ fn look_once<S: Stream + Drop, D: Device<S> + Drop, M: Drop>(lefts: &mut [Left<S
 }
 
 // Lets go of all clients of a worker so. How many there were.
-fn finish_left<S: Stream + Drop, D: Device<S> + Drop, M: Drop>(
+fn finish_left<S: Stream + Drop, D: Poller<S> + Drop, M: Drop>(
     alloc: Global,
-    left: &mut Left<S, D, M>,
+    left: &mut WorkerEnd<S, D, M>,
 ) -> usize
     ensures count { result ≡ length left.old.clients.items }
     ensures parted { HasParted D.parted left.old left.new }
@@ -57,9 +60,9 @@ fn finish_left<S: Stream + Drop, D: Device<S> + Drop, M: Drop>(
 }
 
 // Lets go of all clients of all workers so. How many there were.
-fn finish_all<S: Stream + Drop, D: Device<S> + Drop, M: Drop>(
+fn finish_all<S: Stream + Drop, D: Poller<S> + Drop, M: Drop>(
     alloc: Global,
-    lefts: &mut [Left<S, D, M>],
+    lefts: &mut [WorkerEnd<S, D, M>],
 ) -> usize
     ensures { HaveParted D.parted lefts.old lefts.new }
 {
@@ -72,10 +75,14 @@ fn finish_all<S: Stream + Drop, D: Device<S> + Drop, M: Drop>(
 }
 
 /// Lets go of the clients that workers left that have ended in order, and waits for a second while their peers still send. Where none is left it doesn't wait.
-pub(crate) fn part_from_all<S, D, M, C>(alloc: Global, lefts: &mut [Left<S, D, M>], clock: &mut C)
+pub(crate) fn part_from_all<S, D, M, C>(
+    alloc: Global,
+    lefts: &mut [WorkerEnd<S, D, M>],
+    clock: &mut C,
+)
 where
     S: Stream + Drop,
-    D: Device<S> + Drop,
+    D: Poller<S> + Drop,
     M: Drop,
     C: Moments,
     ensures { HaveParted D.parted lefts.old lefts.new }

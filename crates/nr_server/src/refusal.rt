@@ -8,7 +8,7 @@ use std::io::{Error, ErrorKind};
 
 /// Why the system refused something, as far as it says.
 #[derive(Clone, Copy, Debug, PartialEq, Eq)]
-pub enum Refusal {
+pub enum SystemRefusal {
     /// Someone listens at the address.
     AddressInUse,
     /// The address is none of this machine.
@@ -28,34 +28,34 @@ pub enum Refusal {
 }
 
 // By the system's number, where it gives one.
-fn by_number(number: Option<i32>, otherwise: Refusal) -> Refusal
+fn by_number(number: Option<i32>, otherwise: SystemRefusal) -> SystemRefusal
     ensures { result ≡ by_number number otherwise }
 {
     match number {
-        Some(number) => Refusal::Number(number),
+        Some(number) => SystemRefusal::Number(number),
         None => otherwise,
     }
 }
 
-impl Refusal {
+impl SystemRefusal {
     /// Why this failed.
-    pub fn of(error: &Error) -> Refusal
+    pub fn of(error: &Error) -> SystemRefusal
         ensures { result ≡ refusal_of (error_kind error.now) (raw_os_error error.now) }
     {
         match error.kind() {
-            ErrorKind::AddrInUse => Refusal::AddressInUse,
-            ErrorKind::AddrNotAvailable => Refusal::NoSuchAddress,
-            ErrorKind::NotFound => Refusal::NoSuchFile,
-            ErrorKind::PermissionDenied => Refusal::PermissionDenied,
-            ErrorKind::IsADirectory => Refusal::Directory,
-            ErrorKind::InvalidInput => by_number(error.raw_os_error(), Refusal::NoAddress),
-            ErrorKind::Uncategorized => by_number(error.raw_os_error(), Refusal::NoSuchName),
-            _ => by_number(error.raw_os_error(), Refusal::Unknown),
+            ErrorKind::AddrInUse => SystemRefusal::AddressInUse,
+            ErrorKind::AddrNotAvailable => SystemRefusal::NoSuchAddress,
+            ErrorKind::NotFound => SystemRefusal::NoSuchFile,
+            ErrorKind::PermissionDenied => SystemRefusal::PermissionDenied,
+            ErrorKind::IsADirectory => SystemRefusal::Directory,
+            ErrorKind::InvalidInput => by_number(error.raw_os_error(), SystemRefusal::NoAddress),
+            ErrorKind::Uncategorized => by_number(error.raw_os_error(), SystemRefusal::NoSuchName),
+            _ => by_number(error.raw_os_error(), SystemRefusal::Unknown),
         }
     }
 }
 
-impl fmt::Display for Refusal {
+impl fmt::Display for SystemRefusal {
     ghost use Rattle.std.specs.Prelude.{Some};
     ghost use Rattle.nr_server.specs.Refusals.{refusal_text};
 
@@ -63,15 +63,15 @@ impl fmt::Display for Refusal {
 
     fn fmt<W: fmt::Write>(&self, f: &mut fmt::Formatter<W>) -> fmt::Result {
         match self {
-            Refusal::AddressInUse => f.write_str("address in use"),
-            Refusal::NoSuchAddress => f.write_str("no such address"),
-            Refusal::NoAddress => f.write_str("not an address and a port"),
-            Refusal::NoSuchName => f.write_str("no such name"),
-            Refusal::NoSuchFile => f.write_str("no such file"),
-            Refusal::PermissionDenied => f.write_str("permission denied"),
-            Refusal::Directory => f.write_str("is a directory"),
-            Refusal::Number(number) => write!(f, "error {number} of the system"),
-            Refusal::Unknown => f.write_str("the system doesn't say why"),
+            SystemRefusal::AddressInUse => f.write_str("address in use"),
+            SystemRefusal::NoSuchAddress => f.write_str("no such address"),
+            SystemRefusal::NoAddress => f.write_str("not an address and a port"),
+            SystemRefusal::NoSuchName => f.write_str("no such name"),
+            SystemRefusal::NoSuchFile => f.write_str("no such file"),
+            SystemRefusal::PermissionDenied => f.write_str("permission denied"),
+            SystemRefusal::Directory => f.write_str("is a directory"),
+            SystemRefusal::Number(number) => write!(f, "error {number} of the system"),
+            SystemRefusal::Unknown => f.write_str("the system doesn't say why"),
         }
     }
 }

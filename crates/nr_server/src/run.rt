@@ -8,9 +8,9 @@ ghost use Rattle.nr_server.specs.Runs.{alone as one_connection, IsFresh, IsServe
 ghost use Rattle.nr_server.specs.Going.{IsDone, Ends};
 
 use crate::fault::Fault;
-use nr_answering::Answering;
-use nr_nodes::Setup;
-use nr_service::{Answers, Client, Moments, Nowhere, Service, Standing, Stream};
+use nr_service::{Backend, Client, ConnectionState, Moments, NoArrivals, Service, Stream};
+use nr_world::Setup;
+use nr_world_service::WorldBackend;
 use std::alloc::Global;
 use std::hash::RandomState;
 
@@ -30,7 +30,7 @@ pub enum Done {
 
 /// A stream whose connection was served, and how that ended.
 #[derive(Drop)]
-pub struct Served<S> {
+pub struct ServedConnection<S> {
     pub stream: S,
     pub done: Done,
 }
@@ -43,7 +43,7 @@ fn alone() -> Setup
 }
 
 // How the first of these clients has ended, `None` where it is served further.
-fn done_of<A: Answers, S: Stream>(answers: &A, clients: &[Client<S>]) -> Option<Done>
+fn done_of<A: Backend, S: Stream>(answers: &A, clients: &[Client<S>]) -> Option<Done>
     ensures { IfSome result (λ done. IsDone A.kept A.stands answers.now clients.now done) }
 {
     let Some(client) = clients.first() else {
@@ -56,9 +56,9 @@ fn done_of<A: Answers, S: Stream>(answers: &A, clients: &[Client<S>]) -> Option<
         return None;
     }
     match answers.standing(client.conn) {
-        Standing::Down => Some(Done::Memory),
-        Standing::Over => Some(Done::Whole),
-        Standing::Open => {
+        ConnectionState::Down => Some(Done::Memory),
+        ConnectionState::Over => Some(Done::Whole),
+        ConnectionState::Open => {
             if client.is_ending {
                 Some(Done::Whole)
             } else {
@@ -69,8 +69,8 @@ fn done_of<A: Answers, S: Stream>(answers: &A, clients: &[Client<S>]) -> Option<
 }
 
 // Exchanges until the first client has ended.
-fn exchange_all<A: Answers + Drop, S: Stream + Drop, M: Moments + Drop>(
-    service: &mut Service<A, S, Nowhere, M>,
+fn exchange_all<A: Backend + Drop, S: Stream + Drop, M: Moments + Drop>(
+    service: &mut Service<A, S, NoArrivals, M>,
 ) -> Done
     ensures { (first : M) (story : Story) → Ends S.received S.sent S.course A.is_past A.is_left A.is_settled A.kept A.stands
         (AreFedByClock M.gives first service.old.clock service.old.moment) (AreFedByClock M.gives first service.new.clock service.new.moment) story
@@ -101,12 +101,12 @@ pub fn serve_stream<S: Stream + Drop, M: Moments + Drop>(
     keys: RandomState,
     stream: S,
     clock: M,
-) -> Result<Served<S>, Fault>
+) -> Result<ServedConnection<S>, Fault>
     requires { IsFresh S.received S.sent S.course stream }
     ensures { IfOk result (IsServed S.received S.sent S.course M.gives clock) }
 {
-    let answering = Answering::new(alloc, keys, alone())?;
-    let mut service = Service::new(alloc, 0, 0, answering, Nowhere, clock, LIMIT, 0)?;
+    let answering = WorldBackend::new(alloc, keys, alone())?;
+    let mut service = Service::new(alloc, 0, 0, answering, NoArrivals, clock, LIMIT, 0)?;
     if !service.admit(stream)? {
         return Err(Fault::Memory);
     }
@@ -115,5 +115,5 @@ pub fn serve_stream<S: Stream + Drop, M: Moments + Drop>(
         return Err(Fault::Memory);
     }
     let Client { stream, .. } = service.clients.swap_remove(0);
-    Ok(Served { stream, done })
+    Ok(ServedConnection { stream, done })
 }

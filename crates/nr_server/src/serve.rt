@@ -16,16 +16,16 @@ ghost use Rattle.nr_sockets.specs.Unheard.{IsUnheardAt};
 use crate::fault::Fault;
 use crate::parting::part_from_all;
 use crate::reception::{Begins, Reception};
-use crate::refusal::Refusal;
+use crate::refusal::SystemRefusal;
 use nr_blob::Memory;
 use nr_config::{Lasts, Settings};
 use nr_crew::{
-    ClientLimits, Left, Place, ServeError, Served, Shape, Size, StartError, serve_nodes,
+    ClientLimits, ServeError, Served, Shape, Size, StartError, WorkerEnd, WorkerPorts, serve_nodes,
 };
-use nr_service::{Accepts, Device, Gate, MachineClock, Moments, Rings, Stream};
+use nr_service::{Accepts, Gate, MachineClock, Moments, Poller, Rings, Stream};
 use nr_sockets::{
-    Door, DoorError, Entrance, ListenError, Listener, Listening, Lookout, Socket, Terms, Unheard,
-    most_descriptors, open_lanes,
+    Inboxes, ListenError, Listener, Listening, PollHandle, Socket, SocketPoller, SocketPollerError,
+    Terms, Unheard, most_descriptors, open_lanes,
 };
 use std::alloc::Global;
 use std::fs::Files;
@@ -48,7 +48,7 @@ fn refused(alloc: Global, address: &str, error: &Error) -> Result<Fault, Memory>
         return Ok(Fault::Memory);
     }
     let address = String::from_str(alloc, address)?;
-    Ok(Fault::CannotListen(address, Refusal::of(error)))
+    Ok(Fault::CannotListen(address, SystemRefusal::of(error)))
 }
 
 // The same of the one that stands at this place.
@@ -136,7 +136,7 @@ fn size_of(settings: &Settings) -> Size
 /// What the workers of a server left, and why they ended.
 #[derive(Drop)]
 pub struct Remains<S, D, M> {
-    pub lefts: Vec<Left<S, D, M>>,
+    pub lefts: Vec<WorkerEnd<S, D, M>>,
     pub ended: Result<(), ServeError>,
 }
 
@@ -152,7 +152,7 @@ pub fn serve_on<R, S, D, M, K, G, L>(
     alloc: Global,
     keys: RandomState,
     settings: &Settings,
-    places: Vec<Place<D, M>>,
+    places: Vec<WorkerPorts<D, M>>,
     bells: K,
     main: L,
     gate: &G,
@@ -160,7 +160,7 @@ pub fn serve_on<R, S, D, M, K, G, L>(
 where
     R: Threads + Wait + Sync,
     S: Stream + Drop + Send,
-    D: Device<S> + Drop + Send,
+    D: Poller<S> + Drop + Send,
     M: Moments + Drop + Send,
     K: Rings + Drop + Sync,
     G: Gate + Sync,
@@ -207,10 +207,10 @@ fn told_of(ended: Result<(), ServeError>) -> Result<(), Fault>
     }
 }
 
-// The bells of an entrance that others share too.
+// The bells of inboxes that others share too.
 #[derive(Drop)]
 struct Bells<'a> {
-    entrance: &'a Entrance,
+    entrance: &'a Inboxes,
 }
 
 impl Rings for Bells<'_> {
@@ -223,33 +223,33 @@ impl Rings for Bells<'_> {
     }
 }
 
-// What is told where a lane has no door.
-fn undoored(why: DoorError) -> Fault
+// What is told where a lane has no poller.
+fn undoored(why: SocketPollerError) -> Fault
     ensures { IsBefore result }
 {
     match why {
-        DoorError::NoLane => Fault::Listener,
-        DoorError::Memory(_) => Fault::Memory,
+        SocketPollerError::NoLane => Fault::Listener,
+        SocketPollerError::Memory(_) => Fault::Memory,
     }
 }
 
-// The places of the workers, each with the door of its lane.
+// The places of the workers, each with the poller of its lane.
 fn places_of<'a, R>(
     alloc: Global,
     rt: &'a R,
-    entrance: &'a Entrance,
-    lookouts: Vec<Lookout>,
-) -> Result<Vec<Place<Door<'a, R>, MachineClock<'a, R>>>, Fault>
+    entrance: &'a Inboxes,
+    lookouts: Vec<PollHandle>,
+) -> Result<Vec<WorkerPorts<SocketPoller<'a, R>, MachineClock<'a, R>>>, Fault>
     ensures { IfErr result IsBefore }
 {
     let mut places = Vec::with_capacity(alloc, lookouts.len())?;
     for lookout in lookouts {
-        let device = match Door::new(alloc, rt, entrance, lookout) {
+        let device = match SocketPoller::new(alloc, rt, entrance, lookout) {
             Ok(door) => door,
             Err(why) => return Err(undoored(why)),
         };
         let clock = MachineClock { runtime: rt };
-        if places.push(Place { device, clock }).is_err() {
+        if places.push(WorkerPorts { device, clock }).is_err() {
             return Err(Fault::Memory);
         }
     }
@@ -331,7 +331,7 @@ where
     O: Write + Drop,
     E: Write + Drop,
     ensures served { HasServedByTcp (⟦<Socket as Stream>⟧.received) (⟦<Socket as Stream>⟧.sent) (⟦<MachineClock<'static, R> as Moments>⟧.gives)
-        (⟦<Door<'static, R> as Device<Socket>>⟧.parted) (settings.now.nodes * settings.now.workers)
+        (⟦<SocketPoller<'static, R> as Poller<Socket>>⟧.parted) (settings.now.nodes * settings.now.workers)
         (record { limit = settings.now.queue_limit; timeout = settings.now.timeout * 1000 }) result ⊎ HasNotBegun result }
 {
     let lanes = settings.nodes * settings.workers;
@@ -351,7 +351,7 @@ where
     let (mut served, mut reception) = serve_on::<
         R,
         Socket,
-        Door<'_, R>,
+        SocketPoller<'_, R>,
         MachineClock<'_, R>,
         Bells<'_>,
         G,

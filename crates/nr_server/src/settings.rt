@@ -5,7 +5,7 @@ ghost use Rattle.nr_server.specs.Files.{AreSet, IsNoText, IsToldOf, IsOf, TellsO
 ghost use Rattle.nr_config.specs.Given.{Replaces};
 
 use crate::fault::Fault;
-use nr_config::{ConfigError, Given, Place, Settings};
+use nr_config::{ConfigError, Given, Settings, TextPlace};
 use std::alloc::Global;
 use std::str;
 
@@ -28,7 +28,7 @@ fn text_of(bytes: &[u8]) -> Result<&str, Fault>
 {
     match str::from_utf8(bytes) {
         Ok(text) => Ok(text),
-        Err(error) => Err(Fault::NotToml(Place::behind(&bytes[..error.valid_up_to()]))),
+        Err(error) => Err(Fault::NotToml(TextPlace::behind(&bytes[..error.valid_up_to()]))),
     }
 }
 

@@ -5,7 +5,7 @@ use Rattle.std.proofs.lemmas.List.{length-append, map-append}
 use Rattle.nr_model.specs.Bytes.{Bytes}
 use Rattle.nr_model.specs.Items.{Connection}
 use Rattle.nr_service.specs.Arriving.{Arrival, AreArrivals, ArrivesFew, ArrivesUntil, IsWelcome, refused, welcomed}
-use Rattle.nr_service.specs.Devices.{Parting, Abandoned, PartsWith, turned_away}
+use Rattle.nr_service.specs.Pollers.{Parting, Abandoned, PartsWith, turned_away}
 use Rattle.nr_service.specs.Steps.{Accepts, next_number}
 use Rattle.nr_service.specs.Stories.{IsLeftOf, Kept, Past}
 use Rattle.nr_service.specs.Streams.{Course}

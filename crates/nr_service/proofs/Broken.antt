@@ -9,7 +9,7 @@ use Rattle.nr_model.specs.Bytes.{Bytes}
 use Rattle.nr_model.specs.Items.{Connection}
 use Rattle.nr_model.specs.Connections.{Setup, Feeding}
 use Rattle.nr_service.specs.Arriving.{refused}
-use Rattle.nr_service.specs.Devices.{Abandoned, AreGivenBack, Parting}
+use Rattle.nr_service.specs.Pollers.{Abandoned, AreGivenBack, Parting}
 use Rattle.nr_service.specs.Endings.{ByCause, ByEnding, BreaksOff, BreaksOffAccepting, BreaksOffExchanging, BreaksOffLettingGo, RanOut}
 use Rattle.nr_service.specs.Readings.{IsFedAmong, IsFedAt, IsNeverFed}
 use Rattle.nr_service.specs.Serving.{connection, streams_of, IsApart, IsLeft, IsServing}
@@ -26,7 +26,7 @@ use Rattle.nr_service.proofs.Timed.{fed_alone, fed_then, fed_unread, none_fed}
 use Rattle.nr_service.proofs.Turns.{goes_to, served_to, turned}
 use Rattle.nr_service.specs.Streams.{Course}
 use Rattle.nr_service.specs.Turns.{Turns}
-use Rattle.nr_service.specs.declared.answers.Standing.{Standing}
+use Rattle.nr_service.specs.declared.backend.ConnectionState.{ConnectionState}
 
 -- memory ran out while connections were accepted
 ran_accepting : {A S D M : Type 0} (was_received was_sent : S → Option Bytes) (course : S → Option Course) (gives : M → M → Option ℕ → Type 0)
@@ -202,7 +202,7 @@ by_cause (Err endings.Device) P Q R S is breaks turn = turn is
 
 -- the clients are served yet, or where memory ran out they are left
 pub ends_by : {A S D M T : Type 0} (was_received was_sent : S → Option Bytes) (course : S → Option Course) (gives : M → M → Option ℕ → Type 0)
-    (is_past is_left is_settled : A → Past) (keeps : A → Kept) (stands : A → Connection → Standing → Type 0) (busy : A → Bool)
+    (is_past is_left is_settled : A → Past) (keeps : A → Kept) (stands : A → Connection → ConnectionState → Type 0) (busy : A → Bool)
     (is_full : A → Type 0) (is_placed : A → A → ℕ → Connection → Type 0) (is_gone : A → Connection → Type 0)
     (parted : D → Option (List (Parting S))) (waits : D → D → Bool → Bool → Type 0) (answer : Bool) (old new : Service A S D M) (result : Result T Ended)
     → IfErr result (λ ended. ByCause ended ⊥

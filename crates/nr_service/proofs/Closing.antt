@@ -13,11 +13,11 @@ use Rattle.nr_model.specs.Items.{Connection, same_connection}
 use Rattle.nr_model.specs.Keyspace.{moment}
 use Rattle.nr_service.specs.Serving.{connection, IsServed, AreServed}
 use Rattle.nr_service.specs.Leaving.{AreGone, Gone, HasGone, IsEnding, shut_by, parting, parting_of, client_of, LetsGo, LetsGoOne}
-use Rattle.nr_service.specs.declared.answers.Standing.{Standing}
+use Rattle.nr_service.specs.declared.backend.ConnectionState.{ConnectionState}
 use Rattle.nr_service.specs.declared.client.Ending.{Ending}
-use Rattle.nr_service.specs.Devices.{Parting, PartsWith}
+use Rattle.nr_service.specs.Pollers.{Parting, PartsWith}
 use Rattle.nr_service.specs.declared.client.Client.{Client}
-use Rattle.nr_service.specs.declared.leaving.Bounds.{Bounds}
+use Rattle.nr_service.specs.declared.leaving.LeavingBounds.{LeavingBounds}
 use Rattle.nr_service.specs.Readings.{IsClosedAt}
 use Rattle.nr_service.specs.Stories.{Occurrence, Story, Past, Kept, IsShut, IsClosed, closed_at, closings_in, opened_in, fed_in, handed_in, going_on}
 use Rattle.nr_service.proofs.Occurrences.{fed_still, handed_still, going_none, going_both}
@@ -76,7 +76,7 @@ parts_then {S} xs ys (Some before) b c p q =
 
 -- none was closed
 pub lets_none : {A S D : Type 0} (was_received was_sent : S → Option Bytes) (course : S → Option Course) (is_past : A → Past) (keeps : A → Kept)
-    (stands : A → Connection → Standing → Type 0) (busy : A → Bool) (is_gone : A → Connection → Type 0) (parted : D → Option (List (Parting S))) (bounds : Bounds) (state : A)
+    (stands : A → Connection → ConnectionState → Type 0) (busy : A → Bool) (is_gone : A → Connection → Type 0) (parted : D → Option (List (Parting S))) (bounds : LeavingBounds) (state : A)
     (device : D) (clients : List (Client S))
     → LetsGo was_received was_sent course is_past keeps stands busy is_gone parted bounds state state device device clients clients
 lets_none {A} {S} was_received was_sent course is_past keeps stands busy is_gone parted bounds state device clients = record {
@@ -96,7 +96,7 @@ gone_then (one ∷ xs) ys a b c p q = (p.0, gone_then xs ys one.after b c p.1 q)
 
 -- one step behind another
 pub lets_then : {A S D : Type 0} (was_received was_sent : S → Option Bytes) (course : S → Option Course) (is_past : A → Past) (keeps : A → Kept)
-    (stands : A → Connection → Standing → Type 0) (busy : A → Bool) (is_gone : A → Connection → Type 0) (parted : D → Option (List (Parting S))) (bounds : Bounds) (a b c : A)
+    (stands : A → Connection → ConnectionState → Type 0) (busy : A → Bool) (is_gone : A → Connection → Type 0) (parted : D → Option (List (Parting S))) (bounds : LeavingBounds) (a b c : A)
     (d e f : D) (xs ys zs : List (Client S)) → LetsGo was_received was_sent course is_past keeps stands busy is_gone parted bounds a b d e xs ys
     → LetsGo was_received was_sent course is_past keeps stands busy is_gone parted bounds b c e f ys zs
     → LetsGo was_received was_sent course is_past keeps stands busy is_gone parted bounds a c d f xs zs
@@ -133,7 +133,7 @@ shut_bytes c now was_gone shut (inr is) = (ap fed_in is.0, ap handed_in is.0)
 
 -- one of them is some, where it was over
 pub lets_one : {A S D : Type 0} (was_received was_sent : S → Option Bytes) (course : S → Option Course) (is_past : A → Past) (keeps : A → Kept)
-    (stands : A → Connection → Standing → Type 0) (busy : A → Bool) (is_gone : A → Connection → Type 0) (parted : D → Option (List (Parting S))) (bounds : Bounds)
+    (stands : A → Connection → ConnectionState → Type 0) (busy : A → Bool) (is_gone : A → Connection → Type 0) (parted : D → Option (List (Parting S))) (bounds : LeavingBounds)
     (ending : Ending) (index : ℕ) (before after : A) (device_before device_after : D) (old new : List (Client S)) (client : Client S)
     → index < length old → client ≡ get_or old index client → IsEnding (keeps before) (stands before) (busy before) bounds client (Some ending)
     → LetsGoOne was_received was_sent course is_past keeps is_gone parted ending bounds.now index before after device_before device_after old new

@@ -17,12 +17,12 @@ use Rattle.nr_service.specs.Readings.{Feedings, IsClosedAt, IsFedAmong, IsFedAtR
 use Rattle.nr_service.specs.Serving.{connection, streams_of, IsLeft, IsServed}
 use Rattle.nr_service.specs.Leaving.{Gone, LetsGo, Loses, client_of, parting, parting_of, shut_by}
 use Rattle.nr_service.specs.Steps.{Serves, ServesOne, Exchanges, AreLeft, Leaves, LeavesOne}
-use Rattle.nr_service.specs.Devices.{Parting, PartsWith, stream_of}
-use Rattle.nr_service.specs.declared.answers.Standing.{Standing}
+use Rattle.nr_service.specs.Pollers.{Parting, PartsWith, stream_of}
+use Rattle.nr_service.specs.declared.backend.ConnectionState.{ConnectionState}
 use Rattle.nr_service.specs.declared.client.Client.{Client}
 use Rattle.nr_service.specs.declared.client.Ending.{Ending}
 use Rattle.nr_service.specs.declared.client.Ending.TheVariants as endings
-use Rattle.nr_service.specs.declared.leaving.Bounds.{Bounds}
+use Rattle.nr_service.specs.declared.leaving.LeavingBounds.{LeavingBounds}
 use Rattle.nr_service.specs.Stories.{Closing, Occurrence, Story, Past, Kept, IsLeftOf, closings_in, fed_in, handed_in, bytes_fed, bytes_handed, going_on}
 use Rattle.nr_service.proofs.Apart.{flips}
 use Rattle.nr_service.proofs.Closing.{closes_fed, closes_opened, closes_timed, parts_then}
@@ -306,8 +306,8 @@ gone_streams {A} {S} (one ∷ gone) = λ i. stream_parting one.ending one.client
 
 -- some were let go, and then others went
 pub loses_then : {A S D : Type 0} (was_received was_sent : S → Option Bytes) (course : S → Option Course) (is_past is_left : A → Past) (keeps : A → Kept)
-    (stands : A → Connection → Standing → Type 0) (busy : A → Bool) (is_gone : A → Connection → Type 0) (parted : D → Option (List (Parting S)))
-    (bounds : Bounds) (a b c : A) (d e f : D) (xs ys zs : List (Client S))
+    (stands : A → Connection → ConnectionState → Type 0) (busy : A → Bool) (is_gone : A → Connection → Type 0) (parted : D → Option (List (Parting S)))
+    (bounds : LeavingBounds) (a b c : A) (d e f : D) (xs ys zs : List (Client S))
     → LetsGo was_received was_sent course is_past keeps stands busy is_gone parted bounds a b d e xs ys
     → Loses was_received was_sent course is_past is_left keeps parted bounds.now b c e f ys zs
     → Loses was_received was_sent course is_past is_left keeps parted bounds.now a c d f xs zs

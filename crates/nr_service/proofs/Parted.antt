@@ -9,7 +9,7 @@ use Rattle.std.proofs.lemmas.Map.Keys.{IsDistinct-IsPermutation}
 use Rattle.nr_model.specs.Bytes.{Bytes}
 use Rattle.nr_model.specs.Items.{Connection, same_connection}
 use Rattle.nr_model.specs.Connections.{Feeding}
-use Rattle.nr_service.specs.Devices.{AreAmong, AreGivenBack, Parting, PartsWith, stream_of}
+use Rattle.nr_service.specs.Pollers.{AreAmong, AreGivenBack, Parting, PartsWith, stream_of}
 use Rattle.nr_service.specs.Serving.{connection, AreOpened, IsApart, IsLeft}
 use Rattle.nr_service.specs.Stories.{Occurrence, Story, fed_in, going_on, opened_in}
 use Rattle.nr_service.specs.declared.client.Client.{Client}

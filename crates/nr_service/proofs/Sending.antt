@@ -13,9 +13,9 @@ use Rattle.nr_service.specs.Leaving.{IsEnding}
 use Rattle.nr_service.specs.Serving.{connection}
 use Rattle.nr_service.specs.Stories.{Kept, KeepsOthers, kept_bytes}
 use Rattle.nr_service.specs.Sweeps.{AreSent, GoesOnAt, GoOn, IsSent, IsSentOrBroken, LooksSoon, WritesAt}
-use Rattle.nr_service.specs.declared.answers.Standing.{Standing}
+use Rattle.nr_service.specs.declared.backend.ConnectionState.{ConnectionState}
 use Rattle.nr_service.specs.declared.client.Client.{Client}
-use Rattle.nr_service.specs.declared.leaving.Bounds.{Bounds}
+use Rattle.nr_service.specs.declared.leaving.LeavingBounds.{LeavingBounds}
 use Rattle.nr_service.proofs.Apart.{flips}
 use Rattle.nr_service.proofs.Working.{get_or_within}
 
@@ -91,7 +91,7 @@ sent_more {A} {S} keeps place at busy_before busy_after before after old new is 
     ]
 
 -- one more goes on
-pub go_on_more : {A S : Type 0} (keeps : A → Kept) (stands : A → Connection → Standing → Type 0) (busy : A → Bool) (bounds : Bounds) (place at : ℕ)
+pub go_on_more : {A S : Type 0} (keeps : A → Kept) (stands : A → Connection → ConnectionState → Type 0) (busy : A → Bool) (bounds : LeavingBounds) (place at : ℕ)
     (from : ℕ) (first before after : A) (all old new : List (Client S)) → place ≡ at → from ≡ at + 1 → at < length all → old ≡ all → before ≡ first
     → GoesOnAt keeps stands busy bounds place before after old new
     → AllWithin (λ client. IsEnding (keeps first) (stands first) (busy first) bounds client None) all from (length all)
@@ -110,13 +110,13 @@ go_on_more {A} {S} keeps stands busy bounds place at from first before after all
     at_or_behind i k low = elim (cases_Bool (ltb i k)) [ inl behind ↦ inr (ltb-true i k behind) | inr at ↦ inl (omega (arith, ltb-false i k at)) ]
 
 -- one that goes on isn't broken
-sound_going : {S : Type 0} (keeps : Kept) (stands : Connection → Standing → Type 0) (busy : Bool) (bounds : Bounds) (client : Client S)
+sound_going : {S : Type 0} (keeps : Kept) (stands : Connection → ConnectionState → Type 0) (busy : Bool) (bounds : LeavingBounds) (client : Client S)
     → IsEnding keeps stands busy bounds client None → IsSentOrBroken keeps client → IsSent keeps client
 sound_going keeps stands busy bounds client goes (inl sent) = sent
 sound_going keeps stands busy bounds client goes (inr broken) = absurd (true≢false (sym broken ∙ goes.0.sound))
 
 -- all were looked at
-all_sent : {A S : Type 0} (keeps : A → Kept) (stands : A → Connection → Standing → Type 0) (busy : A → Bool) (bounds : Bounds) (before after : A)
+all_sent : {A S : Type 0} (keeps : A → Kept) (stands : A → Connection → ConnectionState → Type 0) (busy : A → Bool) (bounds : LeavingBounds) (before after : A)
     (old new : List (Client S)) → GoOn keeps stands busy bounds true before after old new → All (IsSentOrBroken (keeps before)) old
     → AreSent (keeps after) (stands after) (busy after) bounds new
 all_sent {A} {S} keeps stands busy bounds before after old new goes sent =
@@ -127,7 +127,7 @@ all_sent {A} {S} keeps stands busy bounds before after old new goes sent =
       sound_going (keeps before) (stands before) (busy before) bounds (get_or old k client) (goes.each refl k client high) (sent k client high),
     )))
 
-pub looked : {A S : Type 0} (keeps : A → Kept) (stands : A → Connection → Standing → Type 0) (busy : A → Bool) (bounds : Bounds) (before after : A)
+pub looked : {A S : Type 0} (keeps : A → Kept) (stands : A → Connection → ConnectionState → Type 0) (busy : A → Bool) (bounds : LeavingBounds) (before after : A)
     (old new : List (Client S)) (first last : ℕ) (is_all is_all_before rests_before rests is_busy : Bool) → LooksSoon first last (is_all ≡ true)
     → is_all_before ≡ is_all → (is_busy ≡ false → rests ≡ false) → (rests ≡ false → rests_before ≡ false)
     → (is_all ≡ true → rests_before ≡ false → IsDistinct same_connection (map connection old) → All (IsSentOrBroken (keeps before)) old)

@@ -3,7 +3,7 @@ use Rattle.std.proofs.Common.{◌≡◌, ℕ, List, [], ◌∷◌, ◌++◌, ref
 use Rattle.std.specs.Prelude.{Option, All}
 use Rattle.std.proofs.lemmas.List.Elements.{All-head, All-nil}
 use Rattle.nr_model.specs.Connections.{Feeding}
-use Rattle.nr_service.specs.Readings.{AreFedByClock, AreReadings, AreTimed, closes_of, feeds_of, IsClosedAt, IsFedAt, IsNeverFed, IsUnread, moment_after, moment_behind, Reads, readings_of, Round}
+use Rattle.nr_service.specs.Readings.{AreFedByClock, AreReadings, AreTimed, closes_of, feeds_of, IsClosedAt, IsFedAt, IsNeverFed, IsUnread, moment_after, moment_behind, ReadsClock, readings_of, ClockRound}
 use Rattle.nr_service.specs.Stories.{Closing}
 
 -- where none may be fed, none was
@@ -12,7 +12,7 @@ none_fed [] never = refl
 none_fed (feeding ∷ feeds) never = absurd (All-head IsNeverFed feeding feeds never)
 
 -- one more reading
-readings_then : {M : Type 0} (gives : M → M → Option ℕ → Type 0) (first middle last : M) (rounds : List Round) (round : Round)
+readings_then : {M : Type 0} (gives : M → M → Option ℕ → Type 0) (first middle last : M) (rounds : List ClockRound) (round : ClockRound)
     → AreReadings gives first (readings_of rounds) middle → gives middle last round.reading
     → AreReadings gives first (readings_of (rounds ++ round ∷ [])) last
 readings_then {M} gives first middle last [] round are given =
@@ -20,22 +20,22 @@ readings_then {M} gives first middle last [] round are given =
 readings_then gives first middle last (front ∷ rounds) round are given =
     (are.0, are.1, readings_then gives are.0 middle last rounds round are.2 given)
 
-feeds_then : (rounds : List Round) (round : Round) → feeds_of (rounds ++ round ∷ []) ≡ feeds_of rounds ++ round.feeds
+feeds_then : (rounds : List ClockRound) (round : ClockRound) → feeds_of (rounds ++ round ∷ []) ≡ feeds_of rounds ++ round.feeds
 feeds_then [] round = append-nil round.feeds
 feeds_then (first ∷ rounds) round =
     ap (λ (fed : List Feeding). first.feeds ++ fed) (feeds_then rounds round) ∙ sym (append_assoc first.feeds (feeds_of rounds) round.feeds)
 
-closes_then : (rounds : List Round) (round : Round) → closes_of (rounds ++ round ∷ []) ≡ closes_of rounds ++ round.closes
+closes_then : (rounds : List ClockRound) (round : ClockRound) → closes_of (rounds ++ round ∷ []) ≡ closes_of rounds ++ round.closes
 closes_then [] round = append-nil round.closes
 closes_then (first ∷ rounds) round =
     ap (λ (closes : List Closing). first.closes ++ closes) (closes_then rounds round) ∙ sym (append_assoc first.closes (closes_of rounds) round.closes)
 
-moment_then : (before : ℕ) (rounds : List Round) (round : Round)
+moment_then : (before : ℕ) (rounds : List ClockRound) (round : ClockRound)
     → moment_after before (rounds ++ round ∷ []) ≡ moment_behind (moment_after before rounds) round.reading
 moment_then before [] round = refl
 moment_then before (first ∷ rounds) round = moment_then (moment_behind before first.reading) rounds round
 
-timed_then : (before : ℕ) (rounds : List Round) (round : Round) → AreTimed before rounds
+timed_then : (before : ℕ) (rounds : List ClockRound) (round : ClockRound) → AreTimed before rounds
     → All (IsFedAt (moment_behind (moment_after before rounds) round.reading)) round.feeds
     → All (IsClosedAt (moment_behind (moment_after before rounds) round.reading)) round.closes → AreTimed before (rounds ++ round ∷ [])
 timed_then before [] round timed fed closed = (fed, closed, tt)
@@ -48,11 +48,11 @@ none_timed gives first = record { rounds = []; readings = refl; fed = refl; clos
 
 -- the clock was read once more, and bytes were fed and connections closed at the moment behind that
 pub fed_then : {M : Type 0} (gives : M → M → Option ℕ → Type 0) (first old new : M) (before after : ℕ) (feeds more all : List Feeding)
-    (closes more_closes all_closes : List Closing) → all ≡ feeds ++ more → all_closes ≡ closes ++ more_closes → Reads gives old new before after
+    (closes more_closes all_closes : List Closing) → all ≡ feeds ++ more → all_closes ≡ closes ++ more_closes → ReadsClock gives old new before after
     → All (IsFedAt after) more → All (IsClosedAt after) more_closes → AreFedByClock gives first old before feeds closes
     → AreFedByClock gives first new after all all_closes
 fed_then gives first old new before after feeds more all closes more_closes all_closes is closes_are reads at closed_at by =
-    let round : Round = record { reading = reads.reading; feeds = more; closes = more_closes } in
+    let round : ClockRound = record { reading = reads.reading; feeds = more; closes = more_closes } in
     let behind : moment_behind (moment_after 0 by.rounds) reads.reading ≡ after =
     ap (λ (time : ℕ). moment_behind time reads.reading) by.moment_is ∙ sym reads.moment_is in
     record {
@@ -67,7 +67,7 @@ fed_then gives first old new before after feeds more all closes more_closes all_
 
 -- it was, bytes were fed then, and no connection was closed
 pub fed_alone : {M : Type 0} (gives : M → M → Option ℕ → Type 0) (first old new : M) (before after : ℕ) (feeds more all : List Feeding)
-    (closes all_closes : List Closing) → all ≡ feeds ++ more → all_closes ≡ closes → Reads gives old new before after → All (IsFedAt after) more
+    (closes all_closes : List Closing) → all ≡ feeds ++ more → all_closes ≡ closes → ReadsClock gives old new before after → All (IsFedAt after) more
     → AreFedByClock gives first old before feeds closes → AreFedByClock gives first new after all all_closes
 fed_alone gives first old new before after feeds more all closes all_closes is same reads at by =
     fed_then gives first old new before after feeds more all closes [] all_closes is (same ∙ sym (append-nil closes)) reads at (All-nil (IsClosedAt after)) by

@@ -10,13 +10,13 @@ use Rattle.nr_model.specs.Bytes.{Bytes}
 use Rattle.nr_model.specs.Items.{Connection, same_connection}
 use Rattle.nr_model.specs.Connections.{Setup, Feeding}
 use Rattle.nr_service.specs.Arriving.{ArrivesFew, refused}
-use Rattle.nr_service.specs.Readings.{Feedings, IsFedAmong, IsFedAt, IsNeverFed, Reads}
+use Rattle.nr_service.specs.Readings.{Feedings, IsFedAmong, IsFedAt, IsNeverFed, ReadsClock}
 use Rattle.nr_service.specs.Serving.{connection, streams_of, AreOpened, IsApart, IsLeft, IsServed, AreServed, IsServing}
 use Rattle.nr_service.specs.Leaving.{client_of, parting_of, shut_by, LetsGo}
 use Rattle.nr_service.specs.Silence.{AreHeard, OpensAt}
 use Rattle.nr_service.specs.Steps.{Accepts, HasServed, Exchanges}
-use Rattle.nr_service.specs.Devices.{Abandoned, AreGivenBack, Parting, stream_of}
-use Rattle.nr_service.specs.declared.answers.Standing.{Standing}
+use Rattle.nr_service.specs.Pollers.{Abandoned, AreGivenBack, Parting, stream_of}
+use Rattle.nr_service.specs.declared.backend.ConnectionState.{ConnectionState}
 use Rattle.nr_service.specs.declared.client.Client.{Client}
 use Rattle.nr_service.specs.declared.service.Service.{Service}
 use Rattle.nr_service.specs.Stories.{Closing, Story, Past, Kept, beginning, closings_in, fed_in, going_on, opened_in}
@@ -101,7 +101,7 @@ goes_to was_received was_sent course allowed opened is_past kept story gone old 
 
 -- some were taken on, the clock was read, bytes were exchanged at the moment behind that, and some were let go
 pub turned : {A S D M : Type 0} (was_received was_sent : S → Option Bytes) (course : S → Option Course) (gives : M → M → Option ℕ → Type 0)
-    (is_past is_settled : A → Past) (keeps : A → Kept) (stands : A → Connection → Standing → Type 0) (busy : A → Bool)
+    (is_past is_settled : A → Past) (keeps : A → Kept) (stands : A → Connection → ConnectionState → Type 0) (busy : A → Bool)
     (is_full : A → Type 0) (is_placed : A → A → ℕ → Connection → Type 0) (is_gone : A → Connection → Type 0)
     (parted : D → Option (List (Parting S))) (waits : D → D → Bool → Bool → Type 0) (answer : Bool) (old new : Service A S D M)
     → Turns was_received was_sent course is_past is_settled keeps stands busy is_full is_placed is_gone parted waits gives answer old new
@@ -163,14 +163,14 @@ turned {A} {S} {D} {M} was_received was_sent course gives is_past is_settled kee
 
 -- it is one by the answer of its wait
 pub took : {A S D M : Type 0} (was_received was_sent : S → Option Bytes) (course : S → Option Course) (gives : M → M → Option ℕ → Type 0)
-    (is_past is_settled : A → Past) (keeps : A → Kept) (stands : A → Connection → Standing → Type 0) (busy : A → Bool)
+    (is_past is_settled : A → Past) (keeps : A → Kept) (stands : A → Connection → ConnectionState → Type 0) (busy : A → Bool)
     (is_full : A → Type 0) (is_placed : A → A → ℕ → Connection → Type 0) (is_gone : A → Connection → Type 0)
     (parted : D → Option (List (Parting S))) (waits : D → D → Bool → Bool → Type 0) (told answer is_busy : Bool) (a b : A) (d e : D)
     (xs ys : List (Client S)) (old new : Service A S D M)
     → Accepts was_received was_sent course is_past keeps old.answers a old.clients.items xs
     → ArrivesFew most_accepted is_full is_placed parted old.answers a old.accepted new.accepted old.device d old.clients.items xs
     → OpensAt old.moment old.clients.items xs
-    → Reads gives old.clock new.clock old.moment new.moment
+    → ReadsClock gives old.clock new.clock old.moment new.moment
     → Exchanges was_received was_sent course is_past is_settled keeps busy new.moment a b xs ys
     → map connection ys ≡ map connection xs → AreHeard new.moment xs ys
     → LetsGo was_received was_sent course is_past keeps stands busy is_gone parted (bounds_of new) b new.answers d e ys new.clients.items

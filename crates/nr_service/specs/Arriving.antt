@@ -2,7 +2,7 @@
 use Rattle.std.specs.Prelude.{◌≡◌, ℕ, ◌<◌, ◌≤◌, false, List, [], ◌∷◌, ◌++◌, length, map, Option, None, Some}
 use Rattle.nr_model.specs.Bytes.{Bytes}
 use Rattle.nr_model.specs.Items.{Connection}
-use Rattle.nr_service.specs.Devices.{Parting, Abandoned, PartsWith}
+use Rattle.nr_service.specs.Pollers.{Parting, Abandoned, PartsWith}
 use Rattle.nr_service.specs.Serving.{connection}
 use Rattle.nr_service.specs.Steps.{Accepts, next_number}
 use Rattle.nr_service.specs.Stories.{IsLeftOf, Past, Kept}

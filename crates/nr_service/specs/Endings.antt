@@ -4,9 +4,9 @@ use Rattle.nr_model.specs.Bytes.{Bytes}
 use Rattle.nr_model.specs.Items.{Connection}
 use Rattle.nr_model.specs.Connections.{Setup}
 use Rattle.nr_service.specs.Arriving.{Arrives, ArrivesUntil}
-use Rattle.nr_service.specs.Devices.{Parting, AreGivenBack}
+use Rattle.nr_service.specs.Pollers.{Parting, AreGivenBack}
 use Rattle.nr_service.specs.Leaving.{Loses}
-use Rattle.nr_service.specs.Readings.{AreFedByClock, IsFedAmong, IsUnread, Reads}
+use Rattle.nr_service.specs.Readings.{AreFedByClock, IsFedAmong, IsUnread, ReadsClock}
 use Rattle.nr_service.specs.Serving.{connection, streams_of, AreOpened, IsApart, IsLeft}
 use Rattle.nr_service.specs.Steps.{Accepts, Exchanges, Leaves}
 use Rattle.nr_service.specs.declared.client.Client.{Client}
@@ -42,7 +42,7 @@ pub record BreaksOffExchanging {A S D M : Type 0} (was_received was_sent : S →
   pub accepts : Accepts was_received was_sent course is_past keeps old.answers opened old.clients.items taken
   pub arrives : Arrives is_full is_placed parted old.answers opened old.accepted new.accepted old.device new.device old.clients.items taken
   pub few : length arrives.came ≤ most_accepted
-  pub reads : Reads gives old.clock new.clock old.moment new.moment
+  pub reads : ReadsClock gives old.clock new.clock old.moment new.moment
   pub leaves : Leaves was_received was_sent course is_past is_left keeps (IsFedAmong new.moment (map connection taken)) opened new.answers taken
       new.clients.items
   pub same : map connection new.clients.items ≡ map connection taken
@@ -59,7 +59,7 @@ pub record BreaksOffLettingGo {A S D M : Type 0} (was_received was_sent : S → 
   pub accepts : Accepts was_received was_sent course is_past keeps old.answers opened old.clients.items taken
   pub arrives : Arrives is_full is_placed parted old.answers opened old.accepted new.accepted old.device device old.clients.items taken
   pub few : length arrives.came ≤ most_accepted
-  pub reads : Reads gives old.clock new.clock old.moment new.moment
+  pub reads : ReadsClock gives old.clock new.clock old.moment new.moment
   pub exchanges : Exchanges was_received was_sent course is_past is_settled keeps busy new.moment opened worked taken served
   pub same : map connection served ≡ map connection taken
   pub loses : Loses was_received was_sent course is_past is_left keeps parted new.moment worked new.answers device new.device served new.clients.items

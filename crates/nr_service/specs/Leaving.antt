@@ -8,11 +8,11 @@ use Rattle.nr_service.specs.Silence.{IsSilent}
 use Rattle.nr_service.specs.declared.client.Client.{Client}
 use Rattle.nr_service.specs.declared.client.Ending.{Ending}
 use Rattle.nr_service.specs.declared.client.Ending.TheVariants as endings
-use Rattle.nr_service.specs.declared.leaving.Bounds.{Bounds}
-use Rattle.nr_service.specs.Devices.{Parting, Finished, Abandoned, GivesBack, PartsWith}
+use Rattle.nr_service.specs.declared.leaving.LeavingBounds.{LeavingBounds}
+use Rattle.nr_service.specs.Pollers.{Parting, Finished, Abandoned, GivesBack, PartsWith}
 use Rattle.nr_service.specs.Stories.{Occurrence, Story, Past, Kept, IsShut, closed_at, closings_in, opened_in, fed_in, going_on, kept_bytes}
-use Rattle.nr_service.specs.declared.answers.Standing.{Standing}
-use Rattle.nr_service.specs.declared.answers.Standing.TheVariants as standings
+use Rattle.nr_service.specs.declared.backend.ConnectionState.{ConnectionState}
+use Rattle.nr_service.specs.declared.backend.ConnectionState.TheVariants as standings
 use Rattle.nr_service.specs.Streams.{Course}
 
 -- the bytes that are kept for a client
@@ -20,8 +20,8 @@ abbrev pub kept_for : {S : Type 0} → Kept → Client S → Bytes
 kept_for keeps client = kept_bytes (keeps (connection client))
 
 -- its connection takes no more bytes
-abbrev pub TakesNone : (Connection → Standing → Type 0) → Connection → Type 0
-TakesNone stands c = (standing : Standing) × stands c standing × (standing ≢ standings.Open)
+abbrev pub TakesNone : (Connection → ConnectionState → Type 0) → Connection → Type 0
+TakesNone stands c = (standing : ConnectionState) × stands c standing × (standing ≢ standings.Open)
 
 -- ten seconds went by since a moment that is given
 abbrev pub IsSlow : Option ℕ → ℕ → Type 0
@@ -29,20 +29,20 @@ IsSlow None now = ⊥
 IsSlow (Some fell) now = fell + 10000 ≤ now
 
 -- what answers it is down, and it took no byte, and gave none, for a second, or was seen ten seconds ago to take less than was there for it
-abbrev pub IsStuck : {S : Type 0} → (Connection → Standing → Type 0) → Bounds → Client S → Type 0
+abbrev pub IsStuck : {S : Type 0} → (Connection → ConnectionState → Type 0) → LeavingBounds → Client S → Type 0
 IsStuck stands bounds client = ((client.heard + 1000 ≤ bounds.now) ⊎ IsSlow client.fell bounds.now) × stands (connection client) standings.Down
 
 -- what answers it stands so that it isn't down
-abbrev pub IsNoneDown : (Connection → Standing → Type 0) → Connection → Type 0
-IsNoneDown stands c = (standing : Standing) × stands c standing × (standing ≢ standings.Down)
+abbrev pub IsNoneDown : (Connection → ConnectionState → Type 0) → Connection → Type 0
+IsNoneDown stands c = (standing : ConnectionState) × stands c standing × (standing ≢ standings.Down)
 
 -- what answers it isn't down, or it took a byte, or gave one, within a second, and wasn't seen ten seconds ago to take less than was there for it
-abbrev pub IsFlowing : {S : Type 0} → (Connection → Standing → Type 0) → Bounds → Client S → Type 0
+abbrev pub IsFlowing : {S : Type 0} → (Connection → ConnectionState → Type 0) → LeavingBounds → Client S → Type 0
 IsFlowing stands bounds client = (¬ ((client.heard + 1000 ≤ bounds.now) ⊎ IsSlow client.fell bounds.now)) ⊎ IsNoneDown stands (connection client)
 
 -- Since when what answers a client is down while its stream takes less than is there for it, as it is seen at a moment: since the moment that is known; else since this one, where
 -- its stream takes less now and what answers it is down.
-abbrev pub IsDownSince : {S : Type 0} → (Connection → Standing → Type 0) → ℕ → Client S → Option ℕ → Type 0
+abbrev pub IsDownSince : {S : Type 0} → (Connection → ConnectionState → Type 0) → ℕ → Client S → Option ℕ → Type 0
 IsDownSince stands moment client (Some since) =
     (client.fell ≡ Some since) ⊎ ((client.fell ≡ None) × (client.is_full ≡ true) × (since ≡ moment) × stands (connection client) standings.Down)
 IsDownSince stands moment client None = (client.fell ≡ None) × ((client.is_full ≡ false) ⊎ IsNoneDown stands (connection client))
@@ -50,7 +50,7 @@ IsDownSince stands moment client None = (client.fell ≡ None) × ((client.is_fu
 -- How a client ends by these bounds. It is lost where its stream failed or more waits for it than may, and where some does and it is stuck; else, where nothing waits for it and what answers
 -- isn't busy, it has finished where its input has ended or its connection takes no more bytes, and else it is silent where it was so for too long; and
 -- else it goes on.
-abbrev pub IsEnding : {S : Type 0} → Kept → (Connection → Standing → Type 0) → Bool → Bounds → Client S → Option Ending → Type 0
+abbrev pub IsEnding : {S : Type 0} → Kept → (Connection → ConnectionState → Type 0) → Bool → LeavingBounds → Client S → Option Ending → Type 0
 IsEnding keeps stands busy bounds client None =
     IsWithin keeps bounds.limit client
     × (((0 < length (kept_for keeps client)) × IsFlowing stands bounds client) ⊎ (busy ≡ true)
@@ -91,8 +91,8 @@ abbrev pub client_of : {A S : Type 0} → Gone A S → Client S
 client_of one = one.client
 
 -- It was over where it went, and was closed at the moment by which it was judged, unless it took no room any more. It takes none behind that.
-pub record HasGone {A S : Type 0} (keeps : A → Kept) (stands : A → Connection → Standing → Type 0) (busy : A → Bool)
-    (is_gone : A → Connection → Type 0) (bounds : Bounds) (one : Gone A S) : Type 0 where
+pub record HasGone {A S : Type 0} (keeps : A → Kept) (stands : A → Connection → ConnectionState → Type 0) (busy : A → Bool)
+    (is_gone : A → Connection → Type 0) (bounds : LeavingBounds) (one : Gone A S) : Type 0 where
   pub over : IsEnding (keeps one.before) (stands one.before) (busy one.before) bounds one.client (Some one.ending)
   pub shut : IsShut (connection one.client) bounds.now (is_gone one.before (connection one.client)) (shut_by bounds.now (one ∷ []))
   pub away : is_gone one.after (connection one.client)
@@ -121,8 +121,8 @@ pub record LetsGoOne {A S D : Type 0} (was_received was_sent : S → Option Byte
 -- Some that were over were let go, each as it ended: the others are served by each story by which all were before, going on by the closes of the
 -- connections of those that are gone, in order, at the moment by which they were judged.
 pub record LetsGo {A S D : Type 0} (was_received was_sent : S → Option Bytes) (course : S → Option Course) (is_past : A → Past) (keeps : A → Kept)
-    (stands : A → Connection → Standing → Type 0) (busy : A → Bool) (is_gone : A → Connection → Type 0) (parted : D → Option (List (Parting S)))
-    (bounds : Bounds) (before after : A) (device_before device_after : D) (old new : List (Client S)) : Type 0 where
+    (stands : A → Connection → ConnectionState → Type 0) (busy : A → Bool) (is_gone : A → Connection → Type 0) (parted : D → Option (List (Parting S)))
+    (bounds : LeavingBounds) (before after : A) (device_before device_after : D) (old new : List (Client S)) : Type 0 where
   pub gone : List (Gone A S)
   pub all : IsPermutation old (map client_of gone ++ new)
   pub in_turn : AreGone before gone after

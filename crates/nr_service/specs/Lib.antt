@@ -1,7 +1,7 @@
 pub mod Streams
 pub mod Stories
 pub mod Readings
-pub mod Devices
+pub mod Pollers
 pub mod Dealt
 pub mod Serving
 pub mod Silence

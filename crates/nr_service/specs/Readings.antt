@@ -16,7 +16,7 @@ abbrev pub moment_behind : ℕ → Option ℕ → ℕ
 moment_behind before reading = unwrap_or reading before
 
 -- The clock was read once, and the moment is the one behind that.
-pub record Reads {M : Type 0} (gives : M → M → Option ℕ → Type 0) (old new : M) (before after : ℕ) : Type 0 where
+pub record ReadsClock {M : Type 0} (gives : M → M → Option ℕ → Type 0) (old new : M) (before after : ℕ) : Type 0 where
   pub reading : Option ℕ
   pub given : gives old new reading
   pub moment_is : after ≡ moment_behind before reading
@@ -27,19 +27,19 @@ pub record IsUnread {M : Type 0} (old new : M) (before after : ℕ) : Type 0 whe
   pub moment_is : after ≡ before
 
 -- what the clock gave as it was read once, and, until it was read again, the bytes that were fed and the connections that were closed, each in order
-pub record Round : Type 0 where
+pub record ClockRound : Type 0 where
   pub reading : Option ℕ
   pub feeds : List Feeding
   pub closes : List Closing
 
-abbrev pub readings_of : List Round → List (Option ℕ)
-readings_of rounds = map (λ (round : Round). round.reading) rounds
+abbrev pub readings_of : List ClockRound → List (Option ℕ)
+readings_of rounds = map (λ (round : ClockRound). round.reading) rounds
 
-abbrev pub feeds_of : List Round → List Feeding
+abbrev pub feeds_of : List ClockRound → List Feeding
 feeds_of [] = []
 feeds_of (round ∷ rounds) = round.feeds ++ feeds_of rounds
 
-abbrev pub closes_of : List Round → List Closing
+abbrev pub closes_of : List ClockRound → List Closing
 closes_of [] = []
 closes_of (round ∷ rounds) = round.closes ++ closes_of rounds
 
@@ -49,7 +49,7 @@ AreReadings gives old [] new = new ≡ old
 AreReadings {M} gives old (reading ∷ readings) new = (middle : M) × gives old middle reading × AreReadings gives middle readings new
 
 -- the moment behind the last of these rounds, where this was the one before the first
-abbrev pub moment_after : ℕ → List Round → ℕ
+abbrev pub moment_after : ℕ → List ClockRound → ℕ
 moment_after before [] = before
 moment_after before (round ∷ rounds) = moment_after (moment_behind before round.reading) rounds
 
@@ -60,7 +60,7 @@ abbrev pub IsClosedAt : ℕ → Closing → Type 0
 IsClosedAt now closing = closing.moment ≡ moment now
 
 -- all that was fed in a round was fed at the moment behind its reading, and all that was closed in it was closed then
-abbrev pub AreTimed : ℕ → List Round → Type 0
+abbrev pub AreTimed : ℕ → List ClockRound → Type 0
 AreTimed before [] = Unit {0}
 AreTimed before (round ∷ rounds) =
     All (IsFedAt (moment_behind before round.reading)) round.feeds × All (IsClosedAt (moment_behind before round.reading)) round.closes
@@ -69,7 +69,7 @@ AreTimed before (round ∷ rounds) =
 -- From the first clock to this one there were such rounds: these bytes were fed in them, in this order, these connections were closed in them, in this order,
 -- and this is the moment behind the last of them, 0 where there was none.
 pub record AreFedByClock {M : Type 0} (gives : M → M → Option ℕ → Type 0) (first last : M) (now : ℕ) (feeds : List Feeding) (closes : List Closing) : Type 0 where
-  pub rounds : List Round
+  pub rounds : List ClockRound
   pub readings : AreReadings gives first (readings_of rounds) last
   pub fed : feeds_of rounds ≡ feeds
   pub closed : closes_of rounds ≡ closes

@@ -5,7 +5,7 @@ use Rattle.nr_entry.specs.Jobs.{connection_of}
 use Rattle.nr_model.specs.Bytes.{Bytes, IsBeginningOf}
 use Rattle.nr_model.specs.Items.{Connection, same_connection}
 use Rattle.nr_model.specs.Connections.{Setup}
-use Rattle.nr_service.specs.Devices.{Parting, AreGivenBack}
+use Rattle.nr_service.specs.Pollers.{Parting, AreGivenBack}
 use Rattle.nr_service.specs.Readings.{AreFedByClock}
 use Rattle.nr_service.specs.declared.client.Client.{Client}
 use Rattle.nr_service.specs.declared.service.Service.{Service}

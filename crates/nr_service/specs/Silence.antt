@@ -2,11 +2,11 @@
 use Rattle.std.specs.Prelude.{◌≡◌, ℕ, ◌-◌, ◌<◌, ◌≤◌, Bool, true, false, ◌⊎◌, List, [], ◌∷◌, ◌++◌, length, Option, Some, IfSome, All}
 use Rattle.nr_model.specs.Bytes.{Bytes}
 use Rattle.nr_service.specs.declared.client.Client.{Client}
-use Rattle.nr_service.specs.declared.leaving.Bounds.{Bounds}
+use Rattle.nr_service.specs.declared.leaving.LeavingBounds.{LeavingBounds}
 
 -- A client wasn't heard for so many milliseconds, where that is bounded at all: 0 is no bound. Where the clock went back behind the moment at which it was
 -- heard it isn't silent.
-abbrev pub IsSilent : {S : Type 0} → Bounds → Client S → Type 0
+abbrev pub IsSilent : {S : Type 0} → LeavingBounds → Client S → Type 0
 IsSilent bounds client = (0 < bounds.timeout) × (bounds.timeout ≤ bounds.now - client.heard)
 
 -- where they are known, bytes grow by at least one

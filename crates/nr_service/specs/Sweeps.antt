@@ -5,9 +5,9 @@ use Rattle.nr_model.specs.Items.{Connection, same_connection}
 use Rattle.nr_service.specs.Leaving.{IsEnding}
 use Rattle.nr_service.specs.Serving.{connection}
 use Rattle.nr_service.specs.Stories.{Kept, kept_bytes}
-use Rattle.nr_service.specs.declared.answers.Standing.{Standing}
+use Rattle.nr_service.specs.declared.backend.ConnectionState.{ConnectionState}
 use Rattle.nr_service.specs.declared.client.Client.{Client}
-use Rattle.nr_service.specs.declared.leaving.Bounds.{Bounds}
+use Rattle.nr_service.specs.declared.leaving.LeavingBounds.{LeavingBounds}
 
 -- how many turns lie at most between two of them
 abbrev pub turns_between : ℕ
@@ -42,7 +42,7 @@ pub record WritesAt {A S : Type 0} (keeps : A → Kept) (place : ℕ) (busy_befo
       → IsSentOrBroken (keeps before) (slice_index_or old k client) → IsSentOrBroken (keeps after) (slice_index_or new k client)
 
 -- The one at this place, where there is one, goes on, and all is as before.
-pub record GoesOnAt {A S : Type 0} (keeps : A → Kept) (stands : A → Connection → Standing → Type 0) (busy : A → Bool) (bounds : Bounds) (place : ℕ)
+pub record GoesOnAt {A S : Type 0} (keeps : A → Kept) (stands : A → Connection → ConnectionState → Type 0) (busy : A → Bool) (bounds : LeavingBounds) (place : ℕ)
     (before after : A) (old new : List (Client S)) : Type 0 where
   pub clients : new ≡ old
   pub answers : after ≡ before
@@ -50,12 +50,12 @@ pub record GoesOnAt {A S : Type 0} (keeps : A → Kept) (stands : A → Connecti
       → IsEnding (keeps before) (stands before) (busy before) bounds (slice_index_or old place client) None
 
 -- Where all were looked at, each goes on; and all is as before.
-pub record GoOn {A S : Type 0} (keeps : A → Kept) (stands : A → Connection → Standing → Type 0) (busy : A → Bool) (bounds : Bounds) (is_all : Bool)
+pub record GoOn {A S : Type 0} (keeps : A → Kept) (stands : A → Connection → ConnectionState → Type 0) (busy : A → Bool) (bounds : LeavingBounds) (is_all : Bool)
     (before after : A) (old new : List (Client S)) : Type 0 where
   pub clients : new ≡ old
   pub answers : after ≡ before
   pub each : is_all ≡ true → All (λ client. IsEnding (keeps before) (stands before) (busy before) bounds client None) old
 
 -- each client goes on, and what is kept for it is sent as far as its stream takes it
-abbrev pub AreSent : {S : Type 0} → Kept → (Connection → Standing → Type 0) → Bool → Bounds → List (Client S) → Type 0
+abbrev pub AreSent : {S : Type 0} → Kept → (Connection → ConnectionState → Type 0) → Bool → LeavingBounds → List (Client S) → Type 0
 AreSent keeps stands busy bounds clients = All (λ client. IsEnding keeps stands busy bounds client None × IsSent keeps client) clients

@@ -3,19 +3,19 @@ ghost use Rattle.std.specs.Prelude.{◌≡◌, ◌≤◌, ◌+◌, false, [], If
 ghost use Rattle.std.specs.Vec.{vec_len, vec_capacity};
 ghost use Rattle.nr_entry.specs.Jobs.{connection_of};
 ghost use Rattle.nr_service.specs.Arriving.{ArrivesFew, ArrivesUntil};
-ghost use Rattle.nr_service.specs.Devices.{PartsWith, turned_away};
+ghost use Rattle.nr_service.specs.Pollers.{PartsWith, turned_away};
 ghost use Rattle.nr_service.specs.Silence.{OpensAt};
 ghost use Rattle.nr_service.specs.Stories.{IsLeftOf, IsOpened, Keeps};
 ghost use Rattle.nr_service.specs.Streams.{fresh_course};
 ghost use Rattle.nr_service.specs.Steps.{Accepts, IsTakenOn, next_number};
 ghost use Rattle.nr_service.specs.Turns.{most_accepted};
 
-use crate::answers::Answers;
+use crate::backend::Backend;
 use crate::client::{Client, Ending};
-use crate::device::Device;
 use crate::leaving::part;
-use crate::signs::Signs;
+use crate::poller::Poller;
 use crate::stream::Stream;
+use crate::turn_flags::TurnFlags;
 use nr_blob::Memory;
 use nr_entry::ConnId;
 
@@ -24,7 +24,7 @@ const MOST_ACCEPTED: u32 = 64;
 
 // Opens the connection that was accepted as this number, where there is memory for one more client; else it is turned away. `None` where there was no
 // room for it.
-fn open_one<A: Answers, S: Stream>(
+fn open_one<A: Backend, S: Stream>(
     answers: &mut A,
     clients: &mut Vec<Client<S>>,
     number: u64,
@@ -49,12 +49,12 @@ fn open_one<A: Answers, S: Stream>(
 
 // Serves a stream from now on, on which nothing was received or sent, at a moment in milliseconds. False where there was no room for it, or no memory
 // for one more client: then it is abandoned.
-pub(crate) fn take_on<A: Answers, S: Stream + Drop, D: Device<S>>(
+pub(crate) fn take_on<A: Backend, S: Stream + Drop, D: Poller<S>>(
     answers: &mut A,
     device: &mut D,
     clients: &mut Vec<Client<S>>,
     accepted: &mut u64,
-    signs: &mut Signs,
+    signs: &mut TurnFlags,
     moment: u64,
     stream: S,
 ) -> Result<bool, Memory>
@@ -85,12 +85,12 @@ pub(crate) fn take_on<A: Answers, S: Stream + Drop, D: Device<S>>(
 }
 
 // Accepts one, where one waits, at a moment in milliseconds.
-fn accept_one<A: Answers, S: Stream + Drop, D: Device<S>>(
+fn accept_one<A: Backend, S: Stream + Drop, D: Poller<S>>(
     answers: &mut A,
     device: &mut D,
     clients: &mut Vec<Client<S>>,
     accepted: &mut u64,
-    signs: &mut Signs,
+    signs: &mut TurnFlags,
     moment: u64,
 ) -> Result<bool, Memory>
     ensures ok { OnOk result (Accepts S.received S.sent S.course A.is_past A.kept answers.old answers.new clients.old.items clients.new.items) }
@@ -109,12 +109,12 @@ fn accept_one<A: Answers, S: Stream + Drop, D: Device<S>>(
 }
 
 /// Accepts what waits, at most 64 connections, at a moment in milliseconds.
-pub(crate) fn accept_each<A: Answers, S: Stream + Drop, D: Device<S>>(
+pub(crate) fn accept_each<A: Backend, S: Stream + Drop, D: Poller<S>>(
     answers: &mut A,
     device: &mut D,
     clients: &mut Vec<Client<S>>,
     accepted: &mut u64,
-    signs: &mut Signs,
+    signs: &mut TurnFlags,
     moment: u64,
 ) -> Result<(), Memory>
     ensures ok { OnOk result (Accepts S.received S.sent S.course A.is_past A.kept answers.old answers.new clients.old.items clients.new.items) }

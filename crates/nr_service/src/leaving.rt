@@ -1,16 +1,16 @@
 // Letting go of the clients that are over.
 ghost use Rattle.std.specs.Prelude.{◌≡◌, ◌<◌, ◌↔◌, false, [], ◌∷◌, IsTrue, IsFalse, OnOk, OnErr, length};
 ghost use Rattle.nr_service.specs.Leaving.{IsEnding, IsFlowing, IsSlow, IsStuck, LetsGo, LetsGoOne, Loses, parting};
-ghost use Rattle.nr_service.specs.Devices.{PartsWith};
+ghost use Rattle.nr_service.specs.Pollers.{PartsWith};
 ghost use Rattle.nr_service.specs.Silence.{IsSilent};
 ghost use Rattle.nr_service.specs.Sweeps.{GoesOnAt, GoOn};
 
-use crate::answers::{Answers, Standing};
+use crate::backend::{Backend, ConnectionState};
 use crate::client::{Client, Ending};
-use crate::device::Device;
+use crate::poller::Poller;
 use crate::reading::is_open;
-use crate::signs::Signs;
 use crate::stream::Stream;
+use crate::turn_flags::TurnFlags;
 use nr_blob::Memory;
 
 /// After how many milliseconds without a byte a client is let go of where what answers it is down, and something waits for it.
@@ -22,7 +22,7 @@ const SLOW_FOR: u64 = 10_000;
 /// By what clients are judged: how many bytes may wait for one, and, in milliseconds, for how long one may be silent, where that is bounded at all,
 /// and what the moment is.
 #[derive(Clone, Copy)]
-pub(crate) struct Bounds {
+pub(crate) struct LeavingBounds {
     pub limit: usize,
     /// After so long one is silent for too long. 0: never.
     pub timeout: u64,
@@ -30,14 +30,14 @@ pub(crate) struct Bounds {
 }
 
 // Whether a client is silent for too long. Where the clock went back behind the moment at which it was heard it isn't.
-fn is_silent<S>(client: &Client<S>, bounds: Bounds) -> bool
+fn is_silent<S>(client: &Client<S>, bounds: LeavingBounds) -> bool
     ensures { IsTrue result ↔ IsSilent bounds client.now }
 {
     bounds.timeout > 0 && bounds.timeout <= bounds.now.saturating_sub(client.heard)
 }
 
 // Whether a client was seen ten seconds ago to take less than was there for it, while what answers it was down.
-fn is_slow<S>(client: &Client<S>, bounds: Bounds) -> bool
+fn is_slow<S>(client: &Client<S>, bounds: LeavingBounds) -> bool
     ensures { IsTrue result ↔ IsSlow client.now.fell bounds.now }
 {
     match client.fell {
@@ -47,18 +47,22 @@ fn is_slow<S>(client: &Client<S>, bounds: Bounds) -> bool
 }
 
 // Whether what answers a client is down, and the client took no byte, and gave none, for a second, or is slow.
-fn is_stuck<A: Answers, S>(answers: &A, client: &Client<S>, bounds: Bounds) -> bool
+fn is_stuck<A: Backend, S>(answers: &A, client: &Client<S>, bounds: LeavingBounds) -> bool
     ensures stuck { IsTrue result → IsStuck (A.stands answers.now) bounds client.now }
     ensures flowing { IsFalse result → IsFlowing (A.stands answers.now) bounds client.now }
 {
     if bounds.now.saturating_sub(client.heard) < STUCK_FOR && !is_slow(client, bounds) {
         return false;
     }
-    answers.standing(client.conn) == Standing::Down
+    answers.standing(client.conn) == ConnectionState::Down
 }
 
 // How a client ends that is over, `None` where it is served further.
-fn ending_of<A: Answers, S>(answers: &A, client: &Client<S>, bounds: Bounds) -> Option<Ending>
+fn ending_of<A: Backend, S>(
+    answers: &A,
+    client: &Client<S>,
+    bounds: LeavingBounds,
+) -> Option<Ending>
     ensures { IsEnding (A.kept answers.now) (A.stands answers.now) (A.busy answers.now) bounds client.now result }
 {
     let waiting = answers.pending(client.conn).len();
@@ -81,7 +85,7 @@ fn ending_of<A: Answers, S>(answers: &A, client: &Client<S>, bounds: Bounds) -> 
 }
 
 /// Gives a stream back to its device.
-pub(crate) fn part<S: Stream, D: Device<S>>(device: &mut D, stream: S, ending: Ending)
+pub(crate) fn part<S: Stream, D: Poller<S>>(device: &mut D, stream: S, ending: Ending)
     ensures { PartsWith (parting ending stream ∷ []) (D.parted device.old) (D.parted device.new) }
 {
     match ending {
@@ -92,7 +96,7 @@ pub(crate) fn part<S: Stream, D: Device<S>>(device: &mut D, stream: S, ending: E
 }
 
 // Takes one from the list, closes it at a moment in milliseconds, and lets go of its stream.
-fn let_go<A: Answers, S: Stream, D: Device<S>>(
+fn let_go<A: Backend, S: Stream, D: Poller<S>>(
     answers: &mut A,
     device: &mut D,
     clients: &mut Vec<Client<S>>,
@@ -114,13 +118,13 @@ fn let_go<A: Answers, S: Stream, D: Device<S>>(
 
 // Closes the client at this place, where there is one and it is over, and lets go of its stream. The last one stands there then. Where nothing was read
 // in this turn nobody is silent: such a client is looked at in the next one.
-fn let_go_at<A: Answers, S: Stream, D: Device<S>>(
+fn let_go_at<A: Backend, S: Stream, D: Poller<S>>(
     answers: &mut A,
     device: &mut D,
     clients: &mut Vec<Client<S>>,
     place: usize,
-    bounds: Bounds,
-    signs: &mut Signs,
+    bounds: LeavingBounds,
+    signs: &mut TurnFlags,
 ) -> Result<(), Memory>
     ensures gone { OnOk result (LetsGo S.received S.sent S.course A.is_past A.kept A.stands A.busy A.is_gone D.parted bounds answers.old answers.new
         device.old device.new clients.old.items clients.new.items) }
@@ -147,12 +151,12 @@ fn let_go_at<A: Answers, S: Stream, D: Device<S>>(
 }
 
 /// Closes each client that is looked at and is over, from the last on, and lets go of its stream. Logarithmic for each.
-pub(crate) fn let_go_listed<A: Answers, S: Stream, D: Device<S>>(
+pub(crate) fn let_go_listed<A: Backend, S: Stream, D: Poller<S>>(
     answers: &mut A,
     device: &mut D,
     clients: &mut Vec<Client<S>>,
-    bounds: Bounds,
-    signs: &mut Signs,
+    bounds: LeavingBounds,
+    signs: &mut TurnFlags,
 ) -> Result<(), Memory>
     ensures gone { OnOk result (LetsGo S.received S.sent S.course A.is_past A.kept A.stands A.busy A.is_gone D.parted bounds answers.old answers.new
         device.old device.new clients.old.items clients.new.items) }

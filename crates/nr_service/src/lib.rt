@@ -2,28 +2,28 @@
 //! what it stands between: the streams of its connections and where they come from, what answers them, the clock, and the gate.
 #![tactic(auto)]
 
-pub use answers::{Answers, Standing};
+pub use backend::{Backend, ConnectionState};
 pub use client::{Client, Ending};
 pub use dealing::{Accepts, Ends, Revival, Rings, Silent};
-pub use device::{Device, Nowhere, Ready};
 pub use ended::Ended;
 pub use gate::{Gate, Go, Open};
 pub use moments::{MachineClock, Moments};
+pub use poller::{NoArrivals, Poller, Ready};
 pub use service::{Service, read_buffer};
 pub use stream::{Received, Sent, Stream};
 
 mod accepting;
-mod answers;
+mod backend;
 mod client;
 mod dealing;
-mod device;
 mod ended;
 mod gate;
 mod leaving;
 mod moments;
+mod poller;
 mod reading;
 mod service;
-mod signs;
 mod stream;
+mod turn_flags;
 mod visits;
 mod writing;

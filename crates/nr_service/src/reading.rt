@@ -7,12 +7,12 @@ ghost use Rattle.nr_service.specs.Readings.{IsFedAmong, IsFedAtRest, IsFedTo, Is
 ghost use Rattle.nr_service.specs.Serving.{connection};
 ghost use Rattle.nr_service.specs.Silence.{AreHeard, IsHeard, IsHeardBefore, IsHeardBehind};
 ghost use Rattle.nr_service.specs.Steps.{Leaves, LeavesOne, Serves, ServesOne};
-ghost use Rattle.nr_service.specs.declared.answers.Standing.TheVariants as standings;
+ghost use Rattle.nr_service.specs.declared.backend.ConnectionState.TheVariants as standings;
 
-use crate::answers::{Answers, Standing};
+use crate::backend::{Backend, ConnectionState};
 use crate::client::Client;
-use crate::signs::Signs;
 use crate::stream::{Received, Stream};
+use crate::turn_flags::TurnFlags;
 use nr_blob::Memory;
 use nr_entry::ConnId;
 
@@ -20,23 +20,23 @@ use nr_entry::ConnId;
 pub(crate) const HELD_PART: usize = 16;
 
 /// Whether a connection takes bytes.
-pub(crate) fn is_open<A: Answers>(answers: &A, conn: ConnId) -> bool
+pub(crate) fn is_open<A: Backend>(answers: &A, conn: ConnId) -> bool
     ensures open { OnTrue result (A.stands answers.now (connection_of conn) standings.Open) }
     ensures closed { OnFalse result (TakesNone (A.stands answers.now) (connection_of conn)) }
 {
     match answers.standing(conn) {
-        Standing::Open => true,
+        ConnectionState::Open => true,
         _ => false,
     }
 }
 
 // Reads once, and feeds what came. Its input hasn't ended yet.
-fn take_in<A: Answers, S: Stream>(
+fn take_in<A: Backend, S: Stream>(
     answers: &mut A,
     client: &mut Client<S>,
     moment: u64,
     buffer: &mut [u8],
-    signs: &mut Signs,
+    signs: &mut TurnFlags,
 ) -> Result<(), Memory>
     requires standing { A.stands answers.old (connection_of client.old.conn) standings.Open }
     requires going { client.old.is_ending ≡ false }
@@ -62,7 +62,7 @@ fn take_in<A: Answers, S: Stream>(
 }
 
 // When a client that is looked at counts as heard last, before it is read: at this moment, where it wasn't looked at before, or messages may come to it.
-fn heard_by<A: Answers, S>(answers: &A, client: &Client<S>, moment: u64) -> u64
+fn heard_by<A: Backend, S>(answers: &A, client: &Client<S>, moment: u64) -> u64
     ensures { IsHeardBefore (A.listens answers.now (connection client.now)) moment client.now.is_new client.now.heard result }
 {
     if client.is_new || answers.is_listening(client.conn) {
@@ -72,13 +72,13 @@ fn heard_by<A: Answers, S>(answers: &A, client: &Client<S>, moment: u64) -> u64
 }
 
 // Reads one that takes bytes, unless it is held back, as much as its room takes.
-fn read_one<A: Answers, S: Stream>(
+fn read_one<A: Backend, S: Stream>(
     answers: &mut A,
     client: &mut Client<S>,
     moment: u64,
     limit: usize,
     buffer: &mut [u8],
-    signs: &mut Signs,
+    signs: &mut TurnFlags,
 ) -> Result<(), Memory>
     ensures ok { OnOk result (ServesOne S.received S.sent S.course A.is_past A.kept (IsFedTo moment
         (connection client.old)) answers.old answers.new client.old client.new) }
@@ -108,14 +108,14 @@ fn read_one<A: Answers, S: Stream>(
 }
 
 // Reads the client at this place, where there is one.
-fn read_at<A: Answers, S: Stream>(
+fn read_at<A: Backend, S: Stream>(
     answers: &mut A,
     clients: &mut [Client<S>],
     place: usize,
     moment: u64,
     limit: usize,
     buffer: &mut [u8],
-    signs: &mut Signs,
+    signs: &mut TurnFlags,
 ) -> Result<(), Memory>
     ensures ok { OnOk result (Serves S.received S.sent S.course A.is_past A.kept (IsFedAmong moment
         (map connection clients.old)) [] answers.old answers.new clients.old clients.new) }
@@ -133,7 +133,7 @@ fn read_at<A: Answers, S: Stream>(
 }
 
 // Whether bytes may be fed: not while what answers is busy.
-fn may_read<A: Answers>(answers: &A) -> bool
+fn may_read<A: Backend>(answers: &A) -> bool
     ensures { OnTrue result (A.busy answers.now ≡ false) }
 {
     !answers.is_busy()
@@ -141,13 +141,13 @@ fn may_read<A: Answers>(answers: &A) -> bool
 
 /// Reads each client that is looked at once, where it takes bytes and isn't held back, and feeds what came at this moment. Linear in their number
 /// and the bytes. While what answers is busy nothing is read.
-pub(crate) fn read_listed<A: Answers, S: Stream>(
+pub(crate) fn read_listed<A: Backend, S: Stream>(
     answers: &mut A,
     clients: &mut [Client<S>],
     moment: u64,
     limit: usize,
     buffer: &mut [u8],
-    signs: &mut Signs,
+    signs: &mut TurnFlags,
 ) -> Result<(), Memory>
     ensures ok { OnOk result (Serves S.received S.sent S.course A.is_past A.kept (IsFedAtRest (A.busy answers.old) moment
         (map connection clients.old)) [] answers.old answers.new clients.old clients.new) }

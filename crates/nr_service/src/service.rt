@@ -4,9 +4,9 @@ ghost use Rattle.std.specs.List.{IsDistinct};
 ghost use Rattle.nr_model.specs.Items.{same_connection};
 ghost use Rattle.nr_model.specs.Connections.{Setup};
 ghost use Rattle.nr_service.specs.Arriving.{ArrivesUntil};
-ghost use Rattle.nr_service.specs.Devices.{PartsWith, turned_away};
+ghost use Rattle.nr_service.specs.Pollers.{PartsWith, turned_away};
 ghost use Rattle.nr_service.specs.Endings.{BreaksOff, ByCause, ByEnding, GoesOn, IsDone, IsGoing, RanOut, TakesTurns, most_turns_down};
-ghost use Rattle.nr_service.specs.Readings.{IsFedAmong, IsNeverFed, Reads};
+ghost use Rattle.nr_service.specs.Readings.{IsFedAmong, IsNeverFed, ReadsClock};
 ghost use Rattle.nr_service.specs.Serving.{connection, IsServing};
 ghost use Rattle.nr_service.specs.Silence.{AreHeard, OpensAt};
 ghost use Rattle.nr_service.specs.Streams.{fresh_course};
@@ -16,16 +16,16 @@ ghost use Rattle.nr_service.specs.Turns.{Turns};
 ghost use Rattle.nr_service.specs.Stories.{HasWorked, IsLeftOf, beginning};
 
 use crate::accepting::{accept_each, take_on};
-use crate::answers::Answers;
+use crate::backend::Backend;
 use crate::client::{Client, MOST_ROOM};
-use crate::device::Device;
 use crate::ended::Ended;
 use crate::gate::{Gate, Go};
-use crate::leaving::{Bounds, let_go_listed};
+use crate::leaving::{LeavingBounds, let_go_listed};
 use crate::moments::Moments;
+use crate::poller::Poller;
 use crate::reading::read_listed;
-use crate::signs::Signs;
 use crate::stream::Stream;
+use crate::turn_flags::TurnFlags;
 use crate::writing::write_listed;
 use nr_blob::Memory;
 use std::alloc::Global;
@@ -55,12 +55,12 @@ pub struct Service<A, S, D, M> {
     /// In how many turns at most all clients are looked at in one: 0 where it is the next, and 1,023 behind it.
     pub until: u32,
     buffer: Vec<u8>,
-    signs: Signs,
+    signs: TurnFlags,
 }
 
 // The moment that the clock gives, or this one where it fails.
 fn moment_now<M: Moments>(clock: &mut M, moment: u64) -> u64
-    ensures { Reads M.gives clock.old clock.new moment result }
+    ensures { ReadsClock M.gives clock.old clock.new moment result }
 {
     clock.now().unwrap_or(moment)
 }
@@ -76,7 +76,7 @@ pub fn read_buffer(alloc: Global) -> Result<Vec<u8>, Memory> {
 }
 
 // Has all work done.
-fn work<A: Answers>(answers: &mut A, signs: &mut Signs) -> Result<(), Memory>
+fn work<A: Backend>(answers: &mut A, signs: &mut TurnFlags) -> Result<(), Memory>
     ensures all { signs.new.is_all ≡ signs.old.is_all }
     ensures worked { OnOk result (HasWorked (A.is_past answers.old) (A.is_past answers.new) (A.is_settled answers.new) (A.kept answers.old)
         (A.kept answers.new)) }
@@ -89,10 +89,10 @@ fn work<A: Answers>(answers: &mut A, signs: &mut Signs) -> Result<(), Memory>
 }
 
 // Has the work done that is left, where there is any.
-fn work_left<A: Answers, S: Stream>(
+fn work_left<A: Backend, S: Stream>(
     answers: &mut A,
     clients: &[Client<S>],
-    signs: &mut Signs,
+    signs: &mut TurnFlags,
 ) -> Result<(), Memory>
     ensures all { signs.new.is_all ≡ signs.old.is_all }
     ensures serves { OnOk result (Serves S.received S.sent S.course A.is_past A.kept IsNeverFed [] answers.old answers.new clients.now clients.now) }
@@ -106,13 +106,13 @@ fn work_left<A: Answers, S: Stream>(
 
 // Has the work done that the last turn left, as that of a close, which comes before all that is read now. Then it reads for each client, has
 // all work done, and writes for each.
-fn exchange_each<A: Answers, S: Stream>(
+fn exchange_each<A: Backend, S: Stream>(
     answers: &mut A,
     clients: &mut [Client<S>],
     moment: u64,
     limit: usize,
     buffer: &mut [u8],
-    signs: &mut Signs,
+    signs: &mut TurnFlags,
 ) -> Result<(), Memory>
     ensures ok { OnOk result (Exchanges S.received S.sent S.course A.is_past A.is_settled A.kept A.busy moment answers.old answers.new clients.old clients.new) }
     ensures err { OnErr result (Leaves S.received S.sent S.course A.is_past A.is_left A.kept (IsFedAmong moment (map connection clients.old)) answers.old
@@ -132,9 +132,9 @@ fn exchange_each<A: Answers, S: Stream>(
 
 impl<A, S, D, M> Service<A, S, D, M>
 where
-    A: Answers + Drop,
+    A: Backend + Drop,
     S: Stream + Drop,
-    D: Device<S> + Drop,
+    D: Poller<S> + Drop,
     M: Moments + Drop,
 {
     /// A service without a client, of what answers and was fed nothing yet. It takes room for 65,536 bytes.
@@ -211,7 +211,7 @@ where
             accepted: 0,
             until: 0,
             buffer,
-            signs: Signs::new(alloc),
+            signs: TurnFlags::new(alloc),
         }
     }
 
@@ -261,7 +261,7 @@ where
             self.old.clients.items)) self.old.answers self.new.answers self.old.clients.items self.new.clients.items) }
         ensures same { map connection self.new.clients.items ≡ map connection self.old.clients.items }
         ensures heard { AreHeard self.new.moment self.old.clients.items self.new.clients.items }
-        ensures reads { Reads M.gives self.old.clock self.new.clock self.old.moment self.new.moment }
+        ensures reads { ReadsClock M.gives self.old.clock self.new.clock self.old.moment self.new.moment }
         ensures device { self.new.device ≡ self.old.device }
         ensures accepted { self.new.accepted ≡ self.old.accepted }
         ensures limit { self.new.limit ≡ self.old.limit }
@@ -303,7 +303,7 @@ where
             self.old.clients.items)) self.old.answers self.new.answers self.old.clients.items self.new.clients.items) }
         ensures same { map connection self.new.clients.items ≡ map connection self.old.clients.items }
         ensures heard { AreHeard self.new.moment self.old.clients.items self.new.clients.items }
-        ensures reads { Reads M.gives self.old.clock self.new.clock self.old.moment self.new.moment }
+        ensures reads { ReadsClock M.gives self.old.clock self.new.clock self.old.moment self.new.moment }
         ensures device { self.new.device ≡ self.old.device }
         ensures accepted { self.new.accepted ≡ self.old.accepted }
         ensures limit { self.new.limit ≡ self.old.limit }
@@ -354,7 +354,7 @@ where
             &mut self.answers,
             &mut self.device,
             &mut self.clients,
-            Bounds {
+            LeavingBounds {
                 limit: self.limit,
                 timeout: self.timeout,
                 now: self.moment,

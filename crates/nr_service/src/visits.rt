@@ -2,9 +2,9 @@
 ghost use Rattle.std.specs.Prelude.{◌≡◌};
 ghost use Rattle.nr_service.specs.Sweeps.{turns_between};
 
-use crate::answers::Answers;
+use crate::backend::Backend;
 use crate::client::Client;
-use crate::device::{Device, Ready};
+use crate::poller::{Poller, Ready};
 use crate::stream::Stream;
 use nr_entry::ConnId;
 use std::alloc::Global;
@@ -80,7 +80,7 @@ impl Visits {
     }
 
     // Lists those of which the device tells that they are ready. Whether every one may be.
-    fn list_ready<S: Stream, D: Device<S>>(&mut self, device: &D) -> bool {
+    fn list_ready<S: Stream, D: Poller<S>>(&mut self, device: &D) -> bool {
         for place in 0..usize::MAX {
             match device.ready(place) {
                 Ready::Every => return true,
@@ -112,7 +112,7 @@ impl Visits {
     }
 
     /// A turn begins: who is new, who is ready, and who is to be looked at once more. Whether all are looked at. Logarithmic for each of these.
-    pub(crate) fn begin<S: Stream, D: Device<S>>(
+    pub(crate) fn begin<S: Stream, D: Poller<S>>(
         &mut self,
         device: &D,
         clients: &[Client<S>],
@@ -135,7 +135,7 @@ impl Visits {
     }
 
     /// Those that the last work of what answers changed are looked at too.
-    pub(crate) fn hear<A: Answers>(&mut self, answers: &A) {
+    pub(crate) fn hear<A: Backend>(&mut self, answers: &A) {
         for place in 0..usize::MAX {
             match answers.told(place) {
                 Some(conn) => self.list_conn(conn),
@@ -167,7 +167,7 @@ impl Visits {
     }
 
     /// A wait has ended: where nothing ended it so often, and there was no work at hand, all are looked at.
-    pub(crate) fn waited<S: Stream, D: Device<S>>(&mut self, device: &D, is_busy: bool) {
+    pub(crate) fn waited<S: Stream, D: Poller<S>>(&mut self, device: &D, is_busy: bool) {
         if !is_busy && device.ready(0) == Ready::NoMore {
             self.waits = self.waits.saturating_sub(1);
         }

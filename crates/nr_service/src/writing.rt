@@ -10,11 +10,11 @@ ghost use Rattle.nr_service.specs.Steps.{Serves, ServesOne, settled_past};
 ghost use Rattle.nr_service.specs.Stories.{KeepsOthers, kept_bytes};
 ghost use Rattle.nr_service.specs.Sweeps.{IsSentOrBroken, IsWrittenOn, WritesAt, most_written};
 
-use crate::answers::{Answers, Standing};
+use crate::backend::{Backend, ConnectionState};
 use crate::client::{Client, FIRST_ROOM, MOST_ROOM};
 use crate::reading::HELD_PART;
-use crate::signs::Signs;
 use crate::stream::{Sent, Stream};
+use crate::turn_flags::TurnFlags;
 
 // At most this part of the limit is written for a client in a visit, and so many bytes where that is more: the others wait no longer than for these.
 const WRITTEN_PART: usize = 8;
@@ -44,7 +44,7 @@ struct Tried {
 }
 
 // Tries once to write what is kept for one, at most so many bytes, where anything is kept and its stream hasn't failed. What isn't taken stays.
-fn write_some<A: Answers, S: Stream>(
+fn write_some<A: Backend, S: Stream>(
     answers: &mut A,
     client: &mut Client<S>,
     moment: u64,
@@ -86,7 +86,7 @@ fn write_some<A: Answers, S: Stream>(
 
 // Writes on what is kept for one behind a first try, which took so many of the most bytes that may be taken: until all is written, its stream takes
 // nothing or fails, or the most were taken. How many bytes are left.
-fn write_on<A: Answers, S: Stream>(
+fn write_on<A: Backend, S: Stream>(
     answers: &mut A,
     client: &mut Client<S>,
     first: Tried,
@@ -122,13 +122,13 @@ fn write_on<A: Answers, S: Stream>(
 }
 
 // Since which moment what answers a client is down while its stream takes less than is there for it, as it is seen at this moment. `None` where that isn't so.
-fn fell_at<A: Answers, S>(answers: &A, client: &Client<S>, moment: u64) -> Option<u64>
+fn fell_at<A: Backend, S>(answers: &A, client: &Client<S>, moment: u64) -> Option<u64>
     ensures { IsDownSince (A.stands answers.now) moment client.now result }
 {
     if client.fell.is_some() || !client.is_full {
         return client.fell;
     }
-    if answers.standing(client.conn) == Standing::Down {
+    if answers.standing(client.conn) == ConnectionState::Down {
         Some(moment)
     } else {
         None
@@ -137,12 +137,12 @@ fn fell_at<A: Answers, S>(answers: &A, client: &Client<S>, moment: u64) -> Optio
 
 // Writes what is kept for one, until all is written, its stream takes nothing or fails, or as much was taken as may be in a visit. What isn't taken
 // stays.
-fn write_one<A: Answers, S: Stream>(
+fn write_one<A: Backend, S: Stream>(
     answers: &mut A,
     client: &mut Client<S>,
     moment: u64,
     limit: usize,
-    signs: &mut Signs,
+    signs: &mut TurnFlags,
 )
     ensures served { ServesOne S.received S.sent S.course (settled_past A.is_past A.is_settled) A.kept IsNeverFed answers.old answers.new
         client.old client.new }
@@ -168,13 +168,13 @@ fn write_one<A: Answers, S: Stream>(
 }
 
 // Writes for the client at this place, where there is one.
-fn write_at<A: Answers, S: Stream>(
+fn write_at<A: Backend, S: Stream>(
     answers: &mut A,
     clients: &mut [Client<S>],
     place: usize,
     moment: u64,
     limit: usize,
-    signs: &mut Signs,
+    signs: &mut TurnFlags,
 )
     ensures served { Serves S.received S.sent S.course (settled_past A.is_past A.is_settled) A.kept IsNeverFed [] answers.old answers.new
         clients.old clients.new }
@@ -190,12 +190,12 @@ fn write_at<A: Answers, S: Stream>(
 }
 
 /// Writes for each client that is looked at and for which bytes are kept, at a moment in milliseconds. Linear in their number and the bytes.
-pub(crate) fn write_listed<A: Answers, S: Stream>(
+pub(crate) fn write_listed<A: Backend, S: Stream>(
     answers: &mut A,
     clients: &mut [Client<S>],
     moment: u64,
     limit: usize,
-    signs: &mut Signs,
+    signs: &mut TurnFlags,
 )
     ensures served { Serves S.received S.sent S.course (settled_past A.is_past A.is_settled) A.kept IsNeverFed [] answers.old answers.new
         clients.old clients.new }

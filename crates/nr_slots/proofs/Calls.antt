@@ -8,8 +8,8 @@ use Rattle.nr_slots.specs.declared.view.Parcel.{Parcel}
 use Rattle.nr_slots.specs.declared.view.Parcel.TheVariants.{Posted, Answered}
 use Rattle.nr_slots.specs.declared.view.Hand.TheVariants.{Still, Placing, Fetching}
 use Rattle.nr_slots.specs.declared.view.Grip.TheVariants.{Loose, Lifting, Answering}
-use Rattle.nr_slots.specs.declared.view.Lane.{Lane}
-use Rattle.nr_slots.specs.declared.view.Desk.{Desk}
+use Rattle.nr_slots.specs.declared.view.WorkerPast.{WorkerPast}
+use Rattle.nr_slots.specs.declared.view.CombinerPast.{CombinerPast}
 use Rattle.nr_slots.specs.declared.view.Found.{Found}
 use Rattle.nr_slots.specs.declared.view.Found.TheVariants.{Nothing, Batch as FoundBatch}
 use Rattle.nr_slots.specs.declared.view.SlotView.{SlotView}
@@ -42,21 +42,21 @@ pub exchanged : (l x : Sat) (v : SlotView) (place : ℕ) (old new : Option Parce
 exchanged l x v place old new took now = now ∙ ap (λ (q : Sat). (q.0, (place, new) ∷ rest q.1)) took
 
 module _ (workers slots id worker : ℕ) (near : worker < workers) where
-  pub put_loads : (m : Sat) (lane : Lane) (noted : List Desk) → m ≡ (worker_view worker lane noted, []) → CanPost lane → Allows (SlotRule workers) slots id m (word_of worker) (λ z. z) (λ _. placed m)
+  pub put_loads : (m : Sat) (lane : WorkerPast) (noted : List CombinerPast) → m ≡ (worker_view worker lane noted, []) → CanPost lane → Allows (SlotRule workers) slots id m (word_of worker) (λ z. z) (λ _. placed m)
   put_loads m lane noted is can = subst (λ (q : Sat). Allows (SlotRule workers) slots id q (word_of worker) (λ z. z) (λ _. placed q)) (sym is) (places workers id worker near lane noted [] slots can)
 
-  pub put_stores : (m : Sat) (lane : Lane) (noted : List Desk) (b : Batch) → m ≡ (worker_view worker lane noted, (place_of worker, Some (Posted b)) ∷ []) → lane.hand ≡ Placing
+  pub put_stores : (m : Sat) (lane : WorkerPast) (noted : List CombinerPast) (b : Batch) → m ≡ (worker_view worker lane noted, (place_of worker, Some (Posted b)) ∷ []) → lane.hand ≡ Placing
       → Allows (SlotRule workers) slots id m (word_of worker) (λ _. 1) (λ _. published m)
   put_stores m lane noted b is h = subst (λ (q : Sat). Allows (SlotRule workers) slots id q (word_of worker) (λ _. 1) (λ _. published q)) (sym is) (publishes workers id worker near lane noted [] slots b h)
 
-  pub look_loads : (m : Sat) (lane : Lane) (noted : List Desk) → m ≡ (worker_view worker lane noted, []) → lane.hand ≡ Still → Allows (SlotRule workers) slots id m (word_of worker) (λ z. z) (looked m)
+  pub look_loads : (m : Sat) (lane : WorkerPast) (noted : List CombinerPast) → m ≡ (worker_view worker lane noted, []) → lane.hand ≡ Still → Allows (SlotRule workers) slots id m (word_of worker) (λ z. z) (looked m)
   look_loads m lane noted is still = subst (λ (q : Sat). Allows (SlotRule workers) slots id q (word_of worker) (λ z. z) (looked q)) (sym is) (looks workers id worker near lane noted [] slots still)
 
-  pub clear_stores : (m : Sat) (lane : Lane) (noted : List Desk) (a : Answer) → m ≡ (worker_view worker lane noted, (place_of worker, None) ∷ []) → lane.hand ≡ Fetching a
+  pub clear_stores : (m : Sat) (lane : WorkerPast) (noted : List CombinerPast) (a : Answer) → m ≡ (worker_view worker lane noted, (place_of worker, None) ∷ []) → lane.hand ≡ Fetching a
       → Allows (SlotRule workers) slots id m (word_of worker) (λ _. 0) (λ _. cleared m)
   clear_stores m lane noted a is h = subst (λ (q : Sat). Allows (SlotRule workers) slots id q (word_of worker) (λ _. 0) (λ _. cleared q)) (sym is) (clears workers id worker near lane noted [] slots a h)
 
-  module _ (desks : List Desk) (looks : List Found) (full : length desks ≡ workers) where
+  module _ (desks : List CombinerPast) (looks : List Found) (full : length desks ≡ workers) where
     pub seek_loads : (m : Sat) → m ≡ (combiner_view workers desks looks, []) → (desk_at desks worker).grip ≡ Loose → length (desk_at desks worker).lifted ≡ length (desk_at desks worker).answered
         → Allows (SlotRule workers) slots id m (word_of worker) (λ z. z) (sought (step slots (word_of worker) 0 0 none) m)
     seek_loads m is loose even = subst (λ (q : Sat). Allows (SlotRule workers) slots id q (word_of worker) (λ z. z) (sought (step slots (word_of worker) 0 0 none) q)) (sym is)
@@ -78,13 +78,13 @@ module _ (workers slots id worker : ℕ) (near : worker < workers) where
         (replies workers id worker near desks looks full [] slots a g last)
 
 module _ (worker : ℕ) (m l : Sat) where
-  pub placed_now : (lane : Lane) (noted : List Desk) → m ≡ (worker_view worker lane noted, []) → placed m l → l ≡ (worker_view worker (to_place lane) noted, (place_of worker, None) ∷ [])
+  pub placed_now : (lane : WorkerPast) (noted : List CombinerPast) → m ≡ (worker_view worker lane noted, []) → placed m l → l ≡ (worker_view worker (to_place lane) noted, (place_of worker, None) ∷ [])
   placed_now lane noted is did = did ∙ ap (λ (q : Sat). (with_lane (to_place q.0.lane) q.0, (place_of q.0.from, None) ∷ q.1)) is
 
-  pub published_now : (lane : Lane) (noted : List Desk) (b : Batch) → m ≡ (worker_view worker lane noted, (place_of worker, Some (Posted b)) ∷ []) → published m l → l ≡ (worker_view worker (to_publish b lane) noted, [])
+  pub published_now : (lane : WorkerPast) (noted : List CombinerPast) (b : Batch) → m ≡ (worker_view worker lane noted, (place_of worker, Some (Posted b)) ∷ []) → published m l → l ≡ (worker_view worker (to_publish b lane) noted, [])
   published_now lane noted b is did = did ∙ ap (λ (q : Sat). (with_lane record { posted = q.0.lane.posted ++ batch_carried q.1; collected = q.0.lane.collected; hand = Still } q.0, rest q.1)) is
 
-  pub found_answer : (lane : Lane) (noted : List Desk) (n : ℕ) → m ≡ (worker_view worker lane noted, []) → looked m n l → n ≡ 2
+  pub found_answer : (lane : WorkerPast) (noted : List CombinerPast) (n : ℕ) → m ≡ (worker_view worker lane noted, []) → looked m n l → n ≡ 2
       → (a : Answer) × IsForLast a lane.posted lane.collected × (l ≡ (worker_view worker (to_fetch a lane) noted, (place_of worker, Some (Answered a)) ∷ []))
   found_answer lane noted n is did two = let f = did.0 two in (
     f.0,
@@ -92,10 +92,10 @@ module _ (worker : ℕ) (m l : Sat) where
     f.2 ∙ ap (λ (q : Sat). (with_lane (to_fetch f.0 q.0.lane) q.0, (place_of q.0.from, Some (Answered f.0)) ∷ q.1)) is,
   )
 
-  pub cleared_now : (lane : Lane) (noted : List Desk) → m ≡ (worker_view worker lane noted, (place_of worker, None) ∷ []) → cleared m l → l ≡ (worker_view worker (to_clear lane) noted, [])
+  pub cleared_now : (lane : WorkerPast) (noted : List CombinerPast) → m ≡ (worker_view worker lane noted, (place_of worker, None) ∷ []) → cleared m l → l ≡ (worker_view worker (to_clear lane) noted, [])
   cleared_now lane noted is did = did ∙ ap (λ (q : Sat). (with_lane (to_clear q.0.lane) q.0, rest q.1)) is
 
-  module _ (workers slots : ℕ) (desks : List Desk) (looks : List Found) where
+  module _ (workers slots : ℕ) (desks : List CombinerPast) (looks : List Found) where
     pub found_batch : (n : ℕ) → m ≡ (combiner_view workers desks looks, []) → sought (step slots (word_of worker) 0 0 none) m n l → n ≡ 1
         → (b : Batch) × (l ≡ (combiner_view workers (set desks worker (to_seek b (desk_at desks worker))) (looks ++ FoundBatch worker ∷ []), (place_of worker, Some (Posted b)) ∷ []))
     found_batch n is did one = let f = (did worker refl).0 one in (f.0, f.1 ∙ ap (λ (q : Sat). (with_look (FoundBatch worker) (with_desk worker (to_seek f.0 (desk_at q.0.desks worker)) q.0), (place_of worker, Some (Posted f.0)) ∷ q.1)) is)
@@ -116,17 +116,17 @@ module _ (worker : ℕ) (m l : Sat) where
         ∙ ap (λ (q : Sat). (with_desk worker record { lifted = (desk_at q.0.desks worker).lifted; answered = (desk_at q.0.desks worker).answered ++ answer_carried q.1; grip = Loose } q.0, rest q.1)) is
 
 -- a desk that was changed twice
-pub set_twice : (desks : List Desk) (worker : ℕ) (d e : Desk) → set (set desks worker d) worker e ≡ set desks worker e
+pub set_twice : (desks : List CombinerPast) (worker : ℕ) (d e : CombinerPast) → set (set desks worker d) worker e ≡ set desks worker e
 set_twice [] worker d e = refl
 set_twice (x ∷ xs) zero d e = refl
 set_twice (x ∷ xs) (suc worker) d e = ap (λ l. x ∷ l) (set_twice xs worker d e)
 
 -- one desk was changed
-pub desk_now : (workers worker : ℕ) → worker < workers → (desks : List Desk) → length desks ≡ workers → (d : Desk) → (length (set desks worker d) ≡ workers) × (desk_at (set desks worker d) worker ≡ d)
+pub desk_now : (workers worker : ℕ) → worker < workers → (desks : List CombinerPast) → length desks ≡ workers → (d : CombinerPast) → (length (set desks worker d) ≡ workers) × (desk_at (set desks worker d) worker ≡ d)
 desk_now workers worker near desks full d = (length-set desks worker d ∙ full, get_or-set_same desks worker d no_desk (subst (λ z. worker < z) (sym full) near))
 
-module _ (workers worker : ℕ) (near : worker < workers) (desks : List Desk) (looks : List Found) (full : length desks ≡ workers) where
-  twice : (F : Desk → Desk) (d : Desk) → set (set desks worker d) worker (F (desk_at (set desks worker d) worker)) ≡ set desks worker (F d)
+module _ (workers worker : ℕ) (near : worker < workers) (desks : List CombinerPast) (looks : List Found) (full : length desks ≡ workers) where
+  twice : (F : CombinerPast → CombinerPast) (d : CombinerPast) → set (set desks worker d) worker (F (desk_at (set desks worker d) worker)) ≡ set desks worker (F d)
   twice F d = ap (λ z. set (set desks worker d) worker (F z)) (desk_now workers worker near desks full d).1 ∙ set_twice desks worker d (F d)
 
   -- what a combiner knows once it has lifted a batch
@@ -150,7 +150,7 @@ batch_or b (Some (Posted c)) = c
 batch_or b (Some (Answered a)) = b
 
 -- what a worker knows once it has taken an answer out
-pub collected_after : (worker : ℕ) (lane : Lane) (noted : List Desk) (a got : Answer) (parcel : Option Parcel) (x : Sat) → parcel ≡ Some (Answered a) → parcel ≡ Some (Answered got) → IsForLast a lane.posted lane.collected
+pub collected_after : (worker : ℕ) (lane : WorkerPast) (noted : List CombinerPast) (a got : Answer) (parcel : Option Parcel) (x : Sat) → parcel ≡ Some (Answered a) → parcel ≡ Some (Answered got) → IsForLast a lane.posted lane.collected
     → x ≡ (worker_view worker (to_clear (to_fetch a lane)) noted, []) → IsForLast got lane.posted lane.collected × (x ≡ (worker_view worker (with_answer got lane) noted, []))
 unfolding answer_or
 collected_after worker lane noted a got parcel x is there last now = subst (λ (z : Answer). IsForLast z lane.posted lane.collected × (x ≡ (worker_view worker (with_answer z lane) noted, []))) (ap (answer_or a) (sym is ∙ there)) (last, now)

@@ -10,7 +10,7 @@ use Rattle.nr_entry.specs.declared.batch.Answer.{Answer}
 use Rattle.nr_slots.specs.declared.view.Parcel.{Parcel}
 use Rattle.nr_slots.specs.declared.view.Parcel.TheVariants.{Posted, Answered}
 use Rattle.nr_slots.specs.declared.view.Grip.TheVariants.{Loose, Lifting, Answering}
-use Rattle.nr_slots.specs.declared.view.Desk.{Desk}
+use Rattle.nr_slots.specs.declared.view.CombinerPast.{CombinerPast}
 use Rattle.nr_slots.specs.declared.view.Found.{Found}
 use Rattle.nr_slots.specs.declared.view.Found.TheVariants.{Nothing, Batch as FoundBatch}
 use Rattle.nr_slots.specs.declared.view.SlotView.{SlotView}
@@ -24,34 +24,34 @@ use Rattle.nr_slots.proofs.Moves.{one_word, combiner_moved, seen}
 use Rattle.nr_slots.proofs.WorkerSteps.{Carried, told}
 
 -- what a combiner does to what it knows of a worker
-abbrev pub to_seek : Batch → Desk → Desk
+abbrev pub to_seek : Batch → CombinerPast → CombinerPast
 to_seek b desk = record { lifted = desk.lifted ++ b ∷ []; answered = desk.answered; grip = Lifting }
 
-abbrev pub to_loose : Desk → Desk
+abbrev pub to_loose : CombinerPast → CombinerPast
 to_loose desk = record desk { grip = Loose }
 
-abbrev pub to_reach : Desk → Desk
+abbrev pub to_reach : CombinerPast → CombinerPast
 to_reach desk = record desk { grip = Answering }
 
-abbrev pub to_reply : Answer → Desk → Desk
+abbrev pub to_reply : Answer → CombinerPast → CombinerPast
 to_reply a desk = record { lifted = desk.lifted; answered = desk.answered ++ a ∷ []; grip = Loose }
 
-module _ (workers id worker : ℕ) (near : worker < workers) (desks : List Desk) (looks : List Found) (full : length desks ≡ workers) (cs : Carried) where
+module _ (workers id worker : ℕ) (near : worker < workers) (desks : List CombinerPast) (looks : List Found) (full : length desks ≡ workers) (cs : Carried) where
   abbrev v : SlotView
   v = combiner_view workers desks looks
 
   abbrev St : Type 0
   St = State (Option Parcel) SlotView
 
-  abbrev desk : Desk
+  abbrev desk : CombinerPast
   desk = desk_at desks worker
 
   -- the view with another desk for the worker
-  abbrev desked : Desk → SlotView
+  abbrev desked : CombinerPast → SlotView
   desked d = combiner_view workers (set desks worker d) looks
 
   -- the same behind one more look
-  abbrev looked : Found → Desk → SlotView
+  abbrev looked : Found → CombinerPast → SlotView
   looked found d = combiner_view workers (set desks worker d) (looks ++ found ∷ [])
 
   -- what is said of the worker's word is said of each worker with this word
@@ -81,17 +81,17 @@ module _ (workers id worker : ℕ) (near : worker < workers) (desks : List Desk)
     lane_at_stage st e = ap (λ z. lane_of (told t.rounds z)) (sym e)
 
     grip_now : grip_at t.stage ≡ desk.grip
-    grip_now = ap (λ (z : Desk). z.grip) (sym knows)
+    grip_now = ap (λ (z : CombinerPast). z.grip) (sym knows)
 
     offered_now : desk.grip ≡ Loose → length desk.lifted ≡ length desk.answered → get_or s.words (word_of worker) 0 ≡ 1 → (b : Batch) × (t.stage ≡ offered b)
     offered_now loose even one = is_offered t.rounds t.stage (grip_now ∙ loose) (sym ok.word_is ∙ one)
-        (ap (λ (z : Desk). length z.lifted) (sym knows) ∙ even ∙ ap (λ (z : Desk). length z.answered) knows)
+        (ap (λ (z : CombinerPast). length z.lifted) (sym knows) ∙ even ∙ ap (λ (z : CombinerPast). length z.answered) knows)
 
     lifting_now : desk.grip ≡ Lifting → (b : Batch) × (t.stage ≡ lifting b)
     lifting_now g = is_lifting t.stage (grip_now ∙ g)
 
     last_now : (a : Answer) → IsForLast a desk.lifted desk.answered → IsForLast a (batches t.rounds ++ lifted_at t.stage) (answers t.rounds ++ answered_at t.stage)
-    last_now a f = subst (λ (z : Desk). IsForLast a z.lifted z.answered) knows f
+    last_now a f = subst (λ (z : CombinerPast). IsForLast a z.lifted z.answered) knows f
 
     held_now : (a : Answer) → desk.grip ≡ Loose → IsForLast a desk.lifted desk.answered → (b : Batch) × (t.stage ≡ held b) × Names a b
     held_now a loose f = is_held t.rounds a t.stage (grip_now ∙ loose) (last_now a f)

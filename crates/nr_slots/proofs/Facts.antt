@@ -2,8 +2,8 @@
 use Rattle.std.proofs.Common.{◌≡◌, ◌≢◌, zero, suc, ◌+◌, ◌≤◌, List, [], ◌∷◌, ◌++◌, length, get_or, refl, sym, ap, subst, inl, inr, arith, append-nil}
 use Rattle.nr_entry.specs.declared.batch.Batch.{Batch}
 use Rattle.nr_entry.specs.declared.batch.Answer.{Answer}
-use Rattle.nr_slots.specs.declared.view.Lane.{Lane}
-use Rattle.nr_slots.specs.declared.view.Desk.{Desk}
+use Rattle.nr_slots.specs.declared.view.WorkerPast.{WorkerPast}
+use Rattle.nr_slots.specs.declared.view.CombinerPast.{CombinerPast}
 use Rattle.nr_slots.specs.Names.{Names}
 use Rattle.nr_slots.specs.Rule.{Round, Stage, vacant, placing, offered, lifting, held, answering, ready, fetching, posted_at, lifted_at, answered_at, word_at, IsNamed, batches, answers}
 use Rattle.nr_slots.specs.Law.{IsAllOrAllButLast, NameEach, SlotFacts, HoldsOfSeats}
@@ -74,7 +74,7 @@ pub holds_of_seats : HoldsOfSeats
 holds_of_seats workers s r worker near id other v c at at' owns combines =
     let k = r.each_slot worker near in
     let lane = (r.each_seat id v at).lane_is worker owns in let desk = (r.each_seat other c at').desk_is combines worker near in
-    subst (λ (q : Lane × Desk). SlotFacts q.0.posted q.0.collected q.1.lifted q.1.answered × (get_or s.words (word_of worker) 0 ≢ 1 → q.1.lifted ≡ q.0.posted)) (λ i. (sym lane i, sym desk i)) (
+    subst (λ (q : WorkerPast × CombinerPast). SlotFacts q.0.posted q.0.collected q.1.lifted q.1.answered × (get_or s.words (word_of worker) 0 ≢ 1 → q.1.lifted ≡ q.0.posted)) (λ i. (sym lane i, sym desk i)) (
       facts (r.tale worker).rounds k.each_named (r.tale worker).stage k.named,
       λ other. all_lifted (r.tale worker).rounds (r.tale worker).stage (subst (λ z. z ≢ 1) k.word_is other),
     )

@@ -1,7 +1,7 @@
 -- What a combiner did first.
 use Rattle.std.proofs.Common.{◌≡◌, ℕ, zero, suc, ◌≤◌, List, [], ◌∷◌, ◌++◌, length, take, drop, refl, sym, ap, ◌∙◌, subst, arith, append_assoc, append-nil, take-append-drop}
 use Rattle.nr_model.specs.Bytes.{IsBeginningOf}
-use Rattle.nr_slots.specs.declared.view.Desk.{Desk}
+use Rattle.nr_slots.specs.declared.view.CombinerPast.{CombinerPast}
 use Rattle.nr_slots.specs.Rule.{IsFrontOf, no_desk}
 
 module _ {A : Type 0} where
@@ -32,11 +32,11 @@ module _ {A : Type 0} where
       let both : take (length xs) ys ≡ xs = ap (take (length xs)) (sym second) ∙ take_shorter (length xs) (length ys) zs h ∙ first in
       (drop (length xs) ys, ap (λ l. l ++ drop (length xs) ys) (sym both) ∙ take-append-drop (length xs) ys)
 
-pub front_all : (d : Desk) → IsFrontOf d d
+pub front_all : (d : CombinerPast) → IsFrontOf d d
 front_all d = (begins_all d.lifted, begins_all d.answered)
 
-pub front_then : (d e f : Desk) → IsFrontOf d e → IsFrontOf e f → IsFrontOf d f
+pub front_then : (d e f : CombinerPast) → IsFrontOf d e → IsFrontOf e f → IsFrontOf d f
 front_then d e f a b = (begins_then d.lifted e.lifted f.lifted a.0 b.0, begins_then d.answered e.answered f.answered a.1 b.1)
 
-pub front_none : (d : Desk) → IsFrontOf no_desk d
+pub front_none : (d : CombinerPast) → IsFrontOf no_desk d
 front_none d = (begins_none d.lifted, begins_none d.answered)

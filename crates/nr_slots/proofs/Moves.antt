@@ -9,14 +9,14 @@ use Rattle.std.specs.Prelude.{Option}
 use Rattle.atomic_table.specs.Table.{State, keeps, stepped}
 use Rattle.atomic_table.proofs.Lists.{at_set, set_here, set_else, set_again}
 use Rattle.nr_slots.specs.declared.view.Parcel.{Parcel}
-use Rattle.nr_slots.specs.declared.view.Lane.{Lane}
-use Rattle.nr_slots.specs.declared.view.Desk.{Desk}
+use Rattle.nr_slots.specs.declared.view.WorkerPast.{WorkerPast}
+use Rattle.nr_slots.specs.declared.view.CombinerPast.{CombinerPast}
 use Rattle.nr_slots.specs.declared.view.Found.{Found}
 use Rattle.nr_slots.proofs.Heads.{front_then, front_all}
 use Rattle.nr_slots.specs.declared.view.SlotView.{SlotView}
 use Rattle.nr_slots.specs.Layout.{word_of, place_of, words_of, places_of}
 use Rattle.nr_slots.specs.Names.{Names}
-use Rattle.nr_slots.specs.Rule.{Round, Tale, word_at, home_at, IsNamed, lane_of, desk_of, Homes, SlotOk, Owns, Combines, OnlyOne, IsFrontOf, SeatOk, SlotRule, worker_view, combiner_view, no_desk}
+use Rattle.nr_slots.specs.Rule.{Round, Tale, word_at, home_at, IsNamed, lane_of, desk_of, Homes, SlotOk, Owns, Combines, OnlyOne, IsFrontOf, SlotSeatOk, SlotRule, worker_view, combiner_view, no_desk}
 use Rattle.nr_entry.proofs.Changes.{change, at_change, change_here, change_else}
 
 -- what holds of the new view, and of each other view, holds of all
@@ -78,23 +78,23 @@ module _ (workers : ℕ) where
           each_named = q.each_named;
         })
 
-    moved : (v w : SlotView) → get_elem? s.views id ≡ some v → ((x : ℕ) → Owns w x → Owns v x) → (Combines w → Combines v) → SeatOk workers tale w
-        → ((j : ℕ) (u : SlotView) → j ≢ id → get_elem? s.views j ≡ some u → SeatOk workers tale u) → SlotRule workers record { words = words; homes = homes; views = set s.views id w }
+    moved : (v w : SlotView) → get_elem? s.views id ≡ some v → ((x : ℕ) → Owns w x → Owns v x) → (Combines w → Combines v) → SlotSeatOk workers tale w
+        → ((j : ℕ) (u : SlotView) → j ≢ id → get_elem? s.views j ≡ some u → SlotSeatOk workers tale u) → SlotRule workers record { words = words; homes = homes; views = set s.views id w }
     moved v w at own combines mine others = record {
       tale = tale;
       sized = (length-set s.words (word_of worker) n ∙ r.sized.0, length-set s.homes (place_of worker) h ∙ r.sized.1);
       each_slot = slot_ok;
-      each_seat = each_set (SeatOk workers tale) s.views id w mine others;
+      each_seat = each_set (SlotSeatOk workers tale) s.views id w mine others;
       one_owner = λ x. only_set (λ z. Owns z x) s.views id v w at (own x) (r.one_owner x);
       one_combiner = only_set Combines s.views id v w at combines r.one_combiner;
     }
 
     -- what was told of the combiner stays the first that it did
-    still_noted : IsFrontOf (desk_of (r.tale worker)) (desk_of t) → (u : SlotView) → SeatOk workers r.tale u → (x : ℕ) → x < workers → IsFrontOf (get_or u.noted x no_desk) (desk_of (tale x))
+    still_noted : IsFrontOf (desk_of (r.tale worker)) (desk_of t) → (u : SlotView) → SlotSeatOk workers r.tale u → (x : ℕ) → x < workers → IsFrontOf (get_or u.noted x no_desk) (desk_of (tale x))
     still_noted grown u q x there = at_change r.tale worker t (λ y p. IsFrontOf (get_or u.noted y no_desk) (desk_of p)) x (front_then (get_or u.noted worker no_desk) (desk_of (r.tale worker)) (desk_of t) (q.noted_is worker near) grown) (λ _. q.noted_is x there)
 
     -- a step of a worker, which changes nothing that the combiner knows
-    module _ (lane lane' : Lane) (noted : List Desk) (at : get_elem? s.views id ≡ some (worker_view worker lane noted)) (tells : lane' ≡ lane_of t) (same : desk_of t ≡ desk_of (r.tale worker)) where
+    module _ (lane lane' : WorkerPast) (noted : List CombinerPast) (at : get_elem? s.views id ≡ some (worker_view worker lane noted)) (tells : lane' ≡ lane_of t) (same : desk_of t ≡ desk_of (r.tale worker)) where
       only_mine : (x : ℕ) → Owns (worker_view worker lane noted) x → x ≡ worker
       only_mine x o = let a : worker ≤ x = o.0 in let b : x < suc worker = o.1 in omega arith
 
@@ -104,7 +104,7 @@ module _ (workers : ℕ) where
       grown : IsFrontOf (desk_of (r.tale worker)) (desk_of t)
       grown = subst (IsFrontOf (desk_of (r.tale worker))) (sym same) (front_all (desk_of (r.tale worker)))
 
-      worker_ok : SeatOk workers tale (worker_view worker lane' noted)
+      worker_ok : SlotSeatOk workers tale (worker_view worker lane' noted)
       worker_ok = record {
         within = omega arith;
         lane_is = λ x o. tells ∙ ap lane_of (sym (ap tale (only_mine x o) ∙ change_here r.tale worker t));
@@ -112,7 +112,7 @@ module _ (workers : ℕ) where
         noted_is = still_noted grown (worker_view worker lane noted) (r.each_seat id (worker_view worker lane noted) at);
       }
 
-      others_ok : (j : ℕ) (u : SlotView) → j ≢ id → get_elem? s.views j ≡ some u → SeatOk workers tale u
+      others_ok : (j : ℕ) (u : SlotView) → j ≢ id → get_elem? s.views j ≡ some u → SlotSeatOk workers tale u
       others_ok j u apart e = let q = r.each_seat j u e in record {
         within = q.within;
         lane_is = λ x o. q.lane_is x o ∙ ap lane_of (sym (change_else r.tale worker t x (λ is. apart (r.one_owner worker j id u (worker_view worker lane noted) e at (subst (Owns u) is o) has))));
@@ -124,12 +124,12 @@ module _ (workers : ℕ) where
       worker_moved = moved (worker_view worker lane noted) (worker_view worker lane' noted) at (λ x o. o) (λ c. c) worker_ok others_ok
 
     -- a step of the combiner, which changes nothing that the worker knows
-    module _ (desks : List Desk) (desk : Desk) (looks looks' : List Found) (at : get_elem? s.views id ≡ some (combiner_view workers desks looks)) (full : length desks ≡ workers) (tells : desk ≡ desk_of t) (same : lane_of t ≡ lane_of (r.tale worker))
+    module _ (desks : List CombinerPast) (desk : CombinerPast) (looks looks' : List Found) (at : get_elem? s.views id ≡ some (combiner_view workers desks looks)) (full : length desks ≡ workers) (tells : desk ≡ desk_of t) (same : lane_of t ≡ lane_of (r.tale worker))
         (grown : IsFrontOf (get_or desks worker no_desk) desk) where
       more : IsFrontOf (desk_of (r.tale worker)) (desk_of t)
       more = subst (IsFrontOf (desk_of (r.tale worker))) tells (subst (λ z. IsFrontOf z desk) ((r.each_seat id (combiner_view workers desks looks) at).desk_is refl worker near) grown)
 
-      combiner_ok : SeatOk workers tale (combiner_view workers (set desks worker desk) looks')
+      combiner_ok : SlotSeatOk workers tale (combiner_view workers (set desks worker desk) looks')
       combiner_ok = record {
         within = le_refl workers;
         lane_is = λ x o. let a : workers ≤ x = o.0 in let b : x < workers = o.1 in absurd (omega arith);
@@ -139,7 +139,7 @@ module _ (workers : ℕ) where
         noted_is = still_noted more (combiner_view workers desks looks) (r.each_seat id (combiner_view workers desks looks) at);
       }
 
-      workers_ok : (j : ℕ) (u : SlotView) → j ≢ id → get_elem? s.views j ≡ some u → SeatOk workers tale u
+      workers_ok : (j : ℕ) (u : SlotView) → j ≢ id → get_elem? s.views j ≡ some u → SlotSeatOk workers tale u
       workers_ok j u apart e = let q = r.each_seat j u e in record {
         within = q.within;
         lane_is = λ x o. at_change r.tale worker t (λ y p. y ≡ x → u.lane ≡ lane_of p) x (λ is. q.lane_is worker (subst (Owns u) (sym is) o) ∙ sym same) (λ _ _. q.lane_is x o) refl;
@@ -151,15 +151,15 @@ module _ (workers : ℕ) where
       combiner_moved = moved (combiner_view workers desks looks) (combiner_view workers (set desks worker desk) looks') at (λ x o. o) (λ c. c) combiner_ok workers_ok
 
   -- only the views change
-  pub reviewed : (s : St) (r : SlotRule workers s) (views : List SlotView) → ((j : ℕ) (u : SlotView) → get_elem? views j ≡ some u → SeatOk workers r.tale u) → ((x : ℕ) → OnlyOne (λ z. Owns z x) views) → OnlyOne Combines views
+  pub reviewed : (s : St) (r : SlotRule workers s) (views : List SlotView) → ((j : ℕ) (u : SlotView) → get_elem? views j ≡ some u → SlotSeatOk workers r.tale u) → ((x : ℕ) → OnlyOne (λ z. Owns z x) views) → OnlyOne Combines views
       → SlotRule workers record { words = s.words; homes = s.homes; views = views }
   reviewed s r views seats owner combiner = record { tale = r.tale; sized = r.sized; each_slot = r.each_slot; each_seat = seats; one_owner = owner; one_combiner = combiner }
 
   -- a step that changes no word and no place
-  pub seen : (s : St) (r : SlotRule workers s) (i id : ℕ) (cs : List (ℕ × Option Parcel)) (v w : SlotView) → get_elem? s.views id ≡ some v → SeatOk workers r.tale w → ((x : ℕ) → Owns w x → Owns v x) → (Combines w → Combines v)
+  pub seen : (s : St) (r : SlotRule workers s) (i id : ℕ) (cs : List (ℕ × Option Parcel)) (v w : SlotView) → get_elem? s.views id ≡ some v → SlotSeatOk workers r.tale w → ((x : ℕ) → Owns w x → Owns v x) → (Combines w → Combines v)
       → SlotRule workers (stepped s i (get_or s.words i 0) id cs w keeps)
   seen s r i id cs v w at mine own combines = subst (λ (ws : List ℕ). SlotRule workers record { words = ws; homes = s.homes; views = set s.views id w }) (sym (set-get_or s.words i 0))
-      (reviewed s r (set s.views id w) (each_set (SeatOk workers r.tale) s.views id w mine (λ j u _ e. r.each_seat j u e)) (λ x. only_set (λ z. Owns z x) s.views id v w at (own x) (r.one_owner x)) (only_set Combines s.views id v w at combines r.one_combiner))
+      (reviewed s r (set s.views id w) (each_set (SlotSeatOk workers r.tale) s.views id w mine (λ j u _ e. r.each_seat j u e)) (λ x. only_set (λ z. Owns z x) s.views id v w at (own x) (r.one_owner x)) (only_set Combines s.views id v w at combines r.one_combiner))
 
   -- a step that changes nothing
   pub unmoved : (s : St) (r : SlotRule workers s) (i id : ℕ) (cs : List (ℕ × Option Parcel)) (v : SlotView) → get_elem? s.views id ≡ some v → SlotRule workers (stepped s i (get_or s.words i 0) id cs v keeps)

@@ -8,12 +8,12 @@ use Rattle.atomic_table.proofs.Lists.{at_set}
 use Rattle.nr_model.specs.Bytes.{IsBeginningOf}
 use Rattle.nr_entry.specs.declared.batch.Batch.{Batch}
 use Rattle.nr_slots.specs.declared.view.Parcel.{Parcel}
-use Rattle.nr_slots.specs.declared.view.Desk.{Desk}
-use Rattle.nr_slots.specs.declared.view.Lane.{Lane}
+use Rattle.nr_slots.specs.declared.view.CombinerPast.{CombinerPast}
+use Rattle.nr_slots.specs.declared.view.WorkerPast.{WorkerPast}
 use Rattle.nr_slots.specs.declared.view.SlotView.{SlotView}
 use Rattle.nr_slots.specs.Layout.{word_of}
 use Rattle.nr_slots.specs.Names.{IsTold}
-use Rattle.nr_slots.specs.Rule.{Round, Stage, vacant, placing, offered, lifting, held, answering, ready, fetching, posted_at, lifted_at, answered_at, batches, answers, Tale, lane_of, desk_of, Owns, Combines, IsFrontOf, SeatOk, SlotRule, worker_view, note_view, no_lane, no_desk}
+use Rattle.nr_slots.specs.Rule.{Round, Stage, vacant, placing, offered, lifting, held, answering, ready, fetching, posted_at, lifted_at, answered_at, batches, answers, Tale, lane_of, desk_of, Owns, Combines, IsFrontOf, SlotSeatOk, SlotRule, worker_view, note_view, no_lane, no_desk}
 use Rattle.nr_slots.specs.Plays.{noted_now, with_noted, nobody, compared, desk_at}
 use Rattle.nr_slots.specs.Steps.{with_batch}
 use Rattle.nr_slots.specs.Seats.{IsWaiting, one_if}
@@ -32,7 +32,7 @@ lifted_first rounds (answering b) = begins_all (batches rounds ++ b ∷ [])
 lifted_first rounds (ready b a) = begins_all (batches rounds ++ b ∷ [])
 lifted_first rounds (fetching b a) = begins_all (batches rounds ++ b ∷ [])
 
-told_of : (t : Tale) (d : Desk) → IsFrontOf d (desk_of t) → IsTold d (lane_of t)
+told_of : (t : Tale) (d : CombinerPast) → IsFrontOf d (desk_of t) → IsTold d (lane_of t)
 told_of t d f = let own : IsBeginningOf (answers t.rounds) (answers t.rounds ++ answered_at t.stage) = (answered_at t.stage, refl) in (
   begins_then d.lifted (desk_of t).lifted (lane_of t).posted f.0 (lifted_first t.rounds t.stage),
   begins_both d.answered (answers t.rounds) (desk_of t).answered f.1 own,
@@ -44,11 +44,11 @@ pub told_none : IsTold no_desk no_lane
 told_none = (begins_none [], (λ _. begins_none []), (λ _. begins_none []))
 
 -- what was told goes on to hold as the worker posts
-pub told_posted : (d : Desk) (lane : Lane) (b : Batch) → IsTold d lane → IsTold d (with_batch b lane)
+pub told_posted : (d : CombinerPast) (lane : WorkerPast) (b : Batch) → IsTold d lane → IsTold d (with_batch b lane)
 told_posted d lane b h = (begins_then d.lifted lane.posted (lane.posted ++ b ∷ []) h.0 (b ∷ [], refl), h.1, h.2)
 
 -- it waits for an answer then
-pub waits_posted : (waiting : Bool) (lane : Lane) (b : Batch) → waiting ≡ false → IsWaiting waiting lane → IsWaiting true (with_batch b lane)
+pub waits_posted : (waiting : Bool) (lane : WorkerPast) (b : Batch) → waiting ≡ false → IsWaiting waiting lane → IsWaiting true (with_batch b lane)
 waits_posted waiting lane b still h =
     let none = ap one_if still in
     let long = length-append lane.posted (b ∷ []) in
@@ -62,16 +62,16 @@ module _ (workers : ℕ) where
   abbrev Sat : Type 0
   Sat = Me (Option Parcel) SlotView
 
-  nobody_owns : (noted : List Desk) (x : ℕ) → Owns (note_view noted) x → ⊥
+  nobody_owns : (noted : List CombinerPast) (x : ℕ) → Owns (note_view noted) x → ⊥
   nobody_owns noted x o = let h : x < 0 = o.1 in omega arith
 
-  note_ok : (tale : ℕ → Tale) (noted : List Desk) → ((x : ℕ) → x < workers → IsFrontOf (desk_at noted x) (desk_of (tale x))) → SeatOk workers tale (note_view noted)
+  note_ok : (tale : ℕ → Tale) (noted : List CombinerPast) → ((x : ℕ) → x < workers → IsFrontOf (desk_at noted x) (desk_of (tale x))) → SlotSeatOk workers tale (note_view noted)
   note_ok tale noted first = record { within = omega arith; lane_is = λ x o. absurd (nobody_owns noted x o); desk_is = λ c. absurd (cc); noted_is = first }
 
   pub keeps_note : (id : ℕ) (v : SlotView) → Combines v → Splits (SlotRule workers) id v v (noted_now v)
   keeps_note id v combines s r at = let k = r.each_seat id v at in let note = noted_now v in
       reviewed workers s r (set s.views id v ++ note ∷ [])
-      (each_more (SeatOk workers r.tale) (set s.views id v) note (each_set (SeatOk workers r.tale) s.views id v k (λ j u _ e. r.each_seat j u e))
+      (each_more (SlotSeatOk workers r.tale) (set s.views id v) note (each_set (SlotSeatOk workers r.tale) s.views id v k (λ j u _ e. r.each_seat j u e))
       (note_ok r.tale v.desks (λ x there. subst (λ z. IsFrontOf z (desk_of (r.tale x))) (sym (k.desk_is combines x there)) (front_all (desk_of (r.tale x))))))
       (λ x. only_more (λ z. Owns z x) (set s.views id v) note (only_set (λ z. Owns z x) s.views id v v at (λ o. o) (r.one_owner x)) (λ j u _ _ o. nobody_owns v.desks x o))
       (only_more Combines (set s.views id v) note (only_set Combines s.views id v v at (λ c. c) r.one_combiner) (λ j u _ _ c. absurd (cc)))
@@ -80,11 +80,11 @@ module _ (workers : ℕ) where
   tells_note id v other w s r at two at' =
       let both : SlotView = with_noted v w in let k = r.each_seat id v at in
       let theirs : get_elem? s.views other ≡ some w = ⊎_elim (λ (h : (other ≡ id) × Path SlotView both w). absurd (two h.0)) (λ (h : (other ≢ id) × (get_elem? s.views other ≡ some w)). h.1) (at_set s.views id other both w at') in
-      let mine : SeatOk workers r.tale both = record { within = k.within; lane_is = k.lane_is; desk_is = k.desk_is; noted_is = (r.each_seat other w theirs).noted_is } in
-      let first = each_set (SeatOk workers r.tale) s.views id both mine (λ j u _ e. r.each_seat j u e) in
-      let spent : SeatOk workers r.tale nobody = note_ok r.tale [] (λ x there. front_none (desk_of (r.tale x))) in
+      let mine : SlotSeatOk workers r.tale both = record { within = k.within; lane_is = k.lane_is; desk_is = k.desk_is; noted_is = (r.each_seat other w theirs).noted_is } in
+      let first = each_set (SlotSeatOk workers r.tale) s.views id both mine (λ j u _ e. r.each_seat j u e) in
+      let spent : SlotSeatOk workers r.tale nobody = note_ok r.tale [] (λ x there. front_none (desk_of (r.tale x))) in
       reviewed workers s r (set (set s.views id both) other nobody)
-      (each_set (SeatOk workers r.tale) (set s.views id both) other nobody spent (λ j u _ e. first j u e))
+      (each_set (SlotSeatOk workers r.tale) (set s.views id both) other nobody spent (λ j u _ e. first j u e))
       (λ x. only_set (λ z. Owns z x) (set s.views id both) other w nobody at' (λ o. absurd (nobody_owns [] x o)) (only_set (λ z. Owns z x) s.views id v both at (λ o. o) (r.one_owner x)))
       (only_set Combines (set s.views id both) other w nobody at' (λ c. absurd (cc)) (only_set Combines s.views id v both at (λ c. c) r.one_combiner))
 

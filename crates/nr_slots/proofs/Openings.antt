@@ -6,10 +6,10 @@ use lib.ListN.{get_elem?, length-map, length-replicate}
 use Rattle.atomic_table.specs.Table.{State, Splits, opening}
 use Rattle.atomic_table.proofs.Lists.{at_set}
 use Rattle.nr_slots.specs.declared.view.Parcel.{Parcel}
-use Rattle.nr_slots.specs.declared.view.Desk.{Desk}
+use Rattle.nr_slots.specs.declared.view.CombinerPast.{CombinerPast}
 use Rattle.nr_slots.specs.declared.view.SlotView.{SlotView}
 use Rattle.nr_slots.specs.Layout.{word_of, place_of, words_of, places_of}
-use Rattle.nr_slots.specs.Rule.{Tale, vacant, desk_of, Owns, Combines, OnlyOne, SeatOk, SlotRule, opening_view, no_desk}
+use Rattle.nr_slots.specs.Rule.{Tale, vacant, desk_of, Owns, Combines, OnlyOne, SlotSeatOk, SlotRule, opening_view, no_desk}
 use Rattle.nr_slots.specs.Plays.{worker_left, worker_right}
 use Rattle.nr_slots.proofs.Heads.{front_none}
 use Rattle.nr_slots.proofs.Moves.{each_set, only_set, place_there}
@@ -30,7 +30,7 @@ zero_row zero i = refl
 zero_row (suc n) zero = refl
 zero_row (suc n) (suc i) = zero_row n i
 
-pub new_desks : (n i : ℕ) → get_or {A = Desk} (replicate {A = Desk} n no_desk) i no_desk ≡ no_desk
+pub new_desks : (n i : ℕ) → get_or {A = CombinerPast} (replicate {A = CombinerPast} n no_desk) i no_desk ≡ no_desk
 new_desks zero i = refl
 new_desks (suc n) zero = refl
 new_desks (suc n) (suc i) = new_desks n i
@@ -55,7 +55,7 @@ module _ (workers : ℕ) where
     abbrev v : SlotView
     v = opening_view workers from
 
-    k : SeatOk workers r.tale v
+    k : SlotSeatOk workers r.tale v
     k = r.each_seat id v at
 
     left_in : (x : ℕ) → Owns (worker_left v) x → Owns v x
@@ -64,10 +64,10 @@ module _ (workers : ℕ) where
     right_in : (x : ℕ) → Owns (worker_right v) x → Owns v x
     right_in x o = let l : x < suc from = o.1 in (o.0, omega arith)
 
-    left_ok : SeatOk workers r.tale (worker_left v)
+    left_ok : SlotSeatOk workers r.tale (worker_left v)
     left_ok = record { within = k.within; lane_is = λ x o. k.lane_is x (left_in x o); desk_is = k.desk_is; noted_is = k.noted_is }
 
-    right_ok : SeatOk workers r.tale (worker_right v)
+    right_ok : SlotSeatOk workers r.tale (worker_right v)
     right_ok = record { within = omega arith; lane_is = λ x o. k.lane_is x (right_in x o); desk_is = λ c. absurd (cc); noted_is = λ x there. front_none (desk_of (r.tale x)) }
 
     alone : (x j : ℕ) (u : SlotView) → get_elem? (set s.views id (worker_left v)) j ≡ some u → Owns u x → Owns (worker_right v) x → ⊥
@@ -82,7 +82,7 @@ module _ (workers : ℕ) where
       tale = r.tale;
       sized = r.sized;
       each_slot = r.each_slot;
-      each_seat = each_more (SeatOk workers r.tale) (set s.views id (worker_left v)) (worker_right v) (each_set (SeatOk workers r.tale) s.views id (worker_left v) left_ok (λ j u _ e. r.each_seat j u e)) right_ok;
+      each_seat = each_more (SlotSeatOk workers r.tale) (set s.views id (worker_left v)) (worker_right v) (each_set (SlotSeatOk workers r.tale) s.views id (worker_left v) left_ok (λ j u _ e. r.each_seat j u e)) right_ok;
       one_owner = λ x. only_more (λ z. Owns z x) (set s.views id (worker_left v)) (worker_right v) (only_set (λ z. Owns z x) s.views id v (worker_left v) at (left_in x) (r.one_owner x)) (alone x);
       one_combiner = only_more Combines (set s.views id (worker_left v)) (worker_right v) (only_set Combines s.views id v (worker_left v) at (λ c. c) r.one_combiner) (λ j u e c c'. absurd (cc));
     }
@@ -93,11 +93,11 @@ module _ (workers : ℕ) where
   abbrev new_tale : Tale
   new_tale = record { rounds = []; stage = vacant }
 
-  first_ok : SeatOk workers (λ _. new_tale) (opening_view workers 0)
+  first_ok : SlotSeatOk workers (λ _. new_tale) (opening_view workers 0)
   first_ok = record { within = le_refl workers; lane_is = λ x o. refl; desk_is = λ c x there. new_desks workers x; noted_is = λ x there. front_none (desk_of new_tale) }
 
-  one : (j : ℕ) (u : SlotView) → get_elem? (opening_view workers 0 ∷ []) j ≡ some u → SeatOk workers (λ _. new_tale) u
-  one zero u e = subst (SeatOk workers (λ _. new_tale)) (some-injective _ _ e) first_ok
+  one : (j : ℕ) (u : SlotView) → get_elem? (opening_view workers 0 ∷ []) j ≡ some u → SlotSeatOk workers (λ _. new_tale) u
+  one zero u e = subst (SlotSeatOk workers (λ _. new_tale)) (some-injective _ _ e) first_ok
   one (suc j) u e = absurd (some-ne-none u (sym e))
 
   only : (j : ℕ) (u : SlotView) → get_elem? (opening_view workers 0 ∷ []) j ≡ some u → j ≡ 0

@@ -12,8 +12,8 @@ use Rattle.nr_entry.specs.declared.batch.Answer.{Answer}
 use Rattle.nr_slots.specs.declared.view.Parcel.{Parcel}
 use Rattle.nr_slots.specs.declared.view.Parcel.TheVariants.{Posted, Answered}
 use Rattle.nr_slots.specs.declared.view.Hand.TheVariants.{Still, Placing, Fetching}
-use Rattle.nr_slots.specs.declared.view.Lane.{Lane}
-use Rattle.nr_slots.specs.declared.view.Desk.{Desk}
+use Rattle.nr_slots.specs.declared.view.WorkerPast.{WorkerPast}
+use Rattle.nr_slots.specs.declared.view.CombinerPast.{CombinerPast}
 use Rattle.nr_slots.specs.declared.view.SlotView.{SlotView}
 use Rattle.nr_slots.specs.Layout.{word_of, place_of}
 use Rattle.nr_slots.specs.Names.{Names, IsForLast}
@@ -27,16 +27,16 @@ abbrev pub Carried : Type 0
 Carried = List (ℕ × Option Parcel)
 
 -- what a worker does to what it knows
-abbrev pub to_place : Lane → Lane
+abbrev pub to_place : WorkerPast → WorkerPast
 to_place lane = record lane { hand = Placing }
 
-abbrev pub to_publish : Batch → Lane → Lane
+abbrev pub to_publish : Batch → WorkerPast → WorkerPast
 to_publish b lane = record { posted = lane.posted ++ b ∷ []; collected = lane.collected; hand = Still }
 
-abbrev pub to_fetch : Answer → Lane → Lane
+abbrev pub to_fetch : Answer → WorkerPast → WorkerPast
 to_fetch a lane = record lane { hand = Fetching a }
 
-abbrev pub to_clear : Lane → Lane
+abbrev pub to_clear : WorkerPast → WorkerPast
 to_clear lane = record { posted = lane.posted; collected = lane.collected ++ answer_fetched lane.hand; hand = Still }
 
 abbrev pub told : List Round → Stage → Tale
@@ -47,7 +47,7 @@ pub each_more : (rounds : List Round) (b : Batch) (a : Answer) → Names a b →
 each_more rounds b a n each k x e = let y : Round = record { batch = b; answer = a } in
     ⊎_elim (λ h. each k x h) (λ (h : y ≡ x). subst (λ (z : Round). Names z.answer z.batch) h n) (at_snoc rounds y x k e)
 
-module _ (workers id worker : ℕ) (near : worker < workers) (lane : Lane) (noted : List Desk) (cs : Carried) where
+module _ (workers id worker : ℕ) (near : worker < workers) (lane : WorkerPast) (noted : List CombinerPast) (cs : Carried) where
   abbrev v : SlotView
   v = worker_view worker lane noted
 
@@ -81,17 +81,17 @@ module _ (workers id worker : ℕ) (near : worker < workers) (lane : Lane) (note
     desk_at_stage st e = ap (λ z. desk_of (told t.rounds z)) (sym e)
 
     vacant_now : CanPost lane → t.stage ≡ vacant
-    vacant_now can = is_vacant t.rounds t.stage (ap (λ (z : Lane). z.hand) (sym knows) ∙ can.0)
-        (ap (λ (z : Lane). length z.posted) (sym knows) ∙ can.1 ∙ ap (λ (z : Lane). length z.collected) knows)
+    vacant_now can = is_vacant t.rounds t.stage (ap (λ (z : WorkerPast). z.hand) (sym knows) ∙ can.0)
+        (ap (λ (z : WorkerPast). length z.posted) (sym knows) ∙ can.1 ∙ ap (λ (z : WorkerPast). length z.collected) knows)
 
     still_now : lane.hand ≡ Still → hand_at t.stage ≡ Still
-    still_now still = ap (λ (z : Lane). z.hand) (sym knows) ∙ still
+    still_now still = ap (λ (z : WorkerPast). z.hand) (sym knows) ∙ still
 
     placing_now : lane.hand ≡ Placing → t.stage ≡ placing
-    placing_now h = is_placing t.stage (ap (λ (z : Lane). z.hand) (sym knows) ∙ h)
+    placing_now h = is_placing t.stage (ap (λ (z : WorkerPast). z.hand) (sym knows) ∙ h)
 
     fetching_now : (a : Answer) → lane.hand ≡ Fetching a → (b : Batch) × (t.stage ≡ fetching b a)
-    fetching_now a h = is_fetching a t.stage (ap (λ (z : Lane). z.hand) (sym knows) ∙ h)
+    fetching_now a h = is_fetching a t.stage (ap (λ (z : WorkerPast). z.hand) (sym knows) ∙ h)
 
     published_is : (b : Batch) → t.stage ≡ placing → to_publish b lane ≡ lane_of (told t.rounds (offered b))
     published_is b e = ap (to_publish b) (knows_at placing e) ∙ (λ i. record { posted = append-nil (batches t.rounds) i ++ b ∷ []; collected = answers t.rounds; hand = Still })
@@ -146,7 +146,7 @@ module _ (workers id worker : ℕ) (near : worker < workers) (lane : Lane) (note
             home_at_stage s r at (ready b a) e,
             worker_moved workers s r id worker near (told (t s r at).rounds (fetching b a)) n (ok s r at).each_named (get_or s.words (word_of worker) 0) (word_at_stage s r at (ready b a) e) none refl lane (to_fetch a lane) noted at
                 (ap (to_fetch a) k) (desk_at_stage s r at (ready b a) e),
-            ((λ _. (a, subst (λ (z : Lane). IsForLast a z.posted z.collected) (sym k) (for_last (t s r at).rounds a b n), refl)), (λ other. absurd (other two))),
+            ((λ _. (a, subst (λ (z : WorkerPast). IsForLast a z.posted z.collected) (sym k) (for_last (t s r at).rounds a b n), refl)), (λ other. absurd (other two))),
           )
 
       missed : get_or s.words (word_of worker) 0 ≢ 2 → Looks s

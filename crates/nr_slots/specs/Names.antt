@@ -6,8 +6,8 @@ use Rattle.nr_entry.specs.declared.batch.Answer.{Answer}
 use Rattle.nr_entry.specs.declared.batch.Outcome.{Outcome}
 use Rattle.nr_entry.specs.declared.batch.Outcome.TheVariants.{Executed, Down, Refused}
 use Rattle.nr_entry.specs.declared.job.Job.{Job}
-use Rattle.nr_slots.specs.declared.view.Lane.{Lane}
-use Rattle.nr_slots.specs.declared.view.Desk.{Desk}
+use Rattle.nr_slots.specs.declared.view.WorkerPast.{WorkerPast}
+use Rattle.nr_slots.specs.declared.view.CombinerPast.{CombinerPast}
 
 -- where a batch comes back it is with these jobs
 abbrev pub IsBackOf : Outcome → List Job → Type 0
@@ -29,7 +29,7 @@ IsUnanswered batch batches answers = (before : List Batch) × (batches ≡ befor
 
 -- What a combiner had lifted is a beginning of what the worker posted. Of what it had answered and what the worker collected one is a beginning
 -- of the other.
-abbrev pub IsTold : Desk → Lane → Type 0
+abbrev pub IsTold : CombinerPast → WorkerPast → Type 0
 IsTold desk lane = IsBeginningOf desk.lifted lane.posted
     × (length desk.answered ≤ length lane.collected → IsBeginningOf desk.answered lane.collected)
     × (length lane.collected ≤ length desk.answered → IsBeginningOf lane.collected desk.answered)

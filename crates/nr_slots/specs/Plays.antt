@@ -8,8 +8,8 @@ use Rattle.nr_slots.specs.declared.view.Parcel.TheVariants.{Posted, Answered}
 use Rattle.nr_slots.specs.declared.view.Hand.{Hand}
 use Rattle.nr_slots.specs.declared.view.Hand.TheVariants.{Still, Placing, Fetching}
 use Rattle.nr_slots.specs.declared.view.Grip.TheVariants.{Loose, Lifting, Answering}
-use Rattle.nr_slots.specs.declared.view.Lane.{Lane}
-use Rattle.nr_slots.specs.declared.view.Desk.{Desk}
+use Rattle.nr_slots.specs.declared.view.WorkerPast.{WorkerPast}
+use Rattle.nr_slots.specs.declared.view.CombinerPast.{CombinerPast}
 use Rattle.nr_slots.specs.declared.view.Found.{Found}
 use Rattle.nr_slots.specs.declared.view.Found.TheVariants.{Nothing, Batch as FoundBatch}
 use Rattle.nr_slots.specs.declared.view.SlotView.{SlotView}
@@ -49,7 +49,7 @@ answer_fetched Still = []
 answer_fetched Placing = []
 answer_fetched (Fetching a) = a ∷ []
 
-abbrev pub with_lane : Lane → SlotView → SlotView
+abbrev pub with_lane : WorkerPast → SlotView → SlotView
 with_lane lane v = record v { lane = lane }
 
 -- the worker took its place, empty
@@ -71,10 +71,10 @@ looked m n m' =
 abbrev pub cleared : Sat → Sat → Type 0
 cleared m m' = m' ≡ (with_lane record { posted = m.0.lane.posted; collected = m.0.lane.collected ++ answer_fetched m.0.lane.hand; hand = Still } m.0, rest m.1)
 
-abbrev pub desk_at : List Desk → ℕ → Desk
+abbrev pub desk_at : List CombinerPast → ℕ → CombinerPast
 desk_at desks worker = slice_index_or desks worker no_desk
 
-abbrev pub with_desk : ℕ → Desk → SlotView → SlotView
+abbrev pub with_desk : ℕ → CombinerPast → SlotView → SlotView
 with_desk worker desk v = record v { desks = slice_set v.desks worker desk }
 
 -- one more look of the combiner met this

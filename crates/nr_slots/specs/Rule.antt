@@ -15,8 +15,8 @@ use Rattle.nr_slots.specs.declared.view.Hand.{Hand}
 use Rattle.nr_slots.specs.declared.view.Hand.TheVariants.{Still, Placing, Fetching}
 use Rattle.nr_slots.specs.declared.view.Grip.{Grip}
 use Rattle.nr_slots.specs.declared.view.Grip.TheVariants.{Loose, Lifting, Answering}
-use Rattle.nr_slots.specs.declared.view.Lane.{Lane}
-use Rattle.nr_slots.specs.declared.view.Desk.{Desk}
+use Rattle.nr_slots.specs.declared.view.WorkerPast.{WorkerPast}
+use Rattle.nr_slots.specs.declared.view.CombinerPast.{CombinerPast}
 use Rattle.nr_slots.specs.declared.view.Found.{Found}
 use Rattle.nr_slots.specs.declared.view.SlotView.{SlotView}
 use Rattle.nr_slots.specs.Layout.{word_of, place_of, words_of, places_of}
@@ -133,11 +133,11 @@ abbrev pub answers : List Round → List Answer
 answers rounds = map (λ (x : Round). x.answer) rounds
 
 -- what the worker knows
-abbrev pub lane_of : Tale → Lane
+abbrev pub lane_of : Tale → WorkerPast
 lane_of t = record { posted = batches t.rounds ++ posted_at t.stage; collected = answers t.rounds; hand = hand_at t.stage }
 
 -- what the combiner knows
-abbrev pub desk_of : Tale → Desk
+abbrev pub desk_of : Tale → CombinerPast
 desk_of t = record { lifted = batches t.rounds ++ lifted_at t.stage; answered = answers t.rounds ++ answered_at t.stage; grip = grip_at t.stage }
 
 abbrev pub Homes : Type 0
@@ -149,14 +149,14 @@ pub record SlotOk (words : List ℕ) (homes : Homes) (worker : ℕ) (t : Tale) :
   pub named : IsNamed t.stage
   pub each_named : (k : ℕ) (x : Round) → get_elem? t.rounds k ≡ some x → Names x.answer x.batch
 
-abbrev pub no_lane : Lane
+abbrev pub no_lane : WorkerPast
 no_lane = record { posted = []; collected = []; hand = Still }
 
-abbrev pub no_desk : Desk
+abbrev pub no_desk : CombinerPast
 no_desk = record { lifted = []; answered = []; grip = Loose }
 
 -- what was lifted and answered first
-abbrev pub IsFrontOf : Desk → Desk → Type 0
+abbrev pub IsFrontOf : CombinerPast → CombinerPast → Type 0
 IsFrontOf front desk = IsBeginningOf front.lifted desk.lifted × IsBeginningOf front.answered desk.answered
 
 -- the seat is that of the worker
@@ -172,7 +172,7 @@ OnlyOne P views = (id other : ℕ) (v u : SlotView) → get_elem? views id ≡ s
 
 module _ (workers : ℕ) where
   -- what a seat was told that the combiner did, it did before anything else
-  pub record SeatOk (tale : ℕ → Tale) (v : SlotView) : Type 0 where
+  pub record SlotSeatOk (tale : ℕ → Tale) (v : SlotView) : Type 0 where
     pub within : v.upto ≤ workers
     pub lane_is : (worker : ℕ) → Owns v worker → v.lane ≡ lane_of (tale worker)
     pub desk_is : Combines v → (worker : ℕ) → worker < workers → slice_index_or v.desks worker no_desk ≡ desk_of (tale worker)
@@ -182,7 +182,7 @@ module _ (workers : ℕ) where
     pub tale : ℕ → Tale
     pub sized : (length s.words ≡ words_of workers) × (length s.homes ≡ places_of workers)
     pub each_slot : (worker : ℕ) → worker < workers → SlotOk s.words s.homes worker (tale worker)
-    pub each_seat : (id : ℕ) (v : SlotView) → get_elem? s.views id ≡ some v → SeatOk tale v
+    pub each_seat : (id : ℕ) (v : SlotView) → get_elem? s.views id ≡ some v → SlotSeatOk tale v
     pub one_owner : (worker : ℕ) → OnlyOne (λ v. Owns v worker) s.views
     pub one_combiner : OnlyOne Combines s.views
 
@@ -191,13 +191,13 @@ module _ (workers : ℕ) where
   opening_view from = record { from = from; upto = workers; combines = true; lane = no_lane; desks = replicate workers no_desk; looks = []; noted = [] }
 
 -- the view of a worker's seat, which was told this of the combiner
-abbrev pub worker_view : ℕ → Lane → List Desk → SlotView
+abbrev pub worker_view : ℕ → WorkerPast → List CombinerPast → SlotView
 worker_view worker lane noted = record { from = worker; upto = suc worker; combines = false; lane = lane; desks = []; looks = []; noted = noted }
 
 -- the view of the combiner's seat
-abbrev pub combiner_view : ℕ → List Desk → List Found → SlotView
+abbrev pub combiner_view : ℕ → List CombinerPast → List Found → SlotView
 combiner_view workers desks looks = record { from = workers; upto = workers; combines = true; lane = no_lane; desks = desks; looks = looks; noted = [] }
 
 -- the view of a note, which is the seat of nobody
-abbrev pub note_view : List Desk → SlotView
+abbrev pub note_view : List CombinerPast → SlotView
 note_view noted = record { from = 0; upto = 0; combines = false; lane = no_lane; desks = []; looks = []; noted = noted }

@@ -5,8 +5,8 @@ use Rattle.nr_entry.specs.declared.batch.Batch.{Batch}
 use Rattle.nr_entry.specs.declared.batch.Answer.{Answer}
 use Rattle.nr_slots.specs.declared.view.Hand.TheVariants.{Still}
 use Rattle.nr_slots.specs.declared.view.Grip.TheVariants.{Loose}
-use Rattle.nr_slots.specs.declared.view.Lane.{Lane}
-use Rattle.nr_slots.specs.declared.view.Desk.{Desk}
+use Rattle.nr_slots.specs.declared.view.WorkerPast.{WorkerPast}
+use Rattle.nr_slots.specs.declared.view.CombinerPast.{CombinerPast}
 use Rattle.nr_slots.specs.declared.view.Found.{Found}
 use Rattle.nr_slots.specs.declared.view.Found.TheVariants.{Nothing, Batch as FoundBatch}
 use Rattle.nr_slots.specs.Layout.{words_of, places_of}
@@ -21,22 +21,22 @@ pub record SlotsView : Type 0 where
 pub record WorkerView : Type 0 where
   pub slots : TableId
   pub worker : ℕ
-  pub lane : Lane
-  pub noted : Desk
+  pub lane : WorkerPast
+  pub noted : CombinerPast
 
 -- the slots of a combiner's seat, what it did at each worker's, and what its looks met
 pub record CombinerView : Type 0 where
   pub slots : TableId
-  pub desks : List Desk
+  pub desks : List CombinerPast
   pub looks : List Found
 
 -- the slots of a note, and what the combiner had done at each worker's
 pub record NoteView : Type 0 where
   pub slots : TableId
-  pub desks : List Desk
+  pub desks : List CombinerPast
 
 -- the combiner's desk for a worker
-abbrev pub desk_of : CombinerView → ℕ → Desk
+abbrev pub desk_of : CombinerView → ℕ → CombinerPast
 desk_of v worker = slice_index_or v.desks worker no_desk
 
 -- a worker and a combiner that did nothing yet
@@ -55,7 +55,7 @@ abbrev pub with_collected : Answer → WorkerView → WorkerView
 with_collected answer v = record v { lane = record { posted = v.lane.posted; collected = v.lane.collected ++ answer ∷ []; hand = v.lane.hand } }
 
 -- a note was heard, which says this of the combiner's desk
-abbrev pub with_heard : Desk → WorkerView → WorkerView
+abbrev pub with_heard : CombinerPast → WorkerView → WorkerView
 with_heard desk v = record v { noted = desk }
 
 -- one more batch was found in the worker's slot and lifted, and nothing else was done
@@ -89,20 +89,20 @@ abbrev pub one_if : Bool → ℕ
 one_if b = if b then 1 else 0
 
 -- between two calls a worker is away from its slot, and waits for an answer or not
-abbrev pub IsWaiting : Bool → Lane → Type 0
+abbrev pub IsWaiting : Bool → WorkerPast → Type 0
 IsWaiting waiting lane = (lane.hand ≡ Still) × (length lane.posted ≡ length lane.collected + one_if waiting)
 
 -- between two calls a combiner is away from each slot, and holds a batch of it or not
-abbrev pub IsHolding : Bool → Desk → Type 0
+abbrev pub IsHolding : Bool → CombinerPast → Type 0
 IsHolding holds desk = (desk.grip ≡ Loose) × (length desk.lifted ≡ length desk.answered + one_if holds)
 
-abbrev pub AreHolding : List Bool → List Desk → Type 0
+abbrev pub AreHolding : List Bool → List CombinerPast → Type 0
 AreHolding holds desks = (worker : ℕ) → worker < length desks → IsHolding (slice_index_or holds worker false) (slice_index_or desks worker no_desk)
 
 -- of each worker no more batches were answered than were lifted
-abbrev pub AreLifted : List Desk → Type 0
+abbrev pub AreLifted : List CombinerPast → Type 0
 AreLifted desks = (worker : ℕ) → length (slice_index_or desks worker no_desk).answered ≤ length (slice_index_or desks worker no_desk).lifted
 
 -- so many batches of each worker were answered, as far as a u64 counts, and none of a worker that there isn't
-abbrev pub AreCounted : List ℕ → List Desk → Type 0
+abbrev pub AreCounted : List ℕ → List CombinerPast → Type 0
 AreCounted counts desks = (worker : ℕ) → slice_index_or counts worker 0 ≡ min (length (slice_index_or desks worker no_desk).answered) (2 ^ 64 - 1)

@@ -43,10 +43,10 @@
 pub use combiner::CombinerSeat;
 pub use law::slots_law;
 pub use note::Note;
-pub use opening::OpenError;
+pub use opening::SlotsOpenError;
 pub use slots::Slots;
 pub use steps::Unanswered;
-pub use view::{Desk, Found, Grip, Hand, Lane};
+pub use view::{CombinerPast, Found, Grip, Hand, WorkerPast};
 pub use worker::{Uncollected, WorkerSeat};
 
 mod combiner;

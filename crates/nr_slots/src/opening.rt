@@ -14,21 +14,21 @@ use std::alloc::Global;
 
 /// Why slots aren't opened.
 #[derive(Clone, Copy, Debug, PartialEq, Eq)]
-pub enum OpenError {
+pub enum SlotsOpenError {
     /// The workers aren't 1 to 16.
     BadShape,
     /// There is no memory for them.
     Memory(Memory),
 }
 
-impl From<Memory> for OpenError {
+impl From<Memory> for SlotsOpenError {
     ghost use Rattle.std.specs.Prelude.{◌≡◌};
-    ghost use Rattle.nr_slots.specs.declared.opening.OpenError.TheVariants as errors;
+    ghost use Rattle.nr_slots.specs.declared.opening.SlotsOpenError.TheVariants as errors;
 
     ghost from_gives = { λ memory e. e ≡ errors.Memory memory };
 
-    fn from(memory: Memory) -> OpenError {
-        OpenError::Memory(memory)
+    fn from(memory: Memory) -> SlotsOpenError {
+        SlotsOpenError::Memory(memory)
     }
 }
 
@@ -38,14 +38,14 @@ impl Slots {
     pub fn open(
         alloc: Global,
         workers: usize,
-    ) -> Result<(Slots, Vec<WorkerSeat>, CombinerSeat), OpenError>
-        ensures shape { (result ≡ Err OpenError.BadShape) ↔ ((1 ≤ workers) × (workers ≤ 16) → ⊥) }
+    ) -> Result<(Slots, Vec<WorkerSeat>, CombinerSeat), SlotsOpenError>
+        ensures shape { (result ≡ Err SlotsOpenError.BadShape) ↔ ((1 ≤ workers) × (workers ≤ 16) → ⊥) }
         ensures slots { IfOk result (λ opened. opened.0.workers ≡ workers) }
         ensures seats { IfOk result (λ opened. (length opened.1.items ≡ workers) × ((worker : ℕ) → worker < workers → slice_get opened.1.items worker ≡ Some (new_worker opened.0.id worker))) }
         ensures combiner { IfOk result (λ opened. opened.2 ≡ new_combiner opened.0.id workers) }
     {
         if workers < 1 || workers > 16 {
-            return Err(OpenError::BadShape);
+            return Err(SlotsOpenError::BadShape);
         }
         let (table, seat) = laid(alloc, workers)?;
         let slots = Slots { table, workers };

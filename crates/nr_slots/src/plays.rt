@@ -4,9 +4,9 @@ ghost use Rattle.nr_slots.specs.Plays.{placed, published, looked, cleared, sough
 use crate::view::{Parcel, SlotView};
 use atomic_table::{Join, Play, Split};
 
-pub(crate) struct Place;
+pub(crate) struct TakePlace;
 
-impl Play<Option<Parcel>, SlotView> for Place {
+impl Play<Option<Parcel>, SlotView> for TakePlace {
     ghost then = { λ _ m _. placed m };
 }
 
@@ -46,9 +46,9 @@ impl Play<Option<Parcel>, SlotView> for Reach {
     ghost then = { λ st m _. reached st m };
 }
 
-pub(crate) struct Reply;
+pub(crate) struct PutAnswer;
 
-impl Play<Option<Parcel>, SlotView> for Reply {
+impl Play<Option<Parcel>, SlotView> for PutAnswer {
     ghost then = { λ st m _. answered st m };
 }
 

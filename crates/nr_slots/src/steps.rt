@@ -11,7 +11,7 @@ ghost use Rattle.nr_slots.specs.Steps.{IsSameSeat, IsAt, CanPost, with_batch, wi
 ghost use Rattle.nr_slots.specs.Seats.{IsOfWorkers};
 
 use crate::plays::{
-    Clear, Compare, Keep, Lift, Look, NextWorker, Place, Publish, Reach, Reply, Seek, Tell,
+    Clear, Compare, Keep, Lift, Look, NextWorker, Publish, PutAnswer, Reach, Seek, TakePlace, Tell,
 };
 use crate::view::{Parcel, SlotSeat, SlotWords};
 use nr_entry::{Answer, Batch};
@@ -30,7 +30,7 @@ pub(crate) fn put_batch(words: &SlotWords, seat: &mut SlotSeat, worker: usize, b
     ensures view { seat.new.me ≡ (worker_view worker (with_batch batch seat.old.me.0.lane) seat.old.me.0.noted, []) }
 {
     let word = 16 * worker + 16;
-    words.load::<Place>(seat, word);
+    words.load::<TakePlace>(seat, word);
     match words.exchange(seat, 2 * worker, Some(Parcel::Posted(batch))) {
         None => {}
         Some(_) => unreachable!(),
@@ -112,7 +112,7 @@ pub(crate) fn put_answer(words: &SlotWords, seat: &mut SlotSeat, worker: usize, 
         None => {}
         Some(_) => unreachable!(),
     }
-    words.store::<Reply>(seat, word, READY);
+    words.store::<PutAnswer>(seat, word, READY);
 }
 
 // A seat of nobody, which keeps what the combiner has done.

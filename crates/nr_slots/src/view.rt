@@ -32,14 +32,14 @@ pub enum Grip {
 }
 
 /// What a worker did at its slot, in order. No value of it is made: contracts alone speak of it.
-pub struct Lane {
+pub struct WorkerPast {
     pub posted: LinkedList<Batch>,
     pub collected: LinkedList<Answer>,
     pub hand: Hand,
 }
 
 /// What a combiner did at a worker's slot, in order. No value of it is made: contracts alone speak of it.
-pub struct Desk {
+pub struct CombinerPast {
     pub lifted: LinkedList<Batch>,
     pub answered: LinkedList<Answer>,
     pub grip: Grip,
@@ -58,12 +58,12 @@ pub struct SlotView {
     pub from: u64,
     pub upto: u64,
     pub combines: bool,
-    pub lane: Lane,
-    pub desks: LinkedList<Desk>,
+    pub lane: WorkerPast,
+    pub desks: LinkedList<CombinerPast>,
     // What the combiner's looks met, in order.
     pub looks: LinkedList<Found>,
     // For each worker what the combiner had done at some moment, as far as the seat was told.
-    pub noted: LinkedList<Desk>,
+    pub noted: LinkedList<CombinerPast>,
 }
 
 pub(crate) type SlotTable = Table<Option<Parcel>, SlotView, usize, SlotLaw, Global>;

@@ -49,12 +49,12 @@ fn drop_what_came<T: Read>(stream: &mut T) -> bool {
 
 // A connection that was told, and when.
 #[derive(Drop)]
-struct Leaving {
+struct ToldPeer {
     peer: Peer,
     since: Instant,
 }
 
-impl Leaving {
+impl ToldPeer {
     // Drops what came. Whether it stays open: until its peer ends, or a second is over.
     fn stays(&mut self, now: Instant) -> bool
         ensures most { OnTrue result (instant_nanos now - instant_nanos self.new.since < 1_000_000_000) }
@@ -68,7 +68,7 @@ impl Leaving {
 /// Those that were told, for a second each at most.
 #[derive(Drop)]
 pub(crate) struct Farewells {
-    leaving: Vec<Leaving>,
+    leaving: Vec<ToldPeer>,
     pub ghost few_leave: { length leaving.items ≤ 64 },
 }
 
@@ -86,11 +86,11 @@ impl Farewells {
         if let Ok(since) = Instant::now(runtime)
             && ended.is_ok()
         {
-            self.keep(Leaving { peer, since });
+            self.keep(ToldPeer { peer, since });
         }
     }
 
-    fn keep(&mut self, leaving: Leaving) {
+    fn keep(&mut self, leaving: ToldPeer) {
         if self.leaving.len() >= MOST_LEAVING {
             self.leaving.remove(0);
         }

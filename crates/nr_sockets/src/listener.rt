@@ -2,8 +2,8 @@
 ghost use Rattle.std.specs.Prelude.{◌≡◌, ◌≢◌, ◌+◌, ◌∷◌, [], None, min};
 ghost use Rattle.nr_service.specs.Dealt.{Deals};
 
-use crate::entrance::Entrance;
 use crate::farewells::Farewells;
+use crate::inboxes::Inboxes;
 use crate::input::{Course, Input};
 use crate::keepalive::{Keepalive, keepalive_of};
 use crate::listening::Listening;
@@ -27,7 +27,7 @@ pub struct Terms {
     pub shutdown_seconds: u32,
 }
 
-/// Takes connections where sockets listen, and deals them out to the lanes behind an entrance.
+/// Takes connections where sockets listen, and deals them out to the inboxes of lanes.
 #[derive(Drop)]
 pub struct Listener<'a, R> {
     pub listening: Listening,
@@ -36,7 +36,7 @@ pub struct Listener<'a, R> {
     /// How many times the system was short of descriptors or of memory when a connection was to be taken. It waits on then.
     pub short: u64,
     runtime: &'a R,
-    entrance: &'a Entrance,
+    entrance: &'a Inboxes,
     keepalive: Option<Keepalive>,
     shutdown_seconds: u32,
     // The connection that was taken, until it is dealt or turned away.
@@ -56,7 +56,7 @@ impl<'a, R: Clock> Listener<'a, R> {
         alloc: Global,
         listening: Listening,
         runtime: &'a R,
-        entrance: &'a Entrance,
+        entrance: &'a Inboxes,
         terms: Terms,
     ) -> Listener<'a, R>
         ensures listening { result.listening ≡ listening }

@@ -16,7 +16,7 @@ pub(crate) struct Readiness {
     is_deaf: AtomicBool,
 }
 
-pub(crate) type Shared = Arc<Readiness, Global>;
+pub(crate) type SharedReadiness = Arc<Readiness, Global>;
 
 impl Readiness {
     /// Both may be, and the peer may send.

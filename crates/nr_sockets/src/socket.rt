@@ -5,7 +5,7 @@ ghost use Rattle.nr_service.specs.Streams.{received_count, sent_count, IsSomeRec
 ghost use Rattle.nr_service.specs.declared.stream.Received.TheVariants as received_as;
 
 use crate::peer::Peer;
-use crate::readiness::Shared;
+use crate::readiness::SharedReadiness;
 use nr_service::{Received, Sent, Stream};
 use nr_transcript::Transcript;
 use std::io::{Error, ErrorKind, Read, Write};
@@ -16,7 +16,7 @@ use std::io::{Error, ErrorKind, Read, Write};
 pub struct Channel<T> {
     pub(crate) stream: T,
     pub(crate) place: usize,
-    pub(crate) readiness: Shared,
+    pub(crate) readiness: SharedReadiness,
     /// What its reads gave, in order, and what its writes took.
     pub received: Transcript,
     pub sent: Transcript,

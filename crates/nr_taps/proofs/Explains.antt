@@ -21,10 +21,10 @@ use Rattle.nr_model.proofs.NodesPartsEmitted.{AreOfNode, IsRun, begins_itself, b
 use Rattle.nr_entry.specs.declared.entry.Entry.{Entry}
 use Rattle.nr_log_end.specs.Numbers.{IsRising, AreRising}
 use Rattle.nr_log_end.specs.declared.standing.Standing.{Standing}
-use Rattle.nr_log_end.specs.declared.standing.Turn.{Turn}
+use Rattle.nr_log_end.specs.declared.standing.LogEvent.{LogEvent}
 use Rattle.nr_log_end.specs.Standings.{applied_of, items_of_turn, record_of, known_of}
 use Rattle.nr_oplog.proofs.Fronts.{applied_append}
-use Rattle.nr_accounts.specs.Held.{numbers_in}
+use Rattle.nr_job_numbers.specs.Stored.{numbers_in}
 use Rattle.nr_node.specs.Level.{connection_at}
 use Rattle.nr_node.specs.Sound.{IsSound}
 use Rattle.nr_taps.specs.Sequence.{sequence_of, updates_of, AreRun, IsExplainedBy, HaveOneSequence, reads_by, IsLogOf, AreReadsOf}
@@ -134,11 +134,11 @@ above [] = 0
 above (s ∷ more) = suc (s.node + above more)
 
 -- what the entries of a front are
-applied_begin : (x y : List Turn) → IsBeginningOf x y → IsBeginningOf (applied_of x) (applied_of y)
+applied_begin : (x y : List LogEvent) → IsBeginningOf x y → IsBeginningOf (applied_of x) (applied_of y)
 applied_begin x y b = (applied_of b.0, sym (applied_append x b.0) ∙ ap applied_of b.1)
 
 -- each of these is explained
-each_explained : (taken : List Taken) (upto : ℕ) (past : ℕ → List Turn) (standings : List Standing) → AreRun taken
+each_explained : (taken : List Taken) (upto : ℕ) (past : ℕ → List LogEvent) (standings : List Standing) → AreRun taken
     → ((node : ℕ) → node < upto → IsBeginningOf (record_of (past node)) (part_from node (length (log_of taken)) taken))
     → ((node : ℕ) → AreRising node (sequence_of taken))
     → above standings ≤ upto → AllByRecursion IsSound standings → AllByRecursion (λ (s : Standing). IsBeginningOf s.history (past s.node)) standings
@@ -172,8 +172,8 @@ one_sequence standings sound are =
     let taken = woven 0 upto past log in
     let long = woven_length 0 upto past log in
     let same : upto ≤ upto = omega arith in
-    let reads = past_has (λ (node : ℕ) (turns : List Turn). IsReader node 0 turns) standings (λ node. tt) (reads_sound standings sound) in
-    let applied = past_has (λ (node : ℕ) (turns : List Turn). IsBeginningOf (applied_of turns) log) standings (λ node. (log, refl))
+    let reads = past_has (λ (node : ℕ) (turns : List LogEvent). IsReader node 0 turns) standings (λ node. tt) (reads_sound standings sound) in
+    let applied = past_has (λ (node : ℕ) (turns : List LogEvent). IsBeginningOf (applied_of turns) log) standings (λ node. (log, refl))
     (known_applied standings log (known_begin standings are)) in
     let run = woven_run 0 upto past log reads in
     let parts = λ (node : ℕ) (below : node < upto).

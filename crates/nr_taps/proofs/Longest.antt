@@ -7,7 +7,7 @@ use Rattle.nr_model.specs.Bytes.{IsBeginningOf}
 use Rattle.nr_model.proofs.NodesPartsEmitted.{begins_itself, begins_on, none_begins}
 use Rattle.nr_entry.specs.declared.entry.Entry.{Entry}
 use Rattle.nr_log_end.specs.declared.standing.Standing.{Standing}
-use Rattle.nr_log_end.specs.declared.standing.Turn.{Turn}
+use Rattle.nr_log_end.specs.declared.standing.LogEvent.{LogEvent}
 use Rattle.nr_log_end.specs.Standings.{known_of}
 use Rattle.nr_oplog.specs.Plays.{AreComparable, AreOfOneLog}
 use Rattle.nr_taps.specs.Sequence.{AreAllOfOneLog, logged_of, ran_items, IsLogOf, AreReadsOf}
@@ -34,7 +34,7 @@ longest_known [] = []
 longest_known (s ∷ more) = longer (known_of s) (longest_known more)
 
 -- the most that a node did, by any of these
-abbrev pub longest_past : List Standing → ℕ → List Turn
+abbrev pub longest_past : List Standing → ℕ → List LogEvent
 longest_past [] node = []
 longest_past (s ∷ more) node = cond (s.node == node) (longer s.history (longest_past more node)) (longest_past more node)
 
@@ -89,7 +89,7 @@ pasts_begin (s ∷ more) are =
     )
 
 -- what holds of nothing, and of the history of each, holds of what each node did
-pub past_has : (P : ℕ → List Turn → Type 0) (standings : List Standing) → ((node : ℕ) → P node [])
+pub past_has : (P : ℕ → List LogEvent → Type 0) (standings : List Standing) → ((node : ℕ) → P node [])
     → AllByRecursion (λ (s : Standing). P s.node s.history) standings
     → (node : ℕ) → P node (longest_past standings node)
 past_has P [] none all node = none node
@@ -108,8 +108,8 @@ pub longest_reads : (standings : List Standing) (node : ℕ) → AreReadsOf stan
 longest_reads [] node = refl
 longest_reads (s ∷ more) node =
     let rest = longest_reads more node in
-    cond_both (s.node == node) (longer s.history (longest_past more node)) (longest_past more node) (λ (turns : List Turn). AreReadsOf (s ∷ more) node (ran_items turns))
-    (λ same. longer_has (λ (turns : List Turn). AreReadsOf (s ∷ more) node (ran_items turns)) s.history (longest_past more node)
+    cond_both (s.node == node) (longer s.history (longest_past more node)) (longest_past more node) (λ (turns : List LogEvent). AreReadsOf (s ∷ more) node (ran_items turns))
+    (λ same. longer_has (λ (turns : List LogEvent). AreReadsOf (s ∷ more) node (ran_items turns)) s.history (longest_past more node)
     (inl (eqb-true s.node node same, refl)) (inr rest))
     (λ _. inr rest)
 

@@ -7,7 +7,7 @@ use Rattle.std.proofs.lemmas.List.{get_or-set_other, get_or_default, length-set,
 use Rattle.nr_model.specs.Bytes.{IsBeginningOf}
 use Rattle.nr_model.proofs.NodesPartsEmitted.{begins_itself, none_begins}
 use Rattle.nr_log_end.specs.declared.standing.Standing.{Standing}
-use Rattle.nr_log_end.specs.declared.standing.Turn.{Turn}
+use Rattle.nr_log_end.specs.declared.standing.LogEvent.{LogEvent}
 use Rattle.nr_oplog.specs.declared.view.LogView.{LogView}
 use Rattle.nr_oplog.specs.Plays.{AreComparable, AreOfOneLog, later_of}
 use Rattle.nr_node.specs.Sound.{IsSound}
@@ -151,11 +151,11 @@ pub still_sound : (s : Standing) (n : ℕ) → IsSound s → IsSound (record s {
 still_sound s n sound = record { reads = sound.reads; numbered = sound.numbered; opened = sound.opened; entries = sound.entries; idle = sound.idle }
 
 -- what was done by either was done by the later one
-abbrev pub history_in : Option Standing → List Turn
+abbrev pub history_in : Option Standing → List LogEvent
 history_in None = []
 history_in (Some s) = s.history
 
-abbrev Both : List Turn → List Turn → List Turn → Type 0
+abbrev Both : List LogEvent → List LogEvent → List LogEvent → Type 0
 Both xs ys zs = IsBeginningOf xs zs × IsBeginningOf ys zs
 
 later_begins : (s t : Standing) (b : Bool) (n : ℕ) → nat_le (length s.history) (length t.history) ≡ b → AreComparable s.history t.history

@@ -9,8 +9,8 @@ use Rattle.nr_model.specs.Nodes.{part_from}
 use Rattle.nr_entry.specs.Jobs.{items_of}
 use Rattle.nr_entry.specs.declared.entry.Entry.{Entry}
 use Rattle.nr_log_end.specs.Numbers.{numbers_of}
-use Rattle.nr_log_end.specs.declared.standing.Turn.{Turn}
-use Rattle.nr_log_end.specs.declared.standing.Turn.TheVariants.{Applied, Ran, Opened}
+use Rattle.nr_log_end.specs.declared.standing.LogEvent.{LogEvent}
+use Rattle.nr_log_end.specs.declared.standing.LogEvent.TheVariants.{Applied, Ran, Opened}
 use Rattle.nr_log_end.specs.Standings.{applied_of, record_of, jobs_in}
 use Rattle.nr_log_end.proofs.Numbered.{numbers-append, numbers_behind, numbers_entry}
 use Rattle.nr_taps.proofs.Weave.{leading, behind, record_behind, record_apart, none_behind, runs_elsewhere, runs_here, later_begins, woven}
@@ -32,11 +32,11 @@ drop_none zero = refl
 drop_none (suc n) = refl
 
 -- what is in the log behind the entries of this past
-abbrev left : List Turn → List Entry → List Item
+abbrev left : List LogEvent → List Entry → List Item
 left turns log = items_in (drop (length (applied_of turns)) log)
 
 -- the next entry is the first that was passed, or the first that wasn't
-next_whole : (turns : List Turn) (entry : Entry) (log : List Entry) → IsBeginningOf (applied_of turns) (entry ∷ log)
+next_whole : (turns : List LogEvent) (entry : Entry) (log : List Entry) → IsBeginningOf (applied_of turns) (entry ∷ log)
     → entry_items (items_of entry.jobs.items) ++ (record_of (behind turns) ++ left (behind turns) log) ≡ record_behind turns ++ left turns (entry ∷ log)
 next_whole [] entry log b = refl
 next_whole (Applied first ∷ turns) entry log b =
@@ -47,7 +47,7 @@ next_whole (Applied first ∷ turns) entry log b =
 next_whole (Ran job ∷ turns) entry log b = next_whole turns entry log b
 next_whole (Opened worker ∷ turns) entry log b = next_whole turns entry log b
 
-woven_whole : (r count upto : ℕ) (past : ℕ → List Turn) (log : List Entry) → r < upto → IsBeginningOf (applied_of (past r)) log
+woven_whole : (r count upto : ℕ) (past : ℕ → List LogEvent) (log : List Entry) → r < upto → IsBeginningOf (applied_of (past r)) log
     → part_from r (length log) (woven count upto past log) ≡ record_of (past r) ++ left (past r) log
 woven_whole r count upto past [] below b =
     let lead = items_of (leading (past r)) in
@@ -68,7 +68,7 @@ woven_whole r count upto past (entry ∷ log) below b =
     ∙ ap (λ (items : List Item). items ++ left (past r) (entry ∷ log)) (record_apart (past r))
 
 -- so it has the numbers of these
-pub woven_numbers : (c : Connection) (count upto : ℕ) (past : ℕ → List Turn) (log : List Entry) → c.node < upto → IsBeginningOf (applied_of (past c.node)) log
+pub woven_numbers : (c : Connection) (count upto : ℕ) (past : ℕ → List LogEvent) (log : List Entry) → c.node < upto → IsBeginningOf (applied_of (past c.node)) log
     → numbers_of c (part_from c.node (length log) (woven count upto past log))
     ≡ numbers_of c (record_of (past c.node) ++ jobs_in (drop (length (applied_of (past c.node))) log))
 woven_numbers c count upto past log below b =
@@ -77,7 +77,7 @@ woven_numbers c count upto past log below b =
     ∙ numbers_behind c (record_of (past c.node)) (items_in there) (jobs_in there) (numbers_in_items c there)
 
 -- a node of a higher number has nothing but the log
-woven_beyond : (r count upto : ℕ) (past : ℕ → List Turn) (log : List Entry) → upto ≤ r → part_from r (length log) (woven count upto past log) ≡ items_in log
+woven_beyond : (r count upto : ℕ) (past : ℕ → List LogEvent) (log : List Entry) → upto ≤ r → part_from r (length log) (woven count upto past log) ≡ items_in log
 woven_beyond r count upto past [] h = runs_elsewhere r 0 count upto past [] h
 woven_beyond r count upto past (entry ∷ log) h =
     let later = λ (node : ℕ). behind (past node) in
@@ -85,6 +85,6 @@ woven_beyond r count upto past (entry ∷ log) h =
     runs_elsewhere r (suc (length log)) count upto past (nodes.Entry entry.node jobs ∷ woven (suc count) upto later log) h
     ∙ ap (λ (items : List Item). entry_items jobs ++ items) (woven_beyond r (suc count) upto later log h)
 
-pub numbers_beyond : (c : Connection) (count upto : ℕ) (past : ℕ → List Turn) (log : List Entry) → upto ≤ c.node
+pub numbers_beyond : (c : Connection) (count upto : ℕ) (past : ℕ → List LogEvent) (log : List Entry) → upto ≤ c.node
     → numbers_of c (part_from c.node (length log) (woven count upto past log)) ≡ numbers_of c (jobs_in log)
 numbers_beyond c count upto past log h = ap (numbers_of c) (woven_beyond c.node count upto past log h) ∙ numbers_in_items c log

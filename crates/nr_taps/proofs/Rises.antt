@@ -8,7 +8,7 @@ use Rattle.nr_model.specs.Entries.{Jobs}
 use Rattle.nr_entry.specs.declared.entry.Entry.{Entry}
 use Rattle.nr_log_end.specs.Numbers.{IsRising, numbers_of, connection_at, AreRising}
 use Rattle.nr_log_end.specs.declared.standing.Standing.{Standing}
-use Rattle.nr_log_end.specs.declared.standing.Turn.{Turn}
+use Rattle.nr_log_end.specs.declared.standing.LogEvent.{LogEvent}
 use Rattle.nr_log_end.specs.Standings.{applied_of, known_of, record_of, jobs_in, EachRises, RisesBefore}
 use Rattle.nr_log_end.proofs.Rising.{range_rises}
 use Rattle.nr_oplog.specs.Plays.{AreOfOneLog}
@@ -18,7 +18,7 @@ use Rattle.nr_taps.proofs.Longest.{longer, longer_has, longest_known, longest_pa
 use Rattle.nr_taps.proofs.Parts.{drop_none}
 
 -- the numbers of a node's connections rise along what it did, and what is behind that in the log
-abbrev pub RisesTo : ℕ → List Entry → List Turn → Type 0
+abbrev pub RisesTo : ℕ → List Entry → List LogEvent → Type 0
 RisesTo node log turns = AreRising node (record_of turns ++ jobs_in (drop (length (applied_of turns)) log))
 
 -- where nothing is behind its record, a sound standing's numbers count up
@@ -68,5 +68,5 @@ log_rises (s ∷ more) sound = longer_has EachRises (known_of s) (longest_known 
 pub pasts_rise : (standings : List Standing) → AllByRecursion IsSound standings → AreAllOfOneLog standings
     → (node : ℕ) → RisesTo node (longest_known standings) (longest_past standings node)
 pasts_rise standings sound are =
-    past_has (λ (node : ℕ) (turns : List Turn). RisesTo node (longest_known standings) turns) standings
+    past_has (λ (node : ℕ) (turns : List LogEvent). RisesTo node (longest_known standings) turns) standings
     (log_rises standings sound) (all_rise standings sound are)

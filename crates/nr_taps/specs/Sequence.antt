@@ -9,10 +9,10 @@ use Rattle.nr_entry.specs.Jobs.{item_of, items_of}
 use Rattle.nr_entry.specs.declared.entry.Entry as entries
 use Rattle.nr_log_end.specs.Numbers.{AreRising}
 use Rattle.nr_log_end.specs.declared.standing.Standing.{Standing}
-use Rattle.nr_log_end.specs.declared.standing.Turn.{Turn}
-use Rattle.nr_log_end.specs.declared.standing.Turn.TheVariants.{Applied, Ran, Opened}
+use Rattle.nr_log_end.specs.declared.standing.LogEvent.{LogEvent}
+use Rattle.nr_log_end.specs.declared.standing.LogEvent.TheVariants.{Applied, Ran, Opened}
 use Rattle.nr_log_end.specs.Standings.{record_of, known_of}
-use Rattle.nr_accounts.specs.Held.{numbers_in}
+use Rattle.nr_job_numbers.specs.Stored.{numbers_in}
 use Rattle.nr_oplog.specs.Plays.{AreOfOneLog}
 use Rattle.nr_node.specs.Level.{IsCount, connection_at}
 use Rattle.nr_node.specs.Sound.{IsSound}
@@ -60,7 +60,7 @@ reads_by r [] = []
 reads_by r (Entry node jobs ∷ more) = reads_by r more
 reads_by r (Reads node count jobs ∷ more) = let rest = reads_by r more in cond (node == r) (jobs ++ rest) rest
 
-abbrev pub ran_items : List Turn → Sequence
+abbrev pub ran_items : List LogEvent → Sequence
 ran_items [] = []
 ran_items (Applied entry ∷ turns) = ran_items turns
 ran_items (Ran job ∷ turns) = item_of job ∷ ran_items turns

@@ -10,11 +10,11 @@ use std::mem;
 
 /// Bytes that were handed out and accepted, from the first that wasn't written on.
 #[derive(Drop)]
-pub struct Buffer {
+pub struct WriteBuffer {
     bytes: BytesMut,
 }
 
-impl Model for Buffer {
+impl Model for WriteBuffer {
     ghost use Rattle.nr_model.specs.Bytes.{Bytes};
 
     ghost Value = { Bytes };
@@ -22,12 +22,12 @@ impl Model for Buffer {
     ghost view = { λ b. b.bytes.items };
 }
 
-impl Buffer {
+impl WriteBuffer {
     /// Nothing. It takes no memory.
-    pub fn new(alloc: Global) -> Buffer
+    pub fn new(alloc: Global) -> WriteBuffer
         ensures { result ≡ [] }
     {
-        Buffer {
+        WriteBuffer {
             bytes: BytesMut::new(alloc),
         }
     }
@@ -64,10 +64,10 @@ impl Buffer {
     }
 
     /// Nothing, with the same allocator.
-    pub fn fresh(&self) -> Buffer
+    pub fn fresh(&self) -> WriteBuffer
         ensures { result ≡ [] }
     {
-        Buffer::new(*self.bytes.allocator())
+        WriteBuffer::new(*self.bytes.allocator())
     }
 
     /// Lets go of the first so many bytes, and of all memory with the last.
@@ -96,7 +96,7 @@ impl Buffer {
 }
 
 // Its memory is a spare buffer.
-fn spare(drained: Buffer, spares: &mut Spares) {
+fn spare(drained: WriteBuffer, spares: &mut Spares) {
     let mut bytes = drained.bytes;
     bytes.clear();
     if let Ok(bytes) = bytes.into_vec() {

@@ -1,7 +1,7 @@
 //! Taps: what was handed out for connections and isn't written yet; marks: what a worker's node had done then; and the one sequence behind all of it.
 #![tactic(auto)]
 
-pub use buffer::Buffer;
+pub use buffer::WriteBuffer;
 pub use law::sequence_law;
 pub use mark::{Mark, meet_marks};
 pub use meeting::meet;

@@ -8,7 +8,7 @@ ghost use Rattle.nr_log_end.specs.Standings.{record_of};
 ghost use Rattle.nr_node.specs.Sound.{IsSound};
 ghost use Rattle.nr_taps.specs.Taps.{HaveMet, IsSamePiece, accepted, bytes_accepted, fresh_tap, refusal, standing_of, with_piece, with_written};
 
-use crate::buffer::Buffer;
+use crate::buffer::WriteBuffer;
 use nr_blob::Memory;
 use nr_entry::ConnId;
 use nr_oplog::{LogName, Oplog, Token};
@@ -31,7 +31,7 @@ pub enum Refused {
 #[derive(Drop)]
 pub struct Tap<B: LogName> {
     pub(crate) conn: ConnId,
-    bytes: Buffer,
+    bytes: WriteBuffer,
     // How many bytes were written.
     written: u64,
     pub(crate) token: Option<Token<B>>,
@@ -57,7 +57,7 @@ impl<B: LogName> Tap<B> {
     {
         Tap {
             conn,
-            bytes: Buffer::new(alloc),
+            bytes: WriteBuffer::new(alloc),
             written: 0,
             token: None,
         }

@@ -1,8 +1,8 @@
 // The service over many streams in memory, of which its device tells it in one way or another: no clause says how soon anybody is served.
-use nr_answering::Answering;
 use nr_blob::Memory;
-use nr_nodes::Setup;
-use nr_service::{Device, Ended, MachineClock, Open, Ready, Received, Sent, Service, Stream};
+use nr_service::{Ended, MachineClock, Open, Poller, Ready, Received, Sent, Service, Stream};
+use nr_world::Setup;
+use nr_world_service::WorldBackend;
 use std::alloc::{AllocError, Global};
 use std::cell::Cell;
 use std::hash::RandomState;
@@ -253,7 +253,7 @@ impl Crowd {
     }
 }
 
-impl Device<Talk> for Crowd {
+impl Poller<Talk> for Crowd {
     fn accept(&mut self) -> Result<Option<Talk>, Memory> {
         if self.free.is_empty() {
             return Ok(None);
@@ -355,7 +355,7 @@ fn came_of(
     let Some(setup) = Setup::new(3, 64, 5, trial.seats, 1_048_576) else {
         return Ok(None);
     };
-    let answering = Answering::new(alloc, keys, setup)?;
+    let answering = WorldBackend::new(alloc, keys, setup)?;
     let crowd = Crowd::new(alloc, trial.tells, trial.seats.saturating_mul(3), parts)?;
     let clock = MachineClock { runtime: rt };
     let mut service = Service::new(alloc, 0, 0, answering, crowd, clock, trial.limit, 0)?;

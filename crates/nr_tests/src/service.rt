@@ -4,11 +4,11 @@ ghost use Rattle.nr_model.specs.Bytes.{IsBeginningOf};
 ghost use Rattle.nr_model.specs.Items.{Connection, Sequence};
 ghost use Rattle.nr_model.specs.Sequential.{emitted_for};
 
-use nr_answering::Answering;
 use nr_blob::Memory;
-use nr_nodes::Setup;
 use nr_server::{Fault, serve_stream};
-use nr_service::{Device, Ended, MachineClock, Moments, Open, Received, Sent, Service, Stream};
+use nr_service::{Ended, MachineClock, Moments, Open, Poller, Received, Sent, Service, Stream};
+use nr_world::Setup;
+use nr_world_service::WorldBackend;
 use std::alloc::{AllocError, Global};
 use std::hash::RandomState;
 use std::process::Abort;
@@ -163,9 +163,9 @@ struct Gone {
     is_finished: bool,
 }
 
-impl<'a, R: Abort> Device<Line> for Desk<'a, R> {
+impl<'a, R: Abort> Poller<Line> for Desk<'a, R> {
     ghost use Rattle.std.specs.Prelude.{Some, map, if◌then◌else◌};
-    ghost use Rattle.nr_service.specs.Devices.{Finished, Abandoned};
+    ghost use Rattle.nr_service.specs.Pollers.{Finished, Abandoned};
 
     ghost parted = { λ desk. Some (map (λ gone. if gone.is_finished then Finished gone.line else Abandoned gone.line) desk.gone.items) };
 
@@ -245,7 +245,7 @@ fn came_of<R: Abort, M: Moments + Drop>(
     let Some(setup) = Setup::new(2, 1_024, 2, 256, 67_108_864) else {
         return Ok(None);
     };
-    let answering = Answering::new(alloc, keys, setup)?;
+    let answering = WorldBackend::new(alloc, keys, setup)?;
     let desk = Desk {
         runtime,
         alloc,

@@ -1,6 +1,6 @@
 // Worlds whose steps are chosen one by one. What each step gives stands in its contract.
 use nr_entry::ConnId;
-use nr_nodes::{Outcome, Setup, Step, World, run};
+use nr_world::{Setup, Step, StepOutcome, World, run};
 use std::hash::RandomState;
 use std::test::Fail;
 
@@ -40,7 +40,7 @@ fn steps_are_run(rt: HostRuntime) -> Result<(), Fail> {
     let mut handed = 0usize;
     for happened in &ran.happened {
         let outcome = happened.outcome;
-        assert!(rt; outcome == Outcome::Done || outcome == Outcome::Opened(FIRST));
+        assert!(rt; outcome == StepOutcome::Done || outcome == StepOutcome::Opened(FIRST));
         handed = handed.saturating_add(happened.handed.len());
     }
     assert!(rt; handed == 1);

@@ -1,4 +1,4 @@
--- No job that was asked for is lost at a desk.
+-- No job that was asked for is lost at a worker.
 use Rattle.std.proofs.Common.{zero, suc, ◌≡◌, ℕ, ◌+◌, ◌<◌, ◌≤◌, inl, inr, Bool, true, false, cond, List, [], ◌∷◌, ◌++◌, length, Contains, Option, Some, None, refl, ap, sym, ◌∙◌, subst, arith, append_assoc}
 use Rattle.std.specs.Prelude.{◌==◌, ◌||◌, ◌⊎◌, nat_le, get_or}
 use Rattle.std.specs.List.{AllByRecursion, slice_get}
@@ -15,12 +15,12 @@ use Rattle.nr_entry.specs.declared.batch.Batch.{Batch}
 use Rattle.nr_entry.specs.declared.batch.Outcome.{Outcome}
 use Rattle.nr_entry.specs.declared.batch.Outcome.TheVariants as outcomes
 use Rattle.nr_entry.specs.declared.job.Job.{Job}
-use Rattle.nr_slots.specs.declared.view.Lane.{Lane}
+use Rattle.nr_slots.specs.declared.view.WorkerPast.{WorkerPast}
 use Rattle.nr_slots.specs.Names.{IsBackOf, IsForLast}
-use Rattle.nr_seats.specs.Seated.{SeatState}
-use Rattle.nr_seats.specs.Placed.{SeatsState, seat_at}
-use Rattle.nr_seats.specs.Portions.{Arrival, EachSeat, GrowsHere, arrivals_at}
-use Rattle.nr_worker.specs.Desk.{CountsFrom}
+use Rattle.nr_worker.specs.Seated.{OpenConnectionState}
+use Rattle.nr_worker.specs.Placed.{OpenConnectionsState, seat_at}
+use Rattle.nr_worker.specs.Portions.{PortionArrival, EachSeat, GrowsHere, arrivals_at}
+use Rattle.nr_worker.specs.Worker.{CountsFrom}
 use Rattle.nr_worker.specs.Settling.{back_of, down_of, left_of}
 use Rattle.nr_worker.specs.Working.{AreAccountedFor, HasNumber, IsAccountedFor, IsNoOther, IsUnderway}
 use Rattle.nr_worker.proofs.Lists.{above}
@@ -103,14 +103,14 @@ answer_at (x ∷ xs) zero within h = (x, refl, h)
 answer_at (x ∷ xs) (suc k) within h = answer_at xs k (omega (arith, within)) h
 
 -- ---- more jobs wait
-pub accounted_more : (down : Bool) (waits more : Jobs) (lane : Lane) (c : Connection) (n : ℕ) → IsAccountedFor down waits lane c n
+pub accounted_more : (down : Bool) (waits more : Jobs) (lane : WorkerPast) (c : Connection) (n : ℕ) → IsAccountedFor down waits lane c n
     → IsAccountedFor down (waits ++ more) lane c n
 accounted_more down waits more lane c n (inl is) = inl is
 accounted_more down waits more lane c n (inr (inl waiting)) = inr (inl (in_front c n waits more waiting))
 accounted_more down waits more lane c n (inr (inr underway)) = inr (inr underway)
 
 -- those of a feed
-pub accounted_fed : (down : Bool) (waits more : Jobs) (lane : Lane) (c : Connection) (from n : ℕ) → CountsFrom from more
+pub accounted_fed : (down : Bool) (waits more : Jobs) (lane : WorkerPast) (c : Connection) (from n : ℕ) → CountsFrom from more
     → AllByRecursion (λ (job : Item). job.connection ≡ c) more → n < from + length more → (n < from → IsAccountedFor down waits lane c n)
     → IsAccountedFor down (waits ++ more) lane c n
 accounted_fed down waits more lane c from n counts own below was = elim (cases_lt n from) [
@@ -119,10 +119,10 @@ accounted_fed down waits more lane c from n counts own below was = elim (cases_l
 ]
 
 -- ---- a batch is posted
-abbrev pub lane_with : Batch → Lane → Lane
+abbrev pub lane_with : Batch → WorkerPast → WorkerPast
 lane_with batch lane = record { posted = lane.posted ++ batch ∷ []; collected = lane.collected; hand = lane.hand }
 
-still_underway : (lane : Lane) (batch : Batch) (c : Connection) (n : ℕ) → IsUnderway lane c n → IsUnderway (lane_with batch lane) c n
+still_underway : (lane : WorkerPast) (batch : Batch) (c : Connection) (n : ℕ) → IsUnderway lane c n → IsUnderway (lane_with batch lane) c n
 still_underway lane batch c n u = record {
   before = u.before;
   batch = u.batch;
@@ -132,7 +132,7 @@ still_underway lane batch c n u = record {
   has = u.has;
 }
 
-new_underway : (lane : Lane) (batch : Batch) (c : Connection) (n : ℕ) → length lane.posted ≡ length lane.collected
+new_underway : (lane : WorkerPast) (batch : Batch) (c : Connection) (n : ℕ) → length lane.posted ≡ length lane.collected
     → HasNumber c n (items_of batch.jobs.items) → IsUnderway (lane_with batch lane) c n
 new_underway lane batch c n all has = record {
   before = lane.posted;
@@ -143,7 +143,7 @@ new_underway lane batch c n all has = record {
   has = has;
 }
 
-pub accounted_posted : (down : Bool) (jobs left : List Job) (lane : Lane) (batch : Batch) (c : Connection) (n : ℕ) → jobs ≡ batch.jobs.items ++ left
+pub accounted_posted : (down : Bool) (jobs left : List Job) (lane : WorkerPast) (batch : Batch) (c : Connection) (n : ℕ) → jobs ≡ batch.jobs.items ++ left
     → length lane.posted ≡ length lane.collected → IsAccountedFor down (items_of jobs) lane c n
     → IsAccountedFor down (items_of left) (lane_with batch lane) c n
 accounted_posted down jobs left lane batch c n are all (inl is) = inl is
@@ -157,7 +157,7 @@ accounted_posted down jobs left lane batch c n are all (inr (inl waiting)) =
 accounted_posted down jobs left lane batch c n are all (inr (inr underway)) = inr (inr (still_underway lane batch c n underway))
 
 -- ---- an answer is collected
-module _ (lane after : Lane) (answer : Answer) (last : IsForLast answer lane.posted lane.collected) (posted : after.posted ≡ lane.posted)
+module _ (lane after : WorkerPast) (answer : Answer) (last : IsForLast answer lane.posted lane.collected) (posted : after.posted ≡ lane.posted)
     (collected : after.collected ≡ lane.collected ++ answer ∷ []) (c : Connection) (n : ℕ) where
   stays_underway : (u : IsUnderway lane c n) → (length u.before ≡ length lane.collected → answer.outcome ≡ outcomes.Executed) → IsUnderway after c n
   stays_underway u executed = record {
@@ -225,23 +225,23 @@ open_before : (a b t : Bool) → t ≡ (a || b) → t ≡ false → a ≡ false
 open_before true b t is uncut = absurd (cc (sym is ∙ uncut))
 open_before false b t is uncut = refl
 
-grown_here : (down : Bool) (waits : Jobs) (lane : Lane) (c : Connection) (limit : ℕ) (xs : List Arrival) (o n : Option SeatState) → GrowsHere limit xs o n
-    → ((s : SeatState) → o ≡ Some s → AreAccountedFor down waits lane c s) → (t : SeatState) → n ≡ Some t → AreAccountedFor down waits lane c t
+grown_here : (down : Bool) (waits : Jobs) (lane : WorkerPast) (c : Connection) (limit : ℕ) (xs : List PortionArrival) (o n : Option OpenConnectionState) → GrowsHere limit xs o n
+    → ((s : OpenConnectionState) → o ≡ Some s → AreAccountedFor down waits lane c s) → (t : OpenConnectionState) → n ≡ Some t → AreAccountedFor down waits lane c t
 grown_here down waits lane c limit xs None None grows was t is = absurd (cc is)
 grown_here down waits lane c limit xs None (Some u) grows was t is = absurd grows
 grown_here down waits lane c limit xs (Some s) None grows was t is = absurd grows
 grown_here down waits lane c limit xs (Some s) (Some u) grows was t is =
-    let same : u ≡ t = ap (λ (o : Option SeatState). elim o [ None ↦ u | Some z ↦ z ]) is in
+    let same : u ≡ t = ap (λ (o : Option OpenConnectionState). elim o [ None ↦ u | Some z ↦ z ]) is in
     subst (AreAccountedFor down waits lane c) same
     (λ uncut number below.
     was s refl (open_before s.cut _ u.cut grows.cut uncut) number (subst (λ k. number < k) (ap (λ x. x.next) grows.session) below))
 
-pub accounted_grown : (down : Bool) (waits : Jobs) (lane : Lane) (node limit : ℕ) (xs : List Arrival) (old new : SeatsState)
+pub accounted_grown : (down : Bool) (waits : Jobs) (lane : WorkerPast) (node limit : ℕ) (xs : List PortionArrival) (old new : OpenConnectionsState)
     → ((q : ℕ) → GrowsHere limit (arrivals_at q xs) (seat_at q old) (seat_at q new)) → EachSeat (AreAccountedFor down waits lane) node old
     → EachSeat (AreAccountedFor down waits lane) node new
 accounted_grown down waits lane node limit xs old new at was = λ c. elim (c.node == node) as
-    (λ b. ((s : SeatState) → cond b (seat_at c.serial old) None ≡ Some s → AreAccountedFor down waits lane c s)
-    → (t : SeatState) → cond b (seat_at c.serial new) None ≡ Some t → AreAccountedFor down waits lane c t) [
+    (λ b. ((s : OpenConnectionState) → cond b (seat_at c.serial old) None ≡ Some s → AreAccountedFor down waits lane c s)
+    → (t : OpenConnectionState) → cond b (seat_at c.serial new) None ≡ Some t → AreAccountedFor down waits lane c t) [
       | true ↦ grown_here down waits lane c limit (arrivals_at c.serial xs) (seat_at c.serial old) (seat_at c.serial new) (at c.serial)
       | false ↦ λ each t is. absurd (cc is)
     ] (was c)

@@ -1,4 +1,4 @@
--- A desk stands for a worker of the law once a connection was opened.
+-- The code's worker stands for a worker of the law once a connection was opened.
 use Rattle.std.proofs.Common.{◌≡◌, ℕ, ◌+◌, ◌<◌, ◌≤◌, inl, inr, true, false, List, [], ◌∷◌, ◌++◌, Contains, Option, Some, None, refl, ap, sym, ◌∙◌, subst, arith}
 use Rattle.std.specs.Prelude.{◌≢◌, is_some}
 use Rattle.std.specs.List.{AllByRecursion}
@@ -12,22 +12,22 @@ use Rattle.nr_entry.specs.declared.batch.Batch.{Batch}
 use Rattle.nr_entry.specs.declared.conn.ConnId.{ConnId}
 use Rattle.nr_entry.specs.declared.job.Job.{Job}
 use Rattle.nr_log_end.specs.declared.standing.Standing.{Standing}
-use Rattle.nr_node.specs.Sound.{IsSound, Serves}
+use Rattle.nr_node.specs.Sound.{IsSound, ServesOpened}
 use Rattle.nr_combiner.specs.Heard.{Knows, KnowsOpened}
-use Rattle.nr_slots.specs.declared.view.Desk.{Desk}
-use Rattle.nr_combiner.specs.Workers.{WorkerState, told_of}
+use Rattle.nr_slots.specs.declared.view.CombinerPast.{CombinerPast}
+use Rattle.nr_combiner.specs.Workers.{NodeHandleState, told_of}
 use Rattle.nr_combiner.specs.Workers as workers
 use Rattle.nr_taps.specs.Marks.{Adopts}
 use Rattle.nr_taps.specs.Taps.{HaveMet}
-use Rattle.nr_seats.specs.Seated.{SeatState, fresh_seat}
-use Rattle.nr_seats.specs.Placed.{IsPut, SeatsState, seat_at}
-use Rattle.nr_seats.specs.Portions.{EachSeat, seat_of}
-use Rattle.nr_seats.proofs.Putting.{each_put, named, seat_here, seat_others}
-use Rattle.nr_worker.specs.Desk.{AllPosted, DeskState, IsAskedBy, IsLed, Served, all_asked}
-use Rattle.nr_worker.specs.Moves.{HaveGot, Opens, Turns}
-use Rattle.nr_worker.specs.Working.{AreAccountedFor, AreApart, Goes, IsBelow, IsSeatOf, IsSeated, IsServed, IsToPost, LeadsTo, MayHaveClosed, OpensAt, Reflects, WorkState, connections_of, one_opened, unchanged}
+use Rattle.nr_worker.specs.Seated.{OpenConnectionState, fresh_seat}
+use Rattle.nr_worker.specs.Placed.{IsPut, OpenConnectionsState, seat_at}
+use Rattle.nr_worker.specs.Portions.{EachSeat, seat_of}
+use Rattle.nr_worker.proofs.Putting.{each_put, named, seat_here, seat_others}
+use Rattle.nr_worker.specs.Worker.{AllPosted, WorkerState, IsAskedBy, IsLed, Served, all_asked}
+use Rattle.nr_worker.specs.Moves.{HaveGot, Opens, HearsTurn}
+use Rattle.nr_worker.specs.Working.{AreAccountedFor, AreApart, Goes, IsBelow, IsSeatOf, IsSeated, IsServed, IsToPost, LeadsTo, MayHaveClosed, OpensNew, Reflects, WorkState, connections_of, one_opened, unchanged}
 use Rattle.nr_worker.proofs.Batched.{closed_too, stays}
-use Rattle.nr_worker.proofs.Desks.{opened_led, turned_led}
+use Rattle.nr_worker.proofs.Workers.{opened_led, turned_led}
 use Rattle.nr_worker.proofs.Lists.{all_at, all_weaker, posted_weaker}
 use Rattle.nr_worker.proofs.Nourished.{false_differs}
 
@@ -63,9 +63,9 @@ apart_more (x ∷ xs) y apart new =
 known_still : (served : List Served) (y : Served) (c : Connection) → IsServed served c → IsServed (served ++ y ∷ []) c
 known_still served y c k = record { one = k.one; there = Contains-append_left served (y ∷ []) k.one k.there; connection = k.connection }
 
-module _ (v : WorkState) (desk : Desk) (seats : SeatsState) (mark : Option Standing) (serial : ℕ) (s : Standing) (later : v.next ≤ serial)
+module _ (v : WorkState) (desk : CombinerPast) (seats : OpenConnectionsState) (mark : Option Standing) (serial : ℕ) (s : Standing) (later : v.next ≤ serial)
     (sound : IsSound s × (s.node ≡ v.worker.node)) (put : IsPut serial (Some (fresh_seat (named v.worker.node serial))) v.seats seats)
-    (d : DeskState) (led : IsLed d) (r : Reflects v d) (knows : Knows d.worker desk s v.worker.seat.lane) (serves : Serves s d.worker (named v.worker.node serial))
+    (d : WorkerState) (led : IsLed d) (r : Reflects v d) (knows : Knows d.worker desk s v.worker.seat.lane) (serves : ServesOpened s d.worker (named v.worker.node serial))
     (adopted : Adopts d.mark s mark) (met : HaveMet d.mark (Some s)) where
   abbrev c : Connection
   c = named v.worker.node serial
@@ -76,7 +76,7 @@ module _ (v : WorkState) (desk : Desk) (seats : SeatsState) (mark : Option Stand
   abbrev served : List Served
   served = d.served ++ new_one c ∷ []
 
-  abbrev after : DeskState
+  abbrev after : WorkerState
   after = record d { heard = desk; mark = mark; served = served }
 
   new : AllByRecursion (λ (x : Served). x.connection ≢ c) d.served
@@ -107,7 +107,7 @@ module _ (v : WorkState) (desk : Desk) (seats : SeatsState) (mark : Option Stand
     | true ↦ λ own.
         let same : e ≡ c = same_is e c own in
         let stands : fresh_seat c ≡ t =
-        ap (λ (o : Option SeatState). elim o [ None ↦ fresh_seat c | Some z ↦ z ])
+        ap (λ (o : Option OpenConnectionState). elim o [ None ↦ fresh_seat c | Some z ↦ z ])
         (sym (seat_here v.worker.node serial (Some (fresh_seat c)) v.seats seats put) ∙ ap (seat_of v.worker.node seats) (sym same) ∙ at) in
         subst (λ (g : Connection). IsSeated served g t) (sym same)
         (subst (IsSeated served c) stands (record {
@@ -131,8 +131,8 @@ module _ (v : WorkState) (desk : Desk) (seats : SeatsState) (mark : Option Stand
   numbers_now : EachSeat (λ e t. IsBelow v.worker.seat.lane.posted (items_of v.jobs) e t.session.next) v.worker.node seats
   numbers_now = each_put (λ e t. IsBelow v.worker.seat.lane.posted (items_of v.jobs) e t.session.next) v.worker.node serial (Some (fresh_seat c)) v.seats seats put
       (λ t is.
-      subst (λ (u : SeatState). IsBelow v.worker.seat.lane.posted (items_of v.jobs) c u.session.next)
-      (ap (λ (o : Option SeatState). elim o [ None ↦ fresh_seat c | Some z ↦ z ]) is) (record {
+      subst (λ (u : OpenConnectionState). IsBelow v.worker.seat.lane.posted (items_of v.jobs) c u.session.next)
+      (ap (λ (o : Option OpenConnectionState). elim o [ None ↦ fresh_seat c | Some z ↦ z ]) is) (record {
         posted = subst (λ (bs : List Batch). AllPosted (λ (job : Item). job.connection ≡ c → job.number < 0) bs) r.posted
             (posted_weaker (IsAskedBy d.served) (λ (job : Item). job.connection ≡ c → job.number < 0)
             (λ job by. none_of job (record { one = by.one; there = by.there; connection = by.connection })) d.posted led.known);
@@ -142,7 +142,7 @@ module _ (v : WorkState) (desk : Desk) (seats : SeatsState) (mark : Option Stand
   accounted_now : EachSeat (AreAccountedFor v.down (items_of v.jobs) v.worker.seat.lane) v.worker.node seats
   accounted_now = each_put (AreAccountedFor v.down (items_of v.jobs) v.worker.seat.lane) v.worker.node serial (Some (fresh_seat c)) v.seats seats put
       (λ t is.
-      subst (AreAccountedFor v.down (items_of v.jobs) v.worker.seat.lane c) (ap (λ (o : Option SeatState). elim o [ None ↦ fresh_seat c | Some z ↦ z ]) is)
+      subst (AreAccountedFor v.down (items_of v.jobs) v.worker.seat.lane c) (ap (λ (o : Option OpenConnectionState). elim o [ None ↦ fresh_seat c | Some z ↦ z ]) is)
       (λ uncut number below. absurd (omega (arith, below)))) r.accounted
 
   leads : LeadsTo (one_opened c) now d
@@ -171,7 +171,7 @@ module _ (v : WorkState) (desk : Desk) (seats : SeatsState) (mark : Option Stand
         served = refl;
       }
 
-opened_goes : (v : WorkState) (desk : Desk) (seats : SeatsState) (mark : Option Standing) (conn : ConnId) (s : Standing) → connection_of conn ≡ named v.worker.node conn.serial
+opened_goes : (v : WorkState) (desk : CombinerPast) (seats : OpenConnectionsState) (mark : Option Standing) (conn : ConnId) (s : Standing) → connection_of conn ≡ named v.worker.node conn.serial
     → v.next ≤ conn.serial → KnowsOpened v.worker.seat.worker conn desk s v.worker.seat.lane → IsSound s × (s.node ≡ v.worker.node) → Adopts v.mark s mark
     → HaveMet v.mark (Some s) → IsPut conn.serial (Some (fresh_seat (connection_of conn))) v.seats seats
     → Goes (one_opened (connection_of conn)) v (record v { worker = told_of desk v.worker; seats = seats; next = conn.serial + 1; mark = mark })
@@ -182,33 +182,33 @@ opened_goes v desk seats mark conn s is later knows sound adopted met put =
           leads v desk seats mark conn.serial s later sound
           (subst (λ (c : Connection). IsPut conn.serial (Some (fresh_seat c)) v.seats seats) is put) d led r
           (subst (λ (n : ℕ). Knows n desk s v.worker.seat.lane) (sym r.worker) knows.knows)
-          (subst (λ (n : ℕ). Serves s n (named v.worker.node conn.serial)) (sym r.worker)
-          (subst (λ (c : Connection). Serves s v.worker.seat.worker c) is knows.serves))
+          (subst (λ (n : ℕ). ServesOpened s n (named v.worker.node conn.serial)) (sym r.worker)
+          (subst (λ (c : Connection). ServesOpened s v.worker.seat.worker c) is knows.serves))
           (subst (λ (m : Option Standing). Adopts m s mark) (sym r.mark) adopted) (subst (λ (m : Option Standing). HaveMet m (Some s)) (sym r.mark) met);
     })
 
-pub none_there : (o : Option SeatState) → is_some o ≡ false → o ≡ None
+pub none_there : (o : Option OpenConnectionState) → is_some o ≡ false → o ≡ None
 none_there None absent = refl
 none_there (Some s) absent = absurd (cc absent)
 
 -- of the worker as opening left it
-pub opened_by : (v u : WorkState) (desk : Desk) (worker : WorkerState) (seats : SeatsState) (mark : Option Standing) (conn : ConnId) (s : Standing) (next : ℕ) (jobs : List Job)
+pub opened_by : (v u : WorkState) (desk : CombinerPast) (worker : NodeHandleState) (seats : OpenConnectionsState) (mark : Option Standing) (conn : ConnId) (s : Standing) (next : ℕ) (jobs : List Job)
     (late : ℕ) → u ≡ v → worker ≡ told_of desk u.worker → jobs ≡ u.jobs → late ≡ u.late → u.next ≤ conn.serial → is_some (seat_at conn.serial u.seats) ≡ false → next ≡ conn.serial + 1 → KnowsOpened u.worker.seat.worker conn desk s u.worker.seat.lane
     → IsSound s × (s.node ≡ u.worker.node) → Adopts u.mark s mark → HaveMet u.mark (Some s)
     → IsPut conn.serial (Some (fresh_seat (connection_of conn))) u.seats seats
     → let w : WorkState = record u { worker = worker; seats = seats; next = next; mark = mark; jobs = jobs; late = late } in
-    OpensAt (connection_of conn) v w × Goes (one_opened (connection_of conn)) v w
+    OpensNew (connection_of conn) v w × Goes (one_opened (connection_of conn)) v w
 opened_by v u desk worker seats mark conn s next jobs late same still waits lates later absent next_is knows sound adopted met put =
     let w : WorkState = record u { worker = worker; seats = seats; next = next; mark = mark; jobs = jobs; late = late } in
     let w_is : w ≡ record u { worker = told_of desk u.worker; seats = seats; next = conn.serial + 1; mark = mark } =
     λ i. record u { worker = still i; seats = seats; next = next_is i; mark = mark; jobs = waits i; late = lates i } in
-    let noted : desk ≡ worker.seat.noted = sym (ap (λ (x : WorkerState). x.seat.noted) still) in
+    let noted : desk ≡ worker.seat.noted = sym (ap (λ (x : NodeHandleState). x.seat.noted) still) in
     let heard_so : record u { worker = told_of desk u.worker; seats = seats; next = conn.serial + 1; mark = mark }
     ≡ record u { worker = told_of worker.seat.noted u.worker; seats = seats; next = conn.serial + 1; mark = mark } =
     λ i. record u { worker = told_of (noted i) u.worker; seats = seats; next = conn.serial + 1; mark = mark } in
     let node : conn.node ≡ u.worker.node = knows.serves.node ∙ sound.1 in
     let is : connection_of conn ≡ named u.worker.node conn.serial = λ i. record { node = node i; serial = conn.serial } in
-    subst (λ (x : WorkState). OpensAt (connection_of conn) x w × Goes (one_opened (connection_of conn)) x w) same (
+    subst (λ (x : WorkState). OpensNew (connection_of conn) x w × Goes (one_opened (connection_of conn)) x w) same (
       record { node = node; later = later; absent = none_there (seat_at conn.serial u.seats) absent; put = put; changed = w_is ∙ heard_so },
       subst (Goes (one_opened (connection_of conn)) u) (sym w_is) (opened_goes u desk seats mark conn s is later knows sound adopted met put),
     )
@@ -219,13 +219,13 @@ got_none [] = tt
 got_none (x ∷ xs) = (inl refl, got_none xs)
 
 -- what was heard, and the mark that adopted the token, stand for the same worker of the law
-pub heard_goes : (v : WorkState) (desk : Desk) (mark : Option Standing) (s : Standing) → Knows v.worker.seat.worker desk s v.worker.seat.lane
+pub heard_goes : (v : WorkState) (desk : CombinerPast) (mark : Option Standing) (s : Standing) → Knows v.worker.seat.worker desk s v.worker.seat.lane
     → IsSound s × (s.node ≡ v.worker.node) → Adopts v.mark s mark → HaveMet v.mark (Some s)
     → Goes unchanged v (record v { worker = told_of desk v.worker; mark = mark })
 heard_goes v desk mark s knows sound adopted met = record {
   leads = λ d led r.
-      let e : DeskState = record d { heard = desk; mark = mark } in
-      let turns : Turns 1 false s v.worker.seat.lane [] [] d e = record {
+      let e : WorkerState = record d { heard = desk; mark = mark } in
+      let turns : HearsTurn 1 false s v.worker.seat.lane [] [] d e = record {
         heard = record {
           knows = subst (λ (n : ℕ). Knows n desk s v.worker.seat.lane) (sym r.worker) knows;
           added = record { pieces = []; behind = refl; all = tt; own = tt; rising = tt };
@@ -260,7 +260,7 @@ heard_goes v desk mark s knows sound adopted met = record {
 }
 
 -- its node may have closed it again
-pub unopened_by : (v u : WorkState) (desk : Desk) (heard worker : WorkerState) (seats : SeatsState) (mark : Option Standing) (s : Standing) (jobs : List Job) (late : ℕ)
+pub unopened_by : (v u : WorkState) (desk : CombinerPast) (heard worker : NodeHandleState) (seats : OpenConnectionsState) (mark : Option Standing) (s : Standing) (jobs : List Job) (late : ℕ)
     → u ≡ v → heard ≡ told_of desk u.worker → workers.MayHaveClosed heard worker → seats ≡ u.seats → jobs ≡ u.jobs → late ≡ u.late
     → Knows u.worker.seat.worker desk s u.worker.seat.lane → IsSound s × (s.node ≡ u.worker.node) → Adopts u.mark s mark → HaveMet u.mark (Some s)
     → let w : WorkState = record u { worker = worker; seats = seats; mark = mark; jobs = jobs; late = late } in
@@ -270,12 +270,12 @@ unopened_by v u desk heard worker seats mark s jobs late same is closed still wa
     let w : WorkState = record u { worker = worker; mark = mark } in
     let now : WorkState = record u { worker = worker; seats = seats; mark = mark; jobs = jobs; late = late } in
     let now_is : now ≡ w = λ i. record u { worker = worker; seats = still i; mark = mark; jobs = waits i; late = lates i } in
-    let may : workers.MayHaveClosed (told_of desk u.worker) worker = subst (λ (x : WorkerState). workers.MayHaveClosed x worker) is closed in
+    let may : workers.MayHaveClosed (told_of desk u.worker) worker = subst (λ (x : NodeHandleState). workers.MayHaveClosed x worker) is closed in
     let noted : desk ≡ worker.seat.noted = elim may [
-      | inl more ↦ sym (ap (λ (x : WorkerState). x.seat.noted) more)
-      | inr stays ↦ sym (ap (λ (x : WorkerState). x.seat.noted) stays)
+      | inl more ↦ sym (ap (λ (x : NodeHandleState). x.seat.noted) more)
+      | inr stays ↦ sym (ap (λ (x : NodeHandleState). x.seat.noted) stays)
     ] in
     subst (λ (x : WorkState). MayHaveClosed x now × Goes unchanged x now) same (subst (λ (x : WorkState). MayHaveClosed u x × Goes unchanged u x) (sym now_is) (
-      record { worker = subst (λ (b : Desk). workers.MayHaveClosed (told_of b u.worker) worker) noted may; changed = refl },
+      record { worker = subst (λ (b : CombinerPast). workers.MayHaveClosed (told_of b u.worker) worker) noted may; changed = refl },
       closed_too unchanged u told worker may (heard_goes u desk mark s knows sound adopted met),
     ))

@@ -1,28 +1,28 @@
--- A desk stands for the same worker of the law once bytes of a connection were written, or no more are taken from it: what its seat keeps is altered then,
+-- The code's worker stands for the same worker of the law once bytes of a connection were written, or no more are taken from it: what its seat keeps is altered then,
 -- and which jobs it gave is not.
 use Rattle.std.proofs.Common.{◌≡◌, ◌<◌, ℕ, false, cond, List, Option, Some, None, refl, ap, ◌∙◌, sym, subst, eq-eqb}
 use Rattle.std.specs.Option.{option_map}
 use Rattle.nr_model.specs.Items.{Connection}
 use Rattle.nr_entry.specs.Jobs.{items_of}
-use Rattle.nr_seats.specs.Seated.{SeatState, cut_off, with_written}
-use Rattle.nr_seats.specs.Placed.{IsPut, SeatsState, seat_at}
-use Rattle.nr_seats.specs.Portions.{EachSeat}
-use Rattle.nr_seats.proofs.Putting.{each_put, named}
-use Rattle.nr_worker.specs.Desk.{Served}
+use Rattle.nr_worker.specs.Seated.{OpenConnectionState, cut_off, with_written}
+use Rattle.nr_worker.specs.Placed.{IsPut, OpenConnectionsState, seat_at}
+use Rattle.nr_worker.specs.Portions.{EachSeat}
+use Rattle.nr_worker.proofs.Putting.{each_put, named}
+use Rattle.nr_worker.specs.Worker.{Served}
 use Rattle.nr_worker.specs.Working.{AreAccountedFor, Goes, IsBelow, IsSeatOf, IsSeated, WorkState, unchanged}
 use Rattle.nr_worker.proofs.Batched.{goes_nowhere}
 use Rattle.nr_worker.proofs.Lists.{all_weaker}
 
 -- what holds of a seat holds of it once it is altered
-from_altered : (f : SeatState → SeatState) (P : SeatState → Type 0) (o : Option SeatState) → ((s : SeatState) → P s → P (f s))
-    → ((s : SeatState) → o ≡ Some s → P s) → (t : SeatState) → option_map f o ≡ Some t → P t
+from_altered : (f : OpenConnectionState → OpenConnectionState) (P : OpenConnectionState → Type 0) (o : Option OpenConnectionState) → ((s : OpenConnectionState) → P s → P (f s))
+    → ((s : OpenConnectionState) → o ≡ Some s → P s) → (t : OpenConnectionState) → option_map f o ≡ Some t → P t
 from_altered f P None keeps was t is = absurd (cc is)
 from_altered f P (Some s) keeps was t is =
-    let same : f s ≡ t = ap (λ (o : Option SeatState). elim o [ None ↦ f s | Some z ↦ z ]) is in
+    let same : f s ≡ t = ap (λ (o : Option OpenConnectionState). elim o [ None ↦ f s | Some z ↦ z ]) is in
     subst P same (keeps s (was s refl))
 
-seated_still : (f : SeatState → SeatState) → ((s : SeatState) (x : Served) → IsSeatOf s x → IsSeatOf (f s) x)
-    → (served : List Served) (c : Connection) (s : SeatState) → IsSeated served c s → IsSeated served c (f s)
+seated_still : (f : OpenConnectionState → OpenConnectionState) → ((s : OpenConnectionState) (x : Served) → IsSeatOf s x → IsSeatOf (f s) x)
+    → (served : List Served) (c : Connection) (s : OpenConnectionState) → IsSeated served c s → IsSeated served c (f s)
 seated_still f stays served c s at = record {
   known = at.known;
   seat = all_weaker (λ (x : Served). x.connection ≡ c → IsSeatOf s x) (λ (x : Served). x.connection ≡ c → IsSeatOf (f s) x)
@@ -30,17 +30,17 @@ seated_still f stays served c s at = record {
 }
 
 -- it holds of each seat
-each_altered : (f : SeatState → SeatState) (P : Connection → SeatState → Type 0) → ((c : Connection) (s : SeatState) → P c s → P c (f s))
-    → (node serial : ℕ) (old new : SeatsState) → IsPut serial (option_map f (seat_at serial old)) old new
+each_altered : (f : OpenConnectionState → OpenConnectionState) (P : Connection → OpenConnectionState → Type 0) → ((c : Connection) (s : OpenConnectionState) → P c s → P c (f s))
+    → (node serial : ℕ) (old new : OpenConnectionsState) → IsPut serial (option_map f (seat_at serial old)) old new
     → EachSeat P node old → EachSeat P node new
 each_altered f P keeps node serial old new put was =
     each_put P node serial (option_map f (seat_at serial old)) old new put
     (from_altered f (P (named node serial)) (seat_at serial old) (keeps (named node serial))
     (λ s at. was (named node serial) s (ap (λ b. cond b (seat_at serial old) None) (eq-eqb node node refl) ∙ at))) was
 
-altered_by : (f : SeatState → SeatState) → ((s : SeatState) (x : Served) → IsSeatOf s x → IsSeatOf (f s) x)
-    → ((s : SeatState) → (f s).session.next ≡ s.session.next) → ((s : SeatState) → (f s).cut ≡ false → s.cut ≡ false)
-    → (v u : WorkState) (seats : SeatsState) (serial : ℕ) → u ≡ v
+altered_by : (f : OpenConnectionState → OpenConnectionState) → ((s : OpenConnectionState) (x : Served) → IsSeatOf s x → IsSeatOf (f s) x)
+    → ((s : OpenConnectionState) → (f s).session.next ≡ s.session.next) → ((s : OpenConnectionState) → (f s).cut ≡ false → s.cut ≡ false)
+    → (v u : WorkState) (seats : OpenConnectionsState) (serial : ℕ) → u ≡ v
     → IsPut serial (option_map f (seat_at serial u.seats)) u.seats seats → Goes unchanged v (record u { seats = seats })
 altered_by f stays next uncut v u seats serial same put =
     let below : ℕ → Connection → Type 0 = λ next c. IsBelow u.worker.seat.lane.posted (items_of u.jobs) c next in
@@ -69,14 +69,14 @@ altered_by f stays next uncut v u seats serial same put =
       };
     })
 
-pub written_by : (v u : WorkState) (seats : SeatsState) (serial count : ℕ) → u ≡ v
+pub written_by : (v u : WorkState) (seats : OpenConnectionsState) (serial count : ℕ) → u ≡ v
     → IsPut serial (option_map (with_written count) (seat_at serial u.seats)) u.seats seats → Goes unchanged v (record u { seats = seats })
 written_by v u seats serial count =
     altered_by (with_written count)
     (λ s x is. record { unclosed = is.unclosed; live = is.live; handed = is.handed; own = is.own; session = is.session; counted = is.counted; few = is.few })
     (λ s. refl) (λ s takes. takes) v u seats serial
 
-pub stopped_by : (v u : WorkState) (seats : SeatsState) (serial : ℕ) → u ≡ v
+pub stopped_by : (v u : WorkState) (seats : OpenConnectionsState) (serial : ℕ) → u ≡ v
     → IsPut serial (option_map cut_off (seat_at serial u.seats)) u.seats seats → Goes unchanged v (record u { seats = seats })
 stopped_by =
     altered_by cut_off

@@ -11,9 +11,9 @@ use Rattle.nr_model.proofs.NodesExecutedGrows.{begins_flat_map}
 use Rattle.nr_model.proofs.NodesPartsEmitted.{begins_on, more_emits, none_begins}
 use Rattle.nr_log_end.specs.Numbers.{AreRising}
 use Rattle.nr_log_end.specs.declared.standing.Standing.{Standing}
-use Rattle.nr_log_end.specs.declared.standing.Turn.{Turn}
+use Rattle.nr_log_end.specs.declared.standing.LogEvent.{LogEvent}
 use Rattle.nr_log_end.specs.Standings.{items_of_turn, record_of}
-use Rattle.nr_accounts.specs.Held.{numbers_in}
+use Rattle.nr_job_numbers.specs.Stored.{numbers_in}
 use Rattle.nr_node.specs.Level.{IsCount, connection_at}
 use Rattle.nr_node.specs.Sound.{IsSound}
 use Rattle.nr_node.proofs.Lists.{counts_front, numbers-append}
@@ -21,13 +21,13 @@ use Rattle.nr_combiner.specs.Served.{ComesFrom}
 use Rattle.nr_taps.specs.Sequence.{AreRun, IsExplainedBy, sequence_of}
 use Rattle.nr_taps.proofs.Explains.{begins_filter, one_sequence, own_in_part}
 use Rattle.nr_taps.specs.Sequence.{AreAllOfOneLog}
-use Rattle.nr_worker.specs.Desk.{asked_of, ArePosted, DeskState, IsLed, IsPosted, IsServedAt, Served, history_of}
+use Rattle.nr_worker.specs.Worker.{asked_of, ArePosted, WorkerState, IsLed, IsPosted, IsServedAt, Served, history_of}
 use Rattle.nr_worker.specs.Law.{AreAnsweredBeside, IsAnswered, IsPartOf, marks_of}
 use Rattle.nr_worker.proofs.Apart.{serve_apart, split}
 use Rattle.nr_worker.proofs.Lists.{no_front, all_own, all_weaker, are_asked, posted_at}
 
 -- each item of a connection in a record comes from what the connection asked for
-comes_from : (d : DeskState) (x : Served) (job : Item) (k : IsServedAt d x) → job.connection ≡ x.connection → IsPosted k.before job → ComesFrom job (asked_of x)
+comes_from : (d : WorkerState) (x : Served) (job : Item) (k : IsServedAt d x) → job.connection ≡ x.connection → IsPosted k.before job → ComesFrom job (asked_of x)
 comes_from d x job k own p = record {
   item = p.has.item;
   there = posted_at (λ (j : Item). j.connection ≡ x.connection → Contains (asked_of x) j) k.before p.batch p.has.item k.posted p.there p.has.there
@@ -50,7 +50,7 @@ abbrev AreNumbered : List Taken → Type 0
 AreNumbered taken = (node : ℕ) → AreRising node (sequence_of taken)
 
 -- by a mark
-answered_by : (taken : List Taken) (d : DeskState) (x : Served) (s : Standing) (history : List Turn) → AreRun taken → AreNumbered taken
+answered_by : (taken : List Taken) (d : WorkerState) (x : Served) (s : Standing) (history : List LogEvent) → AreRun taken → AreNumbered taken
     → IsExplainedBy taken s → IsSound s → s.node ≡ d.node → (k : IsServedAt d x) → IsBeginningOf history s.history
     → IsBeginningOf x.handed (emitted_for x.connection (record_of history))
     → ArePosted k.before x.connection (record_of history) → IsAnswered taken x
@@ -83,11 +83,11 @@ answered_by taken d x s history run rising explained sound node k kept begins jo
     }
 
 -- where there is none, nothing was handed out
-answered_not : (taken : List Taken) (x : Served) (history : List Turn) → AreNumbered taken → history ≡ []
+answered_not : (taken : List Taken) (x : Served) (history : List LogEvent) → AreNumbered taken → history ≡ []
     → IsBeginningOf x.handed (emitted_for x.connection (record_of history)) → IsAnswered taken x
 answered_not taken x history rising none begins =
     let c = x.connection in
-    let at : IsBeginningOf x.handed (emitted_for c []) = subst (λ (h : List Turn). IsBeginningOf x.handed (emitted_for c (record_of h))) none begins in
+    let at : IsBeginningOf x.handed (emitted_for c []) = subst (λ (h : List LogEvent). IsBeginningOf x.handed (emitted_for c (record_of h))) none begins in
     record {
       begins = begins_on x.handed (emitted_for c []) (emitted_for c (sequence_of taken)) at (more_emits c [] (sequence_of taken));
       done = [];
@@ -98,7 +98,7 @@ answered_not taken x history rising none begins =
       asked = tt;
     }
 
-answered_at : (taken : List Taken) (d : DeskState) (x : Served) (mark : Option Standing) → AreRun taken → AreNumbered taken → IfSome mark (IsExplainedBy taken)
+answered_at : (taken : List Taken) (d : WorkerState) (x : Served) (mark : Option Standing) → AreRun taken → AreNumbered taken → IfSome mark (IsExplainedBy taken)
     → IfSome mark (λ (s : Standing). IsSound s × (s.node ≡ d.node)) → d.mark ≡ mark → IsServedAt d x → IsAnswered taken x
 answered_at taken d x None run rising explained sound is k =
     let kept = subst (λ (m : Option Standing). IsBeginningOf k.handed.history (history_of m)) is k.handed.kept in
@@ -113,14 +113,14 @@ joined : (P Q : Standing → Type 0) → ((s : Standing) → Q s → P s) → (o
 joined P Q f None more here all = all
 joined P Q f (Some s) more here all = (f s here, all)
 
-sound_all : (desks : List DeskState) → AllByRecursion IsLed desks → AllByRecursion IsSound (marks_of desks)
+sound_all : (desks : List WorkerState) → AllByRecursion IsLed desks → AllByRecursion IsSound (marks_of desks)
 sound_all [] all = tt
 sound_all (d ∷ desks) all =
     joined IsSound (λ (s : Standing). IsSound s × (s.node ≡ d.node)) (λ s h. h.0) d.mark (marks_of desks) all.0.sound (sound_all desks all.1)
 
-each_answered : (taken : List Taken) (desks : List DeskState) → AreRun taken → AreNumbered taken → AllByRecursion IsLed desks
+each_answered : (taken : List Taken) (desks : List WorkerState) → AreRun taken → AreNumbered taken → AllByRecursion IsLed desks
     → AllByRecursion (IsExplainedBy taken) (marks_of desks)
-    → AllByRecursion (λ (d : DeskState). AllByRecursion (IsAnswered taken) d.served) desks
+    → AllByRecursion (λ (d : WorkerState). AllByRecursion (IsAnswered taken) d.served) desks
 each_answered taken [] run rising all explained = tt
 each_answered taken (d ∷ desks) run rising all explained =
     let both = split (IsExplainedBy taken) d.mark (marks_of desks) explained in (
@@ -129,7 +129,7 @@ each_answered taken (d ∷ desks) run rising all explained =
     )
 
 -- each mark's record is the first of its node's part
-part_at : (taken : List Taken) (d : DeskState) (mark : Option Standing) → d.mark ≡ mark → IfSome mark (IsExplainedBy taken)
+part_at : (taken : List Taken) (d : WorkerState) (mark : Option Standing) → d.mark ≡ mark → IfSome mark (IsExplainedBy taken)
     → IfSome mark (λ (s : Standing). IsSound s × (s.node ≡ d.node)) → IsPartOf taken d
 part_at taken d None is explained sound =
     subst (λ (m : Option Standing). IsBeginningOf (record_of (history_of m)) (part_from d.node (length (log_of taken)) taken)) (sym is)
@@ -138,7 +138,7 @@ part_at taken d (Some s) is explained sound =
     subst (λ (m : Option Standing). IsBeginningOf (record_of (history_of m)) (part_from d.node (length (log_of taken)) taken)) (sym is)
     (subst (λ (n : ℕ). IsBeginningOf (record_of s.history) (part_from n (length (log_of taken)) taken)) sound.1 explained.part)
 
-each_part : (taken : List Taken) (desks : List DeskState) → AllByRecursion IsLed desks → AllByRecursion (IsExplainedBy taken) (marks_of desks)
+each_part : (taken : List Taken) (desks : List WorkerState) → AllByRecursion IsLed desks → AllByRecursion (IsExplainedBy taken) (marks_of desks)
     → AllByRecursion (IsPartOf taken) desks
 each_part taken [] all explained = tt
 each_part taken (d ∷ desks) all explained =
@@ -159,7 +159,7 @@ back_of_log : (ends more : List Standing) → AreAllOfOneLog (ends ++ more) → 
 back_of_log [] more all = all
 back_of_log (s ∷ ends) more all = back_of_log ends more all.1
 
-pub are_answered : (ends : List Standing) (desks : List DeskState) → AllByRecursion IsSound ends → AllByRecursion IsLed desks
+pub are_answered : (ends : List Standing) (desks : List WorkerState) → AllByRecursion IsSound ends → AllByRecursion IsLed desks
     → AreAllOfOneLog (ends ++ marks_of desks) → AreAnsweredBeside ends desks
 are_answered ends desks sound all one_log =
     let one = one_sequence (ends ++ marks_of desks) (both_sound ends (marks_of desks) sound (sound_all desks all)) one_log in

@@ -1,4 +1,4 @@
--- A desk stands for the same worker of the law once its batch was answered.
+-- The code's worker stands for the same worker of the law once its batch was answered.
 use Rattle.std.proofs.Common.{◌<◌, ◌≡◌, ℕ, Bool, true, false, cond, List, [], ◌∷◌, ◌++◌, length, Contains, refl, ap, sym, ◌∙◌, subst}
 use Rattle.std.specs.Prelude.{nat_le}
 use Rattle.std.specs.List.{AllByRecursion}
@@ -12,20 +12,20 @@ use Rattle.nr_entry.specs.declared.batch.Outcome.{Outcome}
 use Rattle.nr_entry.specs.declared.batch.Outcome.TheVariants as outcomes
 use Rattle.nr_entry.specs.declared.job.Job.{Job}
 use Rattle.nr_slots.specs.Names.{IsBackOf}
-use Rattle.nr_combiner.specs.Workers.{HasCollected, WorkerState}
-use Rattle.nr_combiner.specs.declared.worker.TheConstants.{MOST_JOBS}
-use Rattle.nr_seats.specs.Portions.{EachSeat}
-use Rattle.nr_worker.specs.Desk.{AllPosted, DeskState, IsAskedBy, IsLed, IsServedAt, Served, all_asked}
+use Rattle.nr_combiner.specs.Workers.{HasCollected, NodeHandleState}
+use Rattle.nr_combiner.specs.declared.node_handle.TheConstants.{MOST_JOBS}
+use Rattle.nr_worker.specs.Portions.{EachSeat}
+use Rattle.nr_worker.specs.Worker.{AllPosted, WorkerState, IsAskedBy, IsLed, IsServedAt, Served, all_asked}
 use Rattle.nr_worker.specs.Settling.{AreOfBatches, IsOfBatch, back_of, down_of, late_of, left_of, settled_work}
 use Rattle.nr_worker.specs.Working.{AreAccountedFor, Goes, IsAccountedFor, IsBelow, IsSeated, IsToPost, WorkState, unchanged}
 use Rattle.nr_worker.proofs.Accounted.{accounted_settled}
 use Rattle.nr_worker.proofs.Batched.{goes_nowhere, late_too}
-use Rattle.nr_worker.proofs.Desks.{posted_any}
+use Rattle.nr_worker.proofs.Workers.{posted_any}
 use Rattle.nr_worker.proofs.Lists.{all_weaker, posted_at}
 use Rattle.nr_worker.proofs.Portioned.{all_of}
 
 -- a job that was posted may be posted again
-to_post_again : (d : DeskState) → IsLed d → (job : Item) → IsOfBatch d.posted job → IsToPost d.served job
+to_post_again : (d : WorkerState) → IsLed d → (job : Item) → IsOfBatch d.posted job → IsToPost d.served job
 to_post_again d led job of =
     let by = posted_at (IsAskedBy d.served) d.posted of.batch job led.known of.there of.has in
     record {
@@ -36,7 +36,7 @@ to_post_again d led job of =
           of.has same) d.served led.each;
     }
 
-goes_settled : (v : WorkState) (worker : WorkerState) (back left : List Job) (down : Bool) → worker.node ≡ v.worker.node
+goes_settled : (v : WorkState) (worker : NodeHandleState) (back left : List Job) (down : Bool) → worker.node ≡ v.worker.node
     → worker.seat.worker ≡ v.worker.seat.worker → worker.seat.lane.posted ≡ v.worker.seat.lane.posted → worker.seat.noted ≡ v.worker.seat.noted
     → ((P : Item → Type 0) → AllByRecursion P (items_of v.jobs) → AllByRecursion P (items_of left)) → AreOfBatches v.worker.seat.lane.posted back
     → ((c : Connection) (n : ℕ) → IsAccountedFor v.down (items_of v.jobs) v.worker.seat.lane c n → IsAccountedFor down (items_of (back ++ left)) worker.seat.lane c n)
@@ -98,7 +98,7 @@ back_batched most outcomes.Down posted batch there same = tt
 back_batched most (outcomes.Refused why back) posted batch there same =
     elim (nat_le (length back.items) most) as (λ b. AreOfBatches posted (cond b back.items [])) [ true ↦ are_of_batch posted batch back.items there same | false ↦ tt ]
 
-pub collected_goes : (outcome : Outcome) (v : WorkState) (worker : WorkerState) → HasCollected outcome v.worker worker
+pub collected_goes : (outcome : Outcome) (v : WorkState) (worker : NodeHandleState) → HasCollected outcome v.worker worker
     → Goes unchanged v (settled_work outcome worker v)
 collected_goes outcome v worker c =
     let back = back_of MOST_JOBS outcome in
@@ -107,19 +107,19 @@ collected_goes outcome v worker c =
     let there : Contains posted c.last.1 = subst (λ (bs : List Batch). Contains bs c.last.1) (sym c.last.2) (in_middle c.last.1 c.last.0 []) in
     late_too unchanged v (record v { worker = worker; jobs = back ++ left; returned = length back; waiting = false; down = down_of MOST_JOBS outcome v.down })
     (late_of MOST_JOBS outcome v.late)
-    (goes_settled v worker back left (down_of MOST_JOBS outcome v.down) (ap (λ (w : WorkerState). w.node) c.collected)
-    (ap (λ (w : WorkerState). w.seat.worker) c.collected) (ap (λ (w : WorkerState). w.seat.lane.posted) c.collected)
-    (ap (λ (w : WorkerState). w.seat.noted) c.collected) (left_keeps MOST_JOBS outcome v.jobs)
+    (goes_settled v worker back left (down_of MOST_JOBS outcome v.down) (ap (λ (w : NodeHandleState). w.node) c.collected)
+    (ap (λ (w : NodeHandleState). w.seat.worker) c.collected) (ap (λ (w : NodeHandleState). w.seat.lane.posted) c.collected)
+    (ap (λ (w : NodeHandleState). w.seat.noted) c.collected) (left_keeps MOST_JOBS outcome v.jobs)
     (back_batched MOST_JOBS outcome posted c.last.1 there (subst (λ (o : Outcome). IsBackOf o c.last.1.jobs.items) c.says c.last.4.3))
     (λ e n.
-    accounted_settled v.worker.seat.lane worker.seat.lane c.answer c.last (ap (λ (w : WorkerState). w.seat.lane.posted) c.collected)
-    (ap (λ (w : WorkerState). w.seat.lane.collected) c.collected) e n MOST_JOBS outcome v.down v.jobs c.says))
+    accounted_settled v.worker.seat.lane worker.seat.lane c.answer c.last (ap (λ (w : NodeHandleState). w.seat.lane.posted) c.collected)
+    (ap (λ (w : NodeHandleState). w.seat.lane.collected) c.collected) e n MOST_JOBS outcome v.down v.jobs c.says))
 
 pub none_left : {A : Type 0} (xs : List A) → length xs ≡ 0 → xs ≡ []
 none_left [] none = refl
 none_left (x ∷ xs) none = absurd (cc none)
 
-pub settled_by : (v u : WorkState) (outcome : Outcome) (worker : WorkerState) (returned jobs back left : List Job) (down : Bool) (late : ℕ) → u ≡ v
+pub settled_by : (v u : WorkState) (outcome : Outcome) (worker : NodeHandleState) (returned jobs back left : List Job) (down : Bool) (late : ℕ) → u ≡ v
     → u.jobs ≡ returned ++ jobs → length returned ≡ 0 → HasCollected outcome u.worker worker → back ≡ back_of MOST_JOBS outcome
     → left ≡ left_of MOST_JOBS outcome jobs → down ≡ down_of MOST_JOBS outcome u.down
     → late ≡ late_of MOST_JOBS outcome u.late

@@ -1,4 +1,4 @@
--- A desk stands for a worker of the law once a batch was handed in.
+-- The code's worker stands for a worker of the law once a batch was handed in.
 use Rattle.std.proofs.Common.{◌<◌, ◌≡◌, ℕ, Bool, true, Option, List, [], ◌∷◌, ◌++◌, length, take, drop, Contains, inl, inr, refl, ap, sym, ◌∙◌, subst, append-nil}
 use Rattle.std.specs.Prelude.{suc, Result, Ok, Err, IsOk, OnOk}
 use Rattle.std.specs.List.{AllByRecursion}
@@ -11,18 +11,18 @@ use Rattle.nr_entry.specs.declared.job.Job.{Job}
 use Rattle.nr_node.proofs.Owed.{all_back, all_front}
 use Rattle.nr_slots.specs.Seats.{with_posted}
 use Rattle.nr_combiner.specs.Counts.{next_generation}
-use Rattle.nr_combiner.specs.Workers.{HasPosted, WorkerState, with_more}
+use Rattle.nr_combiner.specs.Workers.{HasPosted, NodeHandleState, with_more}
 use Rattle.nr_combiner.specs.Workers as workers
-use Rattle.nr_worker.specs.Desk.{DeskState, IsLed, Served, all_asked}
+use Rattle.nr_worker.specs.Worker.{WorkerState, IsLed, Served, all_asked}
 use Rattle.nr_worker.specs.Law.{GoesTo}
 use Rattle.nr_worker.specs.Moves.{Posts}
 use Rattle.nr_worker.specs.Working.{Goes, IsBelow, IsToPost, LeadsTo, Reflects, WorkState, unchanged}
 use Rattle.nr_worker.proofs.Accounted.{accounted_posted}
-use Rattle.nr_worker.proofs.Desks.{posted_led}
+use Rattle.nr_worker.proofs.Workers.{posted_led}
 use Rattle.nr_worker.proofs.Lists.{all_weaker}
 
 -- ---- nothing changes
-pub goes_nowhere : (d : DeskState) → GoesTo d d
+pub goes_nowhere : (d : WorkerState) → GoesTo d d
 goes_nowhere d = record { node = refl; worker = refl; mark = ([], append-nil _) }
 
 pub stays : (v w : WorkState) → w ≡ v → Goes unchanged v w
@@ -70,10 +70,10 @@ late_too change v w late g = aside_too change v w late w.worker.generation w.end
 more_too : (change : List Served → List Served) (v w : WorkState) → Goes change v w → Goes change v (record w { worker = with_more w.worker })
 more_too change v w g = aside_too change v w w.late (next_generation w.worker.generation) w.ending w.ended g
 
-pub closed_too : (change : List Served → List Served) (v w : WorkState) (worker : WorkerState) → workers.MayHaveClosed w.worker worker → Goes change v w
+pub closed_too : (change : List Served → List Served) (v w : WorkState) (worker : NodeHandleState) → workers.MayHaveClosed w.worker worker → Goes change v w
     → Goes change v (record w { worker = worker })
-closed_too change v w worker (inl more) g = subst (λ (x : WorkerState). Goes change v (record w { worker = x })) (sym more) (more_too change v w g)
-closed_too change v w worker (inr same) g = subst (λ (x : WorkerState). Goes change v (record w { worker = x })) (sym same) g
+closed_too change v w worker (inl more) g = subst (λ (x : NodeHandleState). Goes change v (record w { worker = x })) (sym more) (more_too change v w g)
+closed_too change v w worker (inr same) g = subst (λ (x : NodeHandleState). Goes change v (record w { worker = x })) (sym same) g
 
 -- ---- a batch is handed in
 -- what holds of each of these with each of those
@@ -89,7 +89,7 @@ abbrev AsksFor : Served → Item → Type 0
 AsksFor x job = job.connection ≡ x.connection → Contains (all_asked x) job
 
 -- jobs that were asked for may be posted
-may_post : (d : DeskState) (batch : Batch) → AllByRecursion (IsToPost d.served) (items_of batch.jobs.items)
+may_post : (d : WorkerState) (batch : Batch) → AllByRecursion (IsToPost d.served) (items_of batch.jobs.items)
     → Posts batch d (record d { posted = d.posted ++ batch ∷ [] })
 may_post d batch all =
     let items = items_of batch.jobs.items in
@@ -118,14 +118,14 @@ numbers_posted posted batch all left c next are n =
     }
 
 -- of the worker as it is behind that
-abbrev posting : Batch → WorkerState → WorkerState
+abbrev posting : Batch → NodeHandleState → NodeHandleState
 posting batch w = record w { seat = with_posted batch w.seat; next = suc w.next }
 
 posts : (v : WorkState) (batch : Batch) (left : List Job) (waiting : Bool) → v.jobs ≡ batch.jobs.items ++ left
-    → length v.worker.seat.lane.posted ≡ length v.worker.seat.lane.collected → (d : DeskState) → IsLed d → Reflects v d
+    → length v.worker.seat.lane.posted ≡ length v.worker.seat.lane.collected → (d : WorkerState) → IsLed d → Reflects v d
     → LeadsTo unchanged (record v { worker = posting batch v.worker; jobs = left; returned = 0; waiting = waiting }) d
 posts v batch left waiting are answered d led r =
-    let e : DeskState = record d { posted = d.posted ++ batch ∷ [] } in
+    let e : WorkerState = record d { posted = d.posted ++ batch ∷ [] } in
     let parts = both_parts d.served v.jobs batch.jobs.items left are r.jobs in
     let on = posted_led batch d e led (may_post d batch (all_front (IsToPost d.served) (items_of batch.jobs.items) (items_of left) parts)) in
     record {
@@ -156,10 +156,10 @@ handed_in most v w p answered changed =
     let front : v.jobs ≡ p.batch.jobs.items ++ drop most v.jobs =
     sym (take-append-drop most v.jobs) ∙ ap (λ (xs : List Job). xs ++ drop most v.jobs) (sym p.holds) in
     subst (Goes unchanged v)
-    (sym (changed ∙ ap (λ (x : WorkerState). record v { worker = x; jobs = drop most v.jobs; returned = 0; waiting = true }) p.posted))
+    (sym (changed ∙ ap (λ (x : NodeHandleState). record v { worker = x; jobs = drop most v.jobs; returned = 0; waiting = true }) p.posted))
     (record { leads = posts v p.batch (drop most v.jobs) true front answered })
 
-pub goes_by : (most : ℕ) (v u : WorkState) (worker : WorkerState) (first back left : List Job) (late : ℕ) → u ≡ v → first ≡ take most u.jobs → back ≡ []
+pub goes_by : (most : ℕ) (v u : WorkState) (worker : NodeHandleState) (first back left : List Job) (late : ℕ) → u ≡ v → first ≡ take most u.jobs → back ≡ []
     → left ≡ drop most u.jobs → HasPosted first u.worker worker → length u.worker.seat.lane.posted ≡ length u.worker.seat.lane.collected
     → Goes unchanged v (record u { worker = worker; jobs = back ++ left; returned = length back; waiting = true; late = late })
 goes_by most v u worker first back left late same front none behind p answered =

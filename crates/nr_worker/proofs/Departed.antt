@@ -1,4 +1,4 @@
--- A desk stands for a worker of the law once a connection was closed.
+-- The code's worker stands for a worker of the law once a connection was closed.
 use Rattle.std.proofs.Common.{zero, suc, ◌≡◌, ℕ, ◌+◌, ◌<◌, ◌≤◌, inl, inr, true, false, cond, List, [], ◌∷◌, ◌++◌, map, take, drop, length, Contains, Option, Some, None, refl, ap, sym, ◌∙◌, subst, arith, append-nil, eq-eqb}
 use Rattle.std.specs.Prelude.{◌≢◌, option_to_list}
 use Rattle.std.specs.List.{AllByRecursion}
@@ -13,19 +13,19 @@ use Rattle.nr_model.proofs.NodesExecutedLists.{first_in, in_cases, in_middle, la
 use Rattle.nr_entry.specs.Jobs.{items_of}
 use Rattle.nr_entry.specs.declared.batch.Batch.{Batch}
 use Rattle.nr_entry.specs.declared.job.Job.{Job}
-use Rattle.nr_combiner.specs.Workers.{WorkerState}
+use Rattle.nr_combiner.specs.Workers.{NodeHandleState}
 use Rattle.nr_combiner.specs.Workers as workers
-use Rattle.nr_seats.specs.Seated.{SeatState, last_job}
-use Rattle.nr_seats.specs.Placed.{IsPut, SeatsState, closed_seen, seat_at}
-use Rattle.nr_seats.specs.Portions.{EachSeat, seat_of}
-use Rattle.nr_seats.specs.declared.seats.Closed.{Closed}
-use Rattle.nr_seats.proofs.Putting.{each_put, named, seat_here, seat_others}
-use Rattle.nr_worker.specs.Desk.{AllPosted, CountsFrom, DeskState, IsLed, IsServedAt, Served, all_asked, asked_of}
+use Rattle.nr_worker.specs.Seated.{OpenConnectionState, last_job}
+use Rattle.nr_worker.specs.Placed.{IsPut, OpenConnectionsState, closed_seen, seat_at}
+use Rattle.nr_worker.specs.Portions.{EachSeat, seat_of}
+use Rattle.nr_worker.specs.declared.open_connections.Closed.{Closed}
+use Rattle.nr_worker.proofs.Putting.{each_put, named, seat_here, seat_others}
+use Rattle.nr_worker.specs.Worker.{AllPosted, CountsFrom, WorkerState, IsLed, IsServedAt, Served, all_asked, asked_of}
 use Rattle.nr_worker.specs.Moves.{Asks}
 use Rattle.nr_worker.specs.Working.{AreAccountedFor, AreApart, Closes, Goes, IsAccountedFor, IsBelow, IsSeatOf, IsSeated, IsToPost, LeadsTo, Reflects, WorkState, all_closed, closed_with, connections_of, last_here, last_seen}
 use Rattle.nr_worker.proofs.Accounted.{accounted_more}
 use Rattle.nr_worker.proofs.Batched.{closed_too, goes_nowhere, late_too}
-use Rattle.nr_worker.proofs.Desks.{asked_led, posted_live}
+use Rattle.nr_worker.proofs.Workers.{asked_led, posted_live}
 use Rattle.nr_worker.proofs.Lists.{above, all_at, all_both, all_weaker, posted_both, posted_weaker}
 use Rattle.nr_worker.proofs.Nourished.{behind, counts_both, differ_false, false_differs, one_changes, parts_of}
 use Rattle.nr_worker.proofs.Portioned.{all_map, all_of, known_more, same_connections}
@@ -50,11 +50,11 @@ first_has m (suc n) (x ∷ xs) job c there below = elim (in_cases job x xs there
 ]
 
 -- ---- the last job
-abbrev last_of : ℕ → SeatState → Item
+abbrev last_of : ℕ → OpenConnectionState → Item
 last_of moment s = record { connection = s.session.connection; number = s.session.next; moment = moment; deed = End None }
 
 -- a connection is closed with it
-module _ (moment : ℕ) (was : SeatState) (x : Served) (seat : IsSeatOf was x) where
+module _ (moment : ℕ) (was : OpenConnectionState) (x : Served) (seat : IsSeatOf was x) where
   abbrev last : Item
   last = last_of moment was
 
@@ -84,8 +84,8 @@ module _ (moment : ℕ) (was : SeatState) (x : Served) (seat : IsSeatOf was x) w
   has_last : Contains (asked_of (closed_with last x)) last
   has_last = subst (λ (js : Jobs). Contains js last) (sym asks_so) (in_middle last (take n (asked_of x)) [])
 
-module _ (v : WorkState) (seats : SeatsState) (jobs : List Job) (serial moment : ℕ) (was : SeatState) (there : seat_at serial v.seats ≡ Some was)
-    (put : IsPut serial None v.seats seats) (added : items_of jobs ≡ items_of v.jobs ++ last_of moment was ∷ []) (d : DeskState) (led : IsLed d) (r : Reflects v d) where
+module _ (v : WorkState) (seats : OpenConnectionsState) (jobs : List Job) (serial moment : ℕ) (was : OpenConnectionState) (there : seat_at serial v.seats ≡ Some was)
+    (put : IsPut serial None v.seats seats) (added : items_of jobs ≡ items_of v.jobs ++ last_of moment was ∷ []) (d : WorkerState) (led : IsLed d) (r : Reflects v d) where
   abbrev c : Connection
   c = named v.worker.node serial
 
@@ -98,7 +98,7 @@ module _ (v : WorkState) (seats : SeatsState) (jobs : List Job) (serial moment :
   abbrev now : WorkState
   now = record v { seats = seats; jobs = jobs }
 
-  abbrev after : DeskState
+  abbrev after : WorkerState
   after = record d { served = map change d.served }
 
   at_here : seat_of v.worker.node v.seats c ≡ Some was
@@ -163,7 +163,7 @@ module _ (v : WorkState) (seats : SeatsState) (jobs : List Job) (serial moment :
             (λ x within same. Contains-append_left (asked_of (change x)) x.ends job (has_last moment was x (seat_at_own x within (sym same ∙ job_own)))));
       }
 
-  no_seat : (P : SeatState → Type 0) (t : SeatState) → seat_of v.worker.node seats c ≡ Some t → P t
+  no_seat : (P : OpenConnectionState → Type 0) (t : OpenConnectionState) → seat_of v.worker.node seats c ≡ Some t → P t
   no_seat P t at = absurd (let none : None ≡ Some t = sym (seat_here v.worker.node serial None v.seats seats put) ∙ at in cc none)
 
   seated_now : EachSeat (IsSeated (map change d.served)) v.worker.node seats
@@ -258,11 +258,11 @@ module _ (v : WorkState) (seats : SeatsState) (jobs : List Job) (serial moment :
       }
 
 -- ---- no last job
-gone_leads : (v : WorkState) (seats : SeatsState) (jobs : List Job) (serial : ℕ) → IsPut serial None v.seats seats → items_of jobs ≡ items_of v.jobs ++ []
-    → (d : DeskState) → IsLed d → Reflects v d → LeadsTo (all_closed None) (record v { seats = seats; jobs = jobs }) d
+gone_leads : (v : WorkState) (seats : OpenConnectionsState) (jobs : List Job) (serial : ℕ) → IsPut serial None v.seats seats → items_of jobs ≡ items_of v.jobs ++ []
+    → (d : WorkerState) → IsLed d → Reflects v d → LeadsTo (all_closed None) (record v { seats = seats; jobs = jobs }) d
 gone_leads v seats jobs serial put added d led r =
     let same : items_of v.jobs ≡ items_of jobs = sym (append-nil (items_of v.jobs)) ∙ sym added in
-    let P : Connection → SeatState → Type 0 = λ e t. IsBelow v.worker.seat.lane.posted (items_of v.jobs) e t.session.next in
+    let P : Connection → OpenConnectionState → Type 0 = λ e t. IsBelow v.worker.seat.lane.posted (items_of v.jobs) e t.session.next in
     record {
       then = d;
       led = led;
@@ -285,7 +285,7 @@ gone_leads v seats jobs serial put added d led r =
       served = refl;
     }
 
-closes_at : (v : WorkState) (seats : SeatsState) (jobs : List Job) (serial moment : ℕ) (o : Option SeatState) → seat_at serial v.seats ≡ o
+closes_at : (v : WorkState) (seats : OpenConnectionsState) (jobs : List Job) (serial moment : ℕ) (o : Option OpenConnectionState) → seat_at serial v.seats ≡ o
     → IsPut serial None v.seats seats → items_of jobs ≡ items_of v.jobs ++ option_to_list (last_here moment o)
     → Goes (all_closed (last_here moment o)) v (record v { seats = seats; jobs = jobs })
 closes_at v seats jobs serial moment None there put added = record { leads = gone_leads v seats jobs serial put added }
@@ -298,11 +298,11 @@ closes_at v seats jobs serial moment (Some s) there put added =
     ] added
 
 -- ---- as the code has it
-seen_here : (moment : ℕ) (o : Option SeatState) → last_seen (option_map (last_job moment) o) ≡ option_to_list (last_here moment o)
+seen_here : (moment : ℕ) (o : Option OpenConnectionState) → last_seen (option_map (last_job moment) o) ≡ option_to_list (last_here moment o)
 seen_here moment None = refl
 seen_here moment (Some s) = refl
 
-pub closed_by : (v u : WorkState) (worker : WorkerState) (seats : SeatsState) (r a b : List Job) (late serial moment : ℕ) (closed : Closed) → u ≡ v
+pub closed_by : (v u : WorkState) (worker : NodeHandleState) (seats : OpenConnectionsState) (r a b : List Job) (late serial moment : ℕ) (closed : Closed) → u ≡ v
     → workers.MayHaveClosed u.worker worker → u.jobs ≡ r ++ a
     → closed_seen closed ≡ option_map (last_job moment) (seat_at serial u.seats) → IsPut serial None u.seats seats
     → items_of b ≡ items_of a ++ last_seen (closed_seen closed) → late ≡ u.late + length (last_seen (closed_seen closed))

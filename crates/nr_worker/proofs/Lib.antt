@@ -1,5 +1,9 @@
+pub mod Found
+pub mod Growing
+pub mod Handing
+pub mod Putting
 mod Lists
-mod Desks
+mod Workers
 mod Apart
 mod Answered
 mod Timed

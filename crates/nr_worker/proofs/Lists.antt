@@ -14,9 +14,9 @@ use Rattle.nr_model.proofs.NodesExecutedLists.{in_cases, some_in}
 use Rattle.nr_oplog.proofs.Fronts.{begins_both}
 use Rattle.nr_entry.specs.declared.batch.Batch.{Batch}
 use Rattle.nr_entry.specs.Jobs.{items_of}
-use Rattle.nr_accounts.specs.Held.{numbers_in}
+use Rattle.nr_job_numbers.specs.Stored.{numbers_in}
 use Rattle.nr_combiner.specs.Served.{ComesFrom}
-use Rattle.nr_worker.specs.Desk.{AllPosted, AreAsked, CountsFrom, IsAsked}
+use Rattle.nr_worker.specs.Worker.{AllPosted, AreAsked, CountsFrom, IsAsked}
 
 -- what holds of all holds of one of them
 pub all_at : {A : Type 0} (P : A → Type 0) (xs : List A) (x : A) → AllByRecursion P xs → Contains xs x → P x

@@ -1,4 +1,4 @@
--- A desk stands for a worker of the law once bytes were fed.
+-- The code's worker stands for a worker of the law once bytes were fed.
 use Rattle.std.proofs.Common.{◌≤◌, suc, zero, ◌≡◌, ℕ, ◌+◌, ◌<◌, inl, inr, Bool, true, false, cond, List, [], ◌∷◌, ◌++◌, map, filter, take, drop, length, Contains, Option, Some, None, refl, ap, sym, ◌∙◌, subst, arith, append_assoc, append-nil, eq-eqb}
 use Rattle.std.specs.Prelude.{◌≢◌, ◌==◌, ◌&&◌, not, Result, Ok, Err, OnOk, OnErr}
 use Rattle.std.specs.List.{AllByRecursion}
@@ -24,16 +24,16 @@ use Rattle.nr_model.proofs.NodesOwnSessions as sessions
 use Rattle.nr_entry.specs.Jobs.{item_of, items_of}
 use Rattle.nr_entry.specs.declared.job.Job.{Job}
 use Rattle.nr_session.specs.SessionState.{SessionState, asked, ends, framed, request_jobs, requested}
-use Rattle.nr_seats.specs.Seated.{HasFed, HasStopped, SeatState, takes}
-use Rattle.nr_seats.specs.Placed.{FeedsSeat, IsPut, SeatsState, StopsSeat, seat_at, takes_here}
-use Rattle.nr_seats.specs.Portions.{EachSeat, seat_of}
-use Rattle.nr_seats.proofs.Putting.{each_put, named, seat_here, seat_others}
-use Rattle.nr_worker.specs.Desk.{CountsFrom, DeskState, IsLed, IsServedAt, Served, all_asked, asked_of}
+use Rattle.nr_worker.specs.Seated.{HasFed, HasStopped, OpenConnectionState, takes}
+use Rattle.nr_worker.specs.Placed.{FeedsSeat, IsPut, OpenConnectionsState, StopsSeat, seat_at, takes_here}
+use Rattle.nr_worker.specs.Portions.{EachSeat, seat_of}
+use Rattle.nr_worker.proofs.Putting.{each_put, named, seat_here, seat_others}
+use Rattle.nr_worker.specs.Worker.{CountsFrom, WorkerState, IsLed, IsServedAt, Served, all_asked, asked_of}
 use Rattle.nr_worker.specs.Moves.{Asks}
 use Rattle.nr_worker.specs.Working.{AreAccountedFor, AreApart, Goes, IsAccountedFor, IsBelow, IsSeatOf, IsSeated, IsSession, IsToPost, LeadsTo, Reflects, WorkState, all_fed, connections_of, fed_more, takes_from}
 use Rattle.nr_worker.proofs.Accounted.{accounted_fed, accounted_more}
 use Rattle.nr_worker.proofs.Batched.{late_too}
-use Rattle.nr_worker.proofs.Desks.{asked_led, posted_live}
+use Rattle.nr_worker.proofs.Workers.{asked_led, posted_live}
 use Rattle.nr_worker.proofs.Lists.{all_at, all_weaker, posted_weaker}
 use Rattle.nr_worker.proofs.Portioned.{all_map, all_of, known_more, map_has, same_connections}
 
@@ -78,11 +78,11 @@ all_below c n time (deed ∷ deeds) =
     (omega arith, subst (λ (m : ℕ). AllByRecursion (λ (job : Item). job.number < m) (jobs_from c (n + 1) time deeds)) e more)
 
 -- ---- what bytes ask for at a seat
-abbrev new_jobs : SeatState → ℕ → Bytes → Jobs
+abbrev new_jobs : OpenConnectionState → ℕ → Bytes → Jobs
 new_jobs s moment bytes = jobs_from s.session.connection s.session.next moment (asked s.session.mode s.session.rest bytes).deeds
 
 -- the first of these were added, and the session went on, or no more bytes are taken
-record HasGone (moment : ℕ) (bytes : Bytes) (was is : SeatState) (more : Jobs) : Type 0 where
+record HasGone (moment : ℕ) (bytes : Bytes) (was is : OpenConnectionState) (more : Jobs) : Type 0 where
   left : Jobs
   front : more ++ left ≡ new_jobs was moment bytes
   handed : is.handed ≡ was.handed
@@ -106,7 +106,7 @@ took true cut is = absurd (cc is)
 took false true is = absurd (cc is)
 took false false is = (refl, refl)
 
-has_fed : (moment : ℕ) (bytes : Bytes) (was is : SeatState) (before after : Jobs) → takes was ≡ true → HasFed moment bytes was is before after
+has_fed : (moment : ℕ) (bytes : Bytes) (was is : OpenConnectionState) (before after : Jobs) → takes was ≡ true → HasFed moment bytes was is before after
     → HasGone moment bytes was is (new_jobs was moment bytes)
 has_fed moment bytes was is before after takes f =
     let a = asked was.session.mode was.session.rest bytes in
@@ -133,7 +133,7 @@ has_fed moment bytes was is before after takes f =
       few = let e = f.next in let n = length-jobs_from was.session.connection was.session.next moment a.deeds in omega (arith, e, n);
     }
 
-has_stopped : (moment : ℕ) (bytes : Bytes) (was is : SeatState) (before after : Jobs) → HasStopped moment bytes was is before after
+has_stopped : (moment : ℕ) (bytes : Bytes) (was is : OpenConnectionState) (before after : Jobs) → HasStopped moment bytes was is before after
     → (more : Jobs) × (after ≡ before ++ more) × HasGone moment bytes was is more
 has_stopped moment bytes was is before after f =
     let s = was.session in
@@ -212,7 +212,7 @@ other_fed : (f : Feeding) (x : Served) → same_connection f.connection x.connec
 other_fed f x other = λ i. record x { fed = cond (other i) (x.fed ++ f ∷ []) x.fed }
 
 -- this one asks for more
-module _ (c : Connection) (moment : ℕ) (bytes : Bytes) (was is : SeatState) (more : Jobs) (taken : takes was ≡ true) (gone : HasGone moment bytes was is more)
+module _ (c : Connection) (moment : ℕ) (bytes : Bytes) (was is : OpenConnectionState) (more : Jobs) (taken : takes was ≡ true) (gone : HasGone moment bytes was is more)
     (x : Served) (same : x.connection ≡ c) (seat : IsSeatOf was x) where
   abbrev f : Feeding
   f = feeding_of c moment bytes
@@ -277,9 +277,9 @@ module _ (c : Connection) (moment : ℕ) (bytes : Bytes) (was is : SeatState) (m
   has_new : (job : Item) → Contains (new_jobs was moment bytes) job → Contains (asked_of (fed_more f x)) job
   has_new job there = subst (λ (js : Jobs). Contains js job) (sym asks_more) (Contains-append_right (asked_of x) (new_jobs was moment bytes) job there)
 
-module _ (v : WorkState) (seats : SeatsState) (jobs : List Job) (serial moment : ℕ) (bytes : Bytes) (was is : SeatState) (more : Jobs)
+module _ (v : WorkState) (seats : OpenConnectionsState) (jobs : List Job) (serial moment : ℕ) (bytes : Bytes) (was is : OpenConnectionState) (more : Jobs)
     (there : seat_at serial v.seats ≡ Some was) (put : IsPut serial (Some is) v.seats seats) (taken : takes was ≡ true) (gone : HasGone moment bytes was is more)
-    (added : items_of jobs ≡ items_of v.jobs ++ more) (d : DeskState) (led : IsLed d) (r : Reflects v d) where
+    (added : items_of jobs ≡ items_of v.jobs ++ more) (d : WorkerState) (led : IsLed d) (r : Reflects v d) where
   abbrev c : Connection
   c = named v.worker.node serial
 
@@ -289,7 +289,7 @@ module _ (v : WorkState) (seats : SeatsState) (jobs : List Job) (serial moment :
   abbrev now : WorkState
   now = record v { seats = seats; jobs = jobs }
 
-  abbrev after : DeskState
+  abbrev after : WorkerState
   after = record d { served = map change d.served }
 
   at_seat : IsSeated d.served c was
@@ -350,7 +350,7 @@ module _ (v : WorkState) (seats : SeatsState) (jobs : List Job) (serial moment :
     | true ↦ λ own.
         let same : e ≡ c = same_is e c own in
         let stands : is ≡ t =
-        ap (λ (o : Option SeatState). elim o [ None ↦ is | Some z ↦ z ])
+        ap (λ (o : Option OpenConnectionState). elim o [ None ↦ is | Some z ↦ z ])
         (sym (seat_here v.worker.node serial (Some is) v.seats seats put) ∙ ap (seat_of v.worker.node seats) (sym same) ∙ at) in
         subst (λ (g : Connection). IsSeated (map change d.served) g t) (sym same)
         (subst (IsSeated (map change d.served) c) stands (record {
@@ -374,14 +374,14 @@ module _ (v : WorkState) (seats : SeatsState) (jobs : List Job) (serial moment :
     | true ↦ λ own.
         let same : e ≡ c = same_is e c own in
         let stands : is ≡ t =
-        ap (λ (o : Option SeatState). elim o [ None ↦ is | Some z ↦ z ])
+        ap (λ (o : Option OpenConnectionState). elim o [ None ↦ is | Some z ↦ z ])
         (sym (seat_here v.worker.node serial (Some is) v.seats seats put) ∙ ap (seat_of v.worker.node seats) (sym same) ∙ at) in
         let old = r.numbers c was (ap (λ b. cond b (seat_at serial v.seats) None) (eq-eqb v.worker.node v.worker.node refl) ∙ there) in
         let P : ℕ → Item → Type 0 = λ n job. job.connection ≡ c → job.number < n in
         let further : (job : Item) → P was.session.next job → P is.session.next job =
         λ job below mine. let b = below mine in let on = gone.on in omega (arith, b, on) in
         subst (λ (g : Connection). IsBelow v.worker.seat.lane.posted (items_of jobs) g t.session.next) (sym same)
-        (subst (λ (u : SeatState). IsBelow v.worker.seat.lane.posted (items_of jobs) c u.session.next) stands (record {
+        (subst (λ (u : OpenConnectionState). IsBelow v.worker.seat.lane.posted (items_of jobs) c u.session.next) stands (record {
           posted = posted_weaker (P was.session.next) (P is.session.next) further v.worker.seat.lane.posted old.posted;
           waits = subst (AllByRecursion (P is.session.next)) (sym added)
               (All-append (P is.session.next) (items_of v.jobs) more
@@ -420,7 +420,7 @@ module _ (v : WorkState) (seats : SeatsState) (jobs : List Job) (serial moment :
   accounted_now : EachSeat (AreAccountedFor v.down (items_of jobs) v.worker.seat.lane) v.worker.node seats
   accounted_now = each_put (AreAccountedFor v.down (items_of jobs) v.worker.seat.lane) v.worker.node serial (Some is) v.seats seats put
       (λ t at.
-      subst (AreAccountedFor v.down (items_of jobs) v.worker.seat.lane c) (ap (λ (o : Option SeatState). elim o [ None ↦ is | Some z ↦ z ]) at) accounted_here)
+      subst (AreAccountedFor v.down (items_of jobs) v.worker.seat.lane c) (ap (λ (o : Option OpenConnectionState). elim o [ None ↦ is | Some z ↦ z ]) at) accounted_here)
       (λ e t at uncut number below.
       subst (λ (js : Jobs). IsAccountedFor v.down js v.worker.seat.lane e number) (sym added)
       (accounted_more v.down (items_of v.jobs) more v.worker.seat.lane e number (r.accounted e t at uncut number below)))
@@ -486,10 +486,10 @@ pub both_hold : (a b : Bool) → (a && b) ≡ true → (a ≡ true) × (b ≡ tr
 both_hold true b is = (refl, is)
 both_hold false b is = absurd (cc is)
 
-takes_it : (o : Option SeatState) (s : SeatState) → o ≡ Some s → takes_here o ≡ true → takes s ≡ true
+takes_it : (o : Option OpenConnectionState) (s : OpenConnectionState) → o ≡ Some s → takes_here o ≡ true → takes s ≡ true
 takes_it o s is takes = ap takes_here (sym is) ∙ takes
 
-pub fed_at : (v : WorkState) (seats : SeatsState) (jobs : List Job) (serial moment : ℕ) (bytes : Bytes) {E : Type 0} (result : Result (Unit {0}) E)
+pub fed_at : (v : WorkState) (seats : OpenConnectionsState) (jobs : List Job) (serial moment : ℕ) (bytes : Bytes) {E : Type 0} (result : Result (Unit {0}) E)
     → takes_here (seat_at serial v.seats) ≡ true
     → OnOk result (FeedsSeat serial moment bytes v.seats seats (items_of v.jobs) (items_of jobs))
     → OnErr result (StopsSeat serial moment bytes v.seats seats (items_of v.jobs) (items_of jobs))
@@ -507,7 +507,7 @@ fed_at v seats jobs serial moment bytes (Err error) takes fed stopped =
     let gone = has_stopped moment bytes f.was f.is (items_of v.jobs) (items_of jobs) f.stopped in
     record { leads = leads v seats jobs serial moment bytes f.was f.is gone.0 f.there f.put taken gone.2 gone.1 }
 
-pub fed_by : (v u : WorkState) (seats : SeatsState) (jobs : List Job) (late : ℕ) (c : Connection) (moment : ℕ) (bytes : Bytes) {E : Type 0} (result : Result (Unit {0}) E) → u ≡ v
+pub fed_by : (v u : WorkState) (seats : OpenConnectionsState) (jobs : List Job) (late : ℕ) (c : Connection) (moment : ℕ) (bytes : Bytes) {E : Type 0} (result : Result (Unit {0}) E) → u ≡ v
     → takes_from c v ≡ true
     → OnOk result (FeedsSeat c.serial moment bytes u.seats seats (items_of u.jobs) (items_of jobs))
     → OnErr result (StopsSeat c.serial moment bytes u.seats seats (items_of u.jobs) (items_of jobs))
@@ -537,7 +537,7 @@ no_end_behind r a b is =
     ap ends (map-append item_of r b) ∙ ends_both (items_of r) (items_of b) ∙ ap (λ n. ends (items_of r) + n) is
     ∙ sym (ap ends (map-append item_of r a) ∙ ends_both (items_of r) (items_of a))
 
-feeds_behind : (serial moment : ℕ) (bytes : Bytes) (old new : SeatsState) (r a b : List Job)
+feeds_behind : (serial moment : ℕ) (bytes : Bytes) (old new : OpenConnectionsState) (r a b : List Job)
     → FeedsSeat serial moment bytes old new (items_of a) (items_of b)
     → FeedsSeat serial moment bytes old new (items_of (r ++ a)) (items_of (r ++ b))
 feeds_behind serial moment bytes old new r a b f =
@@ -563,7 +563,7 @@ feeds_behind serial moment bytes old new r a b f =
       };
     }
 
-stops_behind : (serial moment : ℕ) (bytes : Bytes) (old new : SeatsState) (r a b : List Job)
+stops_behind : (serial moment : ℕ) (bytes : Bytes) (old new : OpenConnectionsState) (r a b : List Job)
     → StopsSeat serial moment bytes old new (items_of a) (items_of b)
     → StopsSeat serial moment bytes old new (items_of (r ++ a)) (items_of (r ++ b))
 stops_behind serial moment bytes old new r a b f =
@@ -591,13 +591,13 @@ stops_behind serial moment bytes old new r a b f =
       };
     }
 
-pub on_feeds : {E : Type 0} (result : Result (Unit {0}) E) (serial moment : ℕ) (bytes : Bytes) (old new : SeatsState) (r a b : List Job)
+pub on_feeds : {E : Type 0} (result : Result (Unit {0}) E) (serial moment : ℕ) (bytes : Bytes) (old new : OpenConnectionsState) (r a b : List Job)
     → OnOk result (FeedsSeat serial moment bytes old new (items_of a) (items_of b))
     → OnOk result (FeedsSeat serial moment bytes old new (items_of (r ++ a)) (items_of (r ++ b)))
 on_feeds (Ok done) serial moment bytes old new r a b f = feeds_behind serial moment bytes old new r a b f
 on_feeds (Err error) serial moment bytes old new r a b f = tt
 
-pub on_stops : {E : Type 0} (result : Result (Unit {0}) E) (serial moment : ℕ) (bytes : Bytes) (old new : SeatsState) (r a b : List Job)
+pub on_stops : {E : Type 0} (result : Result (Unit {0}) E) (serial moment : ℕ) (bytes : Bytes) (old new : OpenConnectionsState) (r a b : List Job)
     → OnErr result (StopsSeat serial moment bytes old new (items_of a) (items_of b))
     → OnErr result (StopsSeat serial moment bytes old new (items_of (r ++ a)) (items_of (r ++ b)))
 on_stops (Ok done) serial moment bytes old new r a b f = tt

@@ -1,4 +1,4 @@
--- What a desk at which nothing waits knows of the jobs that were asked for.
+-- What a worker at which nothing waits knows of the jobs that were asked for.
 use Rattle.std.proofs.Common.{◌≡◌, ℕ, zero, suc, ◌<◌, ◌≤◌, inl, inr, false, List, [], ◌∷◌, ◌++◌, length, Contains, Option, None, Some, refl, ap, sym, ◌∙◌, subst, arith}
 use Rattle.std.specs.List.{slice_get}
 use Rattle.std.proofs.lemmas.Option.{slice_get_within}
@@ -13,18 +13,18 @@ use Rattle.nr_entry.specs.declared.batch.Outcome.TheVariants.{Executed}
 use Rattle.nr_entry.specs.declared.job.Job.{Job}
 use Rattle.nr_log_end.specs.declared.standing.Standing.{Standing}
 use Rattle.nr_log_end.specs.Standings.{record_of}
-use Rattle.nr_slots.specs.declared.view.Desk.{Desk}
+use Rattle.nr_slots.specs.declared.view.CombinerPast.{CombinerPast}
 use Rattle.nr_slots.specs.Names.{IsTold}
 use Rattle.nr_combiner.specs.Served.{AreExecuted, IsAmong, StandIn}
-use Rattle.nr_worker.specs.Desk.{DeskState, IsLed, IsServedAt, Served, asked_of, history_of}
+use Rattle.nr_worker.specs.Worker.{WorkerState, IsLed, IsServedAt, Served, asked_of, history_of}
 use Rattle.nr_worker.specs.Resting.{AreAllExecuted, AreExecutedOf, IsDone, WasExecuted}
 use Rattle.nr_worker.specs.Working.{IsSeatOf, IsUnderway, Reflects, WorkState}
 use Rattle.nr_worker.proofs.Accounted.{answer_at, below_end, same_number}
-use Rattle.nr_worker.proofs.Desks.{posted_live}
+use Rattle.nr_worker.proofs.Workers.{posted_live}
 use Rattle.nr_worker.proofs.Lists.{all_at, posted_at}
 use Rattle.nr_worker.proofs.Portioned.{all_of}
 
-told_executed : (v : WorkState) (d : DeskState) (x : Served) (job : Item) → Reflects v d → IsServedAt d x → x.ends ≡ [] → Contains (asked_of x) job
+told_executed : (v : WorkState) (d : WorkerState) (x : Served) (job : Item) → Reflects v d → IsServedAt d x → x.ends ≡ [] → Contains (asked_of x) job
     → length v.worker.seat.lane.posted ≡ length v.worker.seat.lane.collected → IsUnderway v.worker.seat.lane x.connection job.number
     → WasExecuted v.worker.seat.lane job
 told_executed v d x job r k live asked all u =
@@ -84,7 +84,7 @@ lifted_at (x ∷ lifted) (b ∷ before) batch after (more, is) within =
     let on = lifted_at lifted before batch after (more, batches_are x b (lifted ++ more) (before ++ batch ∷ after) is) (omega (arith, within)) in
     (on.0, λ i. batch_is x b (lifted ++ more) (before ++ batch ∷ after) is i ∷ on.1 i)
 
-in_record : (v : WorkState) (d : DeskState) (job : Item) → IsLed d → Reflects v d → IsTold v.worker.seat.noted v.worker.seat.lane
+in_record : (v : WorkState) (d : WorkerState) (job : Item) → IsLed d → Reflects v d → IsTold v.worker.seat.noted v.worker.seat.lane
     → length v.worker.seat.noted.answered ≤ length v.worker.seat.noted.lifted
     → length v.worker.seat.lane.collected ≤ length v.worker.seat.noted.answered → WasExecuted v.worker.seat.lane job
     → IsAmong job (record_of (history_of v.mark))
@@ -98,10 +98,10 @@ in_record v d job led r told few all w =
     let executed : AreExecuted done (w.before ++ w.batch ∷ lifted.0) noted.answered =
     subst (λ (bs : List Batch). AreExecuted done bs noted.answered) lifted.1
     (subst (λ (m : Option Standing). AreExecuted (record_of (history_of m)) noted.lifted noted.answered) r.mark
-    (subst (λ (b : Desk). AreExecuted (record_of (history_of d.mark)) b.lifted b.answered) r.heard led.executed)) in
+    (subst (λ (b : CombinerPast). AreExecuted (record_of (history_of d.mark)) b.lifted b.answered) r.heard led.executed)) in
     all_at (λ (j : Item). IsAmong j done) (items_of w.batch.jobs.items) job (executed_at done w.before w.batch lifted.0 noted.answered w.answer executed answered w.executed) w.has
 
-told_each : (v : WorkState) (d : DeskState) (x : Served) → IsLed d → Reflects v d → IsServedAt d x → Contains d.served x → v.jobs ≡ []
+told_each : (v : WorkState) (d : WorkerState) (x : Served) → IsLed d → Reflects v d → IsServedAt d x → Contains d.served x → v.jobs ≡ []
     → length v.worker.seat.lane.posted ≡ length v.worker.seat.lane.collected → IsTold v.worker.seat.noted v.worker.seat.lane
     → length v.worker.seat.noted.answered ≤ length v.worker.seat.noted.lifted
     → length v.worker.seat.lane.collected ≤ length v.worker.seat.noted.answered → v.down ≡ false → AreExecutedOf v x
@@ -122,7 +122,7 @@ told_each v d x led r k within none all told few answered up s at uncut =
 
 -- Where none waits, each batch's answer was collected and had been given as the worker heard last, and the node isn't known to be down, all that was asked for was told as
 -- executed, and stands in the mark's record.
-pub rested : (v : WorkState) (d : DeskState) → IsLed d → Reflects v d → v.jobs ≡ [] → length v.worker.seat.lane.posted ≡ length v.worker.seat.lane.collected
+pub rested : (v : WorkState) (d : WorkerState) → IsLed d → Reflects v d → v.jobs ≡ [] → length v.worker.seat.lane.posted ≡ length v.worker.seat.lane.collected
     → IsTold v.worker.seat.noted v.worker.seat.lane → length v.worker.seat.noted.answered ≤ length v.worker.seat.noted.lifted
     → length v.worker.seat.lane.posted ≤ length v.worker.seat.noted.answered → v.down ≡ false → AreAllExecuted v d.served
 rested v d led r none all told few answered up =

@@ -1,4 +1,4 @@
--- A desk stands for a worker of the law once its node fell, as it comes back, and once the end of a connection of before was put.
+-- The code's worker stands for a worker of the law once its node fell, as it comes back, and once the end of a connection of before was put.
 use Rattle.std.proofs.Common.{◌≡◌, ℕ, ◌<◌, Bool, true, false, cond, List, [], ◌∷◌, ◌++◌, map, length, Contains, Option, Some, None, inl, refl, ap, sym, ◌∙◌, subst, append-nil, eq-eqb}
 use Rattle.std.specs.Prelude.{◌≢◌, ◌==◌, not, is_some}
 use Rattle.std.specs.List.{AllByRecursion}
@@ -12,28 +12,28 @@ use Rattle.nr_entry.specs.Jobs.{items_of}
 use Rattle.nr_entry.specs.declared.batch.Batch.{Batch}
 use Rattle.nr_entry.specs.declared.job.Job.{Job}
 use Rattle.nr_log_end.specs.declared.standing.Standing.{Standing}
-use Rattle.nr_accounts.specs.declared.account.Unended.{Unended}
+use Rattle.nr_job_numbers.specs.declared.account.Unended.{Unended}
 use Rattle.nr_slots.specs.Seats.{NoteView}
-use Rattle.nr_slots.specs.declared.view.Desk.{Desk}
+use Rattle.nr_slots.specs.declared.view.CombinerPast.{CombinerPast}
 use Rattle.nr_node.specs.Sound.{IsSound}
 use Rattle.nr_combiner.specs.Behind.{EndsBehind}
 use Rattle.nr_combiner.specs.Heard.{KnowsUnended}
-use Rattle.nr_combiner.specs.Workers.{WorkerState, told_of}
+use Rattle.nr_combiner.specs.Workers.{NodeHandleState, told_of}
 use Rattle.nr_taps.specs.Marks.{Adopts}
 use Rattle.nr_taps.specs.Taps.{HaveMet}
 use Rattle.nr_taps.proofs.Marks.{adopts_has}
-use Rattle.nr_seats.specs.Seated.{SeatState}
-use Rattle.nr_seats.specs.Placed.{SeatsState, seat_at}
-use Rattle.nr_seats.specs.Portions.{EachSeat, seat_of}
-use Rattle.nr_seats.proofs.Putting.{named}
-use Rattle.nr_worker.specs.Desk.{DeskState, IsAskedBy, IsLed, Served, all_asked, asked_of}
+use Rattle.nr_worker.specs.Seated.{OpenConnectionState}
+use Rattle.nr_worker.specs.Placed.{OpenConnectionsState, seat_at}
+use Rattle.nr_worker.specs.Portions.{EachSeat, seat_of}
+use Rattle.nr_worker.proofs.Putting.{named}
+use Rattle.nr_worker.specs.Worker.{WorkerState, IsAskedBy, IsLed, Served, all_asked, asked_of}
 use Rattle.nr_worker.specs.Moves.{Ends, ended_with}
 use Rattle.nr_worker.specs.Working.{AreAccountedFor, AreApart, EndsNext, Goes, IsAccountedFor, IsBelow, IsKept, IsSeatOf, IsSeated, IsServed, IsToPost, LeadsTo, Reflects, WorkState, all_ended, back_work, end_of, ended_more, fallen_work, is_bare, unchanged}
 use Rattle.nr_worker.proofs.Accounted.{accounted_more}
 use Rattle.nr_worker.proofs.Admitted.{heard_goes, none_there}
 use Rattle.nr_worker.proofs.Awaited.{none_left}
 use Rattle.nr_worker.proofs.Batched.{aside_too, goes_nowhere, stays}
-use Rattle.nr_worker.proofs.Desks.{ended_asked, ended_led}
+use Rattle.nr_worker.proofs.Workers.{ended_asked, ended_led}
 use Rattle.nr_worker.proofs.Lists.{all_weaker, posted_at}
 use Rattle.nr_worker.proofs.Nourished.{behind, both_hold, differ_false}
 use Rattle.nr_worker.proofs.Portioned.{all_map, all_of, known_more, same_connections}
@@ -71,11 +71,11 @@ fallen_by v u back left late same none gone still =
     subst (λ (x : WorkState). Goes unchanged x w) same (subst (Goes unchanged u) (sym is) (fallen u))
 
 -- ---- it comes back, where nothing is left of before
-not_there : (b : Bool) (s : SeatState) → cond b None None ≡ Some s → ⊥
+not_there : (b : Bool) (s : OpenConnectionState) → cond b None None ≡ Some s → ⊥
 not_there true s is = cc is
 not_there false s is = cc is
 
-no_seats : (P : Connection → SeatState → Type 0) (node : ℕ) (seats : SeatsState) → seats ≡ [] → EachSeat P node seats
+no_seats : (P : Connection → OpenConnectionState → Type 0) (node : ℕ) (seats : OpenConnectionsState) → seats ≡ [] → EachSeat P node seats
 no_seats P node seats none = subst (EachSeat P node) (sym none) (λ c s at. absurd (not_there (c.node == node) s at))
 
 bare_seats : (v : WorkState) → is_bare v ≡ true → v.seats ≡ []
@@ -113,10 +113,10 @@ back_by v u since back left late same bare none gone still =
     subst (λ (x : WorkState). Goes unchanged x w) same (subst (Goes unchanged u) (sym is) (came_back u since (ap is_bare same ∙ bare)))
 
 -- ---- an end is put
-module _ (v : WorkState) (desk : Desk) (mark : Option Standing) (s : Standing) (jobs : List Job) (one : Unended)
+module _ (v : WorkState) (desk : CombinerPast) (mark : Option Standing) (s : Standing) (jobs : List Job) (one : Unended)
     (put : items_of jobs ≡ items_of v.jobs ++ end_of v.worker.node one ∷ []) (absent : seat_at one.serial v.seats ≡ None)
     (sound : IsSound s × (s.node ≡ v.worker.node))
-    (d : DeskState) (led : IsLed d) (r : Reflects v d) (knows : KnowsUnended d.worker (named v.worker.node one.serial) desk s v.worker.seat.lane)
+    (d : WorkerState) (led : IsLed d) (r : Reflects v d) (knows : KnowsUnended d.worker (named v.worker.node one.serial) desk s v.worker.seat.lane)
     (adopted : Adopts d.mark s mark) (met : HaveMet d.mark (Some s)) where
   abbrev c : Connection
   c = named v.worker.node one.serial
@@ -130,7 +130,7 @@ module _ (v : WorkState) (desk : Desk) (mark : Option Standing) (s : Standing) (
   abbrev now : WorkState
   now = record v { worker = told_of desk v.worker; mark = mark; jobs = jobs }
 
-  abbrev after : DeskState
+  abbrev after : WorkerState
   after = record d { heard = desk; mark = mark; served = map change d.served }
 
   ends : Ends job s v.worker.seat.lane d after
@@ -178,7 +178,7 @@ module _ (v : WorkState) (desk : Desk) (mark : Option Standing) (s : Standing) (
   }
 
   -- it isn't open here
-  no_seat : (e : Connection) (t : SeatState) → seat_of v.worker.node v.seats e ≡ Some t → e ≢ c
+  no_seat : (e : Connection) (t : OpenConnectionState) → seat_of v.worker.node v.seats e ≡ Some t → e ≢ c
   no_seat e t at same =
       let none : seat_of v.worker.node v.seats c ≡ None = ap (λ b. cond b (seat_at one.serial v.seats) None) (eq-eqb v.worker.node v.worker.node refl) ∙ absent in
       let both : None ≡ Some t = sym none ∙ ap (seat_of v.worker.node v.seats) (sym same) ∙ at in
@@ -256,7 +256,7 @@ none_ended v w g = record {
 }
 
 -- none was told of
-pub none_told : (v u : WorkState) (worker : WorkerState) → u ≡ v → worker ≡ u.worker → Goes (all_ended []) v (record u { worker = worker; ending = false })
+pub none_told : (v u : WorkState) (worker : NodeHandleState) → u ≡ v → worker ≡ u.worker → Goes (all_ended []) v (record u { worker = worker; ending = false })
 none_told v u worker same still =
     let w : WorkState = record u { worker = worker; ending = false } in
     let is : w ≡ record u { ending = false } = λ i. record u { worker = still i; ending = false } in
@@ -264,7 +264,7 @@ none_told v u worker same still =
     (subst (Goes (all_ended []) u) (sym is) (aside_too (all_ended []) u u u.late u.worker.generation false u.ended (none_ended u u (stays u u refl))))
 
 -- one was told of, and none put
-pub none_put : (v u : WorkState) (desk : Desk) (worker : WorkerState) (mark : Option Standing) (s : Standing) (one : Unended) (jobs : List Job)
+pub none_put : (v u : WorkState) (desk : CombinerPast) (worker : NodeHandleState) (mark : Option Standing) (s : Standing) (one : Unended) (jobs : List Job)
     (late : ℕ) (ending : Bool) → u ≡ v → worker ≡ told_of desk u.worker → jobs ≡ u.jobs → KnowsUnended u.worker.seat.worker (named u.worker.node one.serial) desk s u.worker.seat.lane
     → IsSound s × (s.node ≡ u.worker.node) → Adopts u.mark s mark → HaveMet u.mark (Some s)
     → Goes (all_ended []) v (record u { worker = worker; mark = mark; jobs = jobs; late = late; ending = ending })
@@ -278,7 +278,7 @@ none_put v u desk worker mark s one jobs late ending same heard waits knows soun
     (aside_too (all_ended []) u told late told.worker.generation ending u.ended (none_ended u told (heard_goes u desk mark s knows.knows sound adopted met))))
 
 -- ---- as the code has it
-put_goes : (v : WorkState) (desk : Desk) (mark : Option Standing) (s : Standing) (jobs : List Job) (one : Unended)
+put_goes : (v : WorkState) (desk : CombinerPast) (mark : Option Standing) (s : Standing) (jobs : List Job) (one : Unended)
     → items_of jobs ≡ items_of v.jobs ++ end_of v.worker.node one ∷ [] → seat_at one.serial v.seats ≡ None → IsSound s × (s.node ≡ v.worker.node)
     → KnowsUnended v.worker.seat.worker (named v.worker.node one.serial) desk s v.worker.seat.lane → Adopts v.mark s mark → HaveMet v.mark (Some s)
     → Goes (all_ended (end_of v.worker.node one ∷ [])) v (record v { worker = told_of desk v.worker; mark = mark; jobs = jobs })
@@ -291,7 +291,7 @@ put_goes v desk mark s jobs one put absent sound knows adopted met = record {
       record { then = l.then; led = l.led; goes = l.goes; reflects = l.reflects; served = l.served ∙ all_are (end_of v.worker.node one) d.served };
 }
 
-pub put_by : (v u : WorkState) (desk : Desk) (worker : WorkerState) (mark : Option Standing) (s : Standing) (note : NoteView) (one : Unended) (r a b : List Job)
+pub put_by : (v u : WorkState) (desk : CombinerPast) (worker : NodeHandleState) (mark : Option Standing) (s : Standing) (note : NoteView) (one : Unended) (r a b : List Job)
     (late : ℕ) → u ≡ v → worker ≡ told_of desk u.worker → u.jobs ≡ r ++ a → items_of b ≡ items_of a ++ end_of u.worker.node one ∷ [] → late ≡ 0
     → is_some (seat_at one.serial u.seats) ≡ false → KnowsUnended u.worker.seat.worker (named u.worker.node one.serial) desk s u.worker.seat.lane
     → EndsBehind u.worker.node u.worker.seat.worker u.worker.generation u.ended one s note
@@ -302,7 +302,7 @@ put_by v u desk worker mark s note one r a b late same heard are added now_late 
     let change : List Served → List Served = all_ended (end_of u.worker.node one ∷ []) in
     let put : WorkState = record u { worker = told_of desk u.worker; mark = mark; jobs = r ++ b } in
     let w : WorkState = record u { worker = worker; mark = mark; jobs = r ++ b; late = late; ended = Some one.serial } in
-    let noted : desk ≡ worker.seat.noted = sym (ap (λ (x : WorkerState). x.seat.noted) heard) in
+    let noted : desk ≡ worker.seat.noted = sym (ap (λ (x : NodeHandleState). x.seat.noted) heard) in
     let jobs : items_of (r ++ b) ≡ items_of u.jobs ++ end_of u.worker.node one ∷ [] =
     behind r a b (end_of u.worker.node one ∷ []) added ∙ ap (λ (js : List Job). items_of js ++ end_of u.worker.node one ∷ []) (sym are) in
     let is : w ≡ record put { late = late; ending = u.ending; ended = Some one.serial } =
@@ -323,12 +323,12 @@ put_by v u desk worker mark s note one r a b late same heard are added now_late 
           (put_goes u desk mark s (r ++ b) one jobs (none_there (seat_at one.serial u.seats) absent) sound knows adopted met)),
     )
 
--- what a desk counts is as before
-pub heard_kept : (batches : ℕ) (v : WorkState) (worker : WorkerState) (mark : Option Standing) (s : Standing) (jobs : List Job) (late : ℕ)
+-- what a worker counts is as before
+pub heard_kept : (batches : ℕ) (v : WorkState) (worker : NodeHandleState) (mark : Option Standing) (s : Standing) (jobs : List Job) (late : ℕ)
     (ending : Bool) (ended : Option ℕ) → IsKept batches v → worker ≡ told_of worker.seat.noted v.worker → s.node ≡ v.worker.node → Adopts v.mark s mark
     → IsKept batches (record v { worker = worker; mark = mark; jobs = jobs; late = late; ending = ending; ended = ended })
 heard_kept batches v worker mark s jobs late ending ended k is node adopted =
-    subst (λ (w : WorkerState). IsKept batches (record v { worker = w; mark = mark; jobs = jobs; late = late; ending = ending; ended = ended })) (sym is) (record {
+    subst (λ (w : NodeHandleState). IsKept batches (record v { worker = w; mark = mark; jobs = jobs; late = late; ending = ending; ended = ended })) (sym is) (record {
       counted = k.counted;
       each = k.each;
       waits = k.waits;

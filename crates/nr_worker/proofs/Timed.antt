@@ -8,15 +8,15 @@ use Rattle.nr_model.specs.Items.{Connection, Item, Sequence}
 use Rattle.nr_model.proofs.NodesPartsEmitted.{begins_on}
 use Rattle.nr_log_end.specs.declared.standing.Standing.{Standing}
 use Rattle.nr_log_end.specs.Standings.{opened_of, record_of}
-use Rattle.nr_accounts.specs.Held.{numbers_in}
+use Rattle.nr_job_numbers.specs.Stored.{numbers_in}
 use Rattle.nr_node.specs.Level.{connection_at}
-use Rattle.nr_node.specs.Sound.{IsSound, Serves}
-use Rattle.nr_worker.specs.Desk.{DeskState, HasItsOwn, IsAskedBy, IsLed, IsOpenedFor, IsPosted, IsServedAt, Served, history_of}
+use Rattle.nr_node.specs.Sound.{IsSound, ServesOpened}
+use Rattle.nr_worker.specs.Worker.{WorkerState, HasItsOwn, IsAskedBy, IsLed, IsOpenedFor, IsPosted, IsServedAt, Served, history_of}
 use Rattle.nr_worker.specs.Law.{GoesTo, IsFedTo, IsInTime}
-use Rattle.nr_worker.proofs.Desks.{begins_record, opened_begins, opened_front}
+use Rattle.nr_worker.proofs.Workers.{begins_record, opened_begins, opened_front}
 use Rattle.nr_worker.proofs.Lists.{all_at, has_number, posted_at}
 
-pub goes_on : (d e f : DeskState) → GoesTo d e → GoesTo e f → GoesTo d f
+pub goes_on : (d e f : WorkerState) → GoesTo d e → GoesTo e f → GoesTo d f
 goes_on d e f one two = record {
   node = two.node ∙ one.node;
   worker = two.worker ∙ one.worker;
@@ -24,7 +24,7 @@ goes_on d e f one two = record {
 }
 
 -- a job that was posted was asked for
-fed_to : (d : DeskState) (job : Item) → IsLed d → IsPosted d.posted job → IsFedTo d.served job
+fed_to : (d : WorkerState) (job : Item) → IsLed d → IsPosted d.posted job → IsFedTo d.served job
 fed_to d job led p =
     let by = posted_at (IsAskedBy d.served) d.posted p.batch p.has.item led.known p.there p.has.there in
     record {
@@ -56,13 +56,13 @@ opened_there s job sound node there = elim (cases_lt job.connection.serial (leng
 
 -- who a connection is opened for later it was opened for before, where it was opened then
 served_before : (s : Standing) (mark : Option Standing) (worker : ℕ) (c : Connection) → IsBeginningOf s.history (history_of mark) → c.node ≡ s.node
-    → c.serial < length (opened_of s.history) → IsOpenedFor worker c mark → Serves s worker c
+    → c.serial < length (opened_of s.history) → IsOpenedFor worker c mark → ServesOpened s worker c
 served_before s None worker c begins node near never = absurd never
 served_before s (Some t) worker c begins node near serves =
     let on = opened_front (opened_of s.history) (opened_of t.history) c.serial (opened_begins s.history t.history begins) near in
     record { node = node; opened = near; worker_is = sym on.1 ∙ serves.worker_is }
 
-module _ (d e : DeskState) (led : IsLed d) (later : IsLed e) (goes : GoesTo d e) where
+module _ (d e : WorkerState) (led : IsLed d) (later : IsLed e) (goes : GoesTo d e) where
   was_fed : (mark : Option Standing) → d.mark ≡ mark → IfSome mark (λ (s : Standing). IsSound s × (s.node ≡ d.node)) → IfSome mark (HasItsOwn d) → (job : Item)
       → Contains (record_of (history_of mark)) job → (y : Served) → Contains e.served y → y.connection ≡ job.connection → IsFedTo d.served job
   was_fed None is sound own job there y served named = absurd (Rattle.nr_model.proofs.NodesExecutedLists.some_in [] job refl there)

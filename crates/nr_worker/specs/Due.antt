@@ -1,4 +1,4 @@
--- The jobs of a desk that wait to be handed in.
+-- The jobs of a worker that wait to be handed in.
 use Rattle.std.specs.Prelude.{ℕ, ◌+◌, List, [], refl}
 use Rattle.std.specs.Coded.{Coded, code_by, coded×, coded_ℕ, coded_list}
 use Rattle.nr_entry.specs.declared.job.Job.{Job}

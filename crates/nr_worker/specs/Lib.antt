@@ -1,4 +1,7 @@
-pub mod Desk
+pub mod Seated
+pub mod Placed
+pub mod Portions
+pub mod Worker
 pub mod Moves
 pub mod Law
 pub mod Due

@@ -1,4 +1,4 @@
--- What becomes of a desk's batch.
+-- What becomes of a worker's batch.
 use Rattle.std.specs.Prelude.{◌≡◌, ℕ, Bool, true, false, cond, nat_le, List, [], ◌++◌, length, Contains}
 use Rattle.std.specs.List.{AllByRecursion}
 use Rattle.nr_model.specs.Items.{Item}
@@ -7,8 +7,8 @@ use Rattle.nr_entry.specs.declared.batch.Batch.{Batch}
 use Rattle.nr_entry.specs.declared.batch.Outcome.{Outcome}
 use Rattle.nr_entry.specs.declared.batch.Outcome.TheVariants as outcomes
 use Rattle.nr_entry.specs.declared.job.Job.{Job}
-use Rattle.nr_combiner.specs.Workers.{HasCollected, WorkerState}
-use Rattle.nr_combiner.specs.declared.worker.TheConstants.{MOST_JOBS}
+use Rattle.nr_combiner.specs.Workers.{HasCollected, NodeHandleState}
+use Rattle.nr_combiner.specs.declared.node_handle.TheConstants.{MOST_JOBS}
 use Rattle.nr_worker.specs.declared.collecting.Settled.{Settled}
 use Rattle.nr_worker.specs.declared.collecting.Settled.TheVariants as settled
 use Rattle.nr_worker.specs.Working.{WorkState}
@@ -44,7 +44,7 @@ down_of most outcomes.Down down = true
 down_of most (outcomes.Refused why back) down = cond (nat_le (length back.items) most) down true
 
 -- no answer is awaited any more, and the jobs that came back stand in front of the others
-abbrev pub settled_work : Outcome → WorkerState → WorkState → WorkState
+abbrev pub settled_work : Outcome → NodeHandleState → WorkState → WorkState
 settled_work outcome worker v =
     record v {
       worker = worker;

@@ -1,4 +1,4 @@
--- What contracts see of a worker's desk, and the law's worker that it stands for.
+-- What contracts see of a worker, and the law's worker that it stands for.
 use Rattle.std.specs.Prelude.{◌≡◌, ◌≢◌, ◌==◌, ◌&&◌, ◌||◌, not, filter, ℕ, ◌+◌, ◌<◌, ◌≤◌, Bool, true, false, cond, IfSome, List, [], ◌∷◌, ◌++◌, ◌⊎◌, map, length, take, drop, Contains, option_to_list, Option, None, Some, refl}
 use Rattle.std.specs.Coded.{Coded, code_by, coded×, coded_ℕ, coded_bool, coded_list, coded_option}
 use Rattle.std.specs.List.{AllByRecursion, slice_get}
@@ -18,22 +18,22 @@ use Rattle.nr_entry.specs.contracts.job.Job as of_job
 use Rattle.nr_log_end.specs.declared.standing.Standing.{Standing}
 use Rattle.nr_log_end.specs.contracts.standing.Standing as of_standing
 use Rattle.nr_slots.specs.Seats.{NoteView, one_if}
-use Rattle.nr_slots.specs.declared.view.Lane.{Lane}
-use Rattle.nr_node.specs.declared.collecting.Handed.{Handed}
+use Rattle.nr_slots.specs.declared.view.WorkerPast.{WorkerPast}
+use Rattle.nr_node.specs.declared.collecting.LastPiece.{LastPiece}
 use Rattle.nr_taps.specs.Marks.{Adopts}
 use Rattle.nr_session.specs.SessionState.{SessionState}
-use Rattle.nr_accounts.specs.declared.account.Unended.{Unended}
+use Rattle.nr_job_numbers.specs.declared.account.Unended.{Unended}
 use Rattle.nr_combiner.specs.Behind.{CollectsBehind, EndsBehind, TurnsBehind}
 use Rattle.nr_combiner.specs.declared.answering.Collected.{Collected}
 use Rattle.nr_combiner.specs.declared.answering.Lifts.{Lifts}
 use Rattle.nr_combiner.specs.declared.answering.Turned.{Turned}
-use Rattle.nr_combiner.specs.declared.worker.TheConstants.{MOST_JOBS}
-use Rattle.nr_combiner.specs.Workers.{WorkerState, coded_worker, told_of, with_more, HasPosted}
+use Rattle.nr_combiner.specs.declared.node_handle.TheConstants.{MOST_JOBS}
+use Rattle.nr_combiner.specs.Workers.{NodeHandleState, coded_worker, told_of, with_more, HasPosted}
 use Rattle.nr_combiner.specs.Workers as workers
-use Rattle.nr_seats.specs.Seated.{SeatState, cut_off, fresh_seat, last_job, with_written}
-use Rattle.nr_seats.specs.Placed.{FeedsSeat, IsPut, SeatsState, StopsSeat, coded_seats, listens_here, seat_at, takes_here}
-use Rattle.nr_seats.specs.Portions.{Accepts, EachSeat, HandsOut, portion_of}
-use Rattle.nr_worker.specs.Desk.{AllPosted, DeskState, IsLed, Served, all_asked, asked_of}
+use Rattle.nr_worker.specs.Seated.{OpenConnectionState, cut_off, fresh_seat, last_job, with_written}
+use Rattle.nr_worker.specs.Placed.{FeedsSeat, IsPut, OpenConnectionsState, StopsSeat, coded_seats, listens_here, seat_at, takes_here}
+use Rattle.nr_worker.specs.Portions.{AcceptsPortions, EachSeat, HandsOut, portion_of}
+use Rattle.nr_worker.specs.Worker.{AllPosted, WorkerState, IsLed, Served, all_asked, asked_of}
 use Rattle.nr_worker.specs.Law.{GoesTo}
 
 -- its worker, and what it keeps of its connections; the serials below `next` may have been opened here; the jobs that were asked for and wait to be posted,
@@ -41,8 +41,8 @@ use Rattle.nr_worker.specs.Law.{GoesTo}
 -- connection at most; how many of these jobs, the last, found no room among the others yet; how many connections its node had as it came back last, as far as was heard;
 -- and whether ends are to be put for those, and behind which serial
 pub record WorkState : Type 0 where
-  pub worker : WorkerState
-  pub seats : SeatsState
+  pub worker : NodeHandleState
+  pub seats : OpenConnectionsState
   pub next : ℕ
   pub jobs : List Job
   pub returned : ℕ
@@ -57,7 +57,7 @@ pub record WorkState : Type 0 where
 
 abbrev pub coded_work : Coded WorkState
 coded_work =
-    code_by (WorkerState × (SeatsState × (ℕ × (List Job × (ℕ × (Option Standing × (Bool × (Bool × (ℕ × (ℕ × (ℕ × (Bool × Option ℕ))))))))))))
+    code_by (NodeHandleState × (OpenConnectionsState × (ℕ × (List Job × (ℕ × (Option Standing × (Bool × (Bool × (ℕ × (ℕ × (ℕ × (Bool × Option ℕ))))))))))))
     (coded× coded_worker
     (coded× coded_seats
     (coded× coded_ℕ
@@ -92,7 +92,7 @@ pub record IsKept (batches : ℕ) (v : WorkState) : Type 0 where
   pub few : v.returned ≤ MOST_JOBS
 
 -- at first
-abbrev pub fresh_work : WorkerState → ℕ → WorkState
+abbrev pub fresh_work : NodeHandleState → ℕ → WorkState
 fresh_work worker limit =
     record {
       worker = worker;
@@ -127,7 +127,7 @@ pub record IsSession (session : SessionState) (text : Bytes) : Type 0 where
 
 -- A seat is that of a connection that is served: not closed, with no end of its node's fall, as many bytes were handed out as it counts, and its session is as the bytes
 -- that were fed leave it, unless it is cut.
-pub record IsSeatOf (s : SeatState) (x : Served) : Type 0 where
+pub record IsSeatOf (s : OpenConnectionState) (x : Served) : Type 0 where
   pub unclosed : x.closing ≡ None
   pub live : x.ends ≡ []
   pub handed : s.handed ≡ length x.handed
@@ -143,7 +143,7 @@ pub record IsServed (served : List Served) (c : Connection) : Type 0 where
   pub connection : one.connection ≡ c
 
 -- the connection of a seat is served, and the seat is that
-pub record IsSeated (served : List Served) (c : Connection) (s : SeatState) : Type 0 where
+pub record IsSeated (served : List Served) (c : Connection) (s : OpenConnectionState) : Type 0 where
   pub known : IsServed served c
   pub seat : AllByRecursion (λ (x : Served). x.connection ≡ c → IsSeatOf s x) served
 
@@ -170,7 +170,7 @@ IsNoOther None = Unit {0}
 IsNoOther (Some answer) = answer.outcome ≡ Executed
 
 -- A batch that was posted has the job of a connection with this number. Where its answer was collected, that says that all was executed.
-pub record IsUnderway (lane : Lane) (c : Connection) (number : ℕ) : Type 0 where
+pub record IsUnderway (lane : WorkerPast) (c : Connection) (number : ℕ) : Type 0 where
   pub before : List Batch
   pub batch : Batch
   pub after : List Batch
@@ -179,11 +179,11 @@ pub record IsUnderway (lane : Lane) (c : Connection) (number : ℕ) : Type 0 whe
   pub has : HasNumber c number (items_of batch.jobs.items)
 
 -- The job of a connection with this number waits, or was posted so; or the node is known to be down.
-abbrev pub IsAccountedFor : Bool → List Item → Lane → Connection → ℕ → Type 0
+abbrev pub IsAccountedFor : Bool → List Item → WorkerPast → Connection → ℕ → Type 0
 IsAccountedFor down waits lane c number = (down ≡ true) ⊎ (HasNumber c number waits ⊎ IsUnderway lane c number)
 
 -- so it is with each job that a connection asked for whose seat isn't cut
-abbrev pub AreAccountedFor : Bool → List Item → Lane → Connection → SeatState → Type 0
+abbrev pub AreAccountedFor : Bool → List Item → WorkerPast → Connection → OpenConnectionState → Type 0
 AreAccountedFor down waits lane c s = s.cut ≡ false → (number : ℕ) → number < s.session.next → IsAccountedFor down waits lane c number
 
 -- connections no two of which are the same
@@ -194,9 +194,9 @@ AreApart (c ∷ more) = AllByRecursion (λ (other : Connection). other ≢ c) mo
 abbrev pub connections_of : List Served → List Connection
 connections_of served = map (λ (x : Served). x.connection) served
 
--- A desk stands for a worker of the law: what it posted, what it heard and its mark are the same, its jobs are asked for there, and its seats are those of connections
+-- The code's worker stands for a worker of the law: what it posted, what it heard and its mark are the same, its jobs are asked for there, and its seats are those of connections
 -- that the worker serves, each of which numbers its next job behind those that were asked for; and none of these is lost.
-pub record Reflects (v : WorkState) (d : DeskState) : Type 0 where
+pub record Reflects (v : WorkState) (d : WorkerState) : Type 0 where
   pub node : d.node ≡ v.worker.node
   pub worker : d.worker ≡ v.worker.seat.worker
   pub posted : d.posted ≡ v.worker.seat.lane.posted
@@ -209,18 +209,18 @@ pub record Reflects (v : WorkState) (d : DeskState) : Type 0 where
   pub numbers : EachSeat (λ c s. IsBelow v.worker.seat.lane.posted (items_of v.jobs) c s.session.next) v.worker.node v.seats
   pub accounted : EachSeat (AreAccountedFor v.down (items_of v.jobs) v.worker.seat.lane) v.worker.node v.seats
 
--- A worker of the law goes on to one that the desk then stands for, and its connections are changed so.
-pub record LeadsTo (change : List Served → List Served) (w : WorkState) (d : DeskState) : Type 0 where
-  pub then : DeskState
+-- A worker of the law goes on to one that the worker then stands for, and its connections are changed so.
+pub record LeadsTo (change : List Served → List Served) (w : WorkState) (d : WorkerState) : Type 0 where
+  pub then : WorkerState
   pub led : IsLed then
   pub goes : GoesTo d then
   pub reflects : Reflects w then
   pub served : then.served ≡ change d.served
 
--- Whatever worker of the law a desk stood for, it goes on to one that the desk then stands for, and its connections are changed so: more is fed to
+-- Whatever worker of the law a worker stood for, it goes on to one that the worker then stands for, and its connections are changed so: more is fed to
 -- them or handed out for them, one is closed, or one more is opened.
 pub record Goes (change : List Served → List Served) (v w : WorkState) : Type 0 where
-  pub leads : (d : DeskState) → IsLed d → Reflects v d → LeadsTo change w d
+  pub leads : (d : WorkerState) → IsLed d → Reflects v d → LeadsTo change w d
 
 -- nothing is fed or handed out
 abbrev pub unchanged : List Served → List Served
@@ -245,7 +245,7 @@ abbrev pub one_opened : Connection → List Served → List Served
 one_opened c served = served ++ record { connection = c; fed = []; closing = None; handed = []; ends = [] } ∷ []
 
 -- A connection of the node with a serial that none had here has a new seat, and nothing else changed but what the worker heard last, and the mark.
-pub record OpensAt (c : Connection) (v w : WorkState) : Type 0 where
+pub record OpensNew (c : Connection) (v w : WorkState) : Type 0 where
   pub node : c.node ≡ v.worker.node
   pub later : v.next ≤ c.serial
   pub absent : seat_at c.serial v.seats ≡ None
@@ -310,7 +310,7 @@ pub record EndsNext (v w : WorkState) : Type 0 where
   pub changed : w ≡ record v { worker = told_of w.worker.seat.noted v.worker; mark = w.mark; jobs = w.jobs; late = 0; ended = Some one.serial }
 
 -- the last job of a connection that is closed, where there is a seat
-abbrev pub last_here : ℕ → Option SeatState → Option Item
+abbrev pub last_here : ℕ → Option OpenConnectionState → Option Item
 last_here moment None = None
 last_here moment (Some s) = last_job moment s
 
@@ -379,18 +379,18 @@ pub record HandsOn (v w : WorkState) : Type 0 where
 pub record TakesTurn (places : ℕ) (lifts : Lifts) (most : ℕ) (turned : Turned) (v w : WorkState) : Type 0 where
   pub standing : Standing
   pub note : NoteView
-  pub pieces : List Handed
+  pub pieces : List LastPiece
   pub behind : TurnsBehind places v.worker.node v.worker.seat.worker v.worker.generation lifts most [] pieces turned standing note
   pub counted : turned.answered ≤ length w.worker.seat.noted.answered
   pub adopted : Adopts v.mark standing w.mark
-  pub accepted : Accepts v.limit (map portion_of pieces) v.seats w.seats
+  pub accepted : AcceptsPortions v.limit (map portion_of pieces) v.seats w.seats
 
 -- So it came from what was handed out without a turn, of a node that had answered so many of the worker's batches.
 pub record TakesPieces (most : ℕ) (collected : Collected) (v w : WorkState) : Type 0 where
   pub standing : Standing
   pub note : NoteView
-  pub pieces : List Handed
+  pub pieces : List LastPiece
   pub behind : CollectsBehind v.worker.node v.worker.seat.worker v.worker.generation most [] pieces collected standing note
   pub counted : collected.answered ≤ length w.worker.seat.noted.answered
   pub adopted : Adopts v.mark standing w.mark
-  pub accepted : Accepts v.limit (map portion_of pieces) v.seats w.seats
+  pub accepted : AcceptsPortions v.limit (map portion_of pieces) v.seats w.seats

@@ -3,14 +3,14 @@ ghost use Rattle.std.specs.Prelude.{◌≡◌, ◌<◌, ◌≤◌, ◌+◌, ◌+
 ghost use Rattle.nr_slots.specs.Seats.{one_if};
 ghost use Rattle.nr_model.specs.Keyspace.{last_moment};
 ghost use Rattle.nr_entry.specs.Jobs.{items_of};
-ghost use Rattle.nr_seats.specs.Placed.{closed_seen, seat_at};
+ghost use Rattle.nr_worker.specs.Placed.{closed_seen, seat_at};
 ghost use Rattle.nr_worker.specs.Working.{all_closed, last_here, last_seen, Closes, Goes};
 
-use crate::desk::Desk;
 use crate::due::DueJobs;
+use crate::open_connections::Closed;
+use crate::worker::Worker;
 use nr_combiner::{ClosedQueue, ServerName};
 use nr_entry::ConnId;
-use nr_seats::Closed;
 use std::sync::Wait;
 
 // Puts the last job of a connection behind the others, where it has one: in the room that was kept for it, which is let go of.
@@ -27,7 +27,7 @@ fn put_last(due: &mut DueJobs, closed: Closed)
     }
 }
 
-impl<'a, R: Wait, B: ServerName> Desk<'a, R, B> {
+impl<'a, R: Wait, B: ServerName> Worker<'a, R, B> {
     /// Closes the connection of its node with this serial, at a moment in milliseconds, at most 2^53: its seat goes, with the bytes that wait for it, and its last job,
     /// which ends it, waits behind the others, unless its bytes asked for their end before. It takes no memory. Its node, whose lock is taken once, lets go of its
     /// queue: its room comes back, as what this hands on says. Logarithmic.

@@ -5,8 +5,8 @@ ghost use Rattle.nr_worker.specs.Due.{emptied};
 ghost use Rattle.nr_worker.specs.Settling.{back_of, down_of, late_of, left_of, settled_of, HasSettled};
 ghost use Rattle.nr_worker.specs.Working.{unchanged, Goes};
 
-use crate::desk::Desk;
 use crate::due::DueJobs;
+use crate::worker::Worker;
 use nr_combiner::{MOST_JOBS, ServerName};
 use nr_entry::{Job, Outcome, Refusal};
 use nr_slots::Uncollected;
@@ -63,7 +63,7 @@ fn settle(
     }
 }
 
-impl<'a, R: Wait, B: ServerName> Desk<'a, R, B> {
+impl<'a, R: Wait, B: ServerName> Worker<'a, R, B> {
     /// What became of the batch that was handed in last, once that is answered: one load, and one store where it is. The jobs of a batch that comes back wait in
     /// front of the others, in their order; where the node is down no jobs wait any more. Constant, and linear in the jobs that are let go of.
     ///

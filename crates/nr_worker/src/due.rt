@@ -3,13 +3,13 @@ ghost use Rattle.std.specs.Prelude.{◌≡◌, ◌<◌, ◌≤◌, ◌==◌, ◌
 ghost use Rattle.std.specs.Vec.{vec_len, vec_capacity};
 ghost use Rattle.nr_model.specs.Keyspace.{last_moment};
 ghost use Rattle.nr_entry.specs.Jobs.{item_of, items_of};
-ghost use Rattle.nr_seats.specs.Placed.{seat_at, takes_here, FeedsSeat, StopsSeat};
+ghost use Rattle.nr_worker.specs.Placed.{seat_at, takes_here, FeedsSeat, StopsSeat};
 ghost use Rattle.nr_worker.specs.Due.{emptied, fresh_due, with_room};
 
+use crate::open_connections::OpenConnections;
 use nr_blob::Memory;
 use nr_entry::Job;
-use nr_replica::Cut;
-use nr_seats::Seats;
+use nr_replica::CutReason;
 use std::alloc::Global;
 use std::marker::Model;
 use std::mem;
@@ -101,15 +101,15 @@ impl DueJobs {
         Ok(())
     }
 
-    /// Feeds a connection at its seat, as [`Seats::feed`] does: its jobs wait behind the others, those that are late among them. Logarithmic, and linear in the bytes
+    /// Feeds a connection at its seat, as [`OpenConnections::feed`] does: its jobs wait behind the others, those that are late among them. Logarithmic, and linear in the bytes
     /// and in the late ones.
     ///
     /// # Errors
     ///
-    /// Those of [`Seats::feed`]; and `Memory` where there is none for the late ones: then no bytes are fed, and the connection is cut.
+    /// Those of [`OpenConnections::feed`]; and `Memory` where there is none for the late ones: then no bytes are fed, and the connection is cut.
     pub(crate) fn feed(
         &mut self,
-        seats: &mut Seats,
+        seats: &mut OpenConnections,
         serial: u64,
         moment: u64,
         bytes: &[u8],
@@ -123,7 +123,7 @@ impl DueJobs {
         ensures count { length seats.new ≡ length seats.old }
     {
         if let Err(memory) = gather(&mut self.jobs, &mut self.lasts) {
-            seats.cut(serial, Cut::Refused(memory));
+            seats.cut(serial, CutReason::Refused(memory));
             return Err(memory);
         }
         seats.feed(serial, moment, bytes, &mut self.jobs)

@@ -4,13 +4,13 @@ ghost use Rattle.nr_model.specs.Keyspace.{last_moment};
 ghost use Rattle.nr_entry.specs.Jobs.{connection_of};
 ghost use Rattle.nr_worker.specs.Working.{all_fed, listens_to, takes_from, Feeds, Goes, Stops};
 
-use crate::desk::Desk;
+use crate::worker::Worker;
 use nr_blob::Memory;
 use nr_combiner::ServerName;
 use nr_entry::ConnId;
 use std::sync::Wait;
 
-impl<'a, R: Wait, B: ServerName> Desk<'a, R, B> {
+impl<'a, R: Wait, B: ServerName> Worker<'a, R, B> {
     /// Whether bytes are taken from a connection: it is of this node and open here, its session hasn't ended, and it isn't cut. Logarithmic.
     pub fn takes(&self, conn: ConnId) -> bool
         ensures { result ≡ takes_from (connection_of conn) self.now }

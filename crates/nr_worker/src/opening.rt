@@ -1,17 +1,17 @@
 // A connection is opened.
 ghost use Rattle.std.specs.Prelude.{◌≡◌, ◌<◌, ◌≤◌, ◌+◌, ◌^◌, Some, false, is_some, length, IfOk, OnOk, OnErr};
 ghost use Rattle.nr_entry.specs.Jobs.{connection_of};
-ghost use Rattle.nr_seats.specs.Seated.{fresh_seat};
-ghost use Rattle.nr_seats.specs.Placed.{seat_at, IsPut};
+ghost use Rattle.nr_worker.specs.Seated.{fresh_seat};
+ghost use Rattle.nr_worker.specs.Placed.{seat_at, IsPut};
 ghost use Rattle.nr_worker.specs.Due.{with_room};
-ghost use Rattle.nr_worker.specs.Working.{one_opened, unchanged, Goes, MayHaveClosed, OpensAt};
+ghost use Rattle.nr_worker.specs.Working.{one_opened, unchanged, Goes, MayHaveClosed, OpensNew};
 
-use crate::desk::Desk;
 use crate::due::DueJobs;
+use crate::open_connections::OpenConnections;
+use crate::worker::Worker;
 use nr_blob::Memory;
 use nr_combiner::{OpenError, ServerName};
 use nr_entry::ConnId;
-use nr_seats::Seats;
 use std::sync::Wait;
 
 /// Why no connection was opened at a worker.
@@ -26,7 +26,7 @@ pub enum SeatError {
 }
 
 // A seat for a connection that was just opened, and room for its last job. Where memory runs out nothing changes. Logarithmic.
-fn seat(seats: &mut Seats, due: &mut DueJobs, conn: ConnId) -> Result<(), Memory>
+fn seat(seats: &mut OpenConnections, due: &mut DueJobs, conn: ConnId) -> Result<(), Memory>
     ensures opened { OnOk result (IsPut conn.serial (Some (fresh_seat (connection_of conn))) seats.old seats.new) }
     ensures count { OnOk result (length seats.new ≤ length seats.old + 1) }
     ensures room { OnOk result (due.new ≡ with_room due.old) }
@@ -44,7 +44,12 @@ fn seat(seats: &mut Seats, due: &mut DueJobs, conn: ConnId) -> Result<(), Memory
 
 // Takes in a connection that was just opened, where its serial is above all before and one more can be counted: a seat, and room for its last job. Where it
 // isn't taken in nothing changes. Logarithmic.
-fn take_in(seats: &mut Seats, due: &mut DueJobs, next: u64, conn: ConnId) -> Result<(), SeatError>
+fn take_in(
+    seats: &mut OpenConnections,
+    due: &mut DueJobs,
+    next: u64,
+    conn: ConnId,
+) -> Result<(), SeatError>
     ensures later { OnOk result (next ≤ conn.serial) }
     ensures absent { OnOk result (is_some (seat_at conn.serial seats.old) ≡ false) }
     ensures fits { OnOk result (conn.serial + 1 < 2 ^ 64) }
@@ -65,12 +70,12 @@ fn take_in(seats: &mut Seats, due: &mut DueJobs, next: u64, conn: ConnId) -> Res
     Ok(())
 }
 
-impl<'a, R: Wait, B: ServerName> Desk<'a, R, B> {
-    /// Opens a connection of its node, which this worker serves, with a seat here, and room for its last job: [`Worker::open`](nr_combiner::Worker::open), three
-    /// loads and an entry by serial. None is opened while its node is taken for down ([`Desk::hear_of_node`]). Where it isn't opened nothing changes here, but what was heard of
+impl<'a, R: Wait, B: ServerName> Worker<'a, R, B> {
+    /// Opens a connection of its node, which this worker serves, with a seat here, and room for its last job: [`NodeHandle::open`](nr_combiner::NodeHandle::open), three
+    /// loads and an entry by serial. None is opened while its node is taken for down ([`Worker::hear_of_node`]). Where it isn't opened nothing changes here, but what was heard of
     /// the node, and that it may have closed it again. Logarithmic.
     pub fn open(&mut self) -> Result<ConnId, SeatError>
-        ensures opened { IfOk result (λ conn. OpensAt (connection_of conn) self.old self.new) }
+        ensures opened { IfOk result (λ conn. OpensNew (connection_of conn) self.old self.new) }
         ensures goes { IfOk result (λ conn. Goes (one_opened (connection_of conn)) self.old self.new) }
         ensures unopened { OnErr result (MayHaveClosed self.old self.new) }
         ensures stands { OnErr result (Goes unchanged self.old self.new) }

@@ -6,10 +6,10 @@ ghost use Rattle.nr_slots.specs.Seats.{one_if};
 ghost use Rattle.nr_combiner.specs.Workers.{HasPosted};
 ghost use Rattle.nr_worker.specs.Working.{due, unchanged, Goes, HandsIn};
 
-use crate::desk::Desk;
 use crate::due::DueJobs;
+use crate::worker::Worker;
 use nr_blob::Memory;
-use nr_combiner::{MOST_JOBS, ServerName, Worker};
+use nr_combiner::{MOST_JOBS, NodeHandle, ServerName};
 use nr_entry::Job;
 use std::alloc::Global;
 use std::mem;
@@ -38,7 +38,7 @@ fn take_due(
 }
 
 // Hands jobs in as the next batch.
-fn hand_in<B: ServerName>(worker: &mut Worker<B>, jobs: Vec<Job>)
+fn hand_in<B: ServerName>(worker: &mut NodeHandle<B>, jobs: Vec<Job>)
     requires few { length jobs.items ≤ MOST_JOBS }
     requires answered { length worker.old.seat.lane.posted ≡ length worker.old.seat.lane.collected }
     requires counted { worker.old.next + 1 < 2 ^ 64 }
@@ -47,7 +47,7 @@ fn hand_in<B: ServerName>(worker: &mut Worker<B>, jobs: Vec<Job>)
     let _posted = worker.post(jobs);
 }
 
-impl<'a, R: Wait, B: ServerName> Desk<'a, R, B> {
+impl<'a, R: Wait, B: ServerName> Worker<'a, R, B> {
     // Whether no jobs wait.
     fn has_none(&self) -> bool
         ensures { result ≡ (length self.now.jobs == 0) }

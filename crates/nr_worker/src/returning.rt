@@ -1,4 +1,4 @@
-// A desk's node falls, and comes back.
+// A worker's node falls, and comes back.
 ghost use Rattle.std.specs.Prelude.{◌≡◌, true, false, List, IfOk, OnErr};
 ghost use Rattle.std.specs.Bool.{OnFalse, OnTrue};
 ghost use Rattle.nr_model.specs.Items.{Item};
@@ -6,11 +6,11 @@ ghost use Rattle.nr_entry.specs.Jobs.{item_of};
 ghost use Rattle.nr_combiner.specs.Workers.{told_of};
 ghost use Rattle.nr_worker.specs.Working.{all_ended, back_work, end_of, fallen_work, heard_work, is_bare, unchanged, EndsNext, Goes};
 
-use crate::desk::Desk;
-use nr_accounts::Unended;
+use crate::worker::Worker;
 use nr_blob::Memory;
 use nr_combiner::ServerName;
 use nr_entry::{ConnId, Job, JobKind, Update};
+use nr_job_numbers::Unended;
 use std::sync::Wait;
 
 // The job that ends a connection of a node of which that expects this next.
@@ -28,7 +28,7 @@ fn end_of(node: usize, one: Unended) -> Job
     }
 }
 
-impl<'a, R: Wait, B: ServerName> Desk<'a, R, B> {
+impl<'a, R: Wait, B: ServerName> Worker<'a, R, B> {
     /// Whether its node is taken for down.
     pub fn is_down(&self) -> bool
         ensures { result ≡ self.now.down }
@@ -36,7 +36,7 @@ impl<'a, R: Wait, B: ServerName> Desk<'a, R, B> {
         self.is_down
     }
 
-    /// Whether ends are to be put for connections that its node had as it came back last: see [`Desk::end_next`].
+    /// Whether ends are to be put for connections that its node had as it came back last: see [`Worker::end_next`].
     pub fn is_ending(&self) -> bool
         ensures { result ≡ self.now.ending }
     {
@@ -44,7 +44,7 @@ impl<'a, R: Wait, B: ServerName> Desk<'a, R, B> {
     }
 
     /// Takes in what its node told behind a turn: whether it is down, and how many connections it had as it came back last. Where it is down, or came back since that was
-    /// heard, the desk takes it for down, and no jobs wait any more: until it is up, no connection is open here, and no answer is awaited. Then the desk goes on, with ends
+    /// heard, the worker takes it for down, and no jobs wait any more: until it is up, no connection is open here, and no answer is awaited. Then the worker goes on, with ends
     /// to be put for the connections of before. Linear in the jobs that are let go of.
     pub fn hear_of_node(&mut self, is_down: bool, since: u64)
         ensures heard { self.new ≡ heard_work is_down since self.old }
@@ -90,7 +90,7 @@ impl<'a, R: Wait, B: ServerName> Desk<'a, R, B> {
 
     /// Puts the end of the next of its connections that its node had as it came back last, and whose end isn't in the log, though a job of it is: so who was subscribed or
     /// watched is counted by nobody any more. It waits behind the other jobs. Whether there was one; where not, all are put, or the next one is open here: then its
-    /// node came back once more, and all are put once that is heard. It takes the lock once: [`Worker::next_unended`](nr_combiner::Worker::next_unended).
+    /// node came back once more, and all are put once that is heard. It takes the lock once: [`NodeHandle::next_unended`](nr_combiner::NodeHandle::next_unended).
     ///
     /// # Errors
     ///

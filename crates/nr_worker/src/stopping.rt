@@ -1,16 +1,16 @@
 // Connections for which nothing more comes.
 ghost use Rattle.std.specs.Prelude.{[], IfOk};
 ghost use Rattle.nr_combiner.specs.Behind.{CutsBehind};
-ghost use Rattle.nr_seats.specs.Placed.{open_ones};
+ghost use Rattle.nr_worker.specs.Placed.{open_ones};
 ghost use Rattle.nr_worker.specs.Working.{unchanged, CutsOff, Goes};
 
-use crate::desk::Desk;
+use crate::worker::Worker;
 use nr_combiner::{AskError, ServerName};
 use nr_entry::ConnId;
-use nr_replica::Cut;
+use nr_replica::CutReason;
 use std::sync::Wait;
 
-impl<'a, R: Wait, B: ServerName> Desk<'a, R, B> {
+impl<'a, R: Wait, B: ServerName> Worker<'a, R, B> {
     /// Those of its connections for which nothing more comes, since their node cut their queues, and from which bytes are taken yet. A turn tells of a queue that is
     /// cut beside the last bytes that it hands out for it; where none wait as it is cut, this alone tells. It takes the lock once. Linear in the connections, and
     /// logarithmic for each.
@@ -34,6 +34,6 @@ impl<'a, R: Wait, B: ServerName> Desk<'a, R, B> {
         ensures stopped { CutsOff serial self.old self.new }
         ensures goes { Goes unchanged self.old self.new }
     {
-        self.seats.cut(serial, Cut::Closed);
+        self.seats.cut(serial, CutReason::Closed);
     }
 }

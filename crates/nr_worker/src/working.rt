@@ -3,14 +3,14 @@ ghost use Rattle.std.specs.Prelude.{◌≡◌, ◌<◌, [], map, length, Some, I
 ghost use Rattle.nr_node.specs.Sound.{IsSound};
 ghost use Rattle.nr_taps.specs.Marks.{Adopts};
 ghost use Rattle.nr_taps.specs.Taps.{HaveMet};
-ghost use Rattle.nr_seats.specs.Portions.{portion_of, Accepts};
+ghost use Rattle.nr_worker.specs.Portions.{portion_of, AcceptsPortions};
 ghost use Rattle.nr_worker.specs.Working.{HandsOn, TakesPieces, TakesTurn};
 
-use crate::desk::Desk;
+use crate::open_connections::OpenConnections;
+use crate::worker::Worker;
 use nr_combiner::{Collected, Lifts, ServerName, Turned};
-use nr_node::Handed;
+use nr_node::LastPiece;
 use nr_oplog::{Oplog, Token};
-use nr_seats::Seats;
 use nr_taps::Mark;
 use std::sync::Wait;
 
@@ -19,15 +19,15 @@ fn take_in<B: ServerName>(
     log: &Oplog<B>,
     token: Token<B>,
     mark: &mut Mark<B>,
-    pieces: &mut Vec<Handed>,
-    seats: &mut Seats,
+    pieces: &mut Vec<LastPiece>,
+    seats: &mut OpenConnections,
     limit: usize,
 )
     requires sound { IsSound token.standing }
     requires node { IfSome mark.old.standing (λ s. s.node ≡ token.standing.node) }
     ensures adopted { Adopts mark.old.standing token.standing mark.new.standing }
     ensures met { HaveMet mark.old.standing (Some token.standing) }
-    ensures accepts { Accepts limit (map portion_of pieces.old.items) seats.old seats.new }
+    ensures accepts { AcceptsPortions limit (map portion_of pieces.old.items) seats.old seats.new }
     ensures count { length seats.new ≡ length seats.old }
     ensures none { pieces.new.items ≡ [] }
 {
@@ -35,8 +35,8 @@ fn take_in<B: ServerName>(
     seats.put_each(pieces, limit);
 }
 
-impl<'a, R: Wait, B: ServerName> Desk<'a, R, B> {
-    /// A turn at its node, which takes the lock once, as [`Worker::turn`](nr_combiner::Worker::turn) says: at most so many bytes are handed out for each of its
+impl<'a, R: Wait, B: ServerName> Worker<'a, R, B> {
+    /// A turn at its node, which takes the lock once, as [`NodeHandle::turn`](nr_combiner::NodeHandle::turn) says: at most so many bytes are handed out for each of its
     /// connections. They wait at their seats behind what waited, and the mark keeps of which record they are. `None` where another node stands behind the lock,
     /// which there never is: then nothing changes. It costs what the turn does, three loads, and for each piece a look-up by its serial.
     pub fn turn(&mut self, lifts: Lifts, most: usize) -> Option<Turned>
@@ -84,7 +84,7 @@ impl<'a, R: Wait, B: ServerName> Desk<'a, R, B> {
         Some(turned)
     }
 
-    /// What waits at its node for its connections, without a turn, as [`Worker::collect_pieces`](nr_combiner::Worker::collect_pieces) says: for one whose batch was
+    /// What waits at its node for its connections, without a turn, as [`NodeHandle::collect_pieces`](nr_combiner::NodeHandle::collect_pieces) says: for one whose batch was
     /// answered in another's turn. It takes the lock once, and does with the pieces what a turn does. `None` where another node stands behind the lock, which there
     /// never is: then nothing changes.
     pub fn collect_pieces(&mut self, most: usize) -> Option<Collected>

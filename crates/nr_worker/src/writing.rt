@@ -1,13 +1,13 @@
 // What waits for a connection is written to it.
 ghost use Rattle.std.specs.Prelude.{◌≡◌, ◌≤◌, is_some, length};
-ghost use Rattle.nr_seats.specs.Placed.{are_written, pending_here, seat_at};
+ghost use Rattle.nr_worker.specs.Placed.{are_written, pending_here, seat_at};
 ghost use Rattle.nr_worker.specs.Working.{unchanged, Goes, Writes};
 
-use crate::desk::Desk;
+use crate::worker::Worker;
 use nr_combiner::ServerName;
 use std::sync::Wait;
 
-impl<'a, R: Wait, B: ServerName> Desk<'a, R, B> {
+impl<'a, R: Wait, B: ServerName> Worker<'a, R, B> {
     /// Whether the connection of its node with this serial is open here. Logarithmic.
     pub fn is_open(&self, serial: u64) -> bool
         ensures { result ≡ is_some (seat_at serial self.now.seats) }

@@ -19,13 +19,13 @@ const MOST_UNMAPPED: usize = 128;
 
 /// A hashed map from members to scores, if it was made. It is seen as that: up to 128 members need none, as a look at each of them finds one.
 #[derive(Drop)]
-pub(crate) struct Index {
+pub(crate) struct ScoreMap {
     // The map is made with them.
     keys: RandomState,
     scores: Option<Box<HashMap<Blob, i64, RandomState>>>,
 }
 
-impl Model for Index {
+impl Model for ScoreMap {
     ghost use Rattle.std.specs.Prelude.{Option};
     ghost use Rattle.std.specs.Option.{option_map};
     ghost use Rattle.std.specs.Coded.{coded_option};
@@ -39,12 +39,12 @@ impl Model for Index {
     ghost view = { λ index. option_map (λ held. scores_of held.value.entries) index.scores };
 }
 
-impl Index {
+impl ScoreMap {
     /// No map, and the keys for one. It takes no memory.
-    pub(crate) fn new(keys: RandomState) -> Index
+    pub(crate) fn new(keys: RandomState) -> ScoreMap
         ensures { result ≡ None }
     {
-        Index { keys, scores: None }
+        ScoreMap { keys, scores: None }
     }
 
     fn is_made(&self) -> bool
@@ -134,14 +134,14 @@ impl Index {
     }
 
     /// The same map once more, found by the same keys. Linear in the members and their bytes.
-    pub(crate) fn copy(&self, alloc: Global) -> Result<Index, Memory>
+    pub(crate) fn copy(&self, alloc: Global) -> Result<ScoreMap, Memory>
         ensures { IfOk result (λ copied. copied ≡ self.now) }
     {
         let Some(scores) = &self.scores else {
-            return Ok(Index::new(self.keys));
+            return Ok(ScoreMap::new(self.keys));
         };
         let copied = copy_scores(alloc, scores)?;
-        Ok(Index {
+        Ok(ScoreMap {
             keys: self.keys,
             scores: Some(Box::new(alloc, copied)?),
         })

@@ -3,7 +3,7 @@ ghost use Rattle.std.specs.Prelude.{◌≡◌, ◌↔◌, ◌<◌, ◌^◌, IsTr
 ghost use Rattle.std.specs.FinMap as finmap;
 
 use crate::form::Form;
-use crate::index::Index;
+use crate::index::ScoreMap;
 use nr_blob::{Blob, Memory};
 use std::alloc::Global;
 use std::hash::RandomState;
@@ -24,7 +24,7 @@ mod ranges;
 pub struct Zset {
     // Copies, the map, and what is put into a form are made with it: a form hands its own out to nobody.
     alloc: Global,
-    index: Index,
+    index: ScoreMap,
     form: Form,
 }
 
@@ -49,7 +49,7 @@ impl Zset {
     {
         Zset {
             alloc,
-            index: Index::new(keys),
+            index: ScoreMap::new(keys),
             form: Form::new(alloc),
         }
     }

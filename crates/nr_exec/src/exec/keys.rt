@@ -5,8 +5,8 @@ ghost use Rattle.nr_model.specs.Commands.Shape.{staying};
 ghost use Rattle.nr_model.specs.Commands.Keys as keys;
 ghost use Rattle.nr_resp.specs.Done.{Answers, Performs};
 
-use nr_basic::keys::{copying, deadlines, del, looks, moving};
 use nr_blob::Blob;
+use nr_key_commands::keys::{copying, deadlines, del, looks, moving};
 use nr_keyspace::{Db, Keyspace, Touched};
 use nr_model::command::{KeysChange, KeysLook};
 use nr_resp::{Failure, Reply, Shown};

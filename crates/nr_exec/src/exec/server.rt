@@ -4,8 +4,8 @@ ghost use Rattle.nr_model.specs.Keyspace.{live};
 ghost use Rattle.nr_model.specs.Commands.Server as server;
 ghost use Rattle.nr_resp.specs.Done.{Answers, Performs};
 
-use nr_basic::server::{db_size, echo, flush_all, flush_db, ping, select, swap_db, time};
 use nr_blob::Blob;
+use nr_key_commands::server::{db_size, echo, flush_all, flush_db, ping, select, swap_db, time};
 use nr_keyspace::{Db, Keyspace, Touched};
 use nr_model::command::{ServerChange, ServerLook};
 use nr_resp::{Failure, Reply, Shown};

@@ -5,8 +5,8 @@ ghost use Rattle.nr_model.specs.Commands.Shape.{staying};
 ghost use Rattle.nr_model.specs.Commands.Strings as strings;
 ghost use Rattle.nr_resp.specs.Done.{Answers, Performs};
 
-use nr_basic::strings::{bits, looks, numbers, setting, several, taking, writing};
 use nr_blob::Blob;
+use nr_key_commands::strings::{bits, looks, numbers, setting, several, taking, writing};
 use nr_keyspace::{Db, Keyspace, Touched};
 use nr_model::command::{StringsChange, StringsLook};
 use nr_resp::{Failure, Reply, Shown};

@@ -11,7 +11,7 @@ ghost use Rattle.nr_resp.specs.Seen.{reply_of};
 ghost use Rattle.nr_resp.specs.Done.{Answers};
 ghost use Rattle.nr_resp.specs.Shown.{item_reply, shown_reply};
 
-use crate::hashes::held::{has_field, hash_at, value_in};
+use crate::hashes::stored::{has_field, hash_at, value_in};
 use nr_blob::{Blob, Memory};
 use nr_hashes::Hash;
 use nr_keyspace::{Db, Keyspace};

@@ -10,7 +10,7 @@ ghost use Rattle.nr_resp.specs.Done.{Performs};
 ghost use Rattle.nr_members.specs.HashesSet.{odd_words, set_reply};
 
 use crate::hashes::edited::edit_at;
-use crate::hashes::held::{has_field, hash_at};
+use crate::hashes::stored::{has_field, hash_at};
 use nr_blob::{Blob, Memory};
 use nr_hashes::Hash;
 use nr_keyspace::{Db, HashEdit, Keyspace, Touched};
@@ -92,7 +92,7 @@ fn set_fields<T: Touched>(
 {
     let (name, words) = set_request(odd_words(setting), words)?;
     let keys = keyspace.keys();
-    let pairs = Pairs { keys, words };
+    let pairs = SetPairs { keys, words };
     let added = edit_at(alloc, keyspace, now, database, name, pairs)?;
     touched.touch(database, name)?;
     Ok(set_reply(setting, added))
@@ -134,12 +134,12 @@ fn set_request(odd: Refused, words: &[Blob]) -> Result<(&Blob, &[Blob]), Refused
 
 // Fields that are set, each in front of its value.
 #[derive(Clone, Copy)]
-struct Pairs<'k> {
+struct SetPairs<'k> {
     keys: RandomState,
     words: &'k [Blob],
 }
 
-impl<'k> HashEdit for Pairs<'k> {
+impl<'k> HashEdit for SetPairs<'k> {
     // How many of them are new.
     type Given = i64;
 

@@ -13,7 +13,7 @@ ghost use Rattle.nr_resp.specs.Done.{Answers, IsDone, Performs};
 ghost use Rattle.nr_resp.specs.Failures.{IfRefused};
 ghost use Rattle.nr_sets.specs.Lent.{lent};
 
-use crate::sets::held::set_at;
+use crate::sets::stored::set_at;
 use nr_blob::{Blob, Memory};
 use nr_keyspace::{Db, Keyspace, Touched, Value};
 use nr_model::command::Combination;

@@ -10,7 +10,7 @@ ghost use Rattle.nr_resp.specs.Shown.{item_reply};
 ghost use Rattle.nr_resp.specs.Done.{Answers};
 ghost use Rattle.nr_sets.specs.Lent.{lent};
 
-use crate::sets::held::{len_of, membership, set_at};
+use crate::sets::stored::{len_of, membership, set_at};
 use nr_blob::{Blob, Memory};
 use nr_keyspace::{Db, Keyspace};
 use nr_model::refused::Refused;

@@ -8,7 +8,7 @@ ghost use Rattle.nr_model.specs.Commands.Sets as sets;
 ghost use Rattle.nr_resp.specs.Done.{Performs};
 
 use crate::sets::changing::{insert, take, tell};
-use crate::sets::held::set_at;
+use crate::sets::stored::set_at;
 use nr_blob::Blob;
 use nr_keyspace::{Db, Keyspace, Touched};
 use nr_resp::words::three_words;

@@ -3,12 +3,12 @@
 ghost use Rattle.std.specs.Prelude.{◌≡◌, ◌+◌, ◌^◌, ◌<◌, ◌≤◌, max, length, true};
 ghost use Rattle.nr_ordered.specs.Trees.{counted, DifferByAtMost, IsSettled, IsNear, Settles};
 
-use super::{Link, Node, Tree, apart};
+use super::{Link, Tree, TreeNode, apart};
 use std::mem;
 
 // The node over these sides.
 #[inline(always)]
-fn over(left: Tree, mut node: Box<Node>, right: Tree) -> Box<Node>
+fn over(left: Tree, mut node: Box<TreeNode>, right: Tree) -> Box<TreeNode>
     ensures left { result.value.left ≡ left }
     ensures right { result.value.right ≡ right }
     ensures block { result.value.block ≡ node.value.block }
@@ -20,7 +20,7 @@ fn over(left: Tree, mut node: Box<Node>, right: Tree) -> Box<Node>
 
 // A node over sides of which neither is more than one level higher.
 #[inline(always)]
-pub(super) fn even(left: Tree, node: Box<Node>, right: Tree) -> Link
+pub(super) fn even(left: Tree, node: Box<TreeNode>, right: Tree) -> Link
     requires even { DifferByAtMost 1 left.1 right.1 }
     requires fits { length left.0 + length node.value.block + length right.0 < 2 ^ 64 }
     ensures { IsSettled left node.value.block right result }
@@ -46,7 +46,7 @@ fn counted(items: usize) -> u32
 // A node whose left side is two levels higher.
 #[cold]
 #[inline(never)]
-fn lean_left(left: Tree, node: Box<Node>, right: Tree) -> Link
+fn lean_left(left: Tree, node: Box<TreeNode>, right: Tree) -> Link
     requires two_higher { left.1 ≡ right.1 + 2 }
     requires fits { length left.0 + length node.value.block + length right.0 < 2 ^ 64 }
     ensures { IsSettled left node.value.block right result }
@@ -69,7 +69,7 @@ fn lean_left(left: Tree, node: Box<Node>, right: Tree) -> Link
 // A node whose right side is two levels higher.
 #[cold]
 #[inline(never)]
-fn lean_right(left: Tree, node: Box<Node>, right: Tree) -> Link
+fn lean_right(left: Tree, node: Box<TreeNode>, right: Tree) -> Link
     requires two_higher { right.1 ≡ left.1 + 2 }
     requires fits { length left.0 + length node.value.block + length right.0 < 2 ^ 64 }
     ensures { IsSettled left node.value.block right result }
@@ -90,7 +90,7 @@ fn lean_right(left: Tree, node: Box<Node>, right: Tree) -> Link
 }
 
 // A node over sides of which neither is more than two levels higher.
-pub(super) fn settled(left: Tree, node: Box<Node>, right: Tree) -> Link
+pub(super) fn settled(left: Tree, node: Box<TreeNode>, right: Tree) -> Link
     requires near { DifferByAtMost 2 left.1 right.1 }
     requires fits { length left.0 + length node.value.block + length right.0 < 2 ^ 64 }
     ensures { IsSettled left node.value.block right result }

@@ -6,7 +6,7 @@ ghost use Rattle.nr_ordered.specs.Lists.{renumbered};
 ghost use Rattle.nr_ordered.specs.Trees.{seen, items_of, HasGrown, IsBalanced};
 
 use super::balance::{even, settle, settled};
-use super::{Link, Node, Tree, apart};
+use super::{Link, Tree, TreeNode, apart};
 use crate::block::{Block, MOST_ITEMS};
 use nr_blob::Memory;
 use std::alloc::Global;
@@ -122,7 +122,7 @@ impl Tree {
     }
 
     // With the items of a node in front of all others.
-    fn with_first(self, node: Box<Node>) -> Tree
+    fn with_first(self, node: Box<TreeNode>) -> Tree
         requires { length node.value.block + length self.0 < 2 ^ 64 }
         ensures items { result.0 ≡ node.value.block ++ self.0 }
         ensures height { HasGrown self.1 result.1 }
@@ -135,7 +135,7 @@ impl Tree {
     }
 
     // The first node, and the tree without it.
-    fn without_first(self) -> (Box<Node>, Tree)
+    fn without_first(self) -> (Box<TreeNode>, Tree)
         requires { 0 < length self.0 }
         ensures items { self.0 ≡ result.0.value.block ++ result.1.0 }
         ensures fits { length self.0 < 2 ^ 64 }
@@ -153,7 +153,7 @@ impl Tree {
     }
 
     // The tree without its last node, and that.
-    fn without_last(self) -> (Tree, Box<Node>)
+    fn without_last(self) -> (Tree, Box<TreeNode>)
         requires { 0 < length self.0 }
         ensures items { self.0 ≡ result.0.0 ++ result.1.value.block }
         ensures fits { length self.0 < 2 ^ 64 }
@@ -175,7 +175,7 @@ impl Tree {
 #[cycle(putting)]
 fn put_in(
     alloc: Global,
-    node: &mut Node,
+    node: &mut TreeNode,
     place: usize,
     bytes: &[u8],
     number: i64,
@@ -207,7 +207,7 @@ fn put_in(
 
 // Takes an item of a node out.
 #[cycle(removing)]
-fn remove_in(node: &mut Node, place: usize)
+fn remove_in(node: &mut TreeNode, place: usize)
     requires within { place < length (items_of node.old) }
     requires more { 1 < length (items_of node.old) }
     requires counted { length (items_of node.old) < 2 ^ 64 }
@@ -237,7 +237,7 @@ fn remove_in(node: &mut Node, place: usize)
 }
 
 // Puts the first block of the right side in the place of a node's own.
-fn fill_from_right(node: &mut Node)
+fn fill_from_right(node: &mut TreeNode)
     requires { 0 < length node.old.right.0 }
     ensures items { items_of node.new ≡ node.old.left.0 ++ node.old.right.0 }
     ensures left { node.new.left ≡ node.old.left }
@@ -250,7 +250,7 @@ fn fill_from_right(node: &mut Node)
 }
 
 // Puts the last block of the left side in the place of a node's own.
-fn fill_from_left(node: &mut Node)
+fn fill_from_left(node: &mut TreeNode)
     requires { 0 < length node.old.left.0 }
     ensures items { items_of node.new ≡ node.old.left.0 ++ node.old.right.0 }
     ensures left { HasGrown node.new.left.1 node.old.left.1 }
@@ -263,16 +263,16 @@ fn fill_from_left(node: &mut Node)
 }
 
 // A node's own block.
-fn block_of(node: Box<Node>) -> Block
+fn block_of(node: Box<TreeNode>) -> Block
     ensures { result ≡ node.value.block }
 {
-    let Node { block, .. } = Box::into_inner(node);
+    let TreeNode { block, .. } = Box::into_inner(node);
     block
 }
 
 // Gives an item of a node another number.
 #[cycle(setting)]
-fn set_in(node: &mut Node, place: usize, number: i64)
+fn set_in(node: &mut TreeNode, place: usize, number: i64)
     requires within { place < length (items_of node.old) }
     requires counted { length (items_of node.old) < 2 ^ 64 }
     ensures items { items_of node.new ≡ renumbered (items_of node.old) place number }
@@ -298,14 +298,14 @@ fn lone(alloc: Global, bytes: &[u8], number: i64) -> Result<Link, Memory>
     ensures balanced { IfOk result (λ root. IsBalanced root) }
     ensures items { IfOk result (λ root. seen root ≡ ((bytes.now, number) ∷ [], 1)) }
 {
-    let node = Node::new(alloc, Block::new(alloc, bytes, number)?)?;
+    let node = TreeNode::new(alloc, Block::new(alloc, bytes, number)?)?;
     Ok(even(Tree::new(), node, Tree::new()))
 }
 
 // Puts an item into a node's block, or where that is full parts it, and what is behind stands first on the right side.
 fn put_here(
     alloc: Global,
-    node: &mut Node,
+    node: &mut TreeNode,
     place: usize,
     bytes: &[u8],
     number: i64,
@@ -339,7 +339,7 @@ fn split(
     bytes: &[u8],
     number: i64,
     stay: usize,
-) -> Result<Box<Node>, Memory>
+) -> Result<Box<TreeNode>, Memory>
     requires within { place ≤ length block.old }
     requires some { 0 < stay }
     requires few { stay < 32 }
@@ -351,7 +351,7 @@ fn split(
     let mut front = block.part(alloc, 0, stay)?;
     let mut behind = block.part(alloc, stay, len)?;
     put_either(&mut front, &mut behind, place, bytes, number)?;
-    let node = Node::new(alloc, behind)?;
+    let node = TreeNode::new(alloc, behind)?;
     *block = front;
     Ok(node)
 }

@@ -5,7 +5,7 @@ ghost use Rattle.nr_model.specs.SortedSets.{told_in};
 ghost use Rattle.nr_ordered.specs.Lists.{Item, IsParted, part, shown};
 ghost use Rattle.nr_ordered.specs.Trees.{items_of, IsFull};
 
-use super::{Link, Node, Tree};
+use super::{Link, Tree, TreeNode};
 use crate::ticks::Ticks;
 use nr_model::command::Direction;
 use std::marker::Brand;
@@ -29,7 +29,7 @@ pub trait Test {
         ensures { result ≡ passing self.now (bytes.now, number) };
 }
 
-impl Node {
+impl TreeNode {
     // What is told before the node's block, and what after it.
     fn sides(&self, direction: Direction) -> (&Tree, &Tree)
         ensures told { told_in direction (items_of self.now)
@@ -80,7 +80,7 @@ impl Tree {
             Link::Leaf => 0,
             Link::Fork { node, .. } => {
                 ticks.tick();
-                let node: &Node = node;
+                let node: &TreeNode = node;
                 if !node.block.is_in_front(cut, 0) {
                     return node.left.place_of(cut, ticks);
                 }
@@ -102,7 +102,7 @@ impl Tree {
         let Link::Fork { node, .. } = &self.root else {
             return 0;
         };
-        let node: &Node = node;
+        let node: &TreeNode = node;
         let own = node.block.count(test);
         node.left.count(test) + own + node.right.count(test)
     }
@@ -114,7 +114,7 @@ impl Tree {
         let Link::Fork { node, .. } = &self.root else {
             return None;
         };
-        let node: &Node = node;
+        let node: &TreeNode = node;
         if let Some(item) = node.left.first(test) {
             return Some(item);
         }
@@ -144,7 +144,7 @@ impl Tree {
         let Link::Fork { node, .. } = &self.root else {
             return;
         };
-        let node: &Node = node;
+        let node: &TreeNode = node;
         let (first, second) = node.sides(direction);
         let before = first.len();
         let behind = before + node.block.len();

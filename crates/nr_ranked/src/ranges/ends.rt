@@ -17,7 +17,7 @@ use nr_zbounds::{Bounds, ByteBound, ScoreBound, read_byte_bound, read_score_boun
 
 /// The ends of a range: places, of which those below 0 count from the end, or bounds.
 #[derive(Clone, Copy)]
-pub(crate) enum Ends<'k> {
+pub(crate) enum RangeEnds<'k> {
     Places(i64, i64),
     Within(Bounds<'k>),
 }
@@ -28,19 +28,19 @@ pub(super) fn ends_in<'k>(
     reversed: bool,
     a: &'k Blob,
     b: &'k Blob,
-) -> Result<Ends<'k>, Refused>
+) -> Result<RangeEnds<'k>, Refused>
     ensures ends { IfOk result (λ ends. sorted_sets.ends_of by reversed a.now b.now ≡ Ok (ends_of ends)) }
     ensures refused { IfErr result (λ why. sorted_sets.ends_of by reversed a.now b.now ≡ fault why) }
 {
     match by {
-        RangeBy::Places => Ok(Ends::Places(integer(a)?, integer(b)?)),
+        RangeBy::Places => Ok(RangeEnds::Places(integer(a)?, integer(b)?)),
         RangeBy::Scores => {
             let (a, b) = (score_bound(a)?, score_bound(b)?);
-            Ok(Ends::Within(score_ends(reversed, a, b)))
+            Ok(RangeEnds::Within(score_ends(reversed, a, b)))
         }
         RangeBy::Members => {
             let (a, b) = (byte_bound(a)?, byte_bound(b)?);
-            Ok(Ends::Within(member_ends(reversed, a, b)))
+            Ok(RangeEnds::Within(member_ends(reversed, a, b)))
         }
     }
 }

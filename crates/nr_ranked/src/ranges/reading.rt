@@ -7,7 +7,7 @@ ghost use Rattle.nr_model.specs.Commands.SortedSets as sorted_sets;
 ghost use Rattle.nr_ranked.specs.Options.{options_of};
 ghost use Rattle.nr_ranked.specs.Reading.{ends_of};
 
-use crate::ranges::ends::{Ends, ends_in};
+use crate::ranges::ends::{RangeEnds, ends_in};
 use crate::ranges::options::{RangeOptions, options_in};
 use nr_blob::Blob;
 use nr_model::command::{RangeBy, RangeForm};
@@ -18,7 +18,7 @@ use nr_resp::words::three_words;
 #[derive(Clone, Copy)]
 pub(crate) struct EndsRequest<'k> {
     pub(crate) name: &'k Blob,
-    pub(crate) ends: Ends<'k>,
+    pub(crate) ends: RangeEnds<'k>,
 }
 
 /// What the commands read that count a range or take it out.
@@ -36,7 +36,7 @@ pub(crate) fn ends_request<'k>(by: RangeBy, words: &'k [Blob]) -> Result<EndsReq
 #[derive(Clone, Copy)]
 pub(super) struct RangeRequest<'k> {
     pub(super) name: &'k Blob,
-    pub(super) ends: Ends<'k>,
+    pub(super) ends: RangeEnds<'k>,
     pub(super) options: RangeOptions,
 }
 

@@ -10,7 +10,7 @@ ghost use Rattle.nr_zbounds.specs.Ranges.{seen_bounds};
 ghost use Rattle.nr_ranked.specs.Options.{limit_of};
 ghost use Rattle.nr_ranked.specs.Reading.{ends_of, most_of};
 
-use crate::ranges::ends::Ends;
+use crate::ranges::ends::RangeEnds;
 use crate::ranges::options::Limit;
 use nr_blob::{Memory, end_of, start_of};
 use nr_model::command::Direction;
@@ -22,18 +22,18 @@ use std::alloc::Global;
 pub(super) fn told_in<'k>(
     alloc: Global,
     zset: &'k Zset,
-    ends: &Ends<'_>,
+    ends: &RangeEnds<'_>,
     direction: Direction,
     limit: Option<Limit>,
 ) -> Result<Vec<(&'k [u8], i64)>, Memory>
     ensures { IfOk result (λ told. map shown told.items ≡ told_range (ends_of ends.now) direction (option_map limit_of limit) zset.now) }
 {
     match ends {
-        Ends::Places(first, last) => {
+        RangeEnds::Places(first, last) => {
             let (from, to) = places(zset.len(), *first, *last);
             zset.by_place(direction, from, to)
         }
-        Ends::Within(bounds) => told_within(alloc, zset, bounds, direction, limit),
+        RangeEnds::Within(bounds) => told_within(alloc, zset, bounds, direction, limit),
     }
 }
 
@@ -75,31 +75,31 @@ fn most_of(count: i64) -> Option<usize>
 }
 
 /// How many members a range has.
-pub(super) fn count_in(zset: &Zset, ends: &Ends<'_>) -> usize
+pub(super) fn count_in(zset: &Zset, ends: &RangeEnds<'_>) -> usize
     ensures count { result ≡ length (told_range (ends_of ends.now) Ascending None zset.now) }
     ensures small { result < 2 ^ 63 }
 {
     match ends {
-        Ends::Places(first, last) => {
+        RangeEnds::Places(first, last) => {
             let (from, to) = places(zset.len(), *first, *last);
             to.saturating_sub(from)
         }
-        Ends::Within(bounds) => zset.count(bounds),
+        RangeEnds::Within(bounds) => zset.count(bounds),
     }
 }
 
 /// Takes the members of a range out. Where memory runs out nothing is changed.
-pub(crate) fn take_out(zset: &mut Zset, ends: &Ends<'_>) -> Result<(), Memory>
+pub(crate) fn take_out(zset: &mut Zset, ends: &RangeEnds<'_>) -> Result<(), Memory>
     ensures removed { OnOk result (zset.new ≡ without (told_range (ends_of ends.now) Ascending None zset.old) zset.old) }
     ensures err { OnErr result (zset.new ≡ zset.old) }
 {
     match ends {
-        Ends::Places(first, last) => {
+        RangeEnds::Places(first, last) => {
             let (from, to) = places(zset.len(), *first, *last);
             zset.remove_by_place(from, to)?;
             Ok(())
         }
-        Ends::Within(bounds) => {
+        RangeEnds::Within(bounds) => {
             zset.remove_between(bounds)?;
             Ok(())
         }

@@ -95,7 +95,7 @@ fn add(
 
 // How many members are new, and how many have another score.
 #[derive(Clone, Copy)]
-struct Counts {
+struct AddedCounts {
     added: usize,
     changed: usize,
 }
@@ -104,11 +104,11 @@ fn add_all(
     conditions: Conditions,
     zset: &mut Zset,
     pairs: &[(&Blob, i64)],
-) -> Result<Counts, Memory>
+) -> Result<AddedCounts, Memory>
     ensures scored { IfOk result (λ counts. scoring_as zset.new counts ≡ sorted_sets.add_all conditions zset.old (map shown pairs.now)) }
     ensures few { IfOk result (λ counts. counts.added + counts.changed < 2 ^ 63) }
 {
-    let mut counts = Counts {
+    let mut counts = AddedCounts {
         added: 0,
         changed: 0,
     };
@@ -121,7 +121,7 @@ fn add_all(
 fn add_one(
     conditions: Conditions,
     zset: &mut Zset,
-    counts: &mut Counts,
+    counts: &mut AddedCounts,
     member: &Blob,
     score: i64,
 ) -> Result<(), Memory>
@@ -138,7 +138,7 @@ fn add_one(
     Ok(())
 }
 
-impl Counts {
+impl AddedCounts {
     // A member has this score, and had another one or none.
     fn count(&mut self, held: Option<i64>, score: i64)
         requires { self.old.added + self.old.changed < 2 ^ 63 }

@@ -9,7 +9,7 @@ abbrev pub invariant-loop-handle : goal.invariant-loop-handle
 invariant-loop-handle g l =
     (vec_len l.marks + length l.handle-iterator.rest.items ≤ vec_capacity l.marks)
     × (vec_len l.lefts + length l.handle-iterator.rest.items ≤ vec_capacity l.lefts)
-    × AreLeft g.S.Stream.received g.S.Stream.sent g.M.Moments.gives g.D.Device.parted l.marks.items l.lefts.items
+    × AreLeft g.S.Stream.received g.S.Stream.sent g.M.Moments.gives g.D.Poller.parted l.marks.items l.lefts.items
     × AreServedWithin l.fn.limits l.lefts.items
     × AllByRecursion (λ handle. handle.promise.limits ≡ l.fn.limits) l.handle-iterator.rest.items
     × (vec_len l.lefts + length l.handle-iterator.rest.items ≡ vec_len l.fn.handles)

@@ -16,8 +16,8 @@ returns-clause-together g c =
     let replicas = c.keep_replicas.new.replicas.items in
     let same : c.meet_marks.new.marks ≡ kept.items = search (c.meet_marks.ensures, c.deref_mut.ensures) in
     let was = sym c.meet_marks.ensures.same ∙ same in
-    subst (λ ms. AreAnsweredTogether received sent g.M.Moments.gives g.D.Device.parted ms joined.lefts.items replicas)
+    subst (λ ms. AreAnsweredTogether received sent g.M.Moments.gives g.D.Poller.parted ms joined.lefts.items replicas)
     (sym (all_back kept.len c.meet_marks.new.marks kept.items (search kept.ok) same))
-    (are_together received sent g.M.Moments.gives g.D.Device.parted kept.items joined.marks.items joined.lefts.items replicas c.desk_law.ensures
+    (are_together received sent g.M.Moments.gives g.D.Poller.parted kept.items joined.marks.items joined.lefts.items replicas c.desk_law.ensures
     (subst (λ ms. AllByRecursion IsSound (standings_of ms)) was c.meet_marks.ensures.sound) (subst (λ ms. AreAllOfOneLog (standings_of ms)) was c.meet_marks.ensures.one_log)
     c.in_ok-ran_all.ensures.left c.keep_replicas.ensures)

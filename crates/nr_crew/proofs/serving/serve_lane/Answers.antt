@@ -1,6 +1,6 @@
 use Rattle.std.proofs.Common.{sym, ◌∙◌, subst}
-use Rattle.nr_lane.specs.Led.{size_of}
-use Rattle.nr_lane.specs.Serving.{kept_at}
+use Rattle.nr_worker_service.specs.Led.{size_of}
+use Rattle.nr_worker_service.specs.Serving.{kept_at}
 use Rattle.nr_crew.specs.Left.{IsAnswered}
 use Rattle.nr_crew.proofs.Limits.{same_worker}
 use Rattle.nr_crew.proofs.Remains.{is_answered, is_left}
@@ -27,7 +27,7 @@ returns-clause-answered g c =
     let received = g.S.Stream.received in
     let sent = g.S.Stream.sent in
     let gives = g.M.Moments.gives in
-    let parted = g.D.Device.parted in
+    let parted = g.D.Poller.parted in
     let node = c.args.lane.worker.node in
     let number = c.args.lane.worker.seat.worker in
     let service = c.serve-ended.new.self in

@@ -4,7 +4,7 @@ use Rattle.std.specs.FinMap as map
 use Rattle.nr_model.specs.Keyspace.{Stored, only_live}
 use Rattle.nr_keyspace.specs.Stores.{bytes_of, store_of, stored_of}
 use Rattle.nr_keyspace.specs.Values.{value_of}
-use Rattle.nr_keyspace.specs.declared.database.Entry.{Entry}
+use Rattle.nr_keyspace.specs.declared.database.KeyEntry.{KeyEntry}
 use Rattle.nr_keyspace.proofs.Named.{inserted, get-store}
 use Rattle.nr_keyspace.proofs.Indexed.{live_here}
 use Rattle.nr_keyspace.proofs.Changes.{entry_kept, on_err}
@@ -36,7 +36,7 @@ pub returns-in_err-given-clause-err : goal.returns-in_err-given-clause-err
 returns-in_err-given-clause-err g c =
     let entry = c.in-Some.entry.now in
     let entries = c.args.by_name.now.entries in
-    let written : Entry = record { value = c.edit.new.value; deadline = entry.deadline } in
+    let written : KeyEntry = record { value = c.edit.new.value; deadline = entry.deadline } in
     let changes = (c.get_mut.follows.holds written).3 (search rules) in
     on_err c.from_residual.result
     (entry_kept entries (c.get_mut.follows.lender written).entries c.args.name.now entry written c.in-Some.ensures.value changes.1 changes.3
@@ -46,7 +46,7 @@ pub returns-clause-ok : goal.returns-clause-ok
 returns-clause-ok g c =
     let entry = c.in-Some.entry.now in
     let entries = c.args.by_name.now.entries in
-    let written : Entry = record { value = c.edit.new.value; deadline = entry.deadline } in
+    let written : KeyEntry = record { value = c.edit.new.value; deadline = entry.deadline } in
     let changes = (c.get_mut.follows.holds written).3 (search rules) in
     let live : c.is_live.result ≡ true = search (c.if-not-is_live.false) in
     edited (g.E.Edit.edits c.args.edit) (store_of bytes_of entries) (store_of bytes_of (c.get_mut.follows.lender written).entries) c.args.name.now

@@ -4,7 +4,7 @@ use Rattle.std.specs.FinMap as map
 use Rattle.nr_model.specs.Keyspace.{Stored}
 use Rattle.nr_keyspace.specs.Stores.{bytes_of, store_of, stored_of, deadline_of, is_undated}
 use Rattle.nr_keyspace.specs.Values.{value_of}
-use Rattle.nr_keyspace.specs.declared.database.Entry.{Entry}
+use Rattle.nr_keyspace.specs.declared.database.KeyEntry.{KeyEntry}
 use Rattle.nr_keyspace.proofs.Named.{inserted, get-store}
 use Rattle.nr_keyspace.proofs.Changes.{entry_kept, not_some}
 use Rattle.nr_keyspace.proofs.database.rewrite.Goals as goal
@@ -17,7 +17,7 @@ returns-then-is_some-clause-unchanged c =
 
 pub returns-clause-written : goal.returns-clause-written
 returns-clause-written c =
-    let written : Entry = record { value = c.args.value; deadline = c.in-Some.entry.now.deadline } in
+    let written : KeyEntry = record { value = c.args.value; deadline = c.in-Some.entry.now.deadline } in
     let changes = (c.get_mut.follows.holds written).3 (search rules) in
     inserted bytes_of c.args.by_name.now.entries (c.get_mut.follows.lender written).entries c.args.name.now written changes.1 changes.3
     ∙ ap (λ deadline. let stored : Stored = record { value = value_of c.args.value; deadline = deadline } in

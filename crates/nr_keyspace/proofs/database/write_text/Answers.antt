@@ -4,7 +4,7 @@ use Rattle.std.specs.FinMap as map
 use Rattle.nr_model.specs.Keyspace as model
 use Rattle.nr_model.specs.Keyspace.{Stored}
 use Rattle.nr_keyspace.specs.Stores.{bytes_of, store_of, stored_of, is_undated}
-use Rattle.nr_keyspace.specs.declared.database.Entry.{Entry}
+use Rattle.nr_keyspace.specs.declared.database.KeyEntry.{KeyEntry}
 use Rattle.nr_keyspace.proofs.Named.{inserted, get-store}
 use Rattle.nr_keyspace.proofs.Changes.{entry_kept, not_some, on_err}
 use Rattle.nr_keyspace.proofs.database.write_text.Goals as goal
@@ -27,7 +27,7 @@ returns-then-is_some-clause-ok c =
 pub returns-in_err-write-clause-err : goal.returns-in_err-write-clause-err
 returns-in_err-write-clause-err c =
     let entry = c.in-Some.held.now in
-    let written : Entry = record { value = c.write.new.self; deadline = entry.deadline } in
+    let written : KeyEntry = record { value = c.write.new.self; deadline = entry.deadline } in
     let changes = (c.get_mut.follows.holds written).3 (search rules) in
     on_err c.from_residual.result
     (entry_kept c.args.by_name.now.entries (c.get_mut.follows.lender written).entries c.args.name.now entry written c.in-Some.ensures.value changes.1 changes.3
@@ -42,7 +42,7 @@ pub returns-clause-ok : goal.returns-clause-ok
 returns-clause-ok c =
     let entry = c.in-Some.held.now in
     let entries = c.args.by_name.now.entries in
-    let written : Entry = record { value = c.write.new.self; deadline = entry.deadline } in
+    let written : KeyEntry = record { value = c.write.new.self; deadline = entry.deadline } in
     let changes = (c.get_mut.follows.holds written).3 (search rules) in
     inserted bytes_of entries (c.get_mut.follows.lender written).entries c.args.name.now written changes.1 changes.3
     ∙ ap (λ (value : model.Value). let stored : Stored = record { value = value; deadline = entry.deadline } in

@@ -1,6 +1,6 @@
 use Rattle.std.proofs.Common.{◌≡◌, ◌∙◌, ap, subst}
 use Rattle.nr_entry.specs.Jobs.{items_of}
-use Rattle.nr_accounts.specs.Book.{without_ended}
+use Rattle.nr_job_numbers.specs.Book.{without_ended}
 use Rattle.std.specs.Arc.{arc_value}
 use Rattle.nr_entry.specs.declared.entry.Entry.{Entry}
 use Rattle.nr_node.specs.Advanced.{IsTakenIn}

@@ -1,6 +1,6 @@
 use Rattle.std.proofs.Common.{◌++◌}
 use Rattle.nr_entry.specs.Jobs.{items_of}
-use Rattle.nr_accounts.proofs.After.{left_after}
+use Rattle.nr_job_numbers.proofs.After.{left_after}
 use Rattle.nr_node.specs.Next.{jobs_next}
 use Rattle.nr_node.proofs.Dropped.{GoesBackTo}
 use Rattle.nr_node.proofs.falling.go_back.Given as goal

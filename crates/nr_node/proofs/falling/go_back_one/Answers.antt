@@ -1,8 +1,8 @@
 use Rattle.std.proofs.Common.{◌≡◌, ◌∙◌, ◌++◌, None, ap, sym}
 use Rattle.nr_model.specs.Asked.{own_jobs, first_number}
 use Rattle.nr_entry.specs.Jobs.{items_of}
-use Rattle.nr_accounts.specs.Held.{Held}
-use Rattle.nr_accounts.specs.Book.{Book}
+use Rattle.nr_job_numbers.specs.Stored.{Held}
+use Rattle.nr_job_numbers.specs.Book.{Book}
 use Rattle.nr_node.specs.Level.{connection_at}
 use Rattle.nr_node.specs.Next.{jobs_next}
 use Rattle.nr_node.proofs.Dropped.{none_goes_back}

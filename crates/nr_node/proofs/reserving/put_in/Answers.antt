@@ -2,7 +2,7 @@ use Rattle.std.proofs.Common.{◌<◌, ℕ, [], None, ap, sym, ◌∙◌, subst,
 use Rattle.std.proofs.lemmas.List.{append-nil}
 use Rattle.nr_entry.specs.Shares.{shares_of}
 use Rattle.nr_log_end.specs.declared.standing.Standing.{Standing}
-use Rattle.nr_log_end.specs.declared.standing.Look.{Look}
+use Rattle.nr_log_end.specs.declared.standing.Load.{Load}
 use Rattle.nr_oplog.specs.declared.view.LogView.{LogView}
 use Rattle.nr_node.proofs.Taking.{still_met}
 use Rattle.nr_node.proofs.reserving.put_in.Goals as goal
@@ -27,4 +27,4 @@ pub returns-in-Refused-clause-filled : goal.returns-in-Refused-clause-filled
 returns-in-Refused-clause-filled g c = λ node. ap (λ (v : LogView). get_or v.standing.unfilled node None) c.in-Refused.ensures.refused.1 ∙ c.requires.filled node
 
 pub returns-in-Refused-clause-looks : goal.returns-in-Refused-clause-looks
-returns-in-Refused-clause-looks g c = ([], ap (λ (v : LogView). v.looks) c.in-Refused.ensures.refused.1 ∙ sym (append-nil {A = Look} c.args.end.now.looks))
+returns-in-Refused-clause-looks g c = ([], ap (λ (v : LogView). v.looks) c.in-Refused.ensures.refused.1 ∙ sym (append-nil {A = Load} c.args.end.now.looks))

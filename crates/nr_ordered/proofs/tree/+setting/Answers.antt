@@ -1,5 +1,5 @@
 use Rattle.std.proofs.Common.{rules, arith, ◌≡◌, ◌-◌, length, refl, ap, subst, ◌∙◌}
-use Rattle.nr_ordered.specs.declared.tree.Node.{Node}
+use Rattle.nr_ordered.specs.declared.tree.TreeNode.{TreeNode}
 use Rattle.nr_ordered.specs.Lists.{renumbered}
 use Rattle.nr_ordered.specs.Trees.{items_of, IsBalanced}
 use Rattle.nr_ordered.proofs.Places.{set_left, set_here, set_right, length-renumbered}
@@ -11,8 +11,8 @@ Tree::set-invariant_of-self t c =
     let was = c.deref_mut.ensures.value in
     let set = c.set_in.ensures in
     same_shape c.in-Fork.height c.in-Fork.count c.in-Fork.node.value c.set_in.new.node
-    (ap length set.items ∙ length-renumbered (items_of c.deref_mut.result.now) c.args.place _ ∙ ap (λ (n : Node). length (items_of n)) was)
-    (set.left ∙ ap (λ (n : Node). n.left.1) was) (set.right ∙ ap (λ (n : Node). n.right.1) was) (set.some ∙ ap (λ (n : Node). length n.block) was)
+    (ap length set.items ∙ length-renumbered (items_of c.deref_mut.result.now) c.args.place _ ∙ ap (λ (n : TreeNode). length (items_of n)) was)
+    (set.left ∙ ap (λ (n : TreeNode). n.left.1) was) (set.right ∙ ap (λ (n : TreeNode). n.right.1) was) (set.some ∙ ap (λ (n : TreeNode). length n.block) was)
     (subst IsBalanced c.in-Fork.is c.self.invariant)
 
 pub edits::set_in-returns-then-place-before-clause-items : goal.edits::set_in-returns-then-place-before-clause-items

@@ -1,5 +1,5 @@
 use Rattle.std.proofs.Common.{◌≡◌, ◌++◌, ◌∷◌, [], map, take, drop}
-use Rattle.nr_nodes.specs.Seen.{handed_seen}
+use Rattle.nr_world.specs.Seen.{handed_seen}
 use Rattle.nr_script.specs.Receivers.{with_handed}
 use Rattle.nr_script.proofs.opened.receive_part.Given as goal
 

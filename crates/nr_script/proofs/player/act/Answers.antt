@@ -3,8 +3,8 @@ use Rattle.nr_model.specs.Bytes.{Bytes}
 use Rattle.nr_model.specs.Items.{Connection}
 use Rattle.nr_model.specs.Nodes.Steps.{Feed, Close}
 use Rattle.nr_entry.specs.Jobs.{connection_of}
-use Rattle.nr_nodes.specs.Seen.{outcome_seen}
-use Rattle.nr_nodes.specs.Taken.{Steps}
+use Rattle.nr_world.specs.Seen.{outcome_seen}
+use Rattle.nr_world.specs.Taken.{Steps}
 use Rattle.nr_script.specs.Acts.{asked_by}
 use Rattle.nr_script.proofs.Acted.{took, missed, asks_step, asks_nobody}
 use Rattle.nr_script.proofs.player.act.Goals as goal

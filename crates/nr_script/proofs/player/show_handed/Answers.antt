@@ -1,5 +1,5 @@
 use Rattle.std.proofs.Common.{map, ap, ◌∙◌}
-use Rattle.nr_nodes.specs.Seen.{handed_seen}
+use Rattle.nr_world.specs.Seen.{handed_seen}
 use Rattle.nr_script.specs.Receivers.{emptied}
 use Rattle.nr_script.proofs.Receivers.{emptied_handed}
 use Rattle.nr_script.proofs.player.show_handed.Goals as goal

@@ -5,10 +5,10 @@ use Rattle.nr_server.proofs.parting.finish_all.Goals as goal
 
 pub loop-left-preserved : goal.loop-left-preserved
 loop-left-preserved g c =
-    one_more (HasParted g.D.Device.parted) c.loop-left.left-index c.args.lefts.now c.loop-left.lefts c.finish_left-more.new.left c.left-item.result
+    one_more (HasParted g.D.Poller.parted) c.loop-left.left-index c.args.lefts.now c.loop-left.lefts c.finish_left-more.new.left c.left-item.result
     c.loop-left.invariant (omega (arith, c.loop-left-test.true, c.loop-left.auto.lefts)) c.finish_left-more.ensures.parted
 
 pub returns : goal.returns
 returns g c =
-    all_of (HasParted g.D.Device.parted) c.loop-left.left-index c.args.lefts.now c.loop-left.lefts
+    all_of (HasParted g.D.Poller.parted) c.loop-left.left-index c.args.lefts.now c.loop-left.lefts
     (omega (arith, c.loop-left-test.false, c.loop-left.auto.lefts)) c.loop-left.invariant

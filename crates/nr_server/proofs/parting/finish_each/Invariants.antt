@@ -4,4 +4,4 @@ use Rattle.nr_server.proofs.parting.finish_each.Given as goal
 
 abbrev pub invariant-loop-client : goal.invariant-loop-client
 invariant-loop-client g l =
-    (last : _) → PartsFrom l.client-iterator.rest.items (g.D.Device.parted l.device) last → PartsFrom l.fn.clients.items (g.D.Device.parted l.fn.device) last
+    (last : _) → PartsFrom l.client-iterator.rest.items (g.D.Poller.parted l.device) last → PartsFrom l.fn.clients.items (g.D.Poller.parted l.fn.device) last

@@ -5,10 +5,10 @@ use Rattle.nr_server.proofs.parting.look_once.Goals as goal
 
 pub loop-left-preserved : goal.loop-left-preserved
 loop-left-preserved g c =
-    one_more (PartsWithNone g.D.Device.parted) c.loop-left.left-index c.args.lefts.now c.loop-left.lefts c.look_at.new.left c.left-item.result
+    one_more (PartsWithNone g.D.Poller.parted) c.loop-left.left-index c.args.lefts.now c.loop-left.lefts c.look_at.new.left c.left-item.result
     c.loop-left.invariant (omega (arith, c.loop-left-test.true, c.loop-left.auto.lefts)) c.look_at.ensures
 
 pub returns : goal.returns
 returns g c =
-    all_of (PartsWithNone g.D.Device.parted) c.loop-left.left-index c.args.lefts.now c.loop-left.lefts
+    all_of (PartsWithNone g.D.Poller.parted) c.loop-left.left-index c.args.lefts.now c.loop-left.lefts
     (omega (arith, c.loop-left-test.false, c.loop-left.auto.lefts)) c.loop-left.invariant

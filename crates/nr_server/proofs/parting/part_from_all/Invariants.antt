@@ -3,4 +3,4 @@ use Rattle.nr_server.specs.Parting.{HaveParted}
 use Rattle.nr_server.proofs.parting.part_from_all.Given as goal
 
 abbrev pub invariant-loop : goal.invariant-loop
-invariant-loop g l = HaveParted g.D.Device.parted l.fn.lefts l.lefts
+invariant-loop g l = HaveParted g.D.Poller.parted l.fn.lefts l.lefts

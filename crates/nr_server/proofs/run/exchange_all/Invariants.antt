@@ -7,8 +7,8 @@ use Rattle.nr_server.proofs.run.exchange_all.Given as goal
 
 abbrev pub invariant-loop : goal.invariant-loop
 invariant-loop g l =
-    (first : _) (story : Story) → AreServed g.S.Stream.received g.S.Stream.sent g.S.Stream.course (g.A.Answers.is_past l.fn.service.answers)
-    (g.A.Answers.kept l.fn.service.answers) story l.fn.service.clients.items
+    (first : _) (story : Story) → AreServed g.S.Stream.received g.S.Stream.sent g.S.Stream.course (g.A.Backend.is_past l.fn.service.answers)
+    (g.A.Backend.kept l.fn.service.answers) story l.fn.service.clients.items
     → AreFedByClock g.M.Moments.gives first l.fn.service.clock l.fn.service.moment (fed_in story.occurrences) (closings_in story.occurrences)
-    → Goes g.S.Stream.received g.S.Stream.sent g.S.Stream.course g.A.Answers.is_past g.A.Answers.kept
+    → Goes g.S.Stream.received g.S.Stream.sent g.S.Stream.course g.A.Backend.is_past g.A.Backend.kept
     (AreFedByClock g.M.Moments.gives first l.service.clock l.service.moment) story l.service.answers l.service.clients.items

@@ -6,9 +6,9 @@ use Rattle.nr_service.proofs.accepting.accept_each.Given as goal
 
 abbrev pub invariant-loop : goal.invariant-loop
 invariant-loop g l = record {
-  accepts : Accepts g.S.Stream.received g.S.Stream.sent g.S.Stream.course g.A.Answers.is_past g.A.Answers.kept l.fn.answers l.answers
+  accepts : Accepts g.S.Stream.received g.S.Stream.sent g.S.Stream.course g.A.Backend.is_past g.A.Backend.kept l.fn.answers l.answers
       l.fn.clients.items l.clients.items;
-  arrives : ArrivesFew l.counter g.A.Answers.is_full g.A.Answers.is_placed g.D.Device.parted l.fn.answers l.answers l.fn.accepted l.accepted l.fn.device l.device
+  arrives : ArrivesFew l.counter g.A.Backend.is_full g.A.Backend.is_placed g.D.Poller.parted l.fn.answers l.answers l.fn.accepted l.accepted l.fn.device l.device
       l.fn.clients.items l.clients.items;
   opens : OpensAt l.fn.moment l.fn.clients.items l.clients.items;
 }

@@ -22,7 +22,7 @@ returns-in_default-clause-goes_on g c = λ rests. record {
   clients = refl;
   answers = refl;
   here = λ client low.
-      subst (λ (x : _). IsEnding (g.A.Answers.kept c.args.answers.now) (g.A.Answers.stands c.args.answers.now) (g.A.Answers.busy c.args.answers.now)
+      subst (λ (x : _). IsEnding (g.A.Backend.kept c.args.answers.now) (g.A.Backend.stands c.args.answers.now) (g.A.Backend.busy c.args.answers.now)
       c.args.bounds x None)
       (c.index.ensures ∙ get_or_within _ c.args.place _ client low) (rw c.in_default.is at c.ending_of.ensures);
 }

@@ -7,15 +7,15 @@ use Rattle.nr_service.proofs.leaving.let_go_listed.Given as goal
 
 abbrev pub invariant-loop-left : goal.invariant-loop-left
 invariant-loop-left g l = record {
-  gone : LetsGo g.S.Stream.received g.S.Stream.sent g.S.Stream.course g.A.Answers.is_past g.A.Answers.kept g.A.Answers.stands g.A.Answers.busy
-      g.A.Answers.is_gone g.D.Device.parted l.fn.bounds l.fn.answers l.answers l.fn.device l.device l.fn.clients.items l.clients.items;
+  gone : LetsGo g.S.Stream.received g.S.Stream.sent g.S.Stream.course g.A.Backend.is_past g.A.Backend.kept g.A.Backend.stands g.A.Backend.busy
+      g.A.Backend.is_gone g.D.Poller.parted l.fn.bounds l.fn.answers l.answers l.fn.device l.device l.fn.clients.items l.clients.items;
   all : l.signs.is_all ≡ l.fn.signs.is_all;
   calm : l.signs.is_busy ≡ false → l.fn.signs.is_busy ≡ false;
   clients : l.signs.is_busy ≡ false → l.clients.items ≡ l.fn.clients.items;
   answers : l.signs.is_busy ≡ false → l.answers ≡ l.fn.answers;
   within : l.fn.signs.is_all ≡ true → l.left ≤ length l.fn.clients.items;
   each : l.fn.signs.is_all ≡ true → l.signs.is_busy ≡ false
-      → AllWithin (λ client. IsEnding (g.A.Answers.kept l.fn.answers) (g.A.Answers.stands l.fn.answers) (g.A.Answers.busy l.fn.answers) l.fn.bounds client None)
+      → AllWithin (λ client. IsEnding (g.A.Backend.kept l.fn.answers) (g.A.Backend.stands l.fn.answers) (g.A.Backend.busy l.fn.answers) l.fn.bounds client None)
       l.fn.clients.items l.left (length l.fn.clients.items);
 }
 

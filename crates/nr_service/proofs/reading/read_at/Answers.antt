@@ -38,8 +38,8 @@ returns-then-place-clients-clause-heard g c = all_as_before _ _
 
 pub returns-clause-heard : goal.returns-clause-heard
 returns-clause-heard g c =
-    one_heard _ c.args.clients.now c.args.place c.index-clients-place.result c.read_one.new.client (omega arith) (read_or_before (g.A.Answers.listens c.args.answers.now (connection (get_or c.args.clients.now c.args.place c.index-clients-place.result))) _ _ _ _ _ _ c.read_one.ensures.heard)
+    one_heard _ c.args.clients.now c.args.place c.index-clients-place.result c.read_one.new.client (omega arith) (read_or_before (g.A.Backend.listens c.args.answers.now (connection (get_or c.args.clients.now c.args.place c.index-clients-place.result))) _ _ _ _ _ _ c.read_one.ensures.heard)
 
 pub returns-in_err-read_one-clause-heard : goal.returns-in_err-read_one-clause-heard
 returns-in_err-read_one-clause-heard g c =
-    one_heard _ c.args.clients.now c.args.place c.index-clients-place.result c.read_one.new.client (omega arith) (read_or_before (g.A.Answers.listens c.args.answers.now (connection (get_or c.args.clients.now c.args.place c.index-clients-place.result))) _ _ _ _ _ _ c.read_one.ensures.heard)
+    one_heard _ c.args.clients.now c.args.place c.index-clients-place.result c.read_one.new.client (omega arith) (read_or_before (g.A.Backend.listens c.args.answers.now (connection (get_or c.args.clients.now c.args.place c.index-clients-place.result))) _ _ _ _ _ _ c.read_one.ensures.heard)

@@ -14,7 +14,7 @@ loop-visit-init g c = record { served = serves_none _ _ _ _ _ _ _ _; same = refl
 pub loop-visit-preserved : goal.loop-visit-preserved
 loop-visit-preserved g c = record {
   served = serves_then _ _ _ _ _ _ _ _ _ _ _ _ c.loop-visit.invariant.served
-      (subst (λ (all : _). Serves g.S.Stream.received g.S.Stream.sent g.S.Stream.course g.A.Answers.is_past g.A.Answers.kept (IsFedAmong c.args.moment all) [] c.loop-visit.answers c.read_at.new.answers c.loop-visit.clients c.read_at.new.clients)
+      (subst (λ (all : _). Serves g.S.Stream.received g.S.Stream.sent g.S.Stream.course g.A.Backend.is_past g.A.Backend.kept (IsFedAmong c.args.moment all) [] c.loop-visit.answers c.read_at.new.answers c.loop-visit.clients c.read_at.new.clients)
       c.loop-visit.invariant.same c.in_ok-read_at.ensures.ok);
   same = c.read_at.ensures.same ∙ c.loop-visit.invariant.same;
   heard = all_then _ _ _ _ c.loop-visit.invariant.heard c.read_at.ensures.heard;

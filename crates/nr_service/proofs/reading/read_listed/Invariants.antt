@@ -8,7 +8,7 @@ use Rattle.nr_service.proofs.reading.read_listed.Given as goal
 
 abbrev pub invariant-loop-visit : goal.invariant-loop-visit
 invariant-loop-visit g l = record {
-  served : Serves g.S.Stream.received g.S.Stream.sent g.S.Stream.course g.A.Answers.is_past g.A.Answers.kept
+  served : Serves g.S.Stream.received g.S.Stream.sent g.S.Stream.course g.A.Backend.is_past g.A.Backend.kept
       (IsFedAmong l.fn.moment (map connection l.fn.clients)) [] l.fn.answers l.answers l.fn.clients l.clients;
   same : map connection l.clients ≡ map connection l.fn.clients;
   heard : AreHeard l.fn.moment l.fn.clients l.clients;

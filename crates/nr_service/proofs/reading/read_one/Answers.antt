@@ -24,16 +24,16 @@ returns-in_err-take_in-clause-err g c =
     (leaves_one_then _ _ _ _ _ _ _ _ _ _ _ _ _ (still_one _ _ _ _ _ _ _ _ _ refl refl refl (λ ended. ended)) c.in_err-take_in.ensures.err)
 
 pub returns-then-client-clause-heard : goal.returns-then-client-clause-heard
-returns-then-client-clause-heard g c = heard_unread (g.A.Answers.listens c.args.answers.now (connection c.args.client.now)) _ _ _ _ _ c.heard_by-client.ensures
+returns-then-client-clause-heard g c = heard_unread (g.A.Backend.listens c.args.answers.now (connection c.args.client.now)) _ _ _ _ _ c.heard_by-client.ensures
 
 pub returns-then-not-is_open-clause-heard : goal.returns-then-not-is_open-clause-heard
-returns-then-not-is_open-clause-heard g c = heard_unread (g.A.Answers.listens c.args.answers.now (connection c.args.client.now)) _ _ _ _ _ c.heard_by-client.ensures
+returns-then-not-is_open-clause-heard g c = heard_unread (g.A.Backend.listens c.args.answers.now (connection c.args.client.now)) _ _ _ _ _ c.heard_by-client.ensures
 
 pub returns-then-pending-limit-clause-heard : goal.returns-then-pending-limit-clause-heard
-returns-then-pending-limit-clause-heard g c = heard_unread (g.A.Answers.listens c.args.answers.now (connection c.args.client.now)) _ _ _ _ _ c.heard_by-client.ensures
+returns-then-pending-limit-clause-heard g c = heard_unread (g.A.Backend.listens c.args.answers.now (connection c.args.client.now)) _ _ _ _ _ c.heard_by-client.ensures
 
 pub returns-clause-heard : goal.returns-clause-heard
-returns-clause-heard g c = heard_read (g.A.Answers.listens c.args.answers.now (connection c.args.client.now)) _ _ _ _ _ _ _ c.heard_by-client.ensures c.take_in.ensures.heard
+returns-clause-heard g c = heard_read (g.A.Backend.listens c.args.answers.now (connection c.args.client.now)) _ _ _ _ _ _ _ c.heard_by-client.ensures c.take_in.ensures.heard
 
 pub returns-in_err-take_in-clause-heard : goal.returns-in_err-take_in-clause-heard
-returns-in_err-take_in-clause-heard g c = heard_read (g.A.Answers.listens c.args.answers.now (connection c.args.client.now)) _ _ _ _ _ _ _ c.heard_by-client.ensures c.take_in.ensures.heard
+returns-in_err-take_in-clause-heard g c = heard_read (g.A.Backend.listens c.args.answers.now (connection c.args.client.now)) _ _ _ _ _ _ _ c.heard_by-client.ensures c.take_in.ensures.heard

@@ -15,10 +15,10 @@ loop-left-preserved g c = record {
   fell = c.write_some-next.ensures.fell ∙ c.loop-left.invariant.fell;
   heard = heard_then _ _ _ _ _ _ _ c.loop-left.invariant.heard c.write_some-next.ensures.heard;
   others = others_then _ _ _ _ _ (ap connection_of c.loop-left.invariant.conn) c.loop-left.invariant.others c.write_some-next.ensures.others;
-  left = left_then (g.A.Answers.kept c.loop-left.answers) (g.A.Answers.kept c.write_some-next.new.answers) _ _ _ _ _
+  left = left_then (g.A.Backend.kept c.loop-left.answers) (g.A.Backend.kept c.write_some-next.new.answers) _ _ _ _ _
       (ap connection_of c.loop-left.invariant.conn) c.loop-left.invariant.left
       c.write_some-next.ensures.kept c.write_some-next.ensures.left;
-  taken = taken_then _ _ _ _ _ (left_first (g.A.Answers.kept c.loop-left.answers) (g.A.Answers.kept c.write_some-next.new.answers) _ _ _ _ _
+  taken = taken_then _ _ _ _ _ (left_first (g.A.Backend.kept c.loop-left.answers) (g.A.Backend.kept c.write_some-next.new.answers) _ _ _ _ _
       (ap connection_of c.loop-left.invariant.conn) c.loop-left.invariant.left c.write_some-next.ensures.kept c.write_some-next.ensures.left)
       c.write_some-next.ensures.most c.loop-left.invariant.taken;
 }

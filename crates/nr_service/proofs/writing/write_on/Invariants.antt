@@ -9,13 +9,13 @@ use Rattle.nr_service.proofs.writing.write_on.Given as goal
 
 abbrev pub invariant-loop-left : goal.invariant-loop-left
 invariant-loop-left g l = record {
-  served : ServesOne g.S.Stream.received g.S.Stream.sent g.S.Stream.course (settled_past g.A.Answers.is_past g.A.Answers.is_settled) g.A.Answers.kept
+  served : ServesOne g.S.Stream.received g.S.Stream.sent g.S.Stream.course (settled_past g.A.Backend.is_past g.A.Backend.is_settled) g.A.Backend.kept
       IsNeverFed l.fn.answers l.answers l.fn.client l.client;
   conn : l.client.conn ≡ l.fn.client.conn;
   fell : l.client.fell ≡ l.fn.client.fell;
   heard : IsHeard l.fn.moment l.fn.client.heard l.client.heard (g.S.Stream.sent l.fn.client.stream) (g.S.Stream.sent l.client.stream);
-  others : KeepsOthers (connection l.fn.client) (g.A.Answers.kept l.fn.answers) (g.A.Answers.kept l.answers);
-  left : l.left ≡ length (kept_bytes (g.A.Answers.kept l.answers (connection l.fn.client)));
+  others : KeepsOthers (connection l.fn.client) (g.A.Backend.kept l.fn.answers) (g.A.Backend.kept l.answers);
+  left : l.left ≡ length (kept_bytes (g.A.Backend.kept l.answers (connection l.fn.client)));
   taken : l.left + l.fn.most ≡ l.fn.first.kept + l.most;
 }
 

@@ -1,6 +1,6 @@
 use Rattle.std.proofs.Common.{rules, sym, ap, subst, set, Some, None}
 use Rattle.nr_slots.specs.declared.view.Parcel.TheVariants.{Answered}
-use Rattle.nr_slots.specs.declared.view.Desk.{Desk}
+use Rattle.nr_slots.specs.declared.view.CombinerPast.{CombinerPast}
 use Rattle.nr_slots.specs.Plays.{desk_at}
 use Rattle.nr_slots.proofs.Calls.{reach_loads, reply_stores, reached_now, replied_now, exchanged, desk_now, replied_after}
 use Rattle.nr_slots.proofs.CombinerSteps.{to_reach}
@@ -18,8 +18,8 @@ store-requires c = let q = c.requires in let m = c.args.seat.now.me in let w = c
     let r = desk_now c.args.words.now.key w q.worker.1 m.0.desks q.worker.2 d in (
       search rules,
       search rules,
-      reply_stores _ _ _ w q.worker.1 (set m.0.desks w d) m.0.looks r.0 c.exchange.new.seat.me c.args.answer now (ap (λ (z : Desk). z.grip) r.1)
-          (subst (λ (z : Desk). Rattle.nr_slots.specs.Names.IsForLast c.args.answer z.lifted z.answered) (sym r.1) q.lifted),
+      reply_stores _ _ _ w q.worker.1 (set m.0.desks w d) m.0.looks r.0 c.exchange.new.seat.me c.args.answer now (ap (λ (z : CombinerPast). z.grip) r.1)
+          (subst (λ (z : CombinerPast). Rattle.nr_slots.specs.Names.IsForLast c.args.answer z.lifted z.answered) (sym r.1) q.lifted),
     )
 
 pub returns-clause-view : goal.returns-clause-view

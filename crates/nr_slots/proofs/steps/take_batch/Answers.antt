@@ -1,6 +1,6 @@
 use Rattle.std.proofs.Common.{rules, ◌∙◌, ap, set, Some, None, [], ◌∷◌, ◌++◌}
 use Rattle.nr_slots.specs.declared.view.Parcel.TheVariants.{Posted}
-use Rattle.nr_slots.specs.declared.view.Desk.{Desk}
+use Rattle.nr_slots.specs.declared.view.CombinerPast.{CombinerPast}
 use Rattle.nr_slots.specs.declared.view.Found.TheVariants.{Batch as FoundBatch}
 use Rattle.nr_slots.specs.Rule.{combiner_view}
 use Rattle.nr_slots.specs.Plays.{desk_at}
@@ -28,7 +28,7 @@ load-requires-2 c = let q = c.requires in let m = c.args.seat.now.me in let w = 
     let now = exchanged c.load.new.seat.me c.exchange-parcel.new.seat.me _ _ (Some (Posted f.0)) None f.1 c.exchange-parcel.ensures.3 in
     let d = to_seek f.0 (desk_at m.0.desks w) in
     let r = desk_now c.args.words.now.key w q.worker.1 m.0.desks q.worker.2 d in
-    (search rules, search rules, lift_loads _ _ _ w q.worker.1 (set m.0.desks w d) (m.0.looks ++ FoundBatch w ∷ []) r.0 c.exchange-parcel.new.seat.me now (ap (λ (z : Desk). z.grip) r.1))
+    (search rules, search rules, lift_loads _ _ _ w q.worker.1 (set m.0.desks w d) (m.0.looks ++ FoundBatch w ∷ []) r.0 c.exchange-parcel.new.seat.me now (ap (λ (z : CombinerPast). z.grip) r.1))
 
 pub batch_of-requires : goal.batch_of-requires
 batch_of-requires c = let q = c.requires in let m = c.args.seat.now.me in let w = c.args.worker in

@@ -1,5 +1,5 @@
 use Rattle.nr_worker.proofs.Answered.{are_answered}
-use Rattle.nr_worker.proofs.Desks.{asked_led, ended_led, fresh_led, opened_led, posted_led, turned_led}
+use Rattle.nr_worker.proofs.Workers.{asked_led, ended_led, fresh_led, opened_led, posted_led, turned_led}
 use Rattle.nr_worker.proofs.Timed.{goes_on, in_time}
 use Rattle.nr_worker.proofs.law.desk_law.Goals as goal
 

@@ -1,5 +1,5 @@
 use Rattle.std.proofs.Common.{ap, sym, ◌∙◌, subst}
-use Rattle.nr_accounts.specs.Book.{Book}
+use Rattle.nr_job_numbers.specs.Book.{Book}
 use Rattle.nr_slots.specs.Seats.{CombinerView}
 use Rattle.nr_combiner.specs.Served.{IsServed}
 use Rattle.nr_combiner.proofs.Moves.{kept_still}

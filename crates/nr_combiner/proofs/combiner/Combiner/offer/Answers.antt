@@ -1,5 +1,5 @@
 use Rattle.std.proofs.Common.{ap, sym, ◌∙◌}
-use Rattle.nr_accounts.specs.Book.{Book}
+use Rattle.nr_job_numbers.specs.Book.{Book}
 use Rattle.nr_combiner.proofs.Moves.{kept_still}
 use Rattle.nr_combiner.proofs.combiner.Combiner.offer.Goals as goal
 

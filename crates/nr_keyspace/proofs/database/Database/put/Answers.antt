@@ -3,7 +3,7 @@ use Rattle.std.specs.FinMap as map
 use Rattle.nr_model.specs.Keyspace.{Stored}
 use Rattle.nr_keyspace.specs.Values.{value_of}
 use Rattle.nr_keyspace.specs.Deadlines.{IsReplaced}
-use Rattle.nr_keyspace.specs.declared.database.Entry.{Entry}
+use Rattle.nr_keyspace.specs.declared.database.KeyEntry.{KeyEntry}
 use Rattle.nr_keyspace.specs.Stores.{stored_of, bytes_of}
 use Rattle.nr_keyspace.proofs.Named.{reordered}
 use Rattle.nr_keyspace.proofs.Changes.{put_store, put_indexed, refused_indexed, on_err}
@@ -21,7 +21,7 @@ returns-in_err-replace-clause-err c = on_err c.from_residual-in_err-replace.resu
 pub invariant_of-self-2 : goal.invariant_of-self-2
 invariant_of-self-2 c =
     let changes = c.in_ok-insert.ensures.updates in
-    let entry : Entry = record { value = c.args.value; deadline = c.in_ok-kept.kept } in
+    let entry : KeyEntry = record { value = c.args.value; deadline = c.in_ok-kept.kept } in
     put_indexed c.self.inside.by_name.entries c.reserve.new.self.entries c.insert.new.self.entries c.self.inside.deadlines c.replace.new.self
     c.args.name entry
     c.self.invariant c.in_ok-reserve.ensures.entries.2 changes.1 changes.3
@@ -30,7 +30,7 @@ invariant_of-self-2 c =
 pub returns-clause-ok : goal.returns-clause-ok
 returns-clause-ok c =
     let changes = c.in_ok-insert.ensures.updates in
-    let entry : Entry = record { value = c.args.value; deadline = c.in_ok-kept.kept } in
+    let entry : KeyEntry = record { value = c.args.value; deadline = c.in_ok-kept.kept } in
     put_store c.self.inside.by_name.entries c.reserve.new.self.entries c.insert.new.self.entries c.args.name entry
     c.in_ok-reserve.ensures.entries.2 changes.1 changes.3
     ∙ ap (λ store. map.insert store c.args.name (stored_of entry)) c.self.view_is

@@ -1,5 +1,5 @@
 use Rattle.std.specs.Prelude.{map}
-use Rattle.nr_log_end.specs.declared.standing.Turn.TheVariants.{Ran}
+use Rattle.nr_log_end.specs.declared.standing.LogEvent.TheVariants.{Ran}
 use Rattle.nr_oplog.proofs.seat.LogSeat.note.Given as goal
 
 abbrev pub ghosts-note_named : goal.ghosts-note_named

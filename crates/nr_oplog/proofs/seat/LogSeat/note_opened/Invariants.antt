@@ -1,5 +1,5 @@
 use Rattle.std.specs.Prelude.{[], ◌∷◌}
-use Rattle.nr_log_end.specs.declared.standing.Turn.TheVariants.{Opened}
+use Rattle.nr_log_end.specs.declared.standing.LogEvent.TheVariants.{Opened}
 use Rattle.nr_oplog.proofs.seat.LogSeat.note_opened.Given as goal
 
 abbrev pub ghosts-note_opened_named : goal.ghosts-note_opened_named

@@ -1,5 +1,5 @@
 use Rattle.std.proofs.Common.{◌≡◌, ◌<◌, length, ap, refl, subst, sym, ◌∙◌}
-use Rattle.nr_ordered.specs.declared.tree.Node.{Node}
+use Rattle.nr_ordered.specs.declared.tree.TreeNode.{TreeNode}
 use Rattle.nr_ordered.specs.Trees.{seen, items_of, IsBalanced}
 use Rattle.nr_ordered.proofs.Parted.{counted_left, counted_here, counted_right, first_fails}
 use Rattle.nr_ordered.proofs.tree.Tree.+place_of.Goals as goal
@@ -7,7 +7,7 @@ use Rattle.nr_ordered.proofs.tree.Tree.+place_of.Goals as goal
 pub is_in_front-requires : goal.is_in_front-requires
 is_in_front-requires g t c =
     let balanced = subst IsBalanced c.in-Fork.is c.self.invariant in
-    subst (λ (m : Node). 0 < length m.block) (sym c.deref-node.ensures) balanced.5
+    subst (λ (m : TreeNode). 0 < length m.block) (sym c.deref-node.ensures) balanced.5
 
 pub returns-then-not-is_in_front-clause-place : goal.returns-then-not-is_in_front-clause-place
 returns-then-not-is_in_front-clause-place g t c =
@@ -18,7 +18,7 @@ returns-then-not-is_in_front-clause-place g t c =
     let balanced = subst IsBalanced c.in-Fork.is c.self.invariant in
     counted_left test c.args.self.now.0 n.left.0 n.block n.right.0 is 0 c.place_of.result
     (λ parted. first_fails test n.block first.0 first.1 (sym first.2 ∙ c.if-not-is_in_front.true) parted) refl
-    (subst (λ (m : Node). 0 < length m.block) (sym c.deref-node.ensures) balanced.5) c.place_of.ensures.place
+    (subst (λ (m : TreeNode). 0 < length m.block) (sym c.deref-node.ensures) balanced.5) c.place_of.ensures.place
 
 pub returns-then-behind-gt0-clause-place : goal.returns-then-behind-gt0-clause-place
 returns-then-behind-gt0-clause-place g t c =

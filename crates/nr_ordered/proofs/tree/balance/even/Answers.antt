@@ -1,5 +1,5 @@
 use Rattle.std.proofs.Common.{arith, refl, ◌≡◌, ◌<◌, ◌+◌, ◌++◌, max, length, length-append, sym, ap, ◌∙◌}
-use Rattle.nr_ordered.specs.declared.tree.Node.{Node}
+use Rattle.nr_ordered.specs.declared.tree.TreeNode.{TreeNode}
 use Rattle.nr_ordered.specs.Trees.{counted, joined}
 use Rattle.nr_ordered.proofs.Heights.{full_more}
 use Rattle.nr_ordered.proofs.tree.balance.even.Goals as goal
@@ -11,7 +11,7 @@ returns c =
     let left = c.args.left in
     let right = c.args.right in
     let block = c.args.node.value.block in
-    let here : c.len-2.result ≡ length block = c.len-2.ensures.len ∙ ap (λ (n : Node). length n.block) c.deref.ensures in
+    let here : c.len-2.result ≡ length block = c.len-2.ensures.len ∙ ap (λ (n : TreeNode). length n.block) c.deref.ensures in
     let size : length (joined left block right) ≡ length left.0 + length block + length right.0 =
     omega (arith, length-append left.0 (block ++ right.0), length-append block right.0) in
     let height : c.max-height.result + 1 ≡ max left.1 right.1 + 1 = omega (arith, c.max-height.ensures, c.height.ensures.height, c.height-2.ensures.height) in

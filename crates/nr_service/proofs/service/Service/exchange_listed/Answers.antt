@@ -5,5 +5,5 @@ use Rattle.nr_service.proofs.service.Service.exchange_listed.Goals as goal
 
 pub returns-clause-sent : goal.returns-clause-sent
 returns-clause-sent g c = λ all rests apart.
-    of_whole (g.A.Answers.kept c.exchange_each.new.answers) _ _ _ (omega (arith, c.exchange_each.auto.clients, c.deref_mut.ensures.len))
+    of_whole (g.A.Backend.kept c.exchange_each.new.answers) _ _ _ (omega (arith, c.exchange_each.auto.clients, c.deref_mut.ensures.len))
     (c.in_ok-exchange_each.ensures.sent (sym c.in_ok-exchange_each.ensures.all ∙ all) rests) apart

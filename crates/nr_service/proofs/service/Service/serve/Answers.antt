@@ -16,7 +16,7 @@ loop-asked-preserved-in-Hold g c = record {
 pub loop-asked-preserved : goal.loop-asked-preserved
 loop-asked-preserved g c = record {
   turns = let low = c.loop-asked.invariant.turns in omega arith;
-  taken = one_taken _ _ g.A.Answers.falls _ _ _ _ _ _ _ _ c.loop-asked.invariant.taken refl c.in-On.ensures c.in_default.ensures.turned
+  taken = one_taken _ _ g.A.Backend.falls _ _ _ _ _ _ _ _ c.loop-asked.invariant.taken refl c.in-On.ensures c.in_default.ensures.turned
       c.in_default.ensures.goes_on;
   serving = λ first setup s. c.in_default.ensures.ok first setup (c.loop-asked.invariant.serving first setup s);
 }

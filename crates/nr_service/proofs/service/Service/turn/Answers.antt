@@ -83,15 +83,15 @@ returns-in_err-let_go_listed-clause-ended g c =
 
 pub returns-in_err-accept_each-clause-err : goal.returns-in_err-accept_each-clause-err
 returns-in_err-accept_each-clause-err g c =
-    ends_by _ _ _ _ _ _ g.A.Answers.is_settled _ g.A.Answers.stands g.A.Answers.busy _ _ g.A.Answers.is_gone _ _ _ c.args.self.now _ _
+    ends_by _ _ _ _ _ _ g.A.Backend.is_settled _ g.A.Backend.stands g.A.Backend.busy _ _ g.A.Backend.is_gone _ _ _ c.args.self.now _ _
     (returns-in_err-accept_each-clause-ended g c)
 
 pub returns-in_err-exchange_listed-clause-err : goal.returns-in_err-exchange_listed-clause-err
 returns-in_err-exchange_listed-clause-err g c =
-    ends_by _ _ _ _ _ _ g.A.Answers.is_settled _ g.A.Answers.stands g.A.Answers.busy _ _ g.A.Answers.is_gone _ _ _ c.args.self.now _ _
+    ends_by _ _ _ _ _ _ g.A.Backend.is_settled _ g.A.Backend.stands g.A.Backend.busy _ _ g.A.Backend.is_gone _ _ _ c.args.self.now _ _
     (returns-in_err-exchange_listed-clause-ended g c)
 
 pub returns-in_err-let_go_listed-clause-err : goal.returns-in_err-let_go_listed-clause-err
 returns-in_err-let_go_listed-clause-err g c =
-    ends_by _ _ _ _ _ _ g.A.Answers.is_settled _ g.A.Answers.stands g.A.Answers.busy _ _ g.A.Answers.is_gone _ _ _ c.args.self.now _ _
+    ends_by _ _ _ _ _ _ g.A.Backend.is_settled _ g.A.Backend.stands g.A.Backend.busy _ _ g.A.Backend.is_gone _ _ _ c.args.self.now _ _
     (returns-in_err-let_go_listed-clause-ended g c)

@@ -1,5 +1,0 @@
-use Rattle.nr_answering.proofs.Explained.{stories_are_explained}
-use Rattle.nr_answering.proofs.law.story_law.Goals as goal
-
-pub returns : goal.returns
-returns c = stories_are_explained

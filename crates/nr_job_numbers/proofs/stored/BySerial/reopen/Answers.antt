@@ -1,0 +1,21 @@
+use Rattle.std.proofs.Common.{◌≡◌, ◌∙◌, None, ap, true, rules}
+use Rattle.std.specs.Map.{lookup}
+use Rattle.std.specs.Ordering.{nat_cmp}
+use Rattle.std.specs.BTreeMap.{is_at}
+use Rattle.nr_job_numbers.specs.Account.{reopened}
+use Rattle.nr_job_numbers.specs.Stored.{changed}
+use Rattle.nr_job_numbers.proofs.Seen.{seen, edited, unchanged}
+use Rattle.nr_job_numbers.proofs.stored.BySerial.reopen.Goals as goal
+
+pub returns : goal.returns
+returns c =
+    let changes = (c.get_mut.follows.holds c.reopen.new.self).3 (search rules) in
+    edited reopened c.self.inside.accounts.entries (c.get_mut.follows.lender c.reopen.new.self).entries c.args.serial c.in-Some.account.now c.reopen.new.self
+    true c.self.invariant (c.get_mut.follows.holds c.reopen.new.self).4 c.in-Some.ensures.value c.reopen.ensures changes.0
+    ∙ ap (changed reopened c.args.serial) c.self.view_is
+
+pub returns-in_default : goal.returns-in_default
+returns-in_default c =
+    let none : None ≡ lookup (is_at (nat_cmp c.args.serial)) c.self.inside.accounts.entries = search (rules, c.in_default.ensures) in
+    let same : c.get_mut.follows.lender-at-none.entries ≡ c.self.inside.accounts.entries = search rules in
+    ap seen same ∙ unchanged reopened c.self.inside.accounts.entries c.args.serial c.self.invariant none ∙ ap (changed reopened c.args.serial) c.self.view_is

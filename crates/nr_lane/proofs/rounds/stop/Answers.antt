@@ -1,8 +1,0 @@
-use Rattle.nr_lane.proofs.Working.{works_stopped}
-use Rattle.nr_lane.proofs.rounds.stop.Goals as goal
-
-pub stop-requires : goal.stop-requires
-stop-requires g c κs within = within
-
-pub returns : goal.returns
-returns g c = works_stopped c.args.conn.serial c.args.desk.now _ c.stop.ensures.stopped c.stop.ensures.goes

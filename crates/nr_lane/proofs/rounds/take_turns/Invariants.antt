@@ -1,5 +1,0 @@
-use Rattle.nr_lane.specs.Works.{Works}
-use Rattle.nr_lane.proofs.rounds.take_turns.Given as goal
-
-abbrev pub invariant-loop : goal.invariant-loop
-invariant-loop g l = Works l.fn.desk l.desk

@@ -1,5 +1,0 @@
-use Rattle.nr_nodes.proofs.BySerial.{count_is}
-use Rattle.nr_nodes.proofs.sessions.Sessions.len.Goals as goal
-
-pub returns : goal.returns
-returns c = count_is c.self.inside.count c.self.inside.by_serial.entries c.args.self.now c.self.view_is

@@ -1,5 +1,0 @@
-use Rattle.nr_nodes.specs.Rounds.{ReplayEach}
-use Rattle.nr_nodes.proofs.world.World.replay_all.Given as goal
-
-abbrev pub invariant-loop-node : goal.invariant-loop-node
-invariant-loop-node l = ReplayEach l.node l.fn.self l.self l.done

@@ -1,4 +1,0 @@
-pub mod Found
-pub mod Growing
-pub mod Handing
-pub mod Putting

@@ -1,7 +1,0 @@
-use Rattle.std.proofs.Common.{◌≡◌, ◌++◌}
-use Rattle.nr_seats.specs.Placed.{open_ones}
-use Rattle.nr_seats.proofs.seats.Seats.open_ones.Given as goal
-
--- those that were taken, with those that are wanted of the rest, are all
-abbrev pub invariant-loop-serial : goal.invariant-loop-serial
-invariant-loop-serial l = l.conns.items ++ open_ones l.node l.serial-iterator ≡ open_ones l.node l.initial.serial-iterator

@@ -1,3 +1,0 @@
-pub mod Seated
-pub mod Placed
-pub mod Portions
