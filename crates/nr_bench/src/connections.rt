@@ -5,7 +5,8 @@ ghost use Rattle.nr_combiner.specs.Opened.{AreNamed, AreOfWorkers};
 
 use crate::nodes::serve_batch;
 use crate::{as_io, no_memory};
-use nr_combiner::{Lifts, OpenedSlots, Plan, ServerName, open_slots};
+use nr_combiner::{Lifts, OpenedSlots, ServerName, open_slots};
+use nr_entry::Setup;
 use nr_oplog::OpenedLog;
 use nr_test_parts::{HeldError, Station, stations};
 use std::alloc::Global;
@@ -52,20 +53,16 @@ fn hold_named<B: ServerName, R: Runtime + Wait>(
     keys: RandomState,
     opened: OpenedLog,
     slots: Vec<OpenedSlots>,
+    setup: Setup,
     count: u32,
 ) -> io::Result<()>
     requires name { name_of opened ≡ B.log }
-    requires shape { (nodes_of opened ≡ B.nodes) × (places_of opened ≡ B.places) }
+    requires shape { (nodes_of opened ≡ B.nodes) × (places_of opened ≡ B.places) × (setup.nodes ≡ B.nodes) }
     requires slots { (length slots.items ≡ B.nodes) × AreNamed B.slots slots.items }
-    requires workers { AreOfWorkers 1 slots.items }
+    requires workers { AreOfWorkers setup.workers slots.items }
 {
     let alloc = host.alloc();
-    let plan = Plan {
-        workers: 1,
-        connections: 1,
-        limit: LIMIT,
-    };
-    let mut all = stations::<B>(alloc, keys, opened, slots, plan).map_err(no_memory)?;
+    let mut all = stations::<B>(alloc, keys, opened, slots, setup).map_err(no_memory)?;
     let Some(station) = all.get_mut(0) else {
         return Err(as_io(HeldError::Invalid));
     };
@@ -84,7 +81,14 @@ pub(crate) fn hold<R: Runtime + Wait>(
     count: u32,
 ) -> io::Result<()> {
     let alloc = host.alloc();
-    let opened = OpenedLog::open(alloc, 1, PLACES).map_err(|error| as_io(error.into()))?;
-    let slots = open_slots(alloc, 1, 1).map_err(|error| as_io(error.into()))?;
-    hold_named::<Brand, R>(host, rt, keys, opened, slots, count)
+    let Some(setup) = Setup::new(1, PLACES, 1, 1, LIMIT) else {
+        return Err(as_io(HeldError::Invalid));
+    };
+    let opened = OpenedLog::open(alloc, setup.nodes(), setup.places()).map_err(|error| as_io(
+        error.into(),
+    ))?;
+    let slots = open_slots(alloc, setup.nodes(), setup.workers()).map_err(|error| as_io(
+        error.into(),
+    ))?;
+    hold_named::<Brand, R>(host, rt, keys, opened, slots, setup, count)
 }

@@ -1,9 +1,9 @@
 // A node that falls and comes back with a copy of the other's server: how long the copy takes, and what is held meanwhile.
 use crate::{as_io, no_memory};
 use nr_blob::{Memory, int_text};
-use nr_entry::ConnId;
+use nr_entry::{ConnId, Setup};
 use nr_test_parts::HeldError;
-use nr_world::{Setup, StepOutcome, World};
+use nr_world::{StepOutcome, World};
 use std::alloc::Global;
 use std::hash::RandomState;
 use std::io;

@@ -1,5 +1,6 @@
 // How long a SET takes before many keys are gone, and after.
 use crate::keys::{fill, name, set, text};
+use crate::times::Times;
 use crate::{DEADLINE, TEXT_BYTES, no_memory};
 use nr_blob::Blob;
 use nr_keyspace::Keyspace;
@@ -17,13 +18,6 @@ const SETS: u32 = 10;
 
 /// How many SETs are measured after it. The turn is the first database's after fifteen at most, and stays there while keys of it are gone.
 const TURNS: u32 = 16;
-
-/// Times in nanoseconds.
-#[derive(Clone, Copy)]
-struct Times {
-    all: u128,
-    slowest: u128,
-}
 
 // How long a SET of a key takes that is not yet there.
 fn time_set(
@@ -52,12 +46,11 @@ fn time_sets(
     sets: u32,
 ) -> io::Result<Times> {
     let value = text(alloc, TEXT_BYTES).map_err(no_memory)?;
-    let mut times = Times { all: 0, slowest: 0 };
+    let mut times = Times::new();
     for turn in 0..sets {
         let number = behind.saturating_add(turn);
         let time = time_set(rt, alloc, keyspace, now, number, &value)?;
-        times.all = times.all.saturating_add(time);
-        times.slowest = times.slowest.max(time);
+        times.add(time);
     }
     Ok(times)
 }

@@ -1,9 +1,10 @@
 //! What the figures of the pages come from. Without an argument it does each thing once and says how often: commands at nodes behind their locks, a message to
-//! a thousand connections, keys with a deadline. With one it measures: `nodes` how many commands a second nodes behind their locks execute, each worker on a
+//! a thousand connections, keys with a deadline, a set that grows and is emptied. With one it measures: `nodes` how many commands a second nodes behind their locks execute, each worker on a
 //! thread of its own, beside one thread over the server of several nodes in one value; `messages` how long a PUBLISH takes beside as many replies of its size;
 //! `expiry` how long a SET takes before a million keys are gone, and after. `memory BYTES KEYS` stores so many keys with values of so many bytes, a million
 //! where no number is given, and waits for a line. `copy KEYS` stores so many at two nodes, of which one falls and comes back with a copy, and says how long that
-//! takes. `connections COUNT` lets so many connections come and go at a node, and waits for a line.
+//! takes. `connections COUNT` lets so many connections come and go at a node, and waits for a line. `set MEMBERS` puts so many members into a set and takes them out, a
+//! million where no number is given, and says how long one takes of either, and the slowest.
 #![tactic(auto)]
 
 mod bench;
@@ -14,7 +15,9 @@ mod keys;
 mod messages;
 mod nodes;
 mod queue;
+mod sets;
 mod stored;
+mod times;
 
 use nr_blob::Memory;
 use nr_test_parts::HeldError;
@@ -27,6 +30,9 @@ use std::thread::Threads;
 
 /// How many keys are stored where no argument says it and their size is read.
 const MANY_KEYS: u32 = 1_000_000;
+
+/// How many members a set gets where no argument says it.
+const MANY_MEMBERS: u32 = 1_000_000;
 
 /// How many connections come and go where no argument says it.
 const MANY_CONNECTIONS: u32 = 100_000;
@@ -57,6 +63,7 @@ fn say_counts(
     nodes::say_counts(threads, alloc, RandomState::new(rt)?)?;
     messages::say_count(rt, alloc, RandomState::new(rt)?)?;
     stored::say_counts(rt, alloc, RandomState::new(rt)?)?;
+    sets::say_counts(rt, alloc, RandomState::new(rt)?)?;
     copies::say_count(rt, alloc, RandomState::new(rt)?)
 }
 
@@ -80,6 +87,9 @@ fn perform(rt: &HostRuntime, threads: &(impl Runtime + Threads + Wait + Sync)) -
             hasher,
             first.unwrap_or(MANY_KEYS),
         ),
+        Some(word) if word.as_str() == "set" => {
+            sets::say_times(rt, alloc, hasher, first.unwrap_or(MANY_MEMBERS))
+        }
         Some(word) if word.as_str() == "memory" => stored::hold(
             rt,
             hasher,

@@ -1,12 +1,13 @@
 // Commands at nodes behind their locks, each worker on a thread of its own, by turns that lift from all slots or from the worker's own, beside one thread over the server
 // of several nodes in one value.
-ghost use Rattle.std.specs.Prelude.{◌≡◌, ◌≤◌, length};
+ghost use Rattle.std.specs.Prelude.{◌≡◌, length};
 ghost use Rattle.nr_oplog.specs.Opening.{name_of, nodes_of, places_of};
 ghost use Rattle.nr_combiner.specs.Opened.{AreNamed, AreOfWorkers};
 
 use crate::{as_io, no_memory};
 use nr_blob::Memory;
-use nr_combiner::{Lifts, OpenedSlots, Plan, ServerName, open_slots};
+use nr_combiner::{Lifts, OpenedSlots, ServerName, open_slots};
+use nr_entry::Setup;
 use nr_oplog::OpenedLog;
 use nr_test_parts::{Client, HeldError, Single, Station, stations};
 use std::alloc::Global;
@@ -162,24 +163,26 @@ fn run_named<B: ServerName + Send + Sync, R: Threads + Wait + Sync>(
     keys: RandomState,
     opened: OpenedLog,
     slots: Vec<OpenedSlots>,
-    workers: usize,
+    setup: Setup,
     lifts: Lifts,
     sent: &[u8],
     batches: usize,
 ) -> Result<usize, HeldError>
     requires name { name_of opened ≡ B.log }
-    requires shape { (nodes_of opened ≡ B.nodes) × (places_of opened ≡ B.places) }
+    requires shape { (nodes_of opened ≡ B.nodes) × (places_of opened ≡ B.places) × (setup.nodes ≡ B.nodes) }
     requires slots { (length slots.items ≡ B.nodes) × AreNamed B.slots slots.items }
-    requires workers { AreOfWorkers workers slots.items × (1 ≤ workers) × (workers ≤ 16) }
+    requires workers { AreOfWorkers setup.workers slots.items }
 {
-    let plan = Plan {
-        workers,
-        connections: workers,
-        limit: LIMIT,
-    };
-    let all = stations::<B>(alloc, keys, opened, slots, plan)?;
+    let all = stations::<B>(alloc, keys, opened, slots, setup)?;
     let got = serve_all(rt, all, lifts, sent, batches)?;
     sum_of(got)
+}
+
+// How large such a server is, with a connection for each worker.
+fn size_of(layout: Layout) -> Result<Setup, HeldError> {
+    Setup::new(layout.nodes, PLACES, layout.workers, layout.workers, LIMIT).ok_or(
+        HeldError::Invalid,
+    )
 }
 
 // The same at new nodes.
@@ -192,19 +195,10 @@ fn run<R: Threads + Wait + Sync>(
     sent: &[u8],
     batches: usize,
 ) -> Result<usize, HeldError> {
-    let opened = OpenedLog::open(alloc, layout.nodes, PLACES)?;
-    let slots = open_slots(alloc, layout.nodes, layout.workers)?;
-    run_named::<Brand, R>(
-        rt,
-        alloc,
-        keys,
-        opened,
-        slots,
-        layout.workers,
-        lifts,
-        sent,
-        batches,
-    )
+    let setup = size_of(layout)?;
+    let opened = OpenedLog::open(alloc, setup.nodes(), setup.places())?;
+    let slots = open_slots(alloc, setup.nodes(), setup.workers())?;
+    run_named::<Brand, R>(rt, alloc, keys, opened, slots, setup, lifts, sent, batches)
 }
 
 // Hands in a batch and takes the turn that executes it. How many nanoseconds the turn took: for so long it held the lock.
@@ -246,20 +240,16 @@ fn time_named<B: ServerName, R: Runtime + Wait>(
     keys: RandomState,
     opened: OpenedLog,
     slots: Vec<OpenedSlots>,
+    setup: Setup,
     sent: &[u8],
     batches: usize,
 ) -> io::Result<u128>
     requires name { name_of opened ≡ B.log }
-    requires shape { (nodes_of opened ≡ B.nodes) × (places_of opened ≡ B.places) }
+    requires shape { (nodes_of opened ≡ B.nodes) × (places_of opened ≡ B.places) × (setup.nodes ≡ B.nodes) }
     requires slots { (length slots.items ≡ B.nodes) × AreNamed B.slots slots.items }
-    requires workers { AreOfWorkers 1 slots.items }
+    requires workers { AreOfWorkers setup.workers slots.items }
 {
-    let plan = Plan {
-        workers: 1,
-        connections: 1,
-        limit: LIMIT,
-    };
-    let mut all = stations::<B>(alloc, keys, opened, slots, plan).map_err(no_memory)?;
+    let mut all = stations::<B>(alloc, keys, opened, slots, setup).map_err(no_memory)?;
     match all.get_mut(0) {
         Some(station) => time_turns(rt, station, sent, batches),
         None => Err(as_io(HeldError::Invalid)),
@@ -274,9 +264,18 @@ fn time_lock<R: Runtime + Wait>(
     sent: &[u8],
     batches: usize,
 ) -> io::Result<u128> {
-    let opened = OpenedLog::open(alloc, 1, PLACES).map_err(|error| as_io(error.into()))?;
-    let slots = open_slots(alloc, 1, 1).map_err(|error| as_io(error.into()))?;
-    let nanos = time_named::<Brand, R>(rt, alloc, keys, opened, slots, sent, batches)?;
+    let alone = Layout {
+        nodes: 1,
+        workers: 1,
+    };
+    let setup = size_of(alone).map_err(as_io)?;
+    let opened = OpenedLog::open(alloc, setup.nodes(), setup.places()).map_err(|error| as_io(
+        error.into(),
+    ))?;
+    let slots = open_slots(alloc, setup.nodes(), setup.workers()).map_err(|error| as_io(
+        error.into(),
+    ))?;
+    let nanos = time_named::<Brand, R>(rt, alloc, keys, opened, slots, setup, sent, batches)?;
     Ok(nanos / batches.max(1) as u128)
 }
 

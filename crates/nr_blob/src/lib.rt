@@ -2,12 +2,14 @@
 #![tactic(auto)]
 
 pub use blob::{Blob, Bytes, MOST_IN_PLACE};
+pub use front::drop_front;
 pub use integer::{int_text, read_int};
 pub use memory::Memory;
 pub use quoted::{on_one_line, push_quoted};
 pub use range::{end_of, start_of};
 
 mod blob;
+mod front;
 mod integer;
 mod memory;
 mod order;

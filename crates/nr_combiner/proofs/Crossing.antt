@@ -24,7 +24,7 @@ module _ (B : RattleType) (s : server_name.Ghosts B.Denot) (g : log_name.Ghosts 
 
   combiner_send : IsSend (Combiner.the_row B s g)
   combiner_send = view_send (Combiner.TheInside.the_row B s g) _ _ _ _ (declared_send (Combiner.TheInside.the_type B s g)
-      (core_send B g, (desk_send, (Arc-send Slots.the_row slots_send slots_sync, (search sent, (search sent, (counts_send, (search sent, tt))))))))
+      (search sent, (core_send B g, (desk_send, (Arc-send Slots.the_row slots_send slots_sync, (search sent, (search sent, (counts_send, (search sent, tt)))))))))
 
   lock_send : IsSend (Mutex.the_row (Combiner.the_row B s g))
   lock_send = search (crosses, combiner_send)
@@ -34,11 +34,11 @@ module _ (B : RattleType) (s : server_name.Ghosts B.Denot) (g : log_name.Ghosts 
 
   node_send : IsSend (Node.the_row B g s)
   node_send = view_send (Node.TheInside.the_row B g s) _ _ _ _ (declared_send (Node.TheInside.the_type B g s)
-      (search sent, (lock_send, (Arc-send (Oplog.the_row B g) (log_send B g) (log_sync B g), (Arc-send Slots.the_row slots_send slots_sync, (search sent, (search sent, (search sent, (search sent, tt)))))))))
+      (search sent, (lock_send, (Arc-send (Oplog.the_row B g) (log_send B g) (log_sync B g), (Arc-send Slots.the_row slots_send slots_sync, (search sent, (search sent, (search sent, (search sent, (search sent, tt))))))))))
 
   pub node_sync : IsSync (Node.the_row B g s)
   node_sync = view_sync (Node.TheInside.the_row B g s) _ _ _ _ (declared_sync (Node.TheInside.the_type B g s)
-      (search sent, (lock_sync, (search (crosses, log_send B g, log_sync B g), (search (crosses, slots_send, slots_sync), (search sent, (search sent, (search sent, (search sent, tt)))))))))
+      (search sent, (lock_sync, (search (crosses, log_send B g, log_sync B g), (search (crosses, slots_send, slots_sync), (search sent, (search sent, (search sent, (search sent, (search sent, tt))))))))))
 
   pub worker_send : IsSend (NodeHandle.the_row B s g)
   worker_send = view_send (NodeHandle.TheInside.the_row B s g) _ _ _ _ (declared_send (NodeHandle.TheInside.the_type B s g)

@@ -14,3 +14,6 @@ mod Cut
 pub mod Crossing
 pub mod Seated
 pub mod Rooms
+mod Counted
+mod Led
+pub mod Alone

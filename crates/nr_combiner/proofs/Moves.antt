@@ -24,10 +24,11 @@ use Rattle.nr_slots.specs.Rule.{no_desk}
 use Rattle.nr_slots.specs.Seats.{CombinerView, desk_of}
 use Rattle.nr_node.specs.Batches.{IsOpened}
 use Rattle.nr_node.specs.Collected.{AreHanded}
+use Rattle.nr_node.specs.Lending.{LooksAtTail}
 use Rattle.nr_node.specs.Level.{NodeState, connection_at, unpassed, jobs_reserved}
 use Rattle.nr_node.specs.Steps.{nobody, opened_node, HasOpened, closed_node, refusing_node, HasHandedOut, IsStill}
 use Rattle.nr_node.specs.declared.collecting.LastPiece.{LastPiece}
-use Rattle.nr_node.specs.declared.answers.CoreOpenError.{CoreOpenError}
+use Rattle.nr_node.specs.declared.answers.OpenError.{OpenError}
 use Rattle.nr_combiner.specs.Served.{jobs_of, owed_at, IsAmong, IsDesk, AreExecuted, IsOwnOfBatch, AllJobs, IsServed}
 use Rattle.nr_node.proofs.Lists.{record_opened, unpassed_opened}
 use Rattle.nr_combiner.proofs.Among.{same_keeps}
@@ -84,7 +85,7 @@ opened_on n v seat numbers limit worker seen noted s =
     } in
     (served_still n m seat numbers grows (λ w. still_itself (owed_at w n)) jobs s, refl)
 
-pub opened_served : (r : Result ConnId CoreOpenError) (n m : NodeState) (seat : CombinerView) (numbers : List ℕ) (limit worker : ℕ)
+pub opened_served : (r : Result ConnId OpenError) (n m : NodeState) (seat : CombinerView) (numbers : List ℕ) (limit worker : ℕ)
     → OnOk r (HasOpened limit worker n m) → OnErr r (m ≡ n) → IsServed n seat numbers → GoesOn n m seat numbers
 opened_served (Ok conn) n m seat numbers limit worker opened unchanged s =
     subst (λ (x : NodeState). GoesOn n x seat numbers) (sym opened.opened)
@@ -150,6 +151,27 @@ kept_still n m seat numbers still s =
     (ap (λ (x : Standing). x.history) still.standing)
     (same_keeps n m still.standing still.next (ap (λ (r : ReplicaState). r.waiting) still.replica) (ap (λ (r : ReplicaState). r.down) still.replica))
     (same_jobs (IsOwnOfBatch n seat.desks) n m still.standing still.next (ap (λ (r : ReplicaState). r.waiting) still.replica) s.handed_in) s
+
+-- the tail was looked at, and the server may be lent
+pub lent_served : (n m : NodeState) (seat : CombinerView) (numbers : List ℕ) → LooksAtTail n m → IsServed n seat numbers → GoesOn n m seat numbers
+lent_served n m seat numbers l s =
+    let done : record_of m.seat.standing.history ≡ record_of n.seat.standing.history = ap (λ (x : Standing). record_of x.history) l.standing.1 in
+    let behind : unpassed m.seat.standing ≡ unpassed n.seat.standing = ap unpassed l.standing.1 in
+    let due : items_of m.next ≡ items_of n.next = ap items_of l.next in
+    let waits : items_of m.replica.waiting ≡ items_of n.replica.waiting = ap (λ (r : ReplicaState). items_of r.waiting) l.replica in
+    let all : jobs_of m ≡ jobs_of n = λ i. (done i ++ jobs_reserved (behind i)) ++ (due i ++ waits i) in
+    let jobs : AllJobs (IsOwnOfBatch n seat.desks) m = record {
+      done = subst (AllByRecursion (IsOwnOfBatch n seat.desks)) (sym done) s.handed_in.done;
+      reserved = subst (λ (rs : List (ℕ × Entry)). AllByRecursion (IsOwnOfBatch n seat.desks) (jobs_reserved rs)) (sym behind) s.handed_in.reserved;
+      due = subst (AllByRecursion (IsOwnOfBatch n seat.desks)) (sym due) s.handed_in.due;
+      waits = subst (AllByRecursion (IsOwnOfBatch n seat.desks)) (sym waits) s.handed_in.waits;
+    } in (
+      served_same n m seat numbers (ap (λ (b : Book). b.node) l.book) (ap (λ (r : ReplicaState). r.owed) l.replica)
+          (subst (AreServedOn n.replica.members) (sym (ap (λ (r : ReplicaState). r.members) l.replica)) (λ c near. (near, refl)))
+          (ap (λ (x : Standing). x.history) l.standing.1)
+          (λ up. (sym (ap (λ (r : ReplicaState). r.down) l.replica) ∙ up, λ job a. subst (IsAmong job) (sym all) a)) jobs s,
+      ap (λ (b : Book). b.node) (sym l.book),
+    )
 
 -- the next entry is refused, where it is up
 abbrev refused_node : NodeState → NodeState

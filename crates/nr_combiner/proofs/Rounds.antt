@@ -1,5 +1,5 @@
 -- Desks are neither added nor taken away as batches are lifted and answered.
-use Rattle.std.proofs.Common.{◌≡◌, ℕ, zero, suc, ◌+◌, Bool, inl, inr, [], ◌∷◌, ◌++◌, length, length-set, ap, ◌∙◌, subst, arith}
+use Rattle.std.proofs.Common.{◌≡◌, ℕ, zero, suc, ◌+◌, Bool, inl, inr, [], ◌∷◌, ◌++◌, length, length-set, refl, ap, ◌∙◌, subst, arith}
 use Rattle.std.specs.Prelude.{Result}
 use Rattle.nr_job_numbers.specs.Book.{Book}
 use Rattle.nr_blob.specs.declared.memory.Memory.{Memory}
@@ -82,7 +82,7 @@ own_node : (worker : ℕ) (c d : CombinerState) → HasLiftedOwn worker c d → 
 own_node worker c d (inl h) = lifted_node worker c d h.1
 own_node worker c d (inr h) = ap (λ (x : CombinerState). x.node.book.node) h.1
 
-lifted_by_node : (which : Lifts) (worker : ℕ) (c d : CombinerState) → HasLiftedBy which worker c d → d.node.book.node ≡ c.node.book.node
+pub lifted_by_node : (which : Lifts) (worker : ℕ) (c d : CombinerState) → HasLiftedBy which worker c d → d.node.book.node ≡ c.node.book.node
 lifted_by_node lifts.All worker c d h = lifted_all_node (length c.seat.desks) c d h
 lifted_by_node lifts.Own worker c d h = own_node worker c d h
 
@@ -96,3 +96,12 @@ pub combined_node : (places worker : ℕ) (which : Lifts) (round : Result Round 
 combined_node places worker which round behind c d h =
     answered_all_node (length c.seat.desks) _ d h.has_answered ∙ h.has_looked.by.closed.node
     ∙ ap (λ (b : Book). b.node) (tried_book places h.try_is h.lifted.node h.tried h.has_tried.comes) ∙ lifted_by_node which worker c h.lifted h.has_lifted
+
+-- where none was lifted, since there is no such worker
+none_lifted : (c : CombinerState) → HasLiftedBy lifts.Own (length c.seat.desks) c c
+none_lifted c = inr (omega arith, refl)
+
+-- behind the lifting the node stays the same one
+pub further_node : (places : ℕ) (round : Result Round Memory) (behind : Bool) (c d : CombinerState)
+    → ((which : Lifts) (worker : ℕ) (b : CombinerState) → HasLiftedBy which worker b c → HasCombined places which worker round behind b d) → d.node.book.node ≡ c.node.book.node
+further_node places round behind c d all = combined_node places (length c.seat.desks) lifts.Own round behind c d (all lifts.Own (length c.seat.desks) c (none_lifted c))

@@ -8,3 +8,4 @@ pub mod Heard
 pub mod Workers
 pub mod Turned
 pub mod Behind
+pub mod Aside

@@ -25,12 +25,8 @@ use Rattle.nr_node.specs.declared.answers.Round.{Round}
 use Rattle.nr_node.specs.declared.answers.Round.TheVariants as rounds
 use Rattle.nr_node.specs.declared.answers.TakeError.{TakeError}
 use Rattle.nr_node.specs.declared.answers.TakeError.TheVariants as errors
-use Rattle.nr_node.specs.declared.answers.CoreOpenError as node_errors
-use Rattle.nr_node.specs.declared.answers.CoreOpenError.TheVariants as node_error
 use Rattle.nr_combiner.specs.declared.answering.Lifts.{Lifts}
 use Rattle.nr_combiner.specs.declared.answering.Lifts.TheVariants as lifts
-use Rattle.nr_combiner.specs.declared.answering.OpenError.{OpenError}
-use Rattle.nr_combiner.specs.declared.answering.OpenError.TheVariants as open_errors
 use Rattle.nr_node.specs.Revived.{OfferState, HasRevived, IsNotYet}
 use Rattle.nr_job_numbers.specs.Stored.{is_unended, numbers_in, ComesAfter}
 use Rattle.nr_job_numbers.specs.declared.account.Unended.{Unended}
@@ -54,11 +50,6 @@ closed_combiner serial c =
       node = closed_node serial c.node;
       counts = if is_closed_at serial c.node.replica.members then c.counts else with_closed (worker_at serial c.node.replica.members) c.counts;
     }
-
--- why no connection was opened, where there is room
-abbrev pub open_error : node_errors.CoreOpenError → OpenError
-open_error node_error.Down = open_errors.Down
-open_error (node_error.Memory memory) = open_errors.Memory memory
 
 -- a job is of a connection with a lower serial than this, and doesn't end it; and one of these is
 abbrev pub is_lost : ℕ → Item → Bool

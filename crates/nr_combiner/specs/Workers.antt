@@ -38,6 +38,11 @@ coded_worker =
       generation = p.1.1.1.1.1.1;
     }) (λ _. refl)
 
+-- batch number n is the first of these, and so on
+abbrev pub CountFrom : ℕ → List Batch → Type 0
+CountFrom n [] = Unit {0}
+CountFrom n (batch ∷ batches) = (batch.number ≡ n) × CountFrom (suc n) batches
+
 -- what its node shows
 abbrev pub shared_of : NodeHandleState → NodeView
 shared_of w = record { node = w.node; slots = record { id = w.seat.slots; workers = w.workers }; connections = w.connections; limit = w.limit }

@@ -3,23 +3,12 @@ ghost use Rattle.std.specs.Prelude.{◌≡◌, ◌<◌, length};
 ghost use Rattle.nr_node.specs.Batches.{AreSame};
 ghost use Rattle.nr_slots.specs.Names.{IsUnanswered, Names};
 ghost use Rattle.nr_slots.specs.Seats.{desk_of, with_answered};
-ghost use Rattle.nr_combiner.specs.Steps.{IsOutcomeOf, open_error};
+ghost use Rattle.nr_combiner.specs.Steps.{IsOutcomeOf};
 
 use nr_blob::Memory;
 use nr_entry::{Answer, Batch, Job, Outcome, Refusal};
-use nr_node::{CoreOpenError as NodeError, Round, TakeError};
+use nr_node::{Round, TakeError};
 use nr_slots::{CombinerSeat, Slots};
-
-/// Why a connection wasn't opened. The reasons are told in this order.
-#[derive(Clone, Copy, Debug, PartialEq, Eq)]
-pub enum OpenError {
-    /// All connections that there may be are in use, or the node has no such worker.
-    TooMany,
-    /// The replica is down.
-    Down,
-    /// There was no memory.
-    Memory(Memory),
-}
 
 /// Why it wasn't asked which connections are cut.
 #[derive(Clone, Copy, Debug, PartialEq, Eq)]
@@ -84,16 +73,6 @@ pub struct Collected {
     pub has_cut: bool,
     /// How many connections the node had as it came back last, as a turn tells it.
     pub since: u64,
-}
-
-/// Why one wasn't opened where there is room.
-pub(crate) fn open_error(why: NodeError) -> OpenError
-    ensures { result ≡ open_error why }
-{
-    match why {
-        NodeError::Down => OpenError::Down,
-        NodeError::Memory(memory) => OpenError::Memory(memory),
-    }
 }
 
 /// Answers the batch that was lifted last from a worker's slot, which was refused.

@@ -14,37 +14,29 @@ use crate::node::Node;
 use crate::node_handle::NodeHandle;
 use crate::opened::OpenedSlots;
 use nr_blob::Memory;
-use nr_node::{Core, NodeShape};
+use nr_entry::Setup;
+use nr_node::Core;
 use nr_oplog::{End, LogSeat, OpenedLog, Oplog};
 use nr_slots::WorkerSeat;
 use std::alloc::Global;
 use std::hash::RandomState;
 use std::sync::Arc;
 
-/// How many workers each node has, 1 to 16, how many of its connections are open at most, and how many bytes wait for one at most.
-#[derive(Clone, Copy, Debug)]
-pub struct Plan {
-    pub workers: usize,
-    pub connections: usize,
-    pub limit: usize,
-}
-
-/// The nodes of a log that was opened, with no key and no connection, each with its slots, of so many workers as the plan says: the workers of each, those of
+/// The nodes of a log that was opened, with no key and no connection, each with its slots, of a server so large: the workers of each, those of
 /// node 0 first. Strangers choose the keys, so the hashers take a seed of their own.
 pub fn build<B: ServerName>(
     alloc: Global,
     keys: RandomState,
     opened: OpenedLog,
     slots: Vec<OpenedSlots>,
-    plan: Plan,
+    setup: Setup,
 ) -> Result<Vec<Vec<NodeHandle<B>>>, Memory>
     requires name { name_of opened ≡ B.log }
-    requires shape { (nodes_of opened ≡ B.nodes) × (places_of opened ≡ B.places) }
+    requires shape { (nodes_of opened ≡ B.nodes) × (places_of opened ≡ B.places) × (setup.nodes ≡ B.nodes) }
     requires slots { (length slots.items ≡ B.nodes) × AreNamed B.slots slots.items }
-    requires workers { AreOfWorkers plan.workers slots.items }
-    requires range { (1 ≤ plan.workers) × (plan.workers ≤ 16) }
+    requires workers { AreOfWorkers setup.workers slots.items }
     ensures nodes { IfOk result (λ built. length built.items ≡ B.nodes) }
-    ensures workers { IfOk result (λ built. (node : ℕ) (workers : _) → slice_get built.items node ≡ Some workers → IsNode plan.workers plan.connections plan.limit node workers.items) }
+    ensures workers { IfOk result (λ built. (node : ℕ) (workers : _) → slice_get built.items node ≡ Some workers → IsNode setup.workers setup.connections setup.queue_limit node workers.items) }
 {
     let (log, seats) = opened.named::<B>(alloc)?;
     let nodes = log.nodes();
@@ -55,13 +47,9 @@ pub fn build<B: ServerName>(
         let Some(opened) = slots.next() else {
             unreachable!();
         };
-        let shape = NodeShape {
-            node: built.len(),
-            nodes,
-            workers: plan.workers,
-        };
+        let node = built.len();
         let log = Arc::try_clone(&log)?;
-        built.push(build_node(alloc, keys, seat, log, shape, opened, plan)?)?;
+        built.push(build_node(alloc, keys, seat, log, node, opened, setup)?)?;
     }
     Ok(built)
 }
@@ -72,19 +60,18 @@ fn build_node<B: ServerName>(
     keys: RandomState,
     seat: LogSeat<B>,
     log: Arc<Oplog<B>, Global>,
-    shape: NodeShape,
+    node: usize,
     slots: OpenedSlots,
-    plan: Plan,
+    setup: Setup,
 ) -> Result<Vec<NodeHandle<B>>, Memory>
-    requires seat { seat ≡ opening_view B.nodes B.places shape.node (shape.node + 1) }
-    requires nodes { (shape.nodes ≡ B.nodes) × (shape.node < B.nodes) }
-    requires workers { (1 ≤ shape.workers) × (shape.workers ≤ 16) }
-    requires slots { (slots.id ≡ B.slots shape.node) × (slots.workers ≡ shape.workers) }
-    ensures { IfOk result (λ workers. IsNode shape.workers plan.connections plan.limit shape.node workers.items) }
+    requires seat { seat ≡ opening_view B.nodes B.places node (node + 1) }
+    requires nodes { (setup.nodes ≡ B.nodes) × (node < B.nodes) }
+    requires slots { (slots.id ≡ B.slots node) × (slots.workers ≡ setup.workers) }
+    ensures { IfOk result (λ workers. IsNode setup.workers setup.connections setup.queue_limit node workers.items) }
 {
     let end = End::new(seat, Arc::try_clone(&log)?);
-    let core = Core::new(alloc, keys, end, shape)?;
-    seat_node(alloc, core, log, shape, slots, plan)
+    let core = Core::new(alloc, keys, end, node, setup)?;
+    seat_node(alloc, core, log, node, slots, setup)
 }
 
 // Puts a node behind its lock, with slots for its workers.
@@ -92,29 +79,29 @@ fn seat_node<B: ServerName>(
     alloc: Global,
     core: Core<B>,
     log: Arc<Oplog<B>, Global>,
-    shape: NodeShape,
+    node: usize,
     opened: OpenedSlots,
-    plan: Plan,
+    setup: Setup,
 ) -> Result<Vec<NodeHandle<B>>, Memory>
-    requires node { core.book.node ≡ shape.node }
-    requires owed { core.replica.owed ≡ replicate shape.workers None }
+    requires node { core.book.node ≡ node }
+    requires owed { core.replica.owed ≡ replicate setup.workers None }
     requires idle { HasNoJobs core }
     requires connections { core.replica.members ≡ [] }
-    requires workers { (1 ≤ shape.workers) × (shape.workers ≤ 16) }
-    requires slots { (opened.id ≡ B.slots shape.node) × (opened.workers ≡ shape.workers) }
-    ensures { IfOk result (λ workers. IsNode shape.workers plan.connections plan.limit shape.node workers.items) }
+    requires slots { (opened.id ≡ B.slots node) × (opened.workers ≡ setup.workers) }
+    ensures { IfOk result (λ workers. IsNode setup.workers setup.connections setup.queue_limit node workers.items) }
 {
     let OpenedSlots { slots, seats, desk } = opened;
     let slots = Arc::new(alloc, slots)?;
     let own = Arc::try_clone(&slots)?;
-    let combiner = Combiner::new(alloc, shape, core, desk, own)?;
+    let combiner = Combiner::new(alloc, node, setup.workers(), core, desk, own)?;
     let node = Node::new(
-        shape.node,
+        node,
         combiner,
         log,
         slots,
-        plan.connections,
-        plan.limit,
+        setup.workers(),
+        setup.connections(),
+        setup.queue_limit(),
     );
     let shared = Arc::new(alloc, node)?;
     workers_of(alloc, &shared, seats)

@@ -4,31 +4,35 @@ ghost use Rattle.std.specs.Arc.{arc_value};
 ghost use Rattle.std.specs.List.{AllByRecursion, list_any};
 ghost use Rattle.std.specs.FinMap as finmap;
 ghost use Rattle.nr_entry.specs.Jobs.{connection_of, item_of, items_of};
-ghost use Rattle.nr_entry.specs.declared.entry.Entry.{Entry};
 ghost use Rattle.nr_slots.specs.Seats.{desk_of, new_combiner, note_of};
 ghost use Rattle.nr_job_numbers.specs.Stored.{is_unended, ComesAfter};
 ghost use Rattle.nr_replica.specs.declared.offer.OfferError.TheVariants as offers;
 ghost use Rattle.nr_log_end.specs.Standings.{opened_of, passed_of};
 ghost use Rattle.nr_node.specs.Level.{connection_at, is_closed_at, queue_at, worker_at, workers_of};
 ghost use Rattle.nr_node.specs.Batches.{AreSame, is_cut_at, IsOpened, IsPiece};
+ghost use Rattle.nr_node.specs.Lending.{AreReadyFor, HasLent, LooksAtTail};
 ghost use Rattle.nr_node.specs.Owing.{IsServedBy};
 ghost use Rattle.nr_node.specs.Revived.{IsOffered, revive_refusal};
 ghost use Rattle.nr_node.specs.Sound.{IsSound};
 ghost use Rattle.nr_node.specs.Steps.{taken_node, refusing_node, HasHandedOut, IsStill};
+ghost use Rattle.nr_combiner.specs.Aside.{HasTakenIn, HoldsAlone};
 ghost use Rattle.nr_combiner.specs.Counts.{fresh_counts, generation_of, with_next};
 ghost use Rattle.nr_combiner.specs.Pieces.{ListsFront, HasJobOf};
-ghost use Rattle.nr_combiner.specs.Served.{owed_at, HasNoJobs, IsServed, StandsLevel};
-ghost use Rattle.nr_combiner.specs.Steps.{HasRoom, OpensFor, closed_combiner, refusal_at, has_lost, is_lost, ComesBack, IsNotBack, IsRefusedFor, IsUnendedAt, HasLooked, HasLifted, HasLiftedAll, HasLiftedBy, HasLiftedOwn, HasAnswered, HasAnsweredAll, HasTried, HasCombined, outcome_of};
+ghost use Rattle.nr_combiner.specs.Served.{owed_at, CombinerState, HasNoJobs, IsServed, StandsLevel};
+ghost use Rattle.nr_combiner.specs.Steps.{HasRoom, OpensFor, closed_combiner, refusal_at, has_lost, is_lost, ComesBack, IsNotBack, IsRefusedFor, IsUnendedAt, HasLifted, HasLiftedAll, HasLiftedBy, HasLiftedOwn, HasAnswered, HasAnsweredAll, HasTried, HasCombined, outcome_of};
 ghost use Rattle.nr_combiner.specs.Turned.{HandsOutTo, HasCollectedFor, HasTurned};
 
-use crate::answering::{Collected, Lifts, OpenError, Turned, hand_back, open_error};
+use crate::answering::{Collected, Lifts, Turned, hand_back};
 use crate::counts::Counts;
+use crate::looking::{look, where_idle};
 use crate::name::ServerName;
 use crate::turn_results::{Told, ToldPieces};
 use nr_blob::Memory;
 use nr_entry::{Answer, Batch, ConnId, Job};
 use nr_job_numbers::Unended;
-use nr_node::{Core, LastPiece, Looked, NodeOffer, NodeShape, ReviveError, Round, TakeError};
+use nr_node::{
+    Core, LastPiece, Loan, NodeOffer, OpenError, Prepared, ReviveError, Round, TakeError,
+};
 use nr_oplog::{LogName, Token};
 use nr_replica::{OfferError, Piece, Replica, Spares};
 use nr_slots::{CombinerSeat, Note, Slots};
@@ -40,6 +44,7 @@ use std::sync::Arc;
 /// record, and of each worker at most one batch that was lifted isn't answered.
 #[derive(Drop)]
 pub struct Combiner<B: ServerName> {
+    alloc: Global,
     core: Core<B>,
     seat: CombinerSeat,
     slots: Arc<Slots, Global>,
@@ -90,6 +95,13 @@ impl ClosedQueue {
     }
 }
 
+// What came of a look at a worker's slot: whether a batch was handed back at once, and the number of one that was taken in.
+#[derive(Clone, Copy, Debug)]
+struct Lifted {
+    is_handed_back: bool,
+    taken: Option<u64>,
+}
+
 // What came of a turn of the combiner, and whom it answered.
 #[derive(Clone, Copy, Debug)]
 struct Combined {
@@ -103,28 +115,30 @@ impl<B: ServerName> Combiner<B> {
     /// A node that has no job and no connection yet, with the seat of its combiner at these slots.
     pub fn new(
         alloc: Global,
-        shape: NodeShape,
+        node: usize,
+        workers: usize,
         core: Core<B>,
         seat: CombinerSeat,
         slots: Arc<Slots, Global>,
     ) -> Result<Combiner<B>, Memory>
-        requires node { core.book.node ≡ shape.node }
-        requires owed { core.replica.owed ≡ replicate shape.workers None }
+        requires node { core.book.node ≡ node }
+        requires owed { core.replica.owed ≡ replicate workers None }
         requires idle { HasNoJobs core }
         requires connections { core.replica.members ≡ [] }
-        requires seat { seat ≡ new_combiner (arc_value slots).id shape.workers }
-        requires named { (arc_value slots).id ≡ B.slots shape.node }
-        ensures { IfOk result (λ combiner. combiner ≡ record { node = core; seat = seat; counts = fresh_counts shape.workers }) }
+        requires seat { seat ≡ new_combiner (arc_value slots).id workers }
+        requires named { (arc_value slots).id ≡ B.slots node }
+        ensures { IfOk result (λ combiner. combiner ≡ record { node = core; seat = seat; counts = fresh_counts workers }) }
     {
-        let mut numbers = Vec::with_capacity(alloc, shape.workers)?;
-        numbers.resize(shape.workers, 0)?;
-        let counts = Counts::new(alloc, shape.workers)?;
+        let mut numbers = Vec::with_capacity(alloc, workers)?;
+        numbers.resize(workers, 0)?;
+        let counts = Counts::new(alloc, workers)?;
         Ok(Combiner {
+            alloc,
             core,
             seat,
             slots,
             numbers,
-            node: shape.node,
+            node,
             counts,
             is_halted: false,
         })
@@ -196,7 +210,7 @@ impl<B: ServerName> Combiner<B> {
                 self.counts.add_opened();
                 Ok(conn)
             }
-            Err(why) => Err(open_error(why)),
+            Err(why) => Err(why),
         }
     }
 
@@ -312,9 +326,36 @@ impl<B: ServerName> Combiner<B> {
         ensures node { result.token.standing.node ≡ self.old.node.book.node }
         ensures named { result.note.slots ≡ B.slots self.old.node.book.node }
     {
-        let combined = self.combine_by(lifts, worker);
+        let workers = self.numbers.len();
+        let handed_back = lift_by(self, lifts, worker, workers);
+        self.turn_lifted(worker, handed_back, None, most, spares, taken)
+    }
+
+    /// The rest of a turn for a worker, behind the lifting, by which the batches of these workers came back: a bit for each. Where the replies to all that waits, which are reads,
+    /// were prepared, they may be taken.
+    pub(crate) fn turn_lifted(
+        &mut self,
+        worker: usize,
+        handed_back: u16,
+        prepared: Option<Prepared<B>>,
+        most: usize,
+        spares: &mut Spares,
+        taken: &mut Vec<LastPiece>,
+    ) -> Told<B>
+        requires some { 0 < most }
+        requires ready { IfSome prepared (AreReadyFor (items_of self.old.node.replica.waiting)) }
+        ensures turned { (which : Lifts) (c : CombinerState) → HasLiftedBy which worker c self.old → HasTurned B.places worker which most taken.old.items taken.new.items result.turned result.token.standing result.note c self.new }
+        ensures down { (result.turned.combined ≡ Ok Round.Down) ↔ (self.new.node.replica.down ≡ true) }
+        ensures answered { result.turned.answered ≡ min (length (desk_of self.new.seat worker).answered) (2 ^ 64 - 1) }
+        ensures since { result.turned.since ≡ self.new.counts.since }
+        ensures served { (numbers : List ℕ) × IsServed self.new.node self.new.seat numbers }
+        ensures sound { IsSound result.token.standing }
+        ensures node { result.token.standing.node ≡ self.old.node.book.node }
+        ensures named { result.note.slots ≡ B.slots self.old.node.book.node }
+    {
+        let combined = self.combine_lifted(prepared, spares);
         let told = self.collect_pieces(worker, most, spares, taken);
-        let others = self.others(worker, combined.answered);
+        let others = self.others(worker, handed_back | combined.answered);
         let turned = Turned {
             combined: combined.round,
             collected: told.collected.result,
@@ -330,6 +371,38 @@ impl<B: ServerName> Combiner<B> {
             token: told.token,
             note: told.note,
         }
+    }
+
+    /// [`Core::lend`] of its node.
+    pub(crate) fn lend(&mut self) -> Option<Loan<B>>
+        ensures lent { IfSome result (λ loan. HasLent loan self.old.node self.new.node) }
+        ensures node { IfSome result (λ loan. loan.node ≡ self.old.node.book.node) }
+        ensures none { IfNone result (self.new.node.replica ≡ self.old.node.replica) }
+        ensures same { LooksAtTail self.old.node self.new.node × (self.new.seat ≡ self.old.seat) × (self.new.counts ≡ self.old.counts) }
+    {
+        self.core.lend()
+    }
+
+    /// Lifts a worker's batch, as a turn with its own slot does. The number of the batch, where it was taken in and nothing but its jobs waits then.
+    pub(crate) fn lift_alone(&mut self, worker: usize) -> Option<u64>
+        ensures lifted { HasLiftedOwn worker self.old self.new }
+        ensures alone { IfSome result (λ number. HoldsAlone worker number self.old self.new) }
+    {
+        if self.numbers.len() <= worker {
+            return None;
+        }
+        let is_idle = self.core.is_idle();
+        let lifted = self.lift(worker);
+        where_idle(is_idle, lifted.taken)
+    }
+
+    /// A note that keeps what it has done at the slots of its workers: one load.
+    pub(crate) fn note(&mut self) -> Note
+        ensures kept { result ≡ note_of self.old.seat }
+        ensures named { result.slots ≡ B.slots self.old.node.book.node }
+        ensures same { self.new ≡ self.old }
+    {
+        self.seat.note(&self.slots)
     }
 
     /// Adds those of these connections for which nothing more comes to wait: they were closed, or their queues were cut. Logarithmic for each. Where memory runs
@@ -454,25 +527,28 @@ impl<B: ServerName> Combiner<B> {
         ensures combined { (behind : Bool) × HasCombined B.places Lifts.All 0 result behind self.old self.new }
         ensures down { (result ≡ Ok Round.Down) ↔ (self.new.node.replica.down ≡ true) }
     {
-        self.combine_by(Lifts::All, 0).round
+        let workers = self.numbers.len();
+        let mut spares = Spares::new(self.alloc);
+        lift_all(self, workers);
+        self.combine_lifted(None, &mut spares).round
     }
 
-    // So it is done with the slots of all workers, or with that of this one alone.
-    fn combine_by(&mut self, lifts: Lifts, worker: usize) -> Combined
-        ensures combined { HasCombined B.places lifts worker result.round result.is_behind self.old self.new }
+    // So it goes on behind the lifting. Where the replies to all that waits, which are reads, were prepared, they may be taken.
+    fn combine_lifted(&mut self, prepared: Option<Prepared<B>>, spares: &mut Spares) -> Combined
+        requires ready { IfSome prepared (AreReadyFor (items_of self.old.node.replica.waiting)) }
+        ensures combined { (which : Lifts) (worker : ℕ) (c : CombinerState) → HasLiftedBy which worker c self.old → HasCombined B.places which worker result.round result.is_behind c self.new }
         ensures down { (result.round ≡ Ok Round.Down) ↔ (self.new.node.replica.down ≡ true) }
     {
         let workers = self.numbers.len();
-        let handed_back = lift_by(self, lifts, worker, workers);
         let was_due = self.core.is_due();
         let tried = try_to_reserve(&mut self.core);
-        let looked = look(&mut self.core, self.is_halted);
+        let looked = look(&mut self.core, self.is_halted, prepared, spares);
         let answered = answer_all(self, workers);
         Combined {
             round: outcome(tried, looked.round),
             is_behind: looked.is_behind,
             has_put: has_put(was_due, tried),
-            answered: handed_back | answered,
+            answered,
         }
     }
 
@@ -484,22 +560,32 @@ impl<B: ServerName> Combiner<B> {
         self.counts.unclosed() < most && worker < self.numbers.len()
     }
 
-    // Lifts a worker's batch, if one is offered, and takes its jobs in, or answers it where it is refused. Whether it answers it.
-    fn lift(&mut self, worker: usize) -> bool
+    // Lifts a worker's batch, if one is offered, and takes its jobs in, or answers it where it is refused. Which of these it does.
+    fn lift(&mut self, worker: usize) -> Lifted
         requires { worker < length self.old.seat.desks }
         ensures lifted { HasLifted worker self.old self.new }
+        ensures taken { IfSome result.taken (λ number. HasTakenIn worker number self.old self.new) }
     {
         let Some(batch) = self.seat.lift(&self.slots, worker) else {
-            return false;
+            return Lifted {
+                is_handed_back: false,
+                taken: None,
+            };
         };
         let number = batch.number;
         let since = self.counts.since();
         let Err((batch, why)) = take_in(&mut self.core, worker, since, batch) else {
             self.numbers[worker] = number;
-            return false;
+            return Lifted {
+                is_handed_back: false,
+                taken: Some(number),
+            };
         };
         hand_back(&mut self.seat, &self.slots, worker, batch, why);
-        true
+        Lifted {
+            is_handed_back: true,
+            taken: None,
+        }
     }
 
     // Answers a worker's batch, once it is known what became of it. Whether it is.
@@ -556,8 +642,8 @@ fn lift_own<B: ServerName>(combiner: &mut Combiner<B>, worker: usize, workers: u
     if worker >= workers {
         return 0;
     }
-    let is_handed_back = combiner.lift(worker);
-    marked(0, worker, is_handed_back)
+    let lifted = combiner.lift(worker);
+    marked(0, worker, lifted.is_handed_back)
 }
 
 // Lifts a batch of each worker, and tells whose were handed back.
@@ -567,8 +653,8 @@ fn lift_all<B: ServerName>(combiner: &mut Combiner<B>, workers: usize) -> u16
 {
     let mut handed_back = 0;
     for worker in 0..workers {
-        let is_handed_back = combiner.lift(worker);
-        handed_back = marked(handed_back, worker, is_handed_back);
+        let lifted = combiner.lift(worker);
+        handed_back = marked(handed_back, worker, lifted.is_handed_back);
     }
     handed_back
 }
@@ -629,16 +715,6 @@ fn add_if_cut<B: LogName>(
     }
     cut.push(*conn)?;
     Ok(())
-}
-
-// A look of a node; or none, where it is down and passes nothing.
-fn look<B: LogName>(core: &mut Core<B>, is_halted: bool) -> Looked
-    ensures { (entries : List Entry) × ((ran : List Job) × ((tail : ℕ) × HasLooked result.round result.is_behind entries ran tail core.old core.new)) }
-{
-    if is_halted && core.is_down() {
-        return core.stand_by();
-    }
-    core.look()
 }
 
 // Whether one of these jobs is of a connection with a lower serial than this, and doesn't end it. Linear in them.

@@ -11,14 +11,14 @@ ghost use Rattle.nr_combiner.specs.Behind.{CollectsBehind, CombinesBehind, CutsB
 ghost use Rattle.nr_combiner.specs.Shared.{IsTakenOut};
 ghost use Rattle.nr_combiner.specs.Turned.{tells_down};
 
-use crate::answering::{AskError, Lifts, OpenError};
+use crate::answering::{AskError, Lifts};
 use crate::combiner::{ClosedQueue, Combiner};
 use crate::name::ServerName;
 use crate::reviving::RevivalError;
 use crate::turn_results::{Told, ToldOpened, ToldPieces, ToldUnended};
 use nr_blob::Memory;
 use nr_entry::ConnId;
-use nr_node::{LastPiece, NodeOffer, Round};
+use nr_node::{LastPiece, NodeOffer, OpenError, Round};
 use nr_oplog::{Oplog, Token};
 use nr_replica::{Piece, Replica, Spares};
 use nr_slots::Slots;
@@ -39,10 +39,11 @@ const MOST_LOOKS: u32 = 1_000;
 /// behind the lock changes between any two calls, so what they say of it is what was handed out.
 #[derive(Drop)]
 pub struct Node<B: ServerName> {
-    node: usize,
+    pub(crate) node: usize,
     combiner: Mutex<Combiner<B>>,
     log: Arc<Oplog<B>, Global>,
-    slots: Arc<Slots, Global>,
+    pub(crate) slots: Arc<Slots, Global>,
+    workers: usize,
     // How many connections are open at most, and how many bytes wait for one at most.
     connections: usize,
     limit: usize,
@@ -60,22 +61,24 @@ impl<B: ServerName> Model for Node<B> {
 
     ghost view = { λ n. record { node = n.node; slots = arc_value n.slots; connections = n.connections; limit = n.limit } };
 
-    ghost invariant = { λ n. (arc_value n.slots).id ≡ B.slots n.node };
+    ghost invariant = { λ n. ((arc_value n.slots).id ≡ B.slots n.node) × ((arc_value n.slots).workers ≡ n.workers) };
 }
 
 impl<B: ServerName> Node<B> {
-    /// The node of this number behind its lock, with its slots and the log beside it, of which at most so many connections are open, and for each of which at most
-    /// `limit` bytes wait.
+    /// The node of this number behind its lock, with the log and the slots of so many workers beside it, of which at most so many connections are open, and for each of which
+    /// at most `limit` bytes wait.
     pub fn new(
         node: usize,
         combiner: Combiner<B>,
         log: Arc<Oplog<B>, Global>,
         slots: Arc<Slots, Global>,
+        workers: usize,
         connections: usize,
         limit: usize,
     ) -> Node<B>
         requires node { combiner.node.book.node ≡ node }
         requires slots { (arc_value slots).id ≡ B.slots node }
+        requires workers { (arc_value slots).workers ≡ workers }
         ensures { result ≡ record { node = node; slots = arc_value slots; connections = connections; limit = limit } }
     {
         Node {
@@ -83,6 +86,7 @@ impl<B: ServerName> Node<B> {
             combiner: Mutex::new(combiner),
             log,
             slots,
+            workers,
             connections,
             limit,
             waiting: AtomicUsize::new(0),
@@ -95,6 +99,13 @@ impl<B: ServerName> Node<B> {
         ensures { result ≡ self.now.node }
     {
         self.node
+    }
+
+    /// How many workers share it.
+    pub fn workers(&self) -> usize
+        ensures { result ≡ self.now.slots.workers }
+    {
+        self.workers
     }
 
     /// What stands behind its lock, once nobody shares the node any more: its replica, with a token that keeps how the replica's end of the log stood. `None` where
@@ -137,7 +148,7 @@ impl<B: ServerName> Node<B> {
     }
 
     // Takes the lock: it is tried for a while, and then waited for.
-    fn hold<R: Wait>(&self, rt: &R) -> MutexGuard<'_, Combiner<B>> {
+    pub(crate) fn hold<R: Wait>(&self, rt: &R) -> MutexGuard<'_, Combiner<B>> {
         if let Some(held) = self.try_hold() {
             return held;
         }

@@ -13,15 +13,15 @@ ghost use Rattle.nr_combiner.specs.Turned.{tells_down};
 ghost use Rattle.nr_slots.specs.Names.{IsTold};
 ghost use Rattle.nr_combiner.specs.Workers.{fresh_worker, shared_of, told_of, with_more, HasPosted, HasCollected, MayHaveClosed};
 
-use crate::answering::{AskError, Collected, Lifts, OpenError, Turned};
+use crate::answering::{AskError, Collected, Lifts, Turned};
 use crate::combiner::ClosedQueue;
 use crate::name::ServerName;
 use crate::node::Node;
 use crate::turn_results::{Told, ToldOpened, ToldPieces, ToldUnended};
 use nr_blob::Memory;
-use nr_entry::{Batch, ConnId, Job, Outcome};
+use nr_entry::{Batch, ConnId, Job, MOST_JOBS, Outcome};
 use nr_job_numbers::Unended;
-use nr_node::LastPiece;
+use nr_node::{LastPiece, OpenError};
 use nr_oplog::Token;
 use nr_replica::{Piece, Spares};
 use nr_slots::{Uncollected, WorkerSeat};
@@ -29,25 +29,22 @@ use std::alloc::Global;
 use std::marker::Model;
 use std::sync::{Arc, Wait};
 
-/// How many jobs a batch has at most: as many as an entry.
-pub const MOST_JOBS: usize = 1024;
-
 /// A worker at its node: its seat at the slots, with the node that its workers share. It may go to a thread of its own.
 #[derive(Drop)]
 pub struct NodeHandle<B: ServerName> {
-    shared: Arc<Node<B>, Global>,
-    worker: usize,
-    seat: WorkerSeat,
+    pub(crate) shared: Arc<Node<B>, Global>,
+    pub(crate) worker: usize,
+    pub(crate) seat: WorkerSeat,
     // The number of its next batch.
-    next: u64,
+    pub(crate) next: u64,
     // How often something was handed out for its connections, or one of them was closed.
-    generation: u64,
+    pub(crate) generation: u64,
 }
 
 impl<B: ServerName> Model for NodeHandle<B> {
-    ghost use Rattle.std.specs.Prelude.{◌≡◌, ◌<◌};
+    ghost use Rattle.std.specs.Prelude.{◌≡◌, ◌<◌, length};
     ghost use Rattle.std.specs.Arc.{arc_value};
-    ghost use Rattle.nr_combiner.specs.Workers.{NodeHandleState, coded_worker};
+    ghost use Rattle.nr_combiner.specs.Workers.{NodeHandleState, coded_worker, CountFrom};
 
     ghost Value = { NodeHandleState };
 
@@ -55,7 +52,7 @@ impl<B: ServerName> Model for NodeHandle<B> {
 
     ghost view = { λ w. record { node = (arc_value w.shared).node; workers = (arc_value w.shared).slots.workers; connections = (arc_value w.shared).connections; limit = (arc_value w.shared).limit; seat = w.seat; next = w.next; generation = w.generation } };
 
-    ghost invariant = { λ w. (w.seat.slots ≡ (arc_value w.shared).slots.id) × (w.worker ≡ w.seat.worker) × (w.worker < 16) × (w.worker < (arc_value w.shared).slots.workers) };
+    ghost invariant = { λ w. (w.seat.slots ≡ (arc_value w.shared).slots.id) × (w.worker ≡ w.seat.worker) × (w.worker < 16) × (w.worker < (arc_value w.shared).slots.workers) × CountFrom 0 w.seat.lane.posted × (w.next ≡ length w.seat.lane.posted) };
 }
 
 impl<B: ServerName> NodeHandle<B> {

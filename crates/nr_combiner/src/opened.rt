@@ -3,18 +3,10 @@ ghost use Rattle.std.specs.Prelude.{◌≡◌, ◌≤◌, ◌↔◌, length, IfO
 ghost use Rattle.nr_combiner.specs.Opened.{AreOfWorkers};
 
 use nr_blob::Memory;
-use nr_slots::{CombinerSeat, Slots, SlotsOpenError, WorkerSeat};
+use nr_entry::BuildError;
+use nr_slots::{CombinerSeat, Slots, WorkerSeat};
 use std::alloc::Global;
 use std::marker::Model;
-
-/// Why slots aren't opened.
-#[derive(Clone, Copy, Debug, PartialEq, Eq)]
-pub enum BuildError {
-    /// The workers aren't 1 to 16.
-    BadShape,
-    /// There was no memory.
-    Memory(Memory),
-}
 
 /// The slots of a node, with the seats of its workers and of its combiner, which have done nothing yet. Contracts see which slots these are, and of how many
 /// workers.
@@ -77,7 +69,7 @@ fn open_one(alloc: Global, workers: usize) -> Result<OpenedSlots, Memory>
 {
     match Slots::open(alloc, workers) {
         Ok((slots, seats, desk)) => Ok(OpenedSlots { slots, seats, desk }),
-        Err(SlotsOpenError::Memory(memory)) => Err(memory),
-        Err(SlotsOpenError::BadShape) => unreachable!(),
+        Err(BuildError::Memory(memory)) => Err(memory),
+        Err(BuildError::BadShape) => unreachable!(),
     }
 }

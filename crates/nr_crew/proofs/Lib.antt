@@ -1,4 +1,5 @@
 mod Dealt
+mod InPlace
 mod Remains
 mod Together
 pub mod Fresh

@@ -3,3 +3,4 @@ pub mod Left
 pub mod Ended
 pub mod Together
 pub mod Nodes
+pub mod Places

@@ -1,43 +1,16 @@
 // The thread that takes connections deals them out to the workers.
-ghost use Rattle.std.specs.Prelude.{◌≡◌, ◌+◌, ◌*◌, ◌<◌, ◌≤◌, ◌%◌, ◌/◌, IfSome};
+ghost use Rattle.std.specs.Prelude.{◌≡◌, ◌<◌, IfSome};
 ghost use Rattle.nr_crew.specs.Dealing.{DealsFrom, DealsOne, HasDealt};
 
 use nr_combiner::{Node, RevivalError, ServerName};
-use nr_service::{Accepts, Ends, Revival, Rings};
+use nr_entry::Setup;
+use nr_service::{Accepts, Ends, Revival, Rings, lane_at, node_at};
 use nr_worker_service::SharedHints;
 use std::alloc::Global;
 use std::sync::{Arc, Wait};
 
 // How many connections are dealt out between two waits at most.
 const MOST_DEALT: u32 = 64;
-
-/// How many nodes a server has, 1 to 8, and how many workers each of them, 1 to 16.
-#[derive(Clone, Copy, Debug)]
-pub struct Shape {
-    pub nodes: usize,
-    pub workers: usize,
-    pub ghost nodes_in: { (1 ≤ nodes) × (nodes ≤ 8) },
-    pub ghost workers_in: { (1 ≤ workers) × (workers ≤ 16) },
-}
-
-// The node so many behind that of a number.
-fn node_at(shape: Shape, number: u64, passed: usize) -> usize
-    requires { passed < shape.nodes }
-    ensures node { result ≡ (number % shape.nodes + passed) % shape.nodes }
-    ensures there { result < shape.nodes }
-{
-    let first = (number % shape.nodes as u64) as usize;
-    (first + passed) % shape.nodes
-}
-
-// The lane of the worker of a number at a node.
-fn lane_at(shape: Shape, number: u64, node: usize) -> usize
-    requires { node < shape.nodes }
-    ensures { result ≡ node * shape.workers + number / shape.nodes % shape.workers }
-{
-    let worker = (number / shape.nodes as u64 % shape.workers as u64) as usize;
-    node * shape.workers + worker
-}
 
 /// What knows whether there is room for one more connection of a node.
 pub(crate) trait Rooms {
@@ -61,13 +34,13 @@ impl<K: Rings> Rooms for SharedHints<K> {
 
 // Deals one out that is held, which was taken as this number, to the worker of its number at the node of its number, or at the next node that takes it. Where none
 // does it is turned away.
-fn deal_one<L: Accepts, C: Rooms>(main: &mut L, rooms: &C, shape: Shape, number: u64)
-    ensures { DealsOne shape.nodes shape.workers number (C.admits rooms.now) (L.dealt main.old) (L.dealt main.new) }
+fn deal_one<L: Accepts, C: Rooms>(main: &mut L, rooms: &C, setup: Setup, number: u64)
+    ensures { DealsOne setup.nodes setup.workers number (C.admits rooms.now) (L.dealt main.old) (L.dealt main.new) }
 {
-    for passed in 0..shape.nodes {
-        let node = node_at(shape, number, passed);
+    for passed in 0..setup.nodes() {
+        let node = node_at(setup, number, passed);
         if rooms.admit(node) {
-            main.deal(lane_at(shape, number, node));
+            main.deal(lane_at(setup, number, node));
             return;
         }
     }
@@ -78,17 +51,17 @@ fn deal_one<L: Accepts, C: Rooms>(main: &mut L, rooms: &C, shape: Shape, number:
 fn deal_waiting<L: Accepts, K: Rings>(
     main: &mut L,
     crew: &SharedHints<K>,
-    shape: Shape,
+    setup: Setup,
     number: u64,
 ) -> u64
-    ensures { DealsFrom shape.nodes shape.workers number result (L.dealt main.old) (L.dealt main.new) }
+    ensures { DealsFrom setup.nodes setup.workers number result (L.dealt main.old) (L.dealt main.new) }
 {
     let mut number = number;
     for _ in 0..MOST_DEALT {
         if !main.accept() {
             break;
         }
-        deal_one(main, crew, shape, number);
+        deal_one(main, crew, setup, number);
         number = number.wrapping_add(1);
     }
     number
@@ -135,12 +108,12 @@ fn tell_of_fall<L: Accepts, K: Rings>(main: &mut L, crew: &SharedHints<K>, node:
 }
 
 // The next node behind one that isn't known to be down.
-fn next_up<K: Rings>(crew: &SharedHints<K>, shape: Shape, node: usize) -> Option<usize>
-    requires { node < shape.nodes }
-    ensures { IfSome result (λ other. other < shape.nodes) }
+fn next_up<K: Rings>(crew: &SharedHints<K>, setup: Setup, node: usize) -> Option<usize>
+    requires { node < setup.nodes }
+    ensures { IfSome result (λ other. other < setup.nodes) }
 {
-    for passed in 1..shape.nodes {
-        let other = node_at(shape, node as u64, passed);
+    for passed in 1..setup.nodes() {
+        let other = node_at(setup, node as u64, passed);
         if !crew.is_down(other) {
             return Some(other);
         }
@@ -153,12 +126,12 @@ fn revive_from_next<B: ServerName, R: Wait, K: Rings>(
     rt: &R,
     crew: &SharedHints<K>,
     nodes: &[Arc<Node<B>, Global>],
-    shape: Shape,
+    setup: Setup,
     node: usize,
 ) -> Result<u64, RevivalError>
-    requires { node < shape.nodes }
+    requires { node < setup.nodes }
 {
-    let Some(other) = next_up(crew, shape, node) else {
+    let Some(other) = next_up(crew, setup, node) else {
         return Err(RevivalError::DonorDown);
     };
     match (nodes.get(node), nodes.get(other)) {
@@ -188,10 +161,10 @@ fn revive_in_time<B: ServerName, R: Wait, L: Accepts, K: Rings>(
     main: &mut L,
     crew: &SharedHints<K>,
     nodes: &[Arc<Node<B>, Global>],
-    shape: Shape,
+    setup: Setup,
     node: usize,
 )
-    requires { node < shape.nodes }
+    requires { node < setup.nodes }
     ensures { L.dealt main.new ≡ L.dealt main.old }
 {
     if !crew.is_known_down(node) || crew.are_down() || crew.is_ending() {
@@ -202,7 +175,7 @@ fn revive_in_time<B: ServerName, R: Wait, L: Accepts, K: Rings>(
     }
     refuse_each(rt, main, nodes);
     crew.begin_to_revive();
-    let revived = revive_from_next(rt, crew, nodes, shape, node);
+    let revived = revive_from_next(rt, crew, nodes, setup, node);
     if matches!(revived, Ok(_) | Err(RevivalError::NotDown)) {
         crew.rise(node);
     }
@@ -216,14 +189,14 @@ fn hear_of_falls<B: ServerName, R: Wait, L: Accepts, K: Rings>(
     main: &mut L,
     crew: &SharedHints<K>,
     nodes: &[Arc<Node<B>, Global>],
-    shape: Shape,
+    setup: Setup,
 )
     ensures { L.dealt main.new ≡ L.dealt main.old }
 {
     refuse_each(rt, main, nodes);
-    for node in 0..shape.nodes {
+    for node in 0..setup.nodes() {
         tell_of_fall(main, crew, node);
-        revive_in_time(rt, main, crew, nodes, shape, node);
+        revive_in_time(rt, main, crew, nodes, setup, node);
     }
 }
 
@@ -247,12 +220,12 @@ fn wait_once<B: ServerName, R: Wait, L: Accepts, K: Rings>(
     main: &mut L,
     crew: &SharedHints<K>,
     nodes: &[Arc<Node<B>, Global>],
-    shape: Shape,
+    setup: Setup,
 ) -> Option<bool>
     ensures { L.dealt main.new ≡ L.dealt main.old }
 {
     let can_come = main.wait();
-    hear_of_falls(rt, main, crew, nodes, shape);
+    hear_of_falls(rt, main, crew, nodes, setup);
     if !can_come {
         return Some(false);
     }
@@ -268,17 +241,17 @@ fn deal_on<B: ServerName, R: Wait, L: Accepts, K: Rings>(
     main: &mut L,
     crew: &SharedHints<K>,
     nodes: &[Arc<Node<B>, Global>],
-    shape: Shape,
+    setup: Setup,
 ) -> bool
-    ensures { HasDealt shape.nodes shape.workers (L.dealt main.old) (L.dealt main.new) }
+    ensures { HasDealt setup.nodes setup.workers (L.dealt main.old) (L.dealt main.new) }
 {
     let mut number = 0;
     for _ in 0..u64::MAX {
         if crew.is_stopped() || crew.serving() == 0 {
             return true;
         }
-        number = deal_waiting(main, crew, shape, number);
-        if let Some(can_come) = wait_once(rt, main, crew, nodes, shape) {
+        number = deal_waiting(main, crew, setup, number);
+        if let Some(can_come) = wait_once(rt, main, crew, nodes, setup) {
             return can_come;
         }
     }
@@ -292,9 +265,9 @@ pub(crate) fn deal_out<B: ServerName, R: Wait, L: Accepts, K: Rings>(
     main: &mut L,
     crew: &SharedHints<K>,
     nodes: &[Arc<Node<B>, Global>],
-    shape: Shape,
+    setup: Setup,
 ) -> bool
-    ensures { HasDealt shape.nodes shape.workers (L.dealt main.old) (L.dealt main.new) }
+    ensures { HasDealt setup.nodes setup.workers (L.dealt main.old) (L.dealt main.new) }
 {
     if crew.is_stopped() {
         return true;
@@ -303,5 +276,5 @@ pub(crate) fn deal_out<B: ServerName, R: Wait, L: Accepts, K: Rings>(
         return false;
     }
     refuse_each(rt, main, nodes);
-    deal_on(rt, main, crew, nodes, shape)
+    deal_on(rt, main, crew, nodes, setup)
 }

@@ -70,9 +70,11 @@ pub(crate) struct Leaving<B: ServerName, S, D, M> {
     pub(crate) left: WorkerEnd<S, D, M>,
 }
 
-/// What a worker promises of what it leaves, which served within these limits.
+/// What a worker of a node promises of what it leaves, which served within these limits.
 #[derive(Drop)]
 pub(crate) struct WorkerPromise {
+    pub(crate) node: usize,
+    pub(crate) worker: usize,
     pub(crate) limits: ClientLimits,
 }
 
@@ -83,5 +85,7 @@ impl<B: ServerName, S: Stream, D: Poller<S>, M: Moments> Promise<Leaving<B, S, D
 
     ghost kept_by = { λ promise leaving. IsAnswered S.received S.sent M.gives (D.parted leaving.left.device) leaving.left.node leaving.left.worker leaving.left.ended
         leaving.mark.standing leaving.left.clients.items
-        × (leaving.left.limits ≡ promise.limits) };
+        × (leaving.left.limits ≡ promise.limits)
+        × (leaving.left.node ≡ promise.node)
+        × (leaving.left.worker ≡ promise.worker) };
 }

@@ -1,22 +1,24 @@
 // A server of several nodes, with a thread for each worker, from its size on.
-ghost use Rattle.std.specs.Prelude.{◌≡◌, ◌+◌, ◌*◌, ◌≤◌, IfOk, OnOk, length};
+ghost use Rattle.std.specs.Prelude.{◌≡◌, ◌+◌, ◌*◌, ◌++◌, [], ◌∷◌, IfOk, OnOk, length, map, flat_map};
 ghost use Rattle.std.specs.List.{AllByRecursion};
 ghost use Rattle.std.specs.Vec.{vec_len};
+ghost use Rattle.nr_model.specs.Bytes.{IsBeginningOf};
 ghost use Rattle.nr_oplog.specs.Opening.{name_of, nodes_of, places_of};
 ghost use Rattle.nr_combiner.specs.Opened.{AreNamed, AreOfWorkers};
 ghost use Rattle.nr_crew.specs.Dealing.{HasDealt};
 ghost use Rattle.nr_crew.specs.Ended.{HasEnded};
 ghost use Rattle.nr_crew.specs.Left.{AreServedWithin};
 ghost use Rattle.nr_crew.specs.Nodes.{AreFresh, IsFresh};
+ghost use Rattle.nr_crew.specs.Places.{place_of, places_from, places_left};
 ghost use Rattle.nr_crew.specs.Together.{AreServedTogether};
 
-use crate::dealing::Shape;
 use crate::lane::{Lane, WorkerEnd};
 use crate::running::{ServeError, run_workers};
 use crate::serving::ClientLimits;
 use nr_blob::Memory;
-use nr_combiner::{BuildError, Node, NodeHandle, OpenedSlots, Plan, ServerName, build, open_slots};
-use nr_oplog::{LogOpenError, OpenedLog, Oplog};
+use nr_combiner::{Node, NodeHandle, OpenedSlots, ServerName, build, open_slots};
+use nr_entry::{BuildError, Setup};
+use nr_oplog::{OpenedLog, Oplog};
 use nr_replica::Replica;
 use nr_service::{Accepts, Gate, Moments, Poller, Rings, Stream};
 use nr_worker_service::SharedHints;
@@ -25,16 +27,6 @@ use std::hash::RandomState;
 use std::marker::Brand;
 use std::sync::{Arc, Wait};
 use std::thread::Threads;
-
-/// How large a server is: its nodes and their workers, how many places its log has, 2 to 65,536, and how many connections of a node are open at most; and within which limits
-/// each of them is served.
-#[derive(Clone, Copy, Debug)]
-pub struct Size {
-    pub shape: Shape,
-    pub places: usize,
-    pub connections: usize,
-    pub limits: ClientLimits,
-}
 
 /// Where the connections of one worker come from, and its clock.
 #[derive(Drop)]
@@ -54,7 +46,7 @@ pub struct Served<S, D, M> {
 /// Why a server didn't start.
 #[derive(Clone, Copy, Debug, PartialEq, Eq)]
 pub enum StartError {
-    /// Its nodes aren't 1 to 8, its workers 1 to 16, or its places 2 to 65,536.
+    /// A node has no worker, or there is none: a [`Setup`] doesn't allow it.
     BadShape,
     /// There are fewer places for workers than workers.
     FewPlaces,
@@ -81,7 +73,8 @@ fn add_lanes<B: ServerName, D: Drop, M: Drop>(
     lanes: &mut Vec<Lane<B, D, M>>,
 ) -> Result<(), StartError>
     requires { AllByRecursion IsFresh workers.items }
-    ensures { OnOk result (vec_len lanes.new ≡ vec_len lanes.old + vec_len workers) }
+    ensures len { OnOk result (vec_len lanes.new ≡ vec_len lanes.old + vec_len workers) }
+    ensures placed { OnOk result (map (λ lane. place_of lane.worker) lanes.new.items ≡ map (λ lane. place_of lane.worker) lanes.old.items ++ map place_of workers.items) }
 {
     for worker in workers {
         let Some(WorkerPorts { device, clock }) = places.pop() else {
@@ -95,7 +88,8 @@ fn add_lanes<B: ServerName, D: Drop, M: Drop>(
 
 // Keeps one more.
 fn keep<T: Drop>(one: T, all: &mut Vec<T>) -> Result<(), Memory>
-    ensures { OnOk result (vec_len all.new ≡ vec_len all.old + 1) }
+    ensures len { OnOk result (vec_len all.new ≡ vec_len all.old + 1) }
+    ensures items { OnOk result (all.new.items ≡ all.old.items ++ one ∷ []) }
 {
     all.push(one)?;
     Ok(())
@@ -109,14 +103,15 @@ fn keep<T: Drop>(one: T, all: &mut Vec<T>) -> Result<(), Memory>
 pub fn lanes_of<B: ServerName, D: Drop, M: Drop>(
     alloc: Global,
     built: Vec<Vec<NodeHandle<B>>>,
-    count: usize,
+    setup: Setup,
     mut places: Vec<WorkerPorts<D, M>>,
 ) -> Result<Vec<Lane<B, D, M>>, StartError>
-    requires { AllByRecursion (λ workers. AreFresh count workers.items) built.items }
-    ensures { IfOk result (λ lanes. vec_len lanes ≡ vec_len built * count) }
+    requires { AllByRecursion (λ workers. AreFresh setup.workers workers.items) built.items }
+    ensures len { IfOk result (λ lanes. vec_len lanes ≡ vec_len built * setup.workers) }
+    ensures placed { IfOk result (λ lanes. map (λ lane. place_of lane.worker) lanes.items ≡ flat_map (λ workers. map place_of workers.items) built.items) }
 {
     places.reverse();
-    let mut lanes = room_for_lanes(alloc, built.len().saturating_mul(count))?;
+    let mut lanes = room_for_lanes(alloc, built.len().saturating_mul(setup.workers()))?;
     for workers in built {
         add_lanes(alloc, workers, &mut places, &mut lanes)?;
     }
@@ -128,7 +123,7 @@ fn room_for_lanes<B: ServerName, D: Drop, M: Drop>(
     alloc: Global,
     count: usize,
 ) -> Result<Vec<Lane<B, D, M>>, Memory>
-    ensures { IfOk result (λ lanes. vec_len lanes ≡ 0) }
+    ensures { IfOk result (λ lanes. lanes.items ≡ []) }
 {
     Ok(Vec::with_capacity(alloc, count)?)
 }
@@ -140,7 +135,8 @@ fn serve_named<B, R, S, D, M, K, G, L>(
     keys: RandomState,
     opened: OpenedLog,
     slots: Vec<OpenedSlots>,
-    size: Size,
+    setup: Setup,
+    timeout: u64,
     places: Vec<WorkerPorts<D, M>>,
     bells: K,
     main: L,
@@ -157,25 +153,26 @@ where
     L: Accepts + Drop,
     requires name { name_of opened ≡ B.log }
     requires shape { (nodes_of opened ≡ B.nodes) × (places_of opened ≡ B.places) }
-    requires nodes { size.shape.nodes ≡ B.nodes }
+    requires nodes { setup.nodes ≡ B.nodes }
     requires slots { (length slots.items ≡ B.nodes) × AreNamed B.slots slots.items }
-    requires workers { AreOfWorkers size.shape.workers slots.items }
+    requires workers { AreOfWorkers setup.workers slots.items }
     ensures together { IfOk result (λ served. AreServedTogether S.received S.sent M.gives D.parted served.0.lefts.items served.0.replicas.items) }
-    ensures dealt { IfOk result (λ served. HasDealt size.shape.nodes size.shape.workers (L.dealt main) (L.dealt served.1)) }
-    ensures ended { IfOk result (λ served. HasEnded (size.shape.nodes * size.shape.workers) served.0.ended served.0.lefts.items) }
-    ensures within { IfOk result (λ served. AreServedWithin size.limits served.0.lefts.items) }
+    ensures dealt { IfOk result (λ served. HasDealt setup.nodes setup.workers (L.dealt main) (L.dealt served.1)) }
+    ensures ended { IfOk result (λ served. HasEnded (setup.nodes * setup.workers) served.0.ended served.0.lefts.items) }
+    ensures within { IfOk result (λ served. AreServedWithin (record { limit = setup.queue_limit; timeout = timeout }) served.0.lefts.items) }
+    ensures in_place { IfOk result (λ served. IsBeginningOf (places_left served.0.lefts.items) (places_from 0 setup.nodes setup.workers)) }
 {
-    let shape = size.shape;
-    let crew = SharedHints::new(alloc, bells, shape.nodes, shape.workers, size.connections)?;
-    let plan = Plan {
-        workers: shape.workers,
-        connections: size.connections,
-        limit: size.limits.limit,
-    };
-    let built = build::<B>(alloc, keys, opened, slots, plan)?;
+    let crew = SharedHints::new(
+        alloc,
+        bells,
+        setup.nodes(),
+        setup.workers(),
+        setup.connections(),
+    )?;
+    let built = build::<B>(alloc, keys, opened, slots, setup)?;
     let log = share_log(&built)?;
     let nodes = share_nodes(alloc, &built)?;
-    let lanes = lanes_of(alloc, built, shape.workers, places)?;
+    let lanes = lanes_of(alloc, built, setup, places)?;
     let (ran, main) = run_workers::<B, R, S, D, M, K, G, L>(
         rt,
         alloc,
@@ -185,8 +182,11 @@ where
         &crew,
         main,
         gate,
-        shape,
-        size.limits,
+        setup,
+        ClientLimits {
+            limit: setup.queue_limit(),
+            timeout,
+        },
     )?;
     Ok((
         Served {
@@ -240,7 +240,7 @@ fn share_node<B: ServerName>(
     }
 }
 
-/// Serves by a new server of this size, each worker on a thread of its own, which has the place of its number: worker w of node n is number n * workers + w. The
+/// Serves by a new server of this size, a client for `timeout` milliseconds without a byte, 0 for ever, each worker on a thread of its own, which has the place of its number: worker w of node n is number n * workers + w. The
 /// connections that come from `main` are dealt out to them as [`run_workers`] says, and it ends as that does. Strangers choose the keys, so the hashers take a seed of
 /// their own.
 ///
@@ -251,7 +251,8 @@ pub fn serve_nodes<R, S, D, M, K, G, L>(
     rt: &R,
     alloc: Global,
     keys: RandomState,
-    size: Size,
+    setup: Setup,
+    timeout: u64,
     places: Vec<WorkerPorts<D, M>>,
     bells: K,
     main: L,
@@ -266,21 +267,22 @@ where
     G: Gate + Sync,
     L: Accepts + Drop,
     ensures together { IfOk result (λ served. AreServedTogether S.received S.sent M.gives D.parted served.0.lefts.items served.0.replicas.items) }
-    ensures dealt { IfOk result (λ served. HasDealt size.shape.nodes size.shape.workers (L.dealt main) (L.dealt served.1)) }
-    ensures ended { IfOk result (λ served. HasEnded (size.shape.nodes * size.shape.workers) served.0.ended served.0.lefts.items) }
-    ensures within { IfOk result (λ served. AreServedWithin size.limits served.0.lefts.items) }
+    ensures dealt { IfOk result (λ served. HasDealt setup.nodes setup.workers (L.dealt main) (L.dealt served.1)) }
+    ensures ended { IfOk result (λ served. HasEnded (setup.nodes * setup.workers) served.0.ended served.0.lefts.items) }
+    ensures within { IfOk result (λ served. AreServedWithin (record { limit = setup.queue_limit; timeout = timeout }) served.0.lefts.items) }
+    ensures in_place { IfOk result (λ served. IsBeginningOf (places_left served.0.lefts.items) (places_from 0 setup.nodes setup.workers)) }
 {
-    let opened = match OpenedLog::open(alloc, size.shape.nodes, size.places) {
+    let opened = match OpenedLog::open(alloc, setup.nodes(), setup.places()) {
         Ok(opened) => opened,
-        Err(LogOpenError::BadShape) => return Err(StartError::BadShape),
-        Err(LogOpenError::Memory(memory)) => return Err(StartError::Memory(memory)),
+        Err(BuildError::BadShape) => return Err(StartError::BadShape),
+        Err(BuildError::Memory(memory)) => return Err(StartError::Memory(memory)),
     };
-    let slots = match open_slots(alloc, size.shape.nodes, size.shape.workers) {
+    let slots = match open_slots(alloc, setup.nodes(), setup.workers()) {
         Ok(slots) => slots,
         Err(BuildError::BadShape) => return Err(StartError::BadShape),
         Err(BuildError::Memory(memory)) => return Err(StartError::Memory(memory)),
     };
     serve_named::<Brand, R, S, D, M, K, G, L>(
-        rt, alloc, keys, opened, slots, size, places, bells, main, gate,
+        rt, alloc, keys, opened, slots, setup, timeout, places, bells, main, gate,
     )
 }

@@ -1,20 +1,23 @@
 // The workers of a server, each on a thread of its own, beside the thread that deals connections out.
-ghost use Rattle.std.specs.Prelude.{◌≡◌, ◌+◌, ◌<◌, ◌≤◌, [], ◌∷◌, ◌++◌, List, IsTrue, IfOk, IfSome, OnOk, OnErr};
+ghost use Rattle.std.specs.Prelude.{◌≡◌, ◌+◌, ◌<◌, ◌≤◌, [], ◌∷◌, ◌++◌, List, IsTrue, IfOk, IfSome, OnOk, map, false};
 ghost use Rattle.std.specs.List.{AllByRecursion};
 ghost use Rattle.std.specs.Vec.{vec_len, vec_capacity};
+ghost use Rattle.nr_model.specs.Bytes.{IsBeginningOf};
 ghost use Rattle.nr_taps.specs.Marks.{MarkState};
 ghost use Rattle.nr_node.specs.Level.{IsLevel};
 ghost use Rattle.nr_node.specs.Sound.{IsSound};
 ghost use Rattle.nr_crew.specs.Dealing.{HasDealt};
 ghost use Rattle.nr_crew.specs.Ended.{HasEnded, any_device, any_down, ended_of, is_device, is_down, unless_wanted};
 ghost use Rattle.nr_crew.specs.Left.{AreServedWithin, IsAnswered};
+ghost use Rattle.nr_crew.specs.Places.{place_of, places_left};
 ghost use Rattle.nr_crew.specs.Together.{AreAnsweredTogether, AreLeft, AreTakenOut};
 
-use crate::dealing::{Shape, deal_out};
+use crate::dealing::deal_out;
 use crate::lane::{Lane, Leaving, WorkerEnd, WorkerPromise};
 use crate::serving::{ClientLimits, serve_lane};
 use nr_blob::Memory;
 use nr_combiner::{Node, ServerName};
+use nr_entry::Setup;
 use nr_oplog::{Oplog, Token};
 use nr_replica::Replica;
 use nr_service::{Accepts, Ended, Gate, Moments, Poller, Rings, Stream};
@@ -97,6 +100,7 @@ where
     ensures lefts { (vec_len lefts.new ≡ vec_len lefts.old + 1) × (vec_capacity lefts.new ≡ vec_capacity lefts.old) }
     ensures answered { AreLeft S.received S.sent M.gives D.parted marks.old.items lefts.old.items → AreLeft S.received S.sent M.gives D.parted marks.new.items
         lefts.new.items }
+    ensures placed { places_left lefts.new.items ≡ places_left lefts.old.items ++ (handle.promise.node, handle.promise.worker) ∷ [] }
 {
     let Leaving { mark, left } = handle.join(rt);
     marks.push_reserved(mark);
@@ -122,6 +126,7 @@ where
     requires lefts { (lefts.old.items ≡ []) × (vec_len handles ≤ vec_capacity lefts.old) }
     ensures answered { AreLeft S.received S.sent M.gives D.parted marks.new.items lefts.new.items }
     ensures within { AreServedWithin limits lefts.new.items }
+    ensures placed { places_left lefts.new.items ≡ map (λ handle. (handle.promise.node, handle.promise.worker)) handles.items }
     ensures len { vec_len lefts.new ≡ vec_len handles }
 {
     for handle in handles {
@@ -187,32 +192,6 @@ fn unless_wanted<S, D, M>(lefts: &[WorkerEnd<S, D, M>]) -> Result<(), ServeError
         }
     }
     Ok(())
-}
-
-// Keeps the thread that was started. Whether it was: else all that were are told to stop.
-fn keep_started<H, E: Drop, K: Rings>(
-    started: Result<H, E>,
-    handles: &mut Vec<H>,
-    crew: &SharedHints<K>,
-) -> bool
-    requires { vec_len handles.old < vec_capacity handles.old }
-    ensures kept { IsTrue result → vec_len handles.new ≡ vec_len handles.old + 1 }
-    ensures one { IfOk started (λ handle. handles.new.items ≡ handles.old.items ++ handle ∷ []) }
-    ensures none { OnErr started (handles.new.items ≡ handles.old.items) }
-    ensures len { vec_len handles.new ≤ vec_len handles.old + 1 }
-    ensures room { vec_capacity handles.new ≡ vec_capacity handles.old }
-{
-    match started {
-        Ok(handle) => {
-            handles.push_reserved(handle);
-            true
-        }
-        Err(_) => {
-            crew.end();
-            crew.stop();
-            false
-        }
-    }
 }
 
 // What the threads of all lanes share, and what each of them is told.
@@ -288,19 +267,29 @@ where
     ensures promised { AllByRecursion (λ handle. handle.promise.limits ≡ shared.now.limits) handles.old.items
         → AllByRecursion (λ handle. handle.promise.limits ≡ shared.now.limits) handles.new.items }
     ensures kept { IsTrue result → vec_len handles.new ≡ vec_len handles.old + 1 }
-    ensures len { vec_len handles.new ≤ vec_len handles.old + 1 }
+    ensures placed { IsTrue result → map (λ handle. (handle.promise.node, handle.promise.worker)) handles.new.items
+        ≡ map (λ handle. (handle.promise.node, handle.promise.worker)) handles.old.items ++ place_of lane.worker ∷ [] }
+    ensures none { result ≡ false → handles.new.items ≡ handles.old.items }
     ensures room { vec_capacity handles.new ≡ vec_capacity handles.old }
 {
     shared.crew.begin();
     let share = shared.share();
     let answered = WorkerPromise {
+        node: lane.worker.shared().node(),
+        worker: lane.worker.number(),
         limits: shared.limits,
     };
     let started = scope.spawn_with(answered, move || serve_shared(share, lane));
-    keep_started(started, handles, shared.crew)
+    let Ok(handle) = started else {
+        shared.crew.end();
+        shared.crew.stop();
+        return false;
+    };
+    handles.push_reserved(handle);
+    true
 }
 
-// Starts a thread for each lane, and keeps those that were started. Whether all were.
+// Starts a thread for each lane, and keeps them, up to the first that can't be started. Whether all were.
 fn start_all<'s, 'e, B, R, S, D, M, K, G>(
     scope: &Scope<'s, &'e ()>,
     shared: &Shared<'e, R, K, G>,
@@ -318,13 +307,15 @@ where
     requires { (handles.old.items ≡ []) × (vec_len lanes ≤ vec_capacity handles.old) }
     ensures promised { AllByRecursion (λ handle. handle.promise.limits ≡ shared.now.limits) handles.new.items }
     ensures kept { IsTrue result → vec_len handles.new ≡ vec_len lanes }
+    ensures placed { IsBeginningOf (map (λ handle. (handle.promise.node, handle.promise.worker)) handles.new.items) (map (λ lane. place_of lane.worker) lanes.items) }
     ensures len { vec_len handles.new ≤ vec_len lanes }
 {
-    let mut has_all = true;
     for lane in lanes {
-        has_all &= start_one(scope, shared, lane, handles);
+        if !start_one(scope, shared, lane, handles) {
+            return false;
+        }
     }
-    has_all
+    true
 }
 
 // Starts a thread for each lane, deals connections out to them until they have ended or shall end, and waits for all of them. Memory runs out before any starts.
@@ -336,7 +327,7 @@ fn run_all<B, R, S, D, M, K, G, L>(
     crew: &SharedHints<K>,
     main: L,
     gate: &G,
-    shape: Shape,
+    setup: Setup,
     limits: ClientLimits,
 ) -> Result<(Joined<B, S, D, M>, L), Memory>
 where
@@ -349,9 +340,10 @@ where
     G: Gate + Sync,
     L: Accepts + Drop,
     ensures left { IfOk result (λ r. AreLeft S.received S.sent M.gives D.parted r.0.marks.items r.0.lefts.items) }
-    ensures dealt { IfOk result (λ r. HasDealt shape.nodes shape.workers (L.dealt main) (L.dealt r.1)) }
+    ensures dealt { IfOk result (λ r. HasDealt setup.nodes setup.workers (L.dealt main) (L.dealt r.1)) }
     ensures ended { IfOk result (λ r. HasEnded (vec_len lanes) r.0.ended r.0.lefts.items) }
     ensures within { IfOk result (λ r. AreServedWithin limits r.0.lefts.items) }
+    ensures placed { IfOk result (λ r. IsBeginningOf (places_left r.0.lefts.items) (map (λ lane. place_of lane.worker) lanes.items)) }
 {
     let ClientLimits { limit, timeout } = limits;
     thread::scope(
@@ -359,9 +351,10 @@ where
         rt,
         move |scope| -> Result<(Joined<B, S, D, M>, L), Memory>
             ensures left { IfOk result (λ r. AreLeft S.received S.sent M.gives D.parted r.0.marks.items r.0.lefts.items) }
-            ensures dealt { IfOk result (λ r. HasDealt shape.nodes shape.workers (L.dealt main) (L.dealt r.1)) }
+            ensures dealt { IfOk result (λ r. HasDealt setup.nodes setup.workers (L.dealt main) (L.dealt r.1)) }
             ensures ended { IfOk result (λ r. HasEnded (vec_len lanes) r.0.ended r.0.lefts.items) }
             ensures within { IfOk result (λ r. AreServedWithin (record { limit = limit; timeout = timeout }) r.0.lefts.items) }
+            ensures placed { IfOk result (λ r. IsBeginningOf (places_left r.0.lefts.items) (map (λ lane. place_of lane.worker) lanes.items)) }
         {
             let room = room_for(alloc, lanes.len())?;
             let Room {
@@ -378,7 +371,7 @@ where
                 limits: ClientLimits { limit, timeout },
             };
             let has_all_threads = start_all(scope, &shared, lanes, &mut handles);
-            let comes_more = deal_out(rt, &mut main, crew, nodes, shape);
+            let comes_more = deal_out(rt, &mut main, crew, nodes, setup);
             crew.stop();
             crew.ring_all();
             join_all(
@@ -474,7 +467,7 @@ pub fn run_workers<B, R, S, D, M, K, G, L>(
     crew: &SharedHints<K>,
     main: L,
     gate: &G,
-    shape: Shape,
+    setup: Setup,
     limits: ClientLimits,
 ) -> Result<(RanWorkers<B, S, D, M>, L), Memory>
 where
@@ -487,11 +480,12 @@ where
     G: Gate + Sync,
     L: Accepts + Drop,
     ensures together { IfOk result (λ ran. AreAnsweredTogether S.received S.sent M.gives D.parted ran.0.marks.items ran.0.lefts.items ran.0.replicas.items) }
-    ensures dealt { IfOk result (λ ran. HasDealt shape.nodes shape.workers (L.dealt main) (L.dealt ran.1)) }
+    ensures dealt { IfOk result (λ ran. HasDealt setup.nodes setup.workers (L.dealt main) (L.dealt ran.1)) }
     ensures ended { IfOk result (λ ran. HasEnded (vec_len lanes) ran.0.ended ran.0.lefts.items) }
     ensures within { IfOk result (λ ran. AreServedWithin limits ran.0.lefts.items) }
+    ensures placed { IfOk result (λ ran. IsBeginningOf (places_left ran.0.lefts.items) (map (λ lane. place_of lane.worker) lanes.items)) }
 {
-    let ran_all = run_all(rt, alloc, lanes, &nodes, crew, main, gate, shape, limits)?;
+    let ran_all = run_all(rt, alloc, lanes, &nodes, crew, main, gate, setup, limits)?;
     let (joined, main) = ran_all;
     let Joined {
         mut marks,

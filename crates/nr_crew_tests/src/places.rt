@@ -3,15 +3,15 @@ use crate::falling::Falls;
 use crate::line::{Given, Line};
 use crate::watch::{Held, Watch};
 use nr_blob::Memory;
-use nr_crew::{
-    ClientLimits, ServeError, Served, Shape, Size, StartError, WorkerPorts, serve_nodes,
-};
+use nr_crew::{ServeError, Served, StartError, WorkerPorts, serve_nodes};
+use nr_entry::Setup;
 use nr_service::{Accepts, Ends, Moments, Poller, Revival, Silent};
 use std::alloc::Global;
 use std::collections::VecDeque;
 use std::hash::RandomState;
 use std::process::Abort;
 use std::random::RandomSource;
+use std::rt::Clock;
 use std::sync::atomic::{AtomicUsize, Ordering};
 use std::sync::{Arc, Mutex, Wait};
 use std::thread;
@@ -51,7 +51,7 @@ pub(crate) fn refuse_memory(alloc: Global) -> Result<(), Memory> {
 struct Door<'a, R> {
     rt: &'a R,
     alloc: Global,
-    watch: &'a Watch,
+    watch: &'a Watch<'a, R>,
     letters: &'a Letters,
     lane: usize,
     breaks: Breaks,
@@ -61,7 +61,7 @@ struct Door<'a, R> {
     told: usize,
 }
 
-impl<R: Abort> Door<'_, R> {
+impl<R: Abort + Clock> Door<'_, R> {
     fn keep(&mut self, line: Line) {
         if line.is_answered() {
             self.watch.answers(self.lane);
@@ -70,7 +70,7 @@ impl<R: Abort> Door<'_, R> {
     }
 }
 
-impl<R: Wait + Abort> Poller<Line> for Door<'_, R> {
+impl<R: Wait + Abort + Clock> Poller<Line> for Door<'_, R> {
     fn accept(&mut self) -> Result<Option<Line>, Memory> {
         if self.has_given && self.breaks == Breaks::Memory {
             refuse_memory(self.alloc)?;
@@ -106,7 +106,7 @@ impl<R: Wait + Abort> Poller<Line> for Door<'_, R> {
 #[derive(Drop)]
 struct Arrivals<'a, R> {
     rt: &'a R,
-    watch: &'a Watch,
+    watch: &'a Watch<'a, R>,
     letters: &'a [Letters],
     to_come: Vec<Line>,
     held: Option<Line>,
@@ -116,8 +116,9 @@ struct Arrivals<'a, R> {
     // All are to end in order once so many lines have given all that they send, which are counted here.
     ends: Option<(usize, Given)>,
     falls: &'a Falls,
-    // The first node falls again each time it came back; and whether its fall was told.
+    // The first node falls again each time it came back, or comes back once one was turned away, who comes again then; and whether its fall was told.
     falls_again: bool,
+    comes_back: bool,
     has_fallen: bool,
 }
 
@@ -128,7 +129,7 @@ impl<R> Arrivals<'_, R> {
     }
 }
 
-impl<R: Wait + Abort> Accepts for Arrivals<'_, R> {
+impl<R: Wait + Abort + Clock> Accepts for Arrivals<'_, R> {
     fn accept(&mut self) -> bool {
         let gone = self.watch.gone();
         if self.waits_for_fall() {
@@ -150,8 +151,12 @@ impl<R: Wait + Abort> Accepts for Arrivals<'_, R> {
 
     fn turn_away(&mut self) {
         self.dealt.push(None).expect(self.rt, "memory");
-        self.held = None;
-        self.watch.goes();
+        match self.held.take() {
+            Some(line) if self.comes_back => {
+                self.to_come.push(line).ok().expect(self.rt, "memory");
+            }
+            _ => self.watch.goes(),
+        }
     }
 
     fn wait(&mut self) -> bool {
@@ -172,11 +177,14 @@ impl<R: Wait + Abort> Accepts for Arrivals<'_, R> {
     }
 
     fn is_time_to_revive(&mut self, _: usize) -> bool {
-        self.falls_again && self.to_come.is_empty()
+        let is_wanted = self.comes_back && self.dealt.contains(&None);
+        is_wanted || (self.falls_again && self.to_come.is_empty())
     }
 
     fn hear_of_revival(&mut self, _: usize, revival: Revival) {
-        if let Revival::Back(_) = revival {
+        if let Revival::Back(_) = revival
+            && self.falls_again
+        {
             self.falls.add(1);
         }
     }
@@ -204,6 +212,8 @@ pub(crate) struct Trial {
     /// The first node falls over the first entry; and comes back once all have come, and falls again, time and again.
     pub falls: bool,
     pub falls_again: bool,
+    /// It comes back once one was turned away, who comes again.
+    pub comes_back: bool,
     /// After how many waits no connection can come any more.
     pub waits: u64,
     /// All end in order once all clients have given all that they send.
@@ -222,29 +232,22 @@ pub(crate) struct Came {
 }
 
 // The size of its server, where a server may have that.
-fn size_of<R: Abort>(rt: &R, trial: Trial) -> Size {
-    if trial.nodes < 1 || trial.nodes > 8 || trial.workers < 1 || trial.workers > 16 {
-        panic!(rt; "no server has so many nodes and workers");
-    }
-    Size {
-        shape: Shape {
-            nodes: trial.nodes,
-            workers: trial.workers,
-        },
-        places: trial.places,
-        connections: trial.connections,
-        limits: ClientLimits {
-            limit: trial.limit,
-            timeout: 0,
-        },
-    }
+fn size_of<R: Abort>(rt: &R, trial: Trial) -> Setup {
+    Setup::new(
+        trial.nodes,
+        trial.places,
+        trial.workers,
+        trial.connections,
+        trial.limit,
+    )
+    .expect(rt, "a server may have that size")
 }
 
 // The doors of so many lanes, each with the clock of its worker.
-fn places_of<'a, R: Abort>(
+fn places_of<'a, R: Abort + Clock>(
     rt: &'a R,
     alloc: Global,
-    watch: &'a Watch,
+    watch: &'a Watch<'a, R>,
     letters: &'a [Letters],
     (breaks, breaks_at): (Breaks, usize),
 ) -> Vec<WorkerPorts<Door<'a, R>, Still>> {
@@ -282,14 +285,14 @@ fn serve_by<'a, R>(
     trial: Trial,
     places: Vec<WorkerPorts<Door<'a, R>, Still>>,
     arrivals: Arrivals<'a, R>,
-    watch: &Watch,
+    watch: &Watch<'a, R>,
 ) -> Result<(Served<Line, Door<'a, R>, Still>, Arrivals<'a, R>), StartError>
 where
-    R: Threads + Wait + Abort + Sync,
+    R: Threads + Wait + Abort + Clock + Sync,
 {
-    let size = size_of(rt, trial);
-    serve_nodes::<R, Line, Door<'_, R>, Still, Silent, Watch, Arrivals<'_, R>>(
-        rt, alloc, keys, size, places, Silent, arrivals, watch,
+    let setup = size_of(rt, trial);
+    serve_nodes::<R, Line, Door<'_, R>, Still, Silent, Watch<'_, R>, Arrivals<'_, R>>(
+        rt, alloc, keys, setup, 0, places, Silent, arrivals, watch,
     )
 }
 
@@ -332,10 +335,10 @@ fn have_come_back<S, D, M>(served: &Served<S, D, M>, nodes: usize) -> bool {
 /// Serves these connections by a new server, each worker on a thread of its own, until all went that don't stay, or none can come any more.
 pub(crate) fn serve<R>(rt: &R, alloc: Global, trial: Trial, mut lines: Vec<Line>) -> Came
 where
-    R: RandomSource + Threads + Wait + Abort + Sync,
+    R: RandomSource + Threads + Wait + Abort + Clock + Sync,
 {
     let wanted = lines.len().saturating_sub(trial.stay);
-    let watch = Watch::new(wanted, trial.held);
+    let watch = Watch::new(rt, wanted, trial.held);
     let mut letters = Vec::new(alloc);
     for _ in 0..trial.nodes.saturating_mul(trial.workers) {
         let empty = Mutex::new(VecDeque::new(alloc));
@@ -355,6 +358,7 @@ where
         ends,
         falls: &falls,
         falls_again: trial.falls_again,
+        comes_back: trial.comes_back,
         has_fallen: false,
     };
     let places = places_of(rt, alloc, &watch, &letters, (trial.breaks, trial.breaks_at));

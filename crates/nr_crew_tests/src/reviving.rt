@@ -5,7 +5,8 @@ use crate::directing::{CALLERS, Director, NODES, Patience, Pool, Trouble, WORKER
 use crate::falling::Falls;
 use crate::places::Still;
 use nr_blob::Memory;
-use nr_crew::{ClientLimits, Served, Shape, Size, StartError, WorkerPorts, serve_nodes};
+use nr_crew::{Served, StartError, WorkerPorts, serve_nodes};
+use nr_entry::Setup;
 use nr_service::{Poller, Silent};
 use std::alloc::Global;
 use std::collections::VecDeque;
@@ -19,20 +20,6 @@ use std::thread::Threads;
 
 /// How many clients are subscribed.
 const LISTENERS: usize = 4;
-
-/// Three nodes that have room for all clients each.
-const SIZE: Size = Size {
-    shape: Shape {
-        nodes: NODES,
-        workers: WORKERS,
-    },
-    places: 64,
-    connections: CALLERS,
-    limits: ClientLimits {
-        limit: 1_048_576,
-        timeout: 0,
-    },
-};
 
 // Where the connections of a lane come from, and where clients go whose connection ends.
 #[derive(Drop)]
@@ -136,10 +123,12 @@ where
     R: RandomSource + Clock + Threads + Wait + Abort + Sync,
 {
     let keys = RandomState::new(rt).ok().expect(rt, "random bytes");
-    let mut size = SIZE;
-    size.places = places;
+    let setup = Setup::new(NODES, places, WORKERS, CALLERS, 1_048_576).expect(
+        rt,
+        "there may be such a server",
+    );
     serve_nodes::<R, Caller, Door<'_, R>, Still, Silent, Patience, Director<'_, R>>(
-        rt, alloc, keys, size, doors, Silent, director, patience,
+        rt, alloc, keys, setup, 0, doors, Silent, director, patience,
     )
 }
 

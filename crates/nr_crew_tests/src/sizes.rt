@@ -1,13 +1,13 @@
 // All workers of a server, on one thread, at sizes: what no contract says where a call may do less than it could.
-ghost use Rattle.std.specs.Prelude.{◌≡◌, ◌≤◌, length};
+ghost use Rattle.std.specs.Prelude.{◌≡◌, length};
 ghost use Rattle.nr_oplog.specs.Opening.{name_of, nodes_of, places_of};
 ghost use Rattle.nr_combiner.specs.Opened.{AreNamed, AreOfWorkers};
 
 use crate::asserted::holds;
 use crate::returning::{Falling, Nodes, come_back};
-use nr_combiner::{NodeHandle, OpenedSlots, Plan, ServerName, build, open_slots};
+use nr_combiner::{NodeHandle, OpenedSlots, ServerName, build, open_slots};
 use nr_crew::{Lane, StartError, WorkerPorts, lanes_of, share_nodes};
-use nr_entry::ConnId;
+use nr_entry::{ConnId, Setup};
 use nr_oplog::OpenedLog;
 use nr_service::{Backend, ConnectionState, Rings, Silent};
 use nr_worker_service::{SharedHints, WorkerBackend};
@@ -538,26 +538,21 @@ fn does_named<B: ServerName, R: Wait + Abort>(
     keys: RandomState,
     opened: OpenedLog,
     slots: Vec<OpenedSlots>,
-    nodes: usize,
-    workers: usize,
+    setup: Setup,
     task: Task,
 ) -> Result<(), StartError>
 where
     requires name { name_of opened ≡ B.log }
-    requires shape { (nodes_of opened ≡ B.nodes) × (places_of opened ≡ B.places) }
+    requires shape { (nodes_of opened ≡ B.nodes) × (places_of opened ≡ B.places) × (setup.nodes ≡ B.nodes) }
     requires slots { (length slots.items ≡ B.nodes) × AreNamed B.slots slots.items }
-    requires workers { AreOfWorkers workers slots.items }
-    requires range { (1 ≤ workers) × (workers ≤ 16) }
+    requires workers { AreOfWorkers setup.workers slots.items }
 {
+    let nodes = setup.nodes();
+    let workers = setup.workers();
     let lanes = nodes.saturating_mul(workers);
     let bells = Bells::new(rt, alloc, lanes);
     let crew = SharedHints::new(alloc, bells, nodes, workers, CONNECTIONS)?;
-    let plan = Plan {
-        workers,
-        connections: CONNECTIONS,
-        limit: limit_of(task),
-    };
-    let built = build::<B>(alloc, keys, opened, slots, plan)?;
+    let built = build::<B>(alloc, keys, opened, slots, setup)?;
     if let Task::Falls(_) = task {
         refuse_first(rt, &built);
     }
@@ -565,7 +560,7 @@ where
         all: share_nodes(alloc, &built)?,
     };
     let places = no_places(rt, alloc, lanes);
-    let lanes = lanes_of(alloc, built, workers, places)?;
+    let lanes = lanes_of(alloc, built, setup, places)?;
     let desks = desks_of(rt, alloc, lanes, &crew, limit_of(task));
     let mut server = Server {
         nodes,
@@ -584,16 +579,17 @@ fn does_row<R: RandomSource + Wait + Abort>(
     (nodes, workers, places, task): (usize, usize, usize, Task),
 ) {
     let keys = RandomState::new(rt).ok().expect(rt, "random bytes");
-    if workers < 1 || workers > 16 {
-        panic!(rt; "no node has so many workers");
-    }
-    let opened = OpenedLog::open(alloc, nodes, places)
+    let setup = Setup::new(nodes, places, workers, CONNECTIONS, limit_of(task)).expect(
+        rt,
+        "there may be such a server",
+    );
+    let opened = OpenedLog::open(alloc, setup.nodes(), setup.places())
         .ok()
         .expect(rt, "a log is opened");
-    let slots = open_slots(alloc, nodes, workers)
+    let slots = open_slots(alloc, setup.nodes(), setup.workers())
         .ok()
         .expect(rt, "slots are opened");
-    let done = does_named::<Brand, R>(rt, alloc, keys, opened, slots, nodes, workers, task);
+    let done = does_named::<Brand, R>(rt, alloc, keys, opened, slots, setup, task);
     holds(rt, "there is memory for it", done.is_ok());
 }
 

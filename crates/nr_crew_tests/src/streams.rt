@@ -9,6 +9,7 @@ use nr_worker_service::SharedHints;
 use std::alloc::Global;
 use std::process::Abort;
 use std::random::RandomSource;
+use std::rt::Clock;
 use std::sync::Wait;
 use std::thread::Threads;
 
@@ -25,6 +26,7 @@ const TRIAL: Trial = Trial {
     breaks_at: 0,
     falls: false,
     falls_again: false,
+    comes_back: false,
     waits: u64::MAX,
     ends: false,
 };
@@ -230,7 +232,7 @@ fn dealt_in_turn(rt: HostRuntime) {
 // As many connections as two nodes have workers, so many each, go to these lanes, one after the other, and each is served there: in its time no other takes a turn.
 fn serves_at<R>(rt: &R, alloc: Global, workers: usize, lanes: &[Option<usize>])
 where
-    R: RandomSource + Threads + Wait + Abort + Sync,
+    R: RandomSource + Threads + Wait + Abort + Clock + Sync,
 {
     let count = lanes.len();
     let mut lines = Vec::new(alloc);
@@ -314,12 +316,12 @@ fn who_goes_takes_no_time(rt: HostRuntime) {
     );
 }
 
-/// Where 1,000 bytes wait for a connection at most: of two that take none 1,001 wait for one and 1,000 for the other, and a reply of 1,001 is for one that takes them.
+/// Where 1,024 bytes wait for a connection at most: of two that take none 1,025 wait for one and 1,024 for the other, and a reply of 1,025 is for one that takes them.
 const AT_THE_LIMIT: [(usize, &[u8], &[u8]); 4] = [
     (
         0,
-        b"SETRANGE b 986 x\r\nSETRANGE c 987 x\r\nSETRANGE d 992 x\r\n",
-        b":987\r\n:988\r\n:993\r\n",
+        b"SETRANGE b 1009 x\r\nSETRANGE c 1010 x\r\nSETRANGE d 1015 x\r\n",
+        b":1010\r\n:1011\r\n:1016\r\n",
     ),
     (1, b"GET a\r\nGET c\r\n", b""),
     (1, b"GET a\r\nGET b\r\n", b""),
@@ -346,7 +348,7 @@ fn no_more_waits_than_may(rt: HostRuntime) {
     add_pings(&rt, rt.alloc(), 2, 4, &mut lines);
     let mut trial = TRIAL;
     trial.workers = 1;
-    trial.limit = 1_000;
+    trial.limit = 1_024;
     trial.stay = 1;
     let came = serve(&rt, rt.alloc(), trial, lines);
     holds(&rt, "one is lost", served_well(&rt, &came, 6) == 5);
@@ -355,7 +357,7 @@ fn no_more_waits_than_may(rt: HostRuntime) {
 // Of two workers one ends as its door breaks, with a client at each that stays: both end, and it is told why.
 fn ends_all<R>(rt: &R, alloc: Global, lane: usize, breaks: Breaks, why: ServeError)
 where
-    R: RandomSource + Threads + Wait + Abort + Sync,
+    R: RandomSource + Threads + Wait + Abort + Clock + Sync,
 {
     let mut lines = Vec::new(alloc);
     for _ in 0..2 {
@@ -410,6 +412,46 @@ fn a_fall_holds_nobody_up(rt: HostRuntime) {
     let came = serve(&rt, rt.alloc(), trial, lines);
     holds(&rt, "all are served", served_well(&rt, &came, 5) == 5);
     went_to(&rt, &came, &[0, 1, 0, 1, 1, 1].map(Some));
+}
+
+/// One that says nothing is at the node that falls; the next sets a key at the other, which is full with it; and one reads that key once the first went.
+const BEHIND_A_REVIVAL: [(usize, &[u8], &[u8]); 3] = [
+    (0, b"", b""),
+    (0, b"SET k v\r\n", b"+OK\r\n"),
+    (1, b"GET k\r\n", b"$1\r\nv\r\n"),
+];
+
+// Of two nodes with room for one each the first falls: whoever comes then is turned away, until it is back, and then it takes him.
+#[test]
+fn a_node_that_came_back_takes_others(rt: HostRuntime) {
+    let mut lines = Vec::new(rt.alloc());
+    for (number, row) in BEHIND_A_REVIVAL.into_iter().enumerate() {
+        let mut line = comes(&rt, rt.alloc(), row);
+        line.stays = number < 2;
+        lines.push(line).ok().expect(&rt, "memory");
+    }
+    let mut trial = TRIAL;
+    trial.workers = 1;
+    trial.connections = 1;
+    trial.falls = true;
+    trial.comes_back = true;
+    trial.stay = 1;
+    let came = serve(&rt, rt.alloc(), trial, lines);
+    holds(&rt, "all are served", served_well(&rt, &came, 2) == 2);
+    let parted = came.dealt.split_at_checked(2);
+    let (first, later) = parted.expect(&rt, "two were dealt");
+    holds(
+        &rt,
+        "the others are dealt",
+        first == [0, 1].map(Some).as_slice(),
+    );
+    let last = later.split_last().expect(&rt, "more came");
+    let is_away = !last.1.is_empty() && last.1.iter().all(|lane| lane.is_none());
+    holds(
+        &rt,
+        "it is turned away, and taken",
+        is_away && *last.0 == Some(0),
+    );
 }
 
 // Where no connection can come any more all workers end.

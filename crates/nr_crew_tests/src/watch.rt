@@ -1,10 +1,12 @@
 // The gate of the workers under test: it stops all once as many connections went as are to go, and may hold workers up.
 use nr_service::{Gate, Go};
+use std::rt::Clock;
 use std::sync::atomic::{AtomicBool, AtomicU64, AtomicUsize, Ordering};
 use std::thread;
+use std::time::Duration;
 
-/// How often the gate gives the processor away while it waits for an answer.
-const MOST_YIELDS: u32 = 10_000_000;
+/// How often the gate sleeps for a millisecond while it waits for an answer.
+const MOST_SLEEPS: u32 = 60_000;
 
 /// Whose turns wait for others.
 #[derive(Clone, Copy, Debug)]
@@ -19,7 +21,8 @@ pub(crate) enum Held {
 
 /// What the workers, and who deals connections out to them, share.
 #[derive(Drop)]
-pub(crate) struct Watch {
+pub(crate) struct Watch<'a, R> {
+    clock: &'a R,
     // So many connections are to go.
     wanted: usize,
     held: Held,
@@ -29,9 +32,10 @@ pub(crate) struct Watch {
     gave_up: AtomicBool,
 }
 
-impl Watch {
-    pub(crate) fn new(wanted: usize, held: Held) -> Watch {
+impl<'a, R: Clock> Watch<'a, R> {
+    pub(crate) fn new(clock: &'a R, wanted: usize, held: Held) -> Watch<'a, R> {
         Watch {
+            clock,
             wanted,
             held,
             gone: AtomicUsize::new(0),
@@ -66,25 +70,29 @@ impl Watch {
         self.gave_up.load(Ordering::SeqCst)
     }
 
+    fn sleeps(&self) {
+        thread::sleep(self.clock, Duration::from_millis(1));
+    }
+
     // Waits until a lane has answered. Whether it did.
     fn waits_for(&self, lane: usize) -> bool {
-        for _ in 0..MOST_YIELDS {
+        for _ in 0..MOST_SLEEPS {
             if self.has_answered(lane) {
                 return true;
             }
-            thread::yield_now();
+            self.sleeps();
         }
         false
     }
 
     // Waits until just so many connections went, or all. Whether they did.
     fn waits_until(&self, count: usize) -> bool {
-        for _ in 0..MOST_YIELDS {
+        for _ in 0..MOST_SLEEPS {
             let gone = self.gone();
             if (gone == count) | (gone >= self.wanted) | self.gave_up() {
                 return true;
             }
-            thread::yield_now();
+            self.sleeps();
         }
         false
     }
@@ -112,7 +120,7 @@ impl Watch {
     }
 }
 
-impl Gate for Watch {
+impl<R: Clock> Gate for Watch<'_, R> {
     fn turn(&self, node: usize, worker: usize, turn: u64) -> Go {
         if !self.lets_on(node, worker, turn) {
             self.gave_up.store(true, Ordering::SeqCst);

@@ -1,3 +1,4 @@
+pub mod Setups
 pub mod Kinds
 pub mod Jobs
 pub mod Choice

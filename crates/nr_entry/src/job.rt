@@ -1,11 +1,11 @@
 // What a connection asks of the server: updates, which go through the log, and reads, which take no entry. The type says which.
-ghost use Rattle.std.specs.Prelude.{◌≡◌, ◌≤◌, IfOk};
+ghost use Rattle.std.specs.Prelude.{◌≡◌, ◌≤◌};
 ghost use Rattle.nr_model.specs.Keyspace.{last_moment};
 
 use crate::conn::ConnId;
-use nr_blob::{Blob, Memory};
+use nr_blob::Blob;
 use nr_model::command::{Change, Kind, Look, Operation};
-use nr_resp::{Reply, copy_words};
+use nr_resp::Reply;
 
 /// A command that a transaction may hold.
 #[derive(Clone, Copy, Debug, PartialEq, Eq)]
@@ -93,96 +93,9 @@ pub struct Job {
     pub ghost in_time: { moment ≤ last_moment },
 }
 
-impl Queued {
-    ghost use Rattle.nr_entry.specs.Kinds.{queued_call};
-
-    /// The same command once more.
-    pub fn copy(&self) -> Result<Queued, Memory>
-        ensures { IfOk result (λ copied. queued_call copied ≡ queued_call self.now) }
-    {
-        Ok(Queued {
-            command: self.command,
-            words: copy_words(&self.words)?,
-        })
-    }
-}
-
-impl Transaction {
-    ghost use Rattle.nr_entry.specs.Kinds.{transaction_deed};
-
-    /// The same commands once more.
-    pub fn copy(&self) -> Result<Transaction, Memory>
-        ensures { IfOk result (λ copied. transaction_deed copied ≡ transaction_deed self.now) }
-    {
-        match self {
-            Transaction::Queued(commands) => {
-                let mut copied = Vec::with_capacity(*commands.allocator(), commands.len())?;
-                for command in commands {
-                    copied.push(command.copy()?)?;
-                }
-                Ok(Transaction::Queued(copied))
-            }
-            Transaction::Spoiled => Ok(Transaction::Spoiled),
-        }
-    }
-}
-
-impl Update {
-    ghost use Rattle.nr_entry.specs.Kinds.{update_deed};
-
-    /// The same once more.
-    pub fn copy(&self) -> Result<Update, Memory>
-        ensures { IfOk result (λ copied. update_deed copied ≡ update_deed self.now) }
-    {
-        match self {
-            Update::Change { command, words } => Ok(Update::Change {
-                command: *command,
-                words: copy_words(words)?,
-            }),
-            Update::Session { command, words } => Ok(Update::Session {
-                command: *command,
-                words: copy_words(words)?,
-            }),
-            Update::Exec(transaction) => Ok(Update::Exec(transaction.copy()?)),
-            Update::Close(None) => Ok(Update::Close(None)),
-            Update::Close(Some(reply)) => Ok(Update::Close(Some(reply.copy()?))),
-        }
-    }
-}
-
-impl Read {
-    ghost use Rattle.nr_entry.specs.Kinds.{read_deed};
-
-    /// The same once more.
-    pub fn copy(&self) -> Result<Read, Memory>
-        ensures { IfOk result (λ copied. read_deed copied ≡ read_deed self.now) }
-    {
-        match self {
-            Read::Look { command, words } => Ok(Read::Look {
-                command: *command,
-                words: copy_words(words)?,
-            }),
-            Read::Pubsub { words } => Ok(Read::Pubsub {
-                words: copy_words(words)?,
-            }),
-            Read::Local(reply) => Ok(Read::Local(reply.copy()?)),
-        }
-    }
-}
-
 impl JobKind {
     ghost use Rattle.nr_model.specs.Items.{is_end};
     ghost use Rattle.nr_entry.specs.Kinds.{deed_of};
-
-    /// The same once more.
-    pub fn copy(&self) -> Result<JobKind, Memory>
-        ensures { IfOk result (λ copied. deed_of copied ≡ deed_of self.now) }
-    {
-        match self {
-            JobKind::Update(update) => Ok(JobKind::Update(update.copy()?)),
-            JobKind::Read(read) => Ok(JobKind::Read(read.copy()?)),
-        }
-    }
 
     /// Whether it ends its connection.
     pub fn is_end(&self) -> bool
@@ -198,19 +111,6 @@ impl JobKind {
 impl Job {
     ghost use Rattle.nr_model.specs.Items.{is_update};
     ghost use Rattle.nr_entry.specs.Kinds.{deed_of};
-    ghost use Rattle.nr_entry.specs.Jobs.{item_of};
-
-    /// The same job once more.
-    pub fn copy(&self) -> Result<Job, Memory>
-        ensures { IfOk result (λ job. item_of job ≡ item_of self.now) }
-    {
-        Ok(Job {
-            conn: self.conn,
-            number: self.number,
-            moment: self.moment,
-            kind: self.kind.copy()?,
-        })
-    }
 
     /// Whether it takes a place in the log. The kind says so, no table.
     pub fn is_update(&self) -> bool

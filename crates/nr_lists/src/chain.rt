@@ -1,5 +1,5 @@
 // A list in blocks of a few items each.
-ghost use Rattle.std.specs.Prelude.{◌≡◌, ◌+◌, ◌++◌, ◌^◌, ◌<◌, List as Items, [], length, All, IfNone, IfOk, OnOk, OnErr, is_some};
+ghost use Rattle.std.specs.Prelude.{◌≡◌, ◌+◌, ◌++◌, ◌^◌, ◌<◌, ◌≤◌, List as Items, [], length, All, IfNone, IfOk, OnOk, OnErr, is_some};
 ghost use Rattle.std.specs.Option.{option_map, option_to_list};
 ghost use Rattle.nr_model.specs.Strings.{range};
 ghost use Rattle.nr_model.specs.Lists.{pushed, popped, item_at, index_of, place_of, with_item_at, pivot_of, inserted, seen_from, removed, places_of};
@@ -219,7 +219,8 @@ impl Chain {
 // How many items there are with one more, refused from 2^63 on.
 fn one_more(len: usize) -> Result<usize, Memory>
     requires { len < 2 ^ 63 }
-    ensures { IfOk result (λ more. (more ≡ len + 1) × (more < 2 ^ 63)) }
+    ensures more { IfOk result (λ more. (more ≡ len + 1) × (more < 2 ^ 63)) }
+    ensures refused { OnErr result (2 ^ 63 ≤ len + 1) }
 {
     let more = len + 1;
     match Memory::at_last((more as u64).saturating_mul(2)) {

@@ -5,7 +5,8 @@ ghost use Rattle.nr_oplog.specs.Opening.{name_of, nodes_of, places_of};
 use crate::node::{Node, Tried};
 use crate::nodes::nodes;
 use nr_blob::Memory;
-use nr_oplog::{LogName, LogOpenError, OpenedLog};
+use nr_entry::BuildError;
+use nr_oplog::{LogName, OpenedLog};
 use std::alloc::Global;
 use std::marker::Brand;
 
@@ -47,7 +48,7 @@ pub(crate) fn play(
     nodes: usize,
     places: usize,
     moves: &[(usize, Move)],
-) -> Result<Vec<Outcome>, LogOpenError>
+) -> Result<Vec<Outcome>, BuildError>
     ensures { IfOk result (λ outcomes. length outcomes.items ≡ length moves.now) }
 {
     let opened = OpenedLog::open(alloc, nodes, places)?;

@@ -1,8 +1,8 @@
 ghost use Rattle.std.specs.Prelude.{◌≡◌, ◌<◌, length};
 ghost use Rattle.nr_slots.specs.Names.{Names};
 
-use nr_entry::{Answer, Batch, Outcome};
-use nr_slots::{CombinerSeat, Slots, SlotsOpenError, Uncollected, WorkerSeat};
+use nr_entry::{Answer, Batch, BuildError, Outcome};
+use nr_slots::{CombinerSeat, Slots, Uncollected, WorkerSeat};
 use std::alloc::Global;
 use std::process::Abort;
 use std::test::Fail;
@@ -143,12 +143,7 @@ fn last_of_16(rt: HostRuntime) -> Result<(), Fail> {
 #[test]
 fn opens_for_1_to_16(rt: HostRuntime) -> Result<(), Fail> {
     for workers in [0, 17, usize::MAX] {
-        assert!(rt;
-            matches!(
-                Slots::open(rt.alloc(), workers),
-                Err(SlotsOpenError::BadShape)
-            )
-        );
+        assert!(rt; matches!(Slots::open(rt.alloc(), workers), Err(BuildError::BadShape)));
     }
     for workers in [1, 16] {
         assert!(rt; Slots::open(rt.alloc(), workers).is_ok());

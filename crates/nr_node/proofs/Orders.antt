@@ -17,7 +17,7 @@ use Rattle.nr_log_end.proofs.Rising.{range_rises}
 use Rattle.nr_log_end.specs.declared.standing.Standing.{Standing}
 use Rattle.nr_log_end.specs.declared.standing.LogEvent.{LogEvent}
 use Rattle.nr_log_end.specs.declared.standing.LogEvent.TheVariants.{Applied, Ran, Opened}
-use Rattle.nr_log_end.specs.Standings.{applied_of, opened_of, ran_from, ran_of, record_of, passed_of, own_entries, StandsInLog, fetched_with, opened_with, passed_on, reserved_as, EachRises}
+use Rattle.nr_log_end.specs.Standings.{applied_of, opened_of, ran_from, ran_of, record_of, own_entries, StandsInLog, fetched_with, opened_with, passed_on, reserved_as, EachRises}
 use Rattle.nr_job_numbers.specs.declared.account.Account.{Account}
 use Rattle.nr_job_numbers.specs.Stored.{numbers_in, CountsTo}
 use Rattle.nr_job_numbers.specs.Book.{Book, HasGoneBack}

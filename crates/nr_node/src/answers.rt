@@ -29,9 +29,11 @@ pub struct Looked {
     pub is_behind: bool,
 }
 
-/// Why a connection wasn't opened.
+/// Why a connection wasn't opened. The reasons are told in this order.
 #[derive(Clone, Copy, Debug, PartialEq, Eq)]
-pub enum CoreOpenError {
+pub enum OpenError {
+    /// All connections that there may be are in use, or the node has no such worker: who holds its lock tells it.
+    TooMany,
     /// The replica is down.
     Down,
     /// There was no memory.

@@ -1,10 +1,10 @@
 //! A node over the running operation log: its replica, its end of the log, and the accounts of its batches, as one value for a lock.
 #![tactic(auto)]
 
-pub use answers::{CoreOpenError, Looked, Round, TakeError};
+pub use answers::{Looked, OpenError, Round, TakeError};
 pub use collecting::LastPiece;
 pub use lending::{Loan, Prepared};
-pub use node_core::{Core, NodeShape};
+pub use node_core::Core;
 pub use reviving::{NodeOffer, ReviveError};
 
 mod advancing;

@@ -24,7 +24,7 @@ ghost use Rattle.nr_node.specs.Sound.{IsSound};
 ghost use Rattle.nr_node.specs.Steps.{fresh_node, closed_node, taken_node, refusing_node, is_due, HasOpened, HasReserved, GoesOnWaiting, HasNoneDue, GoesOnBy, HasRead, IsStill, HasHandedOut};
 
 use crate::advancing::catch_up;
-use crate::answers::{CoreOpenError, Looked, Round, TakeError, take_error};
+use crate::answers::{Looked, OpenError, Round, TakeError, take_error};
 use crate::collecting::LastPiece;
 use crate::lending::{Loan, Prepared, lend};
 use crate::next::Next;
@@ -33,7 +33,7 @@ use crate::reading::read;
 use crate::reserving::{put_in, take_shares};
 use crate::reviving::{NodeOffer, ReviveError, come_back, is_busy, reach};
 use nr_blob::Memory;
-use nr_entry::{Batch, ConnId, Outcome};
+use nr_entry::{Batch, ConnId, Outcome, Setup};
 use nr_job_numbers::{JobNumbers, Unended};
 use nr_log_end::{Load, LogEnd};
 use nr_oplog::{End, LogName, Token};
@@ -41,14 +41,6 @@ use nr_replica::{OfferError, Piece, Replica, Spares};
 use std::alloc::Global;
 use std::hash::RandomState;
 use std::marker::Model;
-
-/// Which node it is of how many, and how many workers it has.
-#[derive(Clone, Copy, Debug)]
-pub struct NodeShape {
-    pub node: usize,
-    pub nodes: usize,
-    pub workers: usize,
-}
 
 /// A node without its lock: its replica, its end of the operation log, and the accounts of its batches. Whatever other nodes do, between two calls the replica
 /// is the sequential Redis after the record of its end, or is down.
@@ -83,22 +75,25 @@ impl<B: LogName> Model for Core<B> {
 }
 
 impl<B: LogName> Core<B> {
-    /// A node of that number, with no key and no connection, of so many workers. Strangers choose the keys, so the hasher takes a seed of its own.
+    /// A node of that number of a server so large, with no key and no connection. Strangers choose the keys, so the hasher takes a seed of its own.
     pub fn new(
         alloc: Global,
         keys: RandomState,
         end: End<B>,
-        shape: NodeShape,
+        node: usize,
+        setup: Setup,
     ) -> Result<Core<B>, Memory>
-        requires end { end ≡ opening_view B.nodes B.places shape.node (shape.node + 1) }
-        requires nodes { (shape.nodes ≡ B.nodes) × (0 < shape.nodes) }
-        ensures { IfOk result (λ core. core ≡ fresh_node end shape.node shape.workers) }
+        requires end { end ≡ opening_view B.nodes B.places node (node + 1) }
+        requires nodes { setup.nodes ≡ B.nodes }
+        ensures { IfOk result (λ core. core ≡ fresh_node end node setup.workers) }
     {
+        let nodes = setup.nodes();
+        let workers = setup.workers();
         Ok(Core {
             alloc,
-            nodes: shape.nodes,
-            replica: Replica::new(alloc, keys, shape.node, shape.workers)?,
-            accounts: JobNumbers::new(alloc, shape.node, shape.workers)?,
+            nodes,
+            replica: Replica::new(alloc, keys, node, workers)?,
+            accounts: JobNumbers::new(alloc, node, workers)?,
             next: None,
             end,
             kept: OwnEntries::new(alloc),
@@ -138,21 +133,22 @@ impl<B: LogName> Core<B> {
 
     /// Opens a connection that one of the node's workers serves, for which at most `limit` bytes wait, and notes at its end of the log which worker that is, by one
     /// load. Logarithmic.
-    pub fn open(&mut self, worker: u8, limit: usize) -> Result<ConnId, CoreOpenError>
+    pub fn open(&mut self, worker: u8, limit: usize) -> Result<ConnId, OpenError>
         requires { worker < length self.old.replica.owed }
         ensures conn { IfOk result (λ conn. connection_of conn ≡ connection_at self.old.replica.node (length self.old.replica.members)) }
         ensures node { IfOk result (λ conn. conn.node ≡ self.old.book.node) }
         ensures opened { OnOk result (HasOpened limit worker self.old self.new) }
         ensures unchanged { OnErr result (self.new ≡ self.old) }
         ensures new { IfOk result (λ conn. finmap.get self.old.book.held conn.serial ≡ None) }
-        ensures down { (result ≡ Err CoreOpenError.Down) ↔ (self.old.replica.down ≡ true) }
+        ensures down { (result ≡ Err OpenError.Down) ↔ (self.old.replica.down ≡ true) }
+        ensures room { result ≡ Err OpenError.TooMany → ⊥ }
     {
         if self.replica.is_down() {
-            return Err(CoreOpenError::Down);
+            return Err(OpenError::Down);
         }
         let serial = self.replica.connections() as u64;
         if let Err(memory) = self.accounts.open(serial, worker) {
-            return Err(CoreOpenError::Memory(memory));
+            return Err(OpenError::Memory(memory));
         }
         match self.replica.open(worker as usize, limit) {
             Ok(conn) => {
@@ -161,7 +157,7 @@ impl<B: LogName> Core<B> {
             }
             Err(memory) => {
                 self.accounts.forget(serial);
-                Err(CoreOpenError::Memory(memory))
+                Err(OpenError::Memory(memory))
             }
         }
     }

@@ -1,11 +1,12 @@
 // Workers of two nodes, each on a thread of its own, count at one key.
-ghost use Rattle.std.specs.Prelude.{◌≡◌, ◌≤◌, length};
+ghost use Rattle.std.specs.Prelude.{◌≡◌, length};
 ghost use Rattle.nr_oplog.specs.Opening.{name_of, nodes_of, places_of};
 ghost use Rattle.nr_combiner.specs.Opened.{AreNamed, AreOfWorkers};
 
 use crate::asserted::holds;
 use crate::desk::{Desk, MANY};
-use nr_combiner::{OpenedSlots, Plan, ServerName, open_slots};
+use nr_combiner::{OpenedSlots, ServerName, open_slots};
+use nr_entry::Setup;
 use nr_oplog::OpenedLog;
 use nr_test_parts::{Station, stations};
 use std::alloc::Global;
@@ -142,19 +143,15 @@ fn count_up<B: ServerName + Send + Sync, R: Threads + Wait + Abort + Sync>(
     keys: RandomState,
     opened: OpenedLog,
     slots: Vec<OpenedSlots>,
+    setup: Setup,
     counting: Counting,
 ) -> Vec<Vec<u64>>
     requires name { name_of opened ≡ B.log }
-    requires shape { (nodes_of opened ≡ B.nodes) × (places_of opened ≡ B.places) }
+    requires shape { (nodes_of opened ≡ B.nodes) × (places_of opened ≡ B.places) × (setup.nodes ≡ B.nodes) }
     requires slots { (length slots.items ≡ B.nodes) × AreNamed B.slots slots.items }
-    requires workers { AreOfWorkers counting.workers slots.items × (1 ≤ counting.workers) × (counting.workers ≤ 16) }
+    requires workers { AreOfWorkers setup.workers slots.items }
 {
-    let plan = Plan {
-        workers: counting.workers,
-        connections: counting.workers,
-        limit: MANY,
-    };
-    let workers = stations::<B>(alloc, keys, opened, slots, plan).expect(rt, "nodes are built");
+    let workers = stations::<B>(alloc, keys, opened, slots, setup).expect(rt, "nodes are built");
     let many = workers.len();
     let ended = AtomicUsize::new(0);
     thread::map_vec(
@@ -192,13 +189,17 @@ fn count_together<R: Threads + Wait + Abort + Sync>(
     (nodes, places): (usize, usize),
     counting: Counting,
 ) {
-    let opened = OpenedLog::open(alloc, nodes, places)
+    let setup = Setup::new(nodes, places, counting.workers, counting.workers, MANY).expect(
+        rt,
+        "there may be such a server",
+    );
+    let opened = OpenedLog::open(alloc, setup.nodes(), setup.places())
         .ok()
         .expect(rt, "a log is opened");
-    let slots = open_slots(alloc, nodes, counting.workers)
+    let slots = open_slots(alloc, setup.nodes(), setup.workers())
         .ok()
         .expect(rt, "slots are opened");
-    let told = count_up::<Brand, R>(rt, alloc, keys, opened, slots, counting);
+    let told = count_up::<Brand, R>(rt, alloc, keys, opened, slots, setup, counting);
     holds(
         rt,
         "each worker of each node has counted",

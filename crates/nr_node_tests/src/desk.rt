@@ -3,8 +3,8 @@ ghost use Rattle.std.specs.Prelude.{◌<◌};
 
 use crate::asserted::{holds, same};
 use nr_blob::Memory;
-use nr_combiner::{AskError, Lifts, OpenError, ServerName};
-use nr_node::Round;
+use nr_combiner::{AskError, Lifts, ServerName};
+use nr_node::{OpenError, Round};
 use nr_replica::Spares;
 use nr_test_parts::{Client, Offered, Station};
 use std::process::Abort;

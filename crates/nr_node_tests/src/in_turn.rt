@@ -1,9 +1,10 @@
 // Nodes and their workers in turn, in one thread: what their clients get, how many there may be, and what waits for them.
-ghost use Rattle.std.specs.Prelude.{◌≡◌, ◌≤◌, length};
+ghost use Rattle.std.specs.Prelude.{◌≡◌, length};
 ghost use Rattle.nr_oplog.specs.Opening.{name_of, nodes_of, places_of};
 ghost use Rattle.nr_combiner.specs.Opened.{AreNamed, AreOfWorkers};
 
 use crate::asserted::{holds, same};
+use crate::beside::serve_beside;
 use crate::desk::Act::{
     Asks, Closes, Combines, Counts, Gets, GetsEach, GetsLength, HandsIn, IsAnother, IsHeldUp,
     IsLost, IsTold, Opens, OpensNone, Refuses, Reopens, Sends, SendsEach, SendsMany,
@@ -11,12 +12,13 @@ use crate::desk::Act::{
 use crate::desk::{Act, Desk};
 use crate::layouts::{
     Layout, MANY_WORKERS, NARROW, NARROW_PAIR, ONE_EACH, THREE_NODES, TWO_EACH, TWO_NODES,
-    TWO_PLACES, TWO_WORKERS, WIDE,
+    TWO_PAIRS, TWO_PLACES, TWO_WORKERS, WIDE,
 };
 use crate::reviving::{come_back, come_back_in_turn, drop_late_ones};
 use nr_blob::int_text;
-use nr_combiner::{Lifts, OpenError, OpenedSlots, Plan, ServerName, open_slots};
-use nr_node::Round;
+use nr_combiner::{Lifts, OpenedSlots, ServerName, open_slots};
+use nr_entry::Setup;
+use nr_node::{OpenError, Round};
 use nr_oplog::OpenedLog;
 use nr_replica::Spares;
 use nr_taps::Refused;
@@ -56,6 +58,8 @@ enum Play<'a> {
     CutsAreTold,
     /// Turns tell which other workers are to be woken.
     OthersAreTold,
+    /// Two workers of one node serve two connections each.
+    BothServe,
 }
 
 // The workers of a log's nodes, each with a client.
@@ -65,14 +69,14 @@ fn desks<B: ServerName, R: Wait + Abort>(
     keys: RandomState,
     opened: OpenedLog,
     slots: Vec<OpenedSlots>,
-    plan: Plan,
+    setup: Setup,
 ) -> Vec<Desk<B>>
     requires name { name_of opened ≡ B.log }
-    requires shape { (nodes_of opened ≡ B.nodes) × (places_of opened ≡ B.places) }
+    requires shape { (nodes_of opened ≡ B.nodes) × (places_of opened ≡ B.places) × (setup.nodes ≡ B.nodes) }
     requires slots { (length slots.items ≡ B.nodes) × AreNamed B.slots slots.items }
-    requires workers { AreOfWorkers plan.workers slots.items × (1 ≤ plan.workers) × (plan.workers ≤ 16) }
+    requires workers { AreOfWorkers setup.workers slots.items }
 {
-    let all = stations::<B>(alloc, keys, opened, slots, plan).expect(rt, "nodes are built");
+    let all = stations::<B>(alloc, keys, opened, slots, setup).expect(rt, "nodes are built");
     let mut desks = Vec::new(alloc);
     for station in all {
         desks.push(Desk::new(rt, station)).expect(rt, "memory");
@@ -86,15 +90,15 @@ fn perform<B: ServerName, R: Wait + Abort>(
     keys: RandomState,
     opened: OpenedLog,
     slots: Vec<OpenedSlots>,
-    plan: Plan,
+    setup: Setup,
     play: Play<'_>,
 )
     requires name { name_of opened ≡ B.log }
-    requires shape { (nodes_of opened ≡ B.nodes) × (places_of opened ≡ B.places) }
+    requires shape { (nodes_of opened ≡ B.nodes) × (places_of opened ≡ B.places) × (setup.nodes ≡ B.nodes) }
     requires slots { (length slots.items ≡ B.nodes) × AreNamed B.slots slots.items }
-    requires workers { AreOfWorkers plan.workers slots.items × (1 ≤ plan.workers) × (plan.workers ≤ 16) }
+    requires workers { AreOfWorkers setup.workers slots.items }
 {
-    let mut desks = desks::<B, R>(rt, alloc, keys, opened, slots, plan);
+    let mut desks = desks::<B, R>(rt, alloc, keys, opened, slots, setup);
     match play {
         Play::InTurn(acts) => in_turn(rt, &mut desks, acts),
         Play::AllCount => all_count(rt, alloc, desks),
@@ -108,6 +112,7 @@ fn perform<B: ServerName, R: Wait + Abort>(
         Play::TwoComeBack => two_come_back(rt, desks),
         Play::CutsAreTold => tell_cuts(rt, alloc, desks),
         Play::OthersAreTold => tell_others(rt, desks),
+        Play::BothServe => both_serve(rt, alloc, desks),
     }
 }
 
@@ -116,13 +121,14 @@ fn play_at<R: RandomSource + Wait + Abort>(rt: &R, alloc: Global, layout: Layout
     let keys = RandomState::new(rt)
         .ok()
         .expect(rt, "there are random bytes");
-    let opened = OpenedLog::open(alloc, layout.nodes, layout.places)
+    let setup = layout.setup().expect(rt, "a server may have that size");
+    let opened = OpenedLog::open(alloc, setup.nodes(), setup.places())
         .ok()
         .expect(rt, "a log is opened");
-    let slots = open_slots(alloc, layout.nodes, layout.plan.workers)
+    let slots = open_slots(alloc, setup.nodes(), setup.workers())
         .ok()
         .expect(rt, "slots are opened");
-    perform::<Brand, R>(rt, alloc, keys, opened, slots, layout.plan, what);
+    perform::<Brand, R>(rt, alloc, keys, opened, slots, setup, what);
 }
 
 fn in_turn<B: ServerName, R: Wait + Abort>(rt: &R, desks: &mut [Desk<B>], acts: &[(usize, Act)]) {
@@ -208,8 +214,12 @@ fn refuse_pieces<B: ServerName, R: Wait + Abort>(rt: &R, desks: Vec<Desk<B>>) {
     );
 }
 
-// A turn in which all was done that was due, and so many pieces were handed out.
-fn turns<B: ServerName, R: Wait + Abort>(rt: &R, desk: &mut Desk<B>, pieces: usize) -> Turn<B> {
+/// A turn in which all was done that was due, and so many pieces were handed out.
+pub(crate) fn turns<B: ServerName, R: Wait + Abort>(
+    rt: &R,
+    desk: &mut Desk<B>,
+    pieces: usize,
+) -> Turn<B> {
     let turn = desk
         .station
         .turn(rt, Lifts::All, 8)
@@ -221,8 +231,8 @@ fn turns<B: ServerName, R: Wait + Abort>(rt: &R, desk: &mut Desk<B>, pieces: usi
     turn
 }
 
-// In this place stands a piece of just these bytes for a client.
-fn is_handed<B: ServerName>(
+/// In this place stands a piece of just these bytes for a client.
+pub(crate) fn is_handed<B: ServerName>(
     rt: &impl Abort,
     turn: &Turn<B>,
     place: usize,
@@ -407,6 +417,12 @@ fn tell_others<B: ServerName, R: Wait + Abort>(rt: &R, desks: Vec<Desk<B>>) {
     tells_others(rt, &mut first, 0b10);
     second.does(rt, IsLost);
     tells_others(rt, &mut first, 0);
+}
+
+// Two workers of one node serve two connections each.
+fn both_serve<B: ServerName, R: Wait + Abort>(rt: &R, alloc: Global, desks: Vec<Desk<B>>) {
+    let (first, second) = both(rt, desks);
+    serve_beside(rt, alloc, first, second);
 }
 
 /// SET and GET of a key.
@@ -617,6 +633,12 @@ fn cut_ones_are_told(rt: HostRuntime) {
 #[test]
 fn others_to_wake_are_told(rt: HostRuntime) {
     play_at(&rt, rt.alloc(), TWO_WORKERS, Play::OthersAreTold);
+}
+
+// No call of a worker closes a connection of another worker of its node.
+#[test]
+fn workers_leave_each_others_connections(rt: HostRuntime) {
+    play_at(&rt, rt.alloc(), TWO_PAIRS, Play::BothServe);
 }
 
 // A reply of a megabyte and 12 bytes; 400 reads in one batch; an entry of 1,024 jobs, whose replies are `:1` to `:1024`; and a node that has 200 entries and more to apply

@@ -11,8 +11,8 @@ ghost use Rattle.nr_node_tests.specs.Answered.{HasGotFirst, HasOpened, desk_of_o
 
 use crate::asserted::same;
 use crate::desk::MANY;
-use nr_combiner::{Lifts, MOST_JOBS, NodeHandle, OpenedSlots, ServerName, open_slots};
-use nr_entry::{ConnId, Job};
+use nr_combiner::{Lifts, NodeHandle, OpenedSlots, ServerName, open_slots};
+use nr_entry::{ConnId, Job, MOST_JOBS, Setup};
 use nr_node::LastPiece;
 use nr_oplog::OpenedLog;
 use nr_replica::Spares;
@@ -126,13 +126,14 @@ fn serve<B: ServerName, R: Wait + Abort>(
     keys: RandomState,
     opened: OpenedLog,
     slots: Vec<OpenedSlots>,
+    setup: Setup,
 )
     requires name { name_of opened ≡ B.log }
-    requires shape { (nodes_of opened ≡ B.nodes) × (places_of opened ≡ B.places) }
+    requires shape { (nodes_of opened ≡ B.nodes) × (places_of opened ≡ B.places) × (setup.nodes ≡ B.nodes) }
     requires slots { (length slots.items ≡ B.nodes) × AreNamed B.slots slots.items }
-    requires workers { AreOfWorkers 1 slots.items }
+    requires workers { AreOfWorkers setup.workers slots.items }
 {
-    let Ok(mut alone) = Alone::<B>::new(alloc, keys, opened, slots, MANY) else {
+    let Ok(mut alone) = Alone::<B>::new(alloc, keys, opened, slots, setup) else {
         panic!(rt; "a node is built");
     };
     let answered = answer(rt, alloc, &mut alone.worker, b"SET k v\r\nGET k\r\n");
@@ -149,11 +150,14 @@ fn serve_at_new<R: RandomSource + Wait + Abort>(rt: &R, alloc: Global) {
     let keys = RandomState::new(rt)
         .ok()
         .expect(rt, "there are random bytes");
-    let opened = OpenedLog::open(alloc, 1, 4)
+    let setup = Setup::new(1, 4, 1, 1, MANY).expect(rt, "there may be such a server");
+    let opened = OpenedLog::open(alloc, setup.nodes(), setup.places())
         .ok()
         .expect(rt, "a log is opened");
-    let slots = open_slots(alloc, 1, 1).ok().expect(rt, "slots are opened");
-    serve::<Brand, R>(rt, alloc, keys, opened, slots);
+    let slots = open_slots(alloc, setup.nodes(), setup.workers())
+        .ok()
+        .expect(rt, "slots are opened");
+    serve::<Brand, R>(rt, alloc, keys, opened, slots, setup);
 }
 
 // What the law of workers says of one connection: its two requests are answered as one Redis answers them.

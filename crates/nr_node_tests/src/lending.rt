@@ -5,9 +5,9 @@ ghost use Rattle.nr_oplog.specs.Opening.{name_of, nodes_of, places_of};
 
 use crate::asserted::holds;
 use nr_blob::{Blob, Memory};
-use nr_entry::{Batch, ConnId, Job, JobKind, Update};
+use nr_entry::{Batch, ConnId, Job, JobKind, Setup, Update};
 use nr_model::command::{Change, StringsChange};
-use nr_node::{Core, Loan, NodeShape, Round};
+use nr_node::{Core, Loan, Round};
 use nr_oplog::{End, LogName, OpenedLog};
 use std::alloc::Global;
 use std::hash::RandomState;
@@ -85,13 +85,11 @@ fn lends<B: LogName>(rt: &impl Abort, alloc: Global, keys: RandomState, opened: 
     requires name { name_of opened ≡ B.log }
     requires shape { (nodes_of opened ≡ B.nodes) × (places_of opened ≡ B.places) }
 {
-    let shape = NodeShape {
-        node: 0,
-        nodes: 1,
-        workers: 1,
+    let Some(setup) = Setup::new(1, 4, 1, 1, 1_024) else {
+        panic!(rt; "there may be such a server");
     };
     let end = end_of::<B>(rt, alloc, opened);
-    let mut core = Core::new(alloc, keys, end, shape).expect(rt, "memory");
+    let mut core = Core::new(alloc, keys, end, 0, setup).expect(rt, "memory");
     let loan = reserves(rt, alloc, &mut core);
     looks(rt, &mut core, Round::NotYet, true);
     drop(loan);

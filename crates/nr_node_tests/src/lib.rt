@@ -4,6 +4,8 @@
 #[cfg(test)]
 mod asserted;
 #[cfg(test)]
+mod beside;
+#[cfg(test)]
 mod counting;
 #[cfg(test)]
 mod desk;

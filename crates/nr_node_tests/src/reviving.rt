@@ -4,9 +4,9 @@ use crate::desk::Act::{
     Asks, Closes, Combines, Counts, Gets, HandsIn, IsLost, IsTold, Opens, OpensNone, Refuses,
 };
 use crate::desk::{Act, Desk, MANY};
-use nr_combiner::{Lifts, OpenError, RevivalError, ServerName};
+use nr_combiner::{Lifts, RevivalError, ServerName};
 use nr_entry::{ConnId, Job, JobKind, Outcome, Refusal, Update};
-use nr_node::Round;
+use nr_node::{OpenError, Round};
 use nr_test_parts::Client;
 use std::cmp::Ordering;
 use std::mem;

@@ -9,10 +9,10 @@ use crate::asserted::{holds, same};
 use crate::desk::MANY;
 use nr_blob::{Blob, Memory};
 use nr_combiner::{Combiner, ServerName};
-use nr_entry::{Batch, ConnId, Entry, Job, JobKind, Outcome, Shares, Unshared, Update};
+use nr_entry::{Batch, ConnId, Entry, Job, JobKind, Outcome, Setup, Shares, Unshared, Update};
 use nr_log_end::{LogEnd, Reserve};
 use nr_model::command::{Change, StringsChange};
-use nr_node::{Core, NodeShape, Round};
+use nr_node::{Core, Round};
 use nr_oplog::{End, OpenedLog};
 use nr_session::Session;
 use nr_slots::{CombinerSeat, Slots, WorkerSeat};
@@ -114,15 +114,13 @@ fn combiner_of<B: ServerName>(
     requires slots { (slots.id ≡ B.slots 1) × (desk ≡ new_combiner slots.id 1) }
     ensures { (arc_value result.1).id ≡ B.slots 1 }
 {
-    let shape = NodeShape {
-        node: 1,
-        nodes: 2,
-        workers: 1,
+    let Some(setup) = Setup::new(2, 2, 1, 1, 1_024) else {
+        panic!(rt; "there may be such a server");
     };
-    let core = Core::new(alloc, keys, second, shape).expect(rt, "memory");
+    let core = Core::new(alloc, keys, second, 1, setup).expect(rt, "memory");
     let slots = shared(rt, alloc, slots);
     let other = Arc::try_clone(&slots).ok().expect(rt, "memory");
-    let combiner = Combiner::new(alloc, shape, core, desk, other).expect(rt, "memory");
+    let combiner = Combiner::new(alloc, 1, 1, core, desk, other).expect(rt, "memory");
     (combiner, slots)
 }
 

@@ -39,7 +39,7 @@
 pub use end::End;
 pub use law::log_law;
 pub use log::{LogName, Oplog};
-pub use open::{LogOpenError, OpenedLog};
+pub use open::OpenedLog;
 pub use seat::{LogSeat, MOST_ENTRIES};
 pub use token::Token;
 pub use view::{LogShape, LogView};

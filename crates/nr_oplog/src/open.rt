@@ -1,30 +1,9 @@
-// How a log is opened.
+// A log that is being opened.
 ghost use Rattle.std.specs.Prelude.{◌≡◌, ◌<◌, ◌≤◌, []};
 ghost use Rattle.nr_oplog.specs.Layout.{words_of, slots_of};
 ghost use Rattle.nr_oplog.specs.Rule.{first_view};
 
 use crate::view::{LogSlotSeat, LogTable};
-use nr_blob::Memory;
-
-/// Why a log isn't opened.
-#[derive(Clone, Copy, Debug, PartialEq, Eq)]
-pub enum LogOpenError {
-    /// The nodes aren't 1 to 8, or the places aren't 2 to 65,536.
-    BadShape,
-    /// There is no memory for it.
-    Memory(Memory),
-}
-
-impl From<Memory> for LogOpenError {
-    ghost use Rattle.std.specs.Prelude.{◌≡◌};
-    ghost use Rattle.nr_oplog.specs.declared.open.LogOpenError.TheVariants as errors;
-
-    ghost from_gives = { λ memory e. e ≡ errors.Memory memory };
-
-    fn from(memory: Memory) -> LogOpenError {
-        LogOpenError::Memory(memory)
-    }
-}
 
 /// A log that was opened, and has no name yet.
 #[derive(Drop)]

@@ -5,23 +5,24 @@ ghost use Rattle.nr_oplog.specs.Names.{IsShape};
 ghost use Rattle.nr_oplog.specs.Opening.{name_of, nodes_of, places_of};
 
 use crate::log::{LogName, Oplog};
-use crate::open::{LogOpenError, OpenedLog};
+use crate::open::OpenedLog;
 use crate::seat::LogSeat;
 use crate::view::{LogShape, LogSlotSeat};
 use atomic_table::Table;
 use nr_blob::Memory;
+use nr_entry::BuildError;
 use std::alloc::Global;
 use std::marker::PhantomData;
 
 impl OpenedLog {
     /// A log of `nodes` nodes, 1 to 8, and `places` places, 2 to 65,536. It takes a block of a word and one of a slot for each place of each
     /// node, and some words more.
-    pub fn open(alloc: Global, nodes: usize, places: usize) -> Result<OpenedLog, LogOpenError>
+    pub fn open(alloc: Global, nodes: usize, places: usize) -> Result<OpenedLog, BuildError>
         ensures ok { IfOk result (λ opened. (nodes_of opened ≡ nodes) × (places_of opened ≡ places)) }
-        ensures shape { (result ≡ Err LogOpenError.BadShape) ↔ (IsShape nodes places → ⊥) }
+        ensures shape { (result ≡ Err BuildError.BadShape) ↔ (IsShape nodes places → ⊥) }
     {
         if nodes < 1 || nodes > 8 || places < 2 || places > 65536 {
-            return Err(LogOpenError::BadShape);
+            return Err(BuildError::BadShape);
         }
         Ok(OpenedLog::laid(alloc, nodes, places)?)
     }

@@ -1,5 +1,5 @@
 // A table of packed blocks: many pairs, each in the block that the hash of its field says.
-ghost use Rattle.std.specs.Prelude.{◌≡◌, ◌↔◌, ◌<◌, ◌+◌, ◌^◌, not, map as each, IsTrue, IfOk, OnOk, OnErr, cond};
+ghost use Rattle.std.specs.Prelude.{◌≡◌, ◌↔◌, ◌<◌, ◌≤◌, ◌+◌, ◌^◌, not, map as each, IsTrue, IfOk, OnOk, OnErr, cond};
 ghost use Rattle.std.specs.Option.{option_map};
 ghost use Rattle.std.specs.FinMap as map;
 ghost use Rattle.std.specs.BTreeMap.{insert_entry};
@@ -166,7 +166,8 @@ impl Table {
 // How many pairs there are with one more, refused from 2^63 on.
 fn one_more(len: usize) -> Result<usize, Memory>
     requires { len < 2 ^ 63 }
-    ensures { IfOk result (λ more. (more ≡ len + 1) × (more < 2 ^ 63)) }
+    ensures more { IfOk result (λ more. (more ≡ len + 1) × (more < 2 ^ 63)) }
+    ensures refused { OnErr result (2 ^ 63 ≤ len + 1) }
 {
     let more = len + 1;
     match Memory::at_last((more as u64).saturating_mul(2)) {

@@ -1,7 +1,6 @@
 -- What commands on sorted sets read, as the definitions have it.
 use Rattle.std.specs.Prelude.{ℕ, List, ◌∷◌, ◌++◌, Option, None, Some, Ok, map, ℤ, pos, negsuc}
 use Rattle.nr_model.specs.SortedSets as model
-use Rattle.nr_model.specs.SortedSets.{Scored}
 use Rattle.nr_model.specs.Commands.Reading.{Read, read_then}
 use Rattle.nr_model.specs.Commands.SortedSets as sorted_sets
 use Rattle.nr_zbounds.specs.Ranges.{seen_bounds}

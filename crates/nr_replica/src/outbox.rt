@@ -12,7 +12,7 @@ ghost use Rattle.nr_model.specs.Queues.{Queue, put, takes, with_bytes, cut_off, 
 
 use crate::cut::CutReason;
 use crate::spares::{MOST_ROOM, Spares};
-use nr_blob::Memory;
+use nr_blob::{Memory, drop_front};
 use nr_emission::Sink;
 use nr_entry::ConnId;
 use nr_resp::Shown;
@@ -340,20 +340,6 @@ fn with_room(alloc: Global, last: usize, spares: &mut Spares) -> Vec<u8>
         Ok(room) => room,
         Err(_) => Vec::new(alloc),
     }
-}
-
-// Lets go of bytes that were handed out, once they are half of the buffer, so that each is moved at most once for one that is handed
-// out. Answers where the bytes that wait begin now.
-fn drop_front(buffer: &mut Vec<u8>, start: usize) -> usize
-    requires { start ≤ length buffer.old.items }
-    ensures waiting { drop result buffer.new.items ≡ drop start buffer.old.items }
-    ensures half { result + result ≤ length buffer.new.items }
-{
-    if start < buffer.len() - start {
-        return start;
-    }
-    buffer.drain(..start);
-    0
 }
 
 // Whether so many more bytes may come behind those that wait.

@@ -1,7 +1,7 @@
 //! RESP2: requests are read from bytes in any pieces, and by the one table of commands, its names and counts of words; and replies are written.
 #![tactic(auto)]
 
-pub use command::{Cmd, arguments, copy_words};
+pub use command::{Cmd, arguments};
 pub use conditions::Conditions;
 pub use failure::Failure;
 pub use frame::Frame;

@@ -3,7 +3,7 @@
 use crate::failure::Failure;
 use crate::rows::{Claim, Fact, Input, Row};
 use crate::server::Server;
-use nr_world::Setup;
+use nr_entry::Setup;
 use std::alloc::{AllocError, Global};
 use std::hash::RandomState;
 

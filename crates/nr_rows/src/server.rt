@@ -3,8 +3,8 @@ use crate::clients::Clients;
 use crate::failure::Failure;
 use crate::rows::Action;
 use nr_blob::Memory;
-use nr_entry::ConnId;
-use nr_world::{Setup, StepOutcome, World};
+use nr_entry::{ConnId, Setup};
+use nr_world::{StepOutcome, World};
 use std::alloc::Global;
 use std::hash::RandomState;
 

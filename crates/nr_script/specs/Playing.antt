@@ -4,7 +4,7 @@ use Rattle.std.specs.Coded.{Coded, code_by, coded×, coded_list, coded_option}
 use Rattle.nr_model.specs.Bytes.{Bytes}
 use Rattle.nr_model.specs.Connections as traffic
 use Rattle.nr_model.specs.Nodes as nodes
-use Rattle.nr_world.specs.Setups.{IsAllowed}
+use Rattle.nr_entry.specs.Setups.{IsAllowed}
 use Rattle.nr_world.specs.WorldState.{WorldState, Shows, coded_world}
 use Rattle.nr_script.specs.declared.line.Line.{Line}
 use Rattle.nr_script.specs.declared.line.Line.TheVariants as lines

@@ -8,8 +8,8 @@ ghost use Rattle.nr_server.specs.Runs.{alone as one_connection, IsFresh, IsServe
 ghost use Rattle.nr_server.specs.Going.{IsDone, Ends};
 
 use crate::fault::Fault;
+use nr_entry::Setup;
 use nr_service::{Backend, Client, ConnectionState, Moments, NoArrivals, Service, Stream};
-use nr_world::Setup;
 use nr_world_service::WorldBackend;
 use std::alloc::Global;
 use std::hash::RandomState;

@@ -2,9 +2,11 @@
 ghost use Rattle.std.specs.IoError.{error_kind, raw_os_error};
 ghost use Rattle.std.specs.Prelude.{◌≡◌, ◌⊎◌, ◌<◌, ◌+◌, ◌*◌, List, length, IfOk, IfErr};
 ghost use Rattle.std.specs.Vec.{vec_len};
+ghost use Rattle.nr_model.specs.Bytes.{IsBeginningOf};
 ghost use Rattle.nr_crew.specs.Dealing.{HasDealt};
 ghost use Rattle.nr_crew.specs.Ended.{HasEnded};
 ghost use Rattle.nr_crew.specs.Left.{AreServedWithin};
+ghost use Rattle.nr_crew.specs.Places.{places_from, places_left};
 ghost use Rattle.nr_crew.specs.Together.{AreServedTogether};
 ghost use Rattle.nr_replica.specs.Replicas.{ReplicaState};
 ghost use Rattle.nr_server.specs.ByTcp.{HasNotBegun, HasServedByTcp, IsBefore};
@@ -19,9 +21,8 @@ use crate::reception::{Begins, Reception};
 use crate::refusal::SystemRefusal;
 use nr_blob::Memory;
 use nr_config::{Lasts, Settings};
-use nr_crew::{
-    ClientLimits, ServeError, Served, Shape, Size, StartError, WorkerEnd, WorkerPorts, serve_nodes,
-};
+use nr_crew::{ServeError, Served, StartError, WorkerEnd, WorkerPorts, serve_nodes};
+use nr_entry::Setup;
 use nr_service::{Accepts, Gate, MachineClock, Moments, Poller, Rings, Stream};
 use nr_sockets::{
     Inboxes, ListenError, Listener, Listening, PollHandle, Socket, SocketPoller, SocketPollerError,
@@ -111,26 +112,21 @@ pub fn listen_on<R: Files + Net>(
 }
 
 // How large the server is.
-fn size_of(settings: &Settings) -> Size
-    ensures nodes { result.shape.nodes ≡ settings.now.nodes }
-    ensures workers { result.shape.workers ≡ settings.now.workers }
+fn setup_of(settings: &Settings) -> Setup
+    ensures nodes { result.nodes ≡ settings.now.nodes }
     ensures places { result.places ≡ settings.now.places }
+    ensures workers { result.workers ≡ settings.now.workers }
     ensures connections { result.connections ≡ settings.now.connections }
-    ensures limit { result.limits.limit ≡ settings.now.queue_limit }
-    ensures timeout { result.limits.timeout ≡ settings.now.timeout * 1000 }
+    ensures limit { result.queue_limit ≡ settings.now.queue_limit }
 {
-    Size {
-        shape: Shape {
-            nodes: settings.nodes,
-            workers: settings.workers,
-        },
-        places: settings.places,
-        connections: settings.connections,
-        limits: ClientLimits {
-            limit: settings.queue_limit,
-            timeout: settings.timeout as u64 * 1_000,
-        },
-    }
+    Setup::new(
+        settings.nodes,
+        settings.places,
+        settings.workers,
+        settings.connections,
+        settings.queue_limit,
+    )
+    .unwrap()
 }
 
 /// What the workers of a server left, and why they ended.
@@ -140,9 +136,10 @@ pub struct Remains<S, D, M> {
     pub ended: Result<(), ServeError>,
 }
 
-/// Serves by a server as large as the settings say, each worker of each node on a thread of its own, with the place of its number: worker w of node n is number
-/// n * workers + w. The connections that come from `main` are dealt out to them in turn. It ends once the gate stops all workers, none is left that serves, or no
-/// connection can come any more; what the workers left is handed back with `main`, and the replicas of the nodes are let go of. Strangers choose the keys, so the hashers take a seed of their own.
+/// Serves by a new server of this size, a client for `timeout` milliseconds without a byte, 0 for ever, each worker of each node on a thread of its own, with the place of its
+/// number: worker w of node n is number n * workers + w. The connections that come from `main` are dealt out to them in turn. It ends once the gate stops all workers, none is left
+/// that serves, or no connection can come any more; what the workers left is handed back with `main`, and the replicas of the nodes are let go of. Strangers choose the keys, so the
+/// hashers take a seed of their own.
 ///
 /// # Errors
 ///
@@ -151,7 +148,8 @@ pub fn serve_on<R, S, D, M, K, G, L>(
     rt: &R,
     alloc: Global,
     keys: RandomState,
-    settings: &Settings,
+    setup: Setup,
+    timeout: u64,
     places: Vec<WorkerPorts<D, M>>,
     bells: K,
     main: L,
@@ -166,20 +164,12 @@ where
     G: Gate + Sync,
     L: Accepts + Drop,
     ensures together { IfOk result (λ remains. (replicas : List ReplicaState) × AreServedTogether S.received S.sent M.gives D.parted remains.0.lefts.items replicas) }
-    ensures dealt { IfOk result (λ remains. HasDealt settings.now.nodes settings.now.workers (L.dealt main) (L.dealt remains.1)) }
-    ensures ended { IfOk result (λ remains. HasEnded (settings.now.nodes * settings.now.workers) remains.0.ended remains.0.lefts.items) }
-    ensures within { IfOk result (λ remains. AreServedWithin (record { limit = settings.now.queue_limit; timeout = settings.now.timeout * 1000 }) remains.0.lefts.items) }
+    ensures dealt { IfOk result (λ remains. HasDealt setup.nodes setup.workers (L.dealt main) (L.dealt remains.1)) }
+    ensures ended { IfOk result (λ remains. HasEnded (setup.nodes * setup.workers) remains.0.ended remains.0.lefts.items) }
+    ensures within { IfOk result (λ remains. AreServedWithin (record { limit = setup.queue_limit; timeout = timeout }) remains.0.lefts.items) }
+    ensures in_place { IfOk result (λ remains. IsBeginningOf (places_left remains.0.lefts.items) (places_from 0 setup.nodes setup.workers)) }
 {
-    let served = serve_nodes(
-        rt,
-        alloc,
-        keys,
-        size_of(settings),
-        places,
-        bells,
-        main,
-        gate,
-    )?;
+    let served = serve_nodes(rt, alloc, keys, setup, timeout, places, bells, main, gate)?;
     let (served, main) = served;
     let remains = remains_of(served);
     Ok((remains, main))
@@ -331,7 +321,7 @@ where
     O: Write + Drop,
     E: Write + Drop,
     ensures served { HasServedByTcp (⟦<Socket as Stream>⟧.received) (⟦<Socket as Stream>⟧.sent) (⟦<MachineClock<'static, R> as Moments>⟧.gives)
-        (⟦<SocketPoller<'static, R> as Poller<Socket>>⟧.parted) (settings.now.nodes * settings.now.workers)
+        (⟦<SocketPoller<'static, R> as Poller<Socket>>⟧.parted) settings.now.nodes settings.now.workers
         (record { limit = settings.now.queue_limit; timeout = settings.now.timeout * 1000 }) result ⊎ HasNotBegun result }
 {
     let lanes = settings.nodes * settings.workers;
@@ -356,7 +346,17 @@ where
         Bells<'_>,
         G,
         Reception<Listener<'_, R>, MachineClock<'_, R>, O, E>,
-    >(rt, alloc, keys, settings, places, bells, reception, gate)?;
+    >(
+        rt,
+        alloc,
+        keys,
+        setup_of(settings),
+        settings.timeout as u64 * 1_000,
+        places,
+        bells,
+        reception,
+        gate,
+    )?;
     reception.listener.listening.leave(rt);
     if reception.has_ended_in_order() {
         part_from_all(alloc, &mut served.lefts, &mut MachineClock { runtime: rt });

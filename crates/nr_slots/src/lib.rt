@@ -43,7 +43,6 @@
 pub use combiner::CombinerSeat;
 pub use law::slots_law;
 pub use note::Note;
-pub use opening::SlotsOpenError;
 pub use slots::Slots;
 pub use steps::Unanswered;
 pub use view::{CombinerPast, Found, Grip, Hand, WorkerPast};

@@ -10,27 +10,8 @@ use crate::view::{SlotSeat, SlotTable, SlotWords};
 use crate::worker::WorkerSeat;
 use atomic_table::Table;
 use nr_blob::Memory;
+use nr_entry::BuildError;
 use std::alloc::Global;
-
-/// Why slots aren't opened.
-#[derive(Clone, Copy, Debug, PartialEq, Eq)]
-pub enum SlotsOpenError {
-    /// The workers aren't 1 to 16.
-    BadShape,
-    /// There is no memory for them.
-    Memory(Memory),
-}
-
-impl From<Memory> for SlotsOpenError {
-    ghost use Rattle.std.specs.Prelude.{◌≡◌};
-    ghost use Rattle.nr_slots.specs.declared.opening.SlotsOpenError.TheVariants as errors;
-
-    ghost from_gives = { λ memory e. e ≡ errors.Memory memory };
-
-    fn from(memory: Memory) -> SlotsOpenError {
-        SlotsOpenError::Memory(memory)
-    }
-}
 
 impl Slots {
     /// The slots of `workers` workers, 1 to 16, the seat of each worker, the first one worker 0, and the combiner's. No call of a seat takes
@@ -38,14 +19,14 @@ impl Slots {
     pub fn open(
         alloc: Global,
         workers: usize,
-    ) -> Result<(Slots, Vec<WorkerSeat>, CombinerSeat), SlotsOpenError>
-        ensures shape { (result ≡ Err SlotsOpenError.BadShape) ↔ ((1 ≤ workers) × (workers ≤ 16) → ⊥) }
+    ) -> Result<(Slots, Vec<WorkerSeat>, CombinerSeat), BuildError>
+        ensures shape { (result ≡ Err BuildError.BadShape) ↔ ((1 ≤ workers) × (workers ≤ 16) → ⊥) }
         ensures slots { IfOk result (λ opened. opened.0.workers ≡ workers) }
         ensures seats { IfOk result (λ opened. (length opened.1.items ≡ workers) × ((worker : ℕ) → worker < workers → slice_get opened.1.items worker ≡ Some (new_worker opened.0.id worker))) }
         ensures combiner { IfOk result (λ opened. opened.2 ≡ new_combiner opened.0.id workers) }
     {
         if workers < 1 || workers > 16 {
-            return Err(SlotsOpenError::BadShape);
+            return Err(BuildError::BadShape);
         }
         let (table, seat) = laid(alloc, workers)?;
         let slots = Slots { table, workers };

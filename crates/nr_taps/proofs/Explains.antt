@@ -10,14 +10,14 @@ use Rattle.nr_model.specs.Items.{Connection, Item, Sequence, same_connection, is
 use Rattle.nr_model.specs.Sequential.{emitted_for}
 use Rattle.nr_model.specs.Entries.{Jobs, entry_items}
 use Rattle.nr_model.specs.Nodes as nodes
-use Rattle.nr_model.specs.Nodes.{Taken, Reads, log_of, items_taken, part_from}
+use Rattle.nr_model.specs.Nodes.{Taken, Reads, log_of, part_from}
 use Rattle.nr_model.specs.Asked.{own_jobs}
 use Rattle.nr_model.proofs.Logged.{AreReads}
 use Rattle.nr_model.proofs.NodesExecutedGrows.{begins_flat_map}
 use Rattle.nr_model.proofs.NodesOwnLists.{none_own}
 use Rattle.nr_model.proofs.NodesParts.{ReadsWithin}
 use Rattle.nr_model.proofs.NodesPartsEmitted as emitted
-use Rattle.nr_model.proofs.NodesPartsEmitted.{AreOfNode, IsRun, begins_itself, begins_on, front_begins, more_emits, of_another, part_emits, part_updates}
+use Rattle.nr_model.proofs.NodesPartsEmitted.{AreOfNode, begins_on, more_emits, of_another, part_emits, part_updates}
 use Rattle.nr_entry.specs.declared.entry.Entry.{Entry}
 use Rattle.nr_log_end.specs.Numbers.{IsRising, AreRising}
 use Rattle.nr_log_end.specs.declared.standing.Standing.{Standing}

@@ -4,7 +4,8 @@ ghost use Rattle.nr_oplog.specs.Opening.{name_of, nodes_of, places_of};
 ghost use Rattle.nr_combiner.specs.Opened.{AreNamed, AreOfWorkers};
 
 use crate::error::HeldError;
-use nr_combiner::{NodeHandle, OpenedSlots, Plan, ServerName, build};
+use nr_combiner::{NodeHandle, OpenedSlots, ServerName, build};
+use nr_entry::Setup;
 use nr_oplog::OpenedLog;
 use std::alloc::Global;
 use std::hash::RandomState;
@@ -27,20 +28,15 @@ impl<B: ServerName> Alone<B> {
         keys: RandomState,
         opened: OpenedLog,
         slots: Vec<OpenedSlots>,
-        limit: usize,
+        setup: Setup,
     ) -> Result<Alone<B>, HeldError>
         requires name { name_of opened ≡ B.log }
-        requires shape { (nodes_of opened ≡ B.nodes) × (places_of opened ≡ B.places) }
+        requires shape { (nodes_of opened ≡ B.nodes) × (places_of opened ≡ B.places) × (setup.nodes ≡ B.nodes) }
         requires slots { (length slots.items ≡ B.nodes) × AreNamed B.slots slots.items }
-        requires workers { AreOfWorkers 1 slots.items }
+        requires workers { AreOfWorkers setup.workers slots.items }
         ensures { IfOk result (λ alone. alone.worker.seat.lane.posted ≡ []) }
     {
-        let plan = Plan {
-            workers: 1,
-            connections: 1,
-            limit,
-        };
-        let nodes = build::<B>(alloc, keys, opened, slots, plan)?;
+        let nodes = build::<B>(alloc, keys, opened, slots, setup)?;
         let Some(workers) = nodes.into_iter().next() else {
             return Err(HeldError::Invalid);
         };

@@ -1,7 +1,7 @@
 // How what tests and figures hold can fail.
 use nr_blob::Memory;
-use nr_combiner::{BuildError, OpenError};
-use nr_oplog::LogOpenError as LogError;
+use nr_entry::BuildError;
+use nr_node::OpenError;
 use std::error::Error;
 use std::fmt;
 
@@ -33,15 +33,6 @@ impl From<Memory> for HeldError {
 
     fn from(memory: Memory) -> HeldError {
         HeldError::Memory(memory)
-    }
-}
-
-impl From<LogError> for HeldError {
-    fn from(error: LogError) -> HeldError {
-        match error {
-            LogError::BadShape => HeldError::Invalid,
-            LogError::Memory(memory) => HeldError::Memory(memory),
-        }
     }
 }
 

@@ -3,8 +3,8 @@ ghost use Rattle.std.specs.Prelude.{◌≡◌, true, IfOk, OnErr};
 
 use crate::error::HeldError;
 use nr_blob::Memory;
-use nr_entry::ConnId;
-use nr_world::{Setup, StepOutcome, World};
+use nr_entry::{ConnId, Setup};
+use nr_world::{StepOutcome, World};
 use std::alloc::Global;
 use std::hash::RandomState;
 

@@ -13,11 +13,9 @@ ghost use Rattle.nr_test_parts.specs.Stations.{AreOfNodes, HasTurnedAt};
 use crate::client::Client;
 use crate::error::HeldError;
 use nr_blob::Memory;
-use nr_combiner::{
-    Lifts, MOST_JOBS, NodeHandle, OpenError, OpenedSlots, Plan, ServerName, Turned, build,
-};
-use nr_entry::{ConnId, Job, Outcome};
-use nr_node::{LastPiece, Round};
+use nr_combiner::{Lifts, NodeHandle, OpenedSlots, ServerName, Turned, build};
+use nr_entry::{ConnId, Job, MOST_JOBS, Outcome, Setup};
+use nr_node::{LastPiece, OpenError, Round};
 use nr_oplog::{OpenedLog, Token};
 use nr_replica::{Piece, Spares};
 use std::alloc::Global;
@@ -68,15 +66,15 @@ pub fn stations<B: ServerName>(
     keys: RandomState,
     opened: OpenedLog,
     slots: Vec<OpenedSlots>,
-    plan: Plan,
+    setup: Setup,
 ) -> Result<Vec<Station<B>>, Memory>
     requires name { name_of opened ≡ B.log }
-    requires shape { (nodes_of opened ≡ B.nodes) × (places_of opened ≡ B.places) }
+    requires shape { (nodes_of opened ≡ B.nodes) × (places_of opened ≡ B.places) × (setup.nodes ≡ B.nodes) }
     requires slots { (length slots.items ≡ B.nodes) × AreNamed B.slots slots.items }
-    requires workers { AreOfWorkers plan.workers slots.items × (1 ≤ plan.workers) × (plan.workers ≤ 16) }
-    ensures { IfOk result (λ all. AreOfNodes B.nodes plan.workers plan.connections plan.limit (map (λ station. station.worker) all.items)) }
+    requires workers { AreOfWorkers setup.workers slots.items }
+    ensures { IfOk result (λ all. AreOfNodes B.nodes setup.workers setup.connections setup.queue_limit (map (λ station. station.worker) all.items)) }
 {
-    in_order(alloc, build::<B>(alloc, keys, opened, slots, plan)?)
+    in_order(alloc, build::<B>(alloc, keys, opened, slots, setup)?)
 }
 
 fn in_order<B: ServerName>(

@@ -1,7 +1,7 @@
 // The service over many streams in memory, of which its device tells it in one way or another: no clause says how soon anybody is served.
 use nr_blob::Memory;
+use nr_entry::Setup;
 use nr_service::{Ended, MachineClock, Open, Poller, Ready, Received, Sent, Service, Stream};
-use nr_world::Setup;
 use nr_world_service::WorldBackend;
 use std::alloc::{AllocError, Global};
 use std::cell::Cell;

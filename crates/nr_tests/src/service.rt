@@ -5,9 +5,9 @@ ghost use Rattle.nr_model.specs.Items.{Connection, Sequence};
 ghost use Rattle.nr_model.specs.Sequential.{emitted_for};
 
 use nr_blob::Memory;
+use nr_entry::Setup;
 use nr_server::{Fault, serve_stream};
 use nr_service::{Ended, MachineClock, Moments, Open, Poller, Received, Sent, Service, Stream};
-use nr_world::Setup;
 use nr_world_service::WorldBackend;
 use std::alloc::{AllocError, Global};
 use std::hash::RandomState;

@@ -1,7 +1,7 @@
 // Words and collections larger than any row has: nothing is refused for its size, and all of it comes back.
 use nr_blob::{Memory, int_text};
-use nr_entry::ConnId;
-use nr_world::{Setup, World};
+use nr_entry::{ConnId, Setup};
+use nr_world::World;
 use std::alloc::Global;
 use std::hash::RandomState;
 use std::process::Abort;

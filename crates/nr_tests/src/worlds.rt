@@ -1,6 +1,6 @@
 // Worlds whose steps are chosen one by one. What each step gives stands in its contract.
-use nr_entry::ConnId;
-use nr_world::{Setup, Step, StepOutcome, World, run};
+use nr_entry::{ConnId, Setup};
+use nr_world::{Step, StepOutcome, World, run};
 use std::hash::RandomState;
 use std::test::Fail;
 

@@ -13,7 +13,7 @@ use Rattle.nr_entry.specs.declared.batch.Outcome.TheVariants as outcomes
 use Rattle.nr_entry.specs.declared.job.Job.{Job}
 use Rattle.nr_slots.specs.Names.{IsBackOf}
 use Rattle.nr_combiner.specs.Workers.{HasCollected, NodeHandleState}
-use Rattle.nr_combiner.specs.declared.node_handle.TheConstants.{MOST_JOBS}
+use Rattle.nr_entry.specs.declared.entry.TheConstants.{MOST_JOBS}
 use Rattle.nr_worker.specs.Portions.{EachSeat}
 use Rattle.nr_worker.specs.Worker.{AllPosted, WorkerState, IsAskedBy, IsLed, IsServedAt, Served, all_asked}
 use Rattle.nr_worker.specs.Settling.{AreOfBatches, IsOfBatch, back_of, down_of, late_of, left_of, settled_work}

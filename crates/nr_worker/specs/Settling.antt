@@ -8,7 +8,7 @@ use Rattle.nr_entry.specs.declared.batch.Outcome.{Outcome}
 use Rattle.nr_entry.specs.declared.batch.Outcome.TheVariants as outcomes
 use Rattle.nr_entry.specs.declared.job.Job.{Job}
 use Rattle.nr_combiner.specs.Workers.{HasCollected, NodeHandleState}
-use Rattle.nr_combiner.specs.declared.node_handle.TheConstants.{MOST_JOBS}
+use Rattle.nr_entry.specs.declared.entry.TheConstants.{MOST_JOBS}
 use Rattle.nr_worker.specs.declared.collecting.Settled.{Settled}
 use Rattle.nr_worker.specs.declared.collecting.Settled.TheVariants as settled
 use Rattle.nr_worker.specs.Working.{WorkState}

@@ -27,7 +27,7 @@ use Rattle.nr_combiner.specs.Behind.{CollectsBehind, EndsBehind, TurnsBehind}
 use Rattle.nr_combiner.specs.declared.answering.Collected.{Collected}
 use Rattle.nr_combiner.specs.declared.answering.Lifts.{Lifts}
 use Rattle.nr_combiner.specs.declared.answering.Turned.{Turned}
-use Rattle.nr_combiner.specs.declared.node_handle.TheConstants.{MOST_JOBS}
+use Rattle.nr_entry.specs.declared.entry.TheConstants.{MOST_JOBS}
 use Rattle.nr_combiner.specs.Workers.{NodeHandleState, coded_worker, told_of, with_more, HasPosted}
 use Rattle.nr_combiner.specs.Workers as workers
 use Rattle.nr_worker.specs.Seated.{OpenConnectionState, cut_off, fresh_seat, last_job, with_written}

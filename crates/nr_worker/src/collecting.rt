@@ -7,8 +7,8 @@ ghost use Rattle.nr_worker.specs.Working.{unchanged, Goes};
 
 use crate::due::DueJobs;
 use crate::worker::Worker;
-use nr_combiner::{MOST_JOBS, ServerName};
-use nr_entry::{Job, Outcome, Refusal};
+use nr_combiner::ServerName;
+use nr_entry::{Job, MOST_JOBS, Outcome, Refusal};
 use nr_slots::Uncollected;
 use std::sync::Wait;
 

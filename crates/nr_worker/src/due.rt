@@ -8,7 +8,7 @@ ghost use Rattle.nr_worker.specs.Due.{emptied, fresh_due, with_room};
 
 use crate::open_connections::OpenConnections;
 use nr_blob::Memory;
-use nr_entry::Job;
+use nr_entry::{Job, split_behind, take_front};
 use nr_replica::CutReason;
 use std::alloc::Global;
 use std::marker::Model;
@@ -144,7 +144,7 @@ impl DueJobs {
         ensures all { self.old.late ≡ 0 → length self.old.jobs ≤ most → IsOk result }
     {
         if self.jobs.len() > most {
-            return take_first(alloc, &mut self.jobs, most);
+            return take_front(alloc, &mut self.jobs, most);
         }
         take_both(alloc, &mut self.jobs, &mut self.lasts, most)
     }
@@ -185,31 +185,6 @@ fn join(jobs: &mut Vec<Job>, lasts: &mut Vec<Job>)
     ensures room { vec_capacity lasts.new ≡ vec_capacity lasts.old }
 {
     let _there_is_room = gather(jobs, lasts);
-}
-
-// Takes those behind the first so many away. Where memory runs out nothing changes. Linear in them.
-fn split_behind(alloc: Global, jobs: &mut Vec<Job>, count: usize) -> Result<Vec<Job>, Memory>
-    ensures front { OnOk result (jobs.new.items ≡ take count jobs.old.items) }
-    ensures behind { IfOk result (λ behind. behind.items ≡ drop count jobs.old.items) }
-    ensures same { OnErr result (jobs.new.items ≡ jobs.old.items) }
-    ensures room { vec_capacity jobs.new ≡ vec_capacity jobs.old }
-    ensures all { length jobs.old.items ≤ count → IsOk result }
-{
-    if jobs.len() <= count {
-        return Ok(Vec::new(alloc));
-    }
-    let behind = jobs.split_off(count)?;
-    Ok(behind)
-}
-
-// Takes the first jobs, at most so many. Where memory runs out nothing changes.
-fn take_first(alloc: Global, jobs: &mut Vec<Job>, most: usize) -> Result<Vec<Job>, Memory>
-    ensures front { IfOk result (λ front. front.items ≡ take most jobs.old.items) }
-    ensures behind { OnOk result (jobs.new.items ≡ drop most jobs.old.items) }
-    ensures same { OnErr result (jobs.new.items ≡ jobs.old.items) }
-{
-    let behind = split_behind(alloc, jobs, most)?;
-    Ok(mem::replace(jobs, behind))
 }
 
 // Takes the first of the jobs and of the late ones, which are behind them, at most so many. The others aren't late any more. Where memory runs out nothing changes.

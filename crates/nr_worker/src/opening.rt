@@ -10,8 +10,9 @@ use crate::due::DueJobs;
 use crate::open_connections::OpenConnections;
 use crate::worker::Worker;
 use nr_blob::Memory;
-use nr_combiner::{OpenError, ServerName};
+use nr_combiner::ServerName;
 use nr_entry::ConnId;
+use nr_node::OpenError;
 use std::sync::Wait;
 
 /// Why no connection was opened at a worker.

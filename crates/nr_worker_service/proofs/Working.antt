@@ -9,7 +9,7 @@ use Rattle.nr_model.proofs.Exchanged.{handed_to-append}
 use Rattle.nr_slots.specs.Seats.{WorkerView}
 use Rattle.nr_slots.specs.declared.view.CombinerPast.{CombinerPast}
 use Rattle.nr_combiner.specs.Workers.{NodeHandleState, told_of}
-use Rattle.nr_combiner.specs.declared.node_handle.TheConstants.{MOST_JOBS}
+use Rattle.nr_entry.specs.declared.entry.TheConstants.{MOST_JOBS}
 use Rattle.nr_combiner.specs.declared.answering.Collected.{Collected}
 use Rattle.nr_combiner.specs.declared.answering.Lifts.TheVariants.{All}
 use Rattle.nr_combiner.specs.declared.answering.Turned.{Turned}

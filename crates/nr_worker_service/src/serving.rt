@@ -1,6 +1,5 @@
 // A worker as what answers its service.
-ghost use Rattle.std.specs.Prelude.{◌≡◌, ◌≤◌, [], None};
-ghost use Rattle.nr_model.specs.Keyspace.{moment as moment_of, last_moment};
+ghost use Rattle.std.specs.Prelude.{◌≡◌, [], None};
 ghost use Rattle.nr_combiner.specs.Workers.{fresh_worker, shared_of};
 ghost use Rattle.nr_service.specs.Stories.{beginning};
 ghost use Rattle.nr_worker.specs.Working.{without_mark};
@@ -12,7 +11,7 @@ use crate::turns::work_on;
 use crate::wake_list::News;
 use nr_blob::Memory;
 use nr_combiner::{NodeHandle, ServerName};
-use nr_entry::ConnId;
+use nr_entry::{ConnId, capped};
 use nr_service::{Backend, ConnectionState, Rings};
 use nr_taps::Mark;
 use nr_worker::Worker;
@@ -20,9 +19,6 @@ use std::alloc::Global;
 use std::cell::Cell;
 use std::marker::Model;
 use std::sync::Wait;
-
-/// The last moment that is delivered apart, 2^53 milliseconds.
-const LAST_MOMENT: u64 = 9_007_199_254_740_992;
 
 /// How many works go by until the worker hears which queues its node has cut: with nothing to do some 640 milliseconds.
 const WORKS_TO_HEAR: u8 = 64;
@@ -55,13 +51,6 @@ impl<'a, R, B: ServerName, K> Model for WorkerBackend<'a, R, B, K> {
     ghost coded = { coded_serving };
 
     ghost view = { λ d. record { desk = d.desk; busy = d.is_busy } };
-}
-
-fn capped(milliseconds: u64) -> u64
-    ensures value { result ≡ moment_of milliseconds }
-    ensures in_time { result ≤ last_moment }
-{
-    milliseconds.min(LAST_MOMENT)
 }
 
 impl<'a, R: Wait, B: ServerName, K: Rings> WorkerBackend<'a, R, B, K> {

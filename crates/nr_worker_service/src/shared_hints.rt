@@ -101,7 +101,7 @@ impl<K: Rings> SharedHints<K> {
         })
     }
 
-    /// What wakes its threads.
+    /// For tests: what wakes its threads.
     pub fn bells(&self) -> &K {
         &self.bells
     }

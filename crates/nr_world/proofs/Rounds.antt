@@ -14,7 +14,7 @@ use Rattle.nr_model.specs.Nodes.Settling.{for_workers, lifting, reserving, in_tu
 use Rattle.nr_model.proofs.NodesSteps.{world_after-append}
 use Rattle.nr_model.proofs.NodesSettledStill.{are_both}
 use Rattle.nr_model.proofs.NodesSettling.{nodes_settle}
-use Rattle.nr_world.specs.Setups.{IsAllowed}
+use Rattle.nr_entry.specs.Setups.{IsAllowed}
 use Rattle.nr_world.specs.declared.step.HandedBytes as out
 use Rattle.nr_world.specs.Seen.{handed_seen}
 use Rattle.nr_world.specs.WorldState.{WorldState, Shows}

@@ -1,4 +1,3 @@
-pub mod Setups
 pub mod Seen
 pub mod Workers
 pub mod Served

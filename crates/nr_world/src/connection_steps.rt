@@ -12,11 +12,10 @@ ghost use Rattle.nr_world.specs.Taken.{idle_or, Steps};
 ghost use Rattle.nr_world.specs.Whole.{AreWhole};
 
 use crate::node::WorldNode;
-use crate::setup::Setup;
 use crate::step::StepOutcome;
 use crate::world::{World, fail};
 use nr_blob::Memory;
-use nr_entry::ConnId;
+use nr_entry::{ConnId, Setup};
 use nr_model::reason::Reason;
 
 impl World {

@@ -1,7 +1,6 @@
 //! A server of several nodes in one value: every step of it, and the theorem over every list of steps.
 #![tactic(auto)]
 
-pub use setup::Setup;
 pub use step::{Answered, HandedBytes, Happened, Step, StepOutcome};
 pub use step_runs::{RanSteps, run};
 pub use world::World;
@@ -19,7 +18,6 @@ mod replica_steps;
 mod session_feeds;
 mod sessions;
 mod settled_rounds;
-mod setup;
 mod step;
 mod step_runs;
 mod waiting_bytes;

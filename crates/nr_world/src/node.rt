@@ -24,12 +24,11 @@ ghost use Rattle.nr_world.specs.Served.{node_seen, entry_seen, dropped_node, ope
 use crate::fallen_sessions::note_fall;
 use crate::pending_jobs::drop_pending;
 use crate::sessions::Sessions;
-use crate::setup::Setup;
 use crate::step::HandedBytes;
 use crate::waiting_bytes::collect;
 use crate::worker::{WorldWorker, any_batch};
 use nr_blob::Memory;
-use nr_entry::{ConnId, Entry};
+use nr_entry::{ConnId, Entry, Setup};
 use nr_model::reason::Reason;
 use nr_replica::{Offer, Replica};
 use std::alloc::Global;

@@ -13,18 +13,8 @@ ghost use Rattle.nr_world.specs.Served.{client_seen};
 
 use crate::dropped_jobs::drop_own;
 use nr_blob::Memory;
-use nr_entry::{ConnId, Job};
+use nr_entry::{ConnId, Job, capped};
 use nr_session::{Session, SessionError};
-
-/// The last moment that is delivered apart, 2^53 milliseconds.
-const LAST_MOMENT: u64 = 9_007_199_254_740_992;
-
-fn capped(milliseconds: u64) -> u64
-    ensures value { result ≡ moment milliseconds }
-    ensures in_time { result ≤ last_moment }
-{
-    milliseconds.min(LAST_MOMENT)
-}
 
 /// Feeds bytes to a session: the jobs that they ask for wait behind the others. Memory runs out where so many bytes can't be counted.
 pub(crate) fn feed_session(

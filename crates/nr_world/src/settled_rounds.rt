@@ -4,15 +4,15 @@ ghost use Rattle.std.specs.List.{range_with_len};
 ghost use Rattle.std.specs.Bool.{OnTrue};
 ghost use Rattle.nr_model.specs.Nodes.Steps as steps;
 ghost use Rattle.nr_model.specs.Nodes.Settling.{lifting, reserving, answering};
-ghost use Rattle.nr_world.specs.Setups.{IsAllowed};
+ghost use Rattle.nr_entry.specs.Setups.{IsAllowed};
 ghost use Rattle.nr_world.specs.Seen.{handed_seen};
 ghost use Rattle.nr_world.specs.Settles.{SettlesWorld};
 ghost use Rattle.nr_world.specs.Rounds.{RunsSteps, RunsBy, turns_left, TakesNodeTurns, Replays, ReplayEach, TakesRound, TakesRounds};
 
-use crate::setup::Setup;
 use crate::step::HandedBytes;
 use crate::world::{World, fail};
 use nr_blob::Memory;
+use nr_entry::Setup;
 
 impl World {
     /// Takes rounds of steps until nothing is done in one: then every batch was answered, every node has passed the whole log, and no byte

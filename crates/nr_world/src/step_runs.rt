@@ -5,10 +5,10 @@ ghost use Rattle.nr_world.specs.Seen.{step_seen, outcome_seen, handed_seen, answ
 ghost use Rattle.nr_world.specs.Taken.{Takes};
 ghost use Rattle.nr_world.specs.Ran.{HasRun};
 
-use crate::setup::Setup;
 use crate::step::{Happened, Step};
 use crate::world::World;
 use nr_blob::Memory;
+use nr_entry::Setup;
 use std::alloc::Global;
 use std::hash::RandomState;
 

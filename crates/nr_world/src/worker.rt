@@ -13,13 +13,10 @@ ghost use Rattle.nr_world.specs.declared.worker.Slot.TheVariants as slots;
 
 use crate::dropped_jobs::first_own;
 use nr_blob::Memory;
-use nr_entry::{ConnId, Job};
+use nr_entry::{ConnId, Job, MOST_JOBS, take_front};
 use nr_model::reason::Reason;
 use std::alloc::Global;
 use std::mem;
-
-/// How many jobs a batch has at most.
-const MOST_JOBS: usize = 1024;
 
 /// A worker's slot. What is owed of a batch that was lifted stands with its node's replica.
 #[derive(Drop)]
@@ -175,16 +172,4 @@ pub(crate) fn any_batch(workers: &[WorldWorker]) -> bool
     ensures { result ≡ list_any (λ worker. has_batch (worker_seen worker None)) workers.now }
 {
     workers.iter().any(|worker| worker.has_batch())
-}
-
-// Takes the first jobs, at most so many.
-fn take_front(alloc: Global, jobs: &mut Vec<Job>, most: usize) -> Result<Vec<Job>, Memory>
-    ensures front { IfOk result (λ front. front.items ≡ take most jobs.old.items) }
-    ensures behind { OnOk result (jobs.new.items ≡ drop most jobs.old.items) }
-{
-    if jobs.len() <= most {
-        return Ok(mem::replace(jobs, Vec::new(alloc)));
-    }
-    let behind = jobs.split_off(most)?;
-    Ok(mem::replace(jobs, behind))
 }

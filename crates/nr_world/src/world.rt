@@ -7,8 +7,8 @@ ghost use Rattle.nr_world.specs.WorldState.{Shows};
 
 use crate::log::Log;
 use crate::node::WorldNode;
-use crate::setup::Setup;
 use nr_blob::Memory;
+use nr_entry::Setup;
 use std::alloc::Global;
 use std::hash::RandomState;
 use std::marker::Model;

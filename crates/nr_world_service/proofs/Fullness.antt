@@ -45,6 +45,12 @@ refused_more old middle new first passed w same so_far refuses there =
           ];
     }
 
+-- the node of a number is there, with such a worker
+pub first_there : (setup : Setup) (number w : ℕ) → 1 ≤ setup.nodes → w < setup.workers → is_worker setup (number % setup.nodes) w ≡ true
+first_there setup number w some within =
+    and_from (ltb (number % setup.nodes) setup.nodes) (ltb w setup.workers) (lt-ltb (number % setup.nodes) setup.nodes (mod-lt number some))
+    (lt-ltb w setup.workers within)
+
 -- the next node in turn is there
 pub turn_there : (setup : Setup) (first passed w : ℕ) → is_worker setup first w ≡ true → is_worker setup ((first + passed) % setup.nodes) w ≡ true
 turn_there setup first passed w there =

@@ -1,8 +1,7 @@
 // What a service asks of the nodes, as steps of their world.
-ghost use Rattle.std.specs.Prelude.{◌≡◌, ◌<◌, ◌%◌, ◌/◌, true, [], ◌∷◌, IfOk, IfSome, IfNone, OnOk, length, map};
+ghost use Rattle.std.specs.Prelude.{◌≡◌, [], ◌∷◌, IfOk, IfSome, IfNone, OnOk, length, map};
 ghost use Rattle.std.specs.Option.{option_map};
 ghost use Rattle.nr_model.specs.Keyspace.{moment as moment_of};
-ghost use Rattle.nr_model.specs.Nodes.Steps.{is_worker};
 ghost use Rattle.nr_entry.specs.Jobs.{connection_of};
 ghost use Rattle.nr_world.specs.Seen.{handed_seen};
 ghost use Rattle.nr_service.specs.declared.backend.ConnectionState.TheVariants as standings;
@@ -14,29 +13,8 @@ ghost use Rattle.nr_service.specs.Stories.{Fed};
 
 use nr_blob::Memory;
 use nr_entry::ConnId;
-use nr_service::ConnectionState;
-use nr_world::{HandedBytes, Setup, StepOutcome, World};
-
-// A worker of a node.
-#[derive(Clone, Copy)]
-struct WorkerPlace {
-    node: usize,
-    worker: usize,
-}
-
-// Where the connection that was accepted as this number is opened: connections go to the nodes in turn, and to the workers of each in turn.
-fn place_of(setup: Setup, number: u64) -> WorkerPlace
-    ensures node { result.node ≡ number % setup.nodes }
-    ensures worker { result.worker ≡ (number / setup.nodes) % setup.workers }
-    ensures there { is_worker setup result.node result.worker ≡ true }
-{
-    let nodes = setup.nodes() as u64;
-    let workers = setup.workers() as u64;
-    WorkerPlace {
-        node: (number % nodes) as usize,
-        worker: (number / nodes % workers) as usize,
-    }
-}
+use nr_service::{ConnectionState, node_at, worker_at};
+use nr_world::{HandedBytes, StepOutcome, World};
 
 fn open_at(world: &mut World, node: usize, worker: usize) -> Result<Option<ConnId>, Memory>
     ensures moves { IfOk result (λ opened. Moves world.old world.new (opening (option_map connection_of opened))) }
@@ -56,10 +34,10 @@ pub(crate) fn open(world: &mut World, number: u64) -> Result<Option<ConnId>, Mem
     ensures placed { IfOk result (λ opened. IfSome opened (λ conn. Places world.old world.new number (connection_of conn))) }
 {
     let setup = world.setup();
-    let place = place_of(setup, number);
+    let worker = worker_at(setup, number);
     for passed in 0..setup.nodes() {
-        let node = (place.node + passed) % setup.nodes();
-        let opened = open_at(world, node, place.worker)?;
+        let node = node_at(setup, number, passed);
+        let opened = open_at(world, node, worker)?;
         if opened.is_some() {
             return Ok(opened);
         }

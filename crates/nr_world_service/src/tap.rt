@@ -1,7 +1,7 @@
 // What was handed out for one connection and not yet written.
 ghost use Rattle.std.specs.Prelude.{◌≡◌, ◌≤◌, ◌+◌, ◌++◌, [], drop, length, OnOk};
 
-use nr_blob::Memory;
+use nr_blob::{Memory, drop_front};
 use std::alloc::Global;
 use std::marker::Model;
 
@@ -61,21 +61,8 @@ impl Tap {
         ensures { self.new ≡ drop count self.old }
     {
         self.start = drop_front(&mut self.buffer, self.start + count);
+        if self.buffer.is_empty() {
+            self.buffer.shrink_to_fit();
+        }
     }
-}
-
-// Lets go of the bytes before `start` once they are half of the buffer, and of its memory with the last. Answers where the others begin now.
-fn drop_front(buffer: &mut Vec<u8>, start: usize) -> usize
-    requires { start ≤ length buffer.old.items }
-    ensures left { drop result buffer.new.items ≡ drop start buffer.old.items }
-    ensures half { result + result ≤ length buffer.new.items }
-{
-    if start < buffer.len() - start {
-        return start;
-    }
-    buffer.drain(..start);
-    if buffer.is_empty() {
-        buffer.shrink_to_fit();
-    }
-    0
 }

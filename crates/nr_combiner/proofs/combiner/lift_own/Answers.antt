@@ -1,5 +1,5 @@
 use Rattle.std.proofs.Common.{arith}
 use Rattle.nr_combiner.proofs.combiner.lift_own.Goals as goal
 
-pub lift-is_handed_back-requires : goal.lift-is_handed_back-requires
-lift-is_handed_back-requires g c = omega (arith, c.requires)
+pub lift-lifted-requires : goal.lift-lifted-requires
+lift-lifted-requires g c = omega (arith, c.requires)

@@ -2,4 +2,4 @@ use Rattle.nr_crew.specs.Dealing.{DealsFrom}
 use Rattle.nr_crew.proofs.dealing.deal_on.Given as goal
 
 abbrev pub invariant-loop : goal.invariant-loop
-invariant-loop g l = DealsFrom l.shape.nodes l.shape.workers 0 l.number (g.L.Accepts.dealt l.fn.main) (g.L.Accepts.dealt l.main)
+invariant-loop g l = DealsFrom l.setup.nodes l.setup.workers 0 l.number (g.L.Accepts.dealt l.fn.main) (g.L.Accepts.dealt l.main)

@@ -1,7 +1,8 @@
-use Rattle.std.specs.Prelude.{◌≡◌, ◌+◌, ◌≤◌, length}
+use Rattle.std.specs.Prelude.{◌≡◌, ◌+◌, ◌++◌, ◌≤◌, length, map}
 use Rattle.std.specs.Vec.{vec_capacity, vec_len}
 use Rattle.std.specs.List.{AllByRecursion}
 use Rattle.nr_crew.specs.Left.{AreServedWithin}
+use Rattle.nr_crew.specs.Places.{places_left}
 use Rattle.nr_crew.specs.Together.{AreLeft}
 use Rattle.nr_crew.proofs.running.join_all.Given as goal
 
@@ -13,3 +14,5 @@ invariant-loop-handle g l =
     × AreServedWithin l.fn.limits l.lefts.items
     × AllByRecursion (λ handle. handle.promise.limits ≡ l.fn.limits) l.handle-iterator.rest.items
     × (vec_len l.lefts + length l.handle-iterator.rest.items ≡ vec_len l.fn.handles)
+    × (places_left l.lefts.items ++ map (λ handle. (handle.promise.node, handle.promise.worker)) l.handle-iterator.rest.items
+    ≡ map (λ handle. (handle.promise.node, handle.promise.worker)) l.fn.handles.items)

@@ -1,6 +1,7 @@
 use Rattle.std.proofs.Common.{◌≡◌, ℕ, ◌<◌, inl, inr, None, length, refl, ap, sym, ◌∙◌, subst}
 use Rattle.nr_slots.specs.Seats.{CombinerView}
 use Rattle.nr_node.specs.Level.{NodeState}
+use Rattle.nr_combiner.specs.Aside.{HasTakenIn}
 use Rattle.nr_combiner.specs.Served.{CombinerState}
 use Rattle.nr_combiner.specs.Steps.{refusal_at, HasLifted, IsRefusedFor}
 use Rattle.nr_combiner.proofs.Due.{idle_at, lifted_served, back_kept, hands_back, none_kept, found_slots}
@@ -41,14 +42,24 @@ invariant_of-self-in_default-take_in g c =
       ap (λ (v : CombinerView). v.slots) c.in-Some.ensures.lifted ∙ c.self.invariant.3 ∙ ap g.B.ServerName.slots (sym (ap (λ (n : NodeState). n.book.node) taken)),
     )
 
-pub returns-in_default-take_in : goal.returns-in_default-take_in
-returns-in_default-take_in g c =
+pub returns-in_default-take_in-clause-lifted : goal.returns-in_default-take_in-clause-lifted
+returns-in_default-take_in-clause-lifted g c =
     let inside = c.self.inside in
     let new : CombinerState = record { node = c.take_in.new.core; seat = c.lift.new.self; counts = inside.counts } in
     let due = subst (λ (k : ℕ). refusal_at c.args.worker k inside.core c.in-Some.batch ≡ None) c.since-since.ensures c.in_default-take_in.ensures.due in
+    subst (λ (x : CombinerState). HasLifted c.args.worker x new) c.self.view_is
+    (inr (inl (c.in-Some.batch, record { due = due; node = c.in_default-take_in.ensures.taken; seat = c.in-Some.ensures.lifted; counts = refl })))
+
+pub returns-in_default-take_in-clause-taken : goal.returns-in_default-take_in-clause-taken
+returns-in_default-take_in-clause-taken g c =
+    let inside = c.self.inside in
+    let new : CombinerState = record { node = c.take_in.new.core; seat = c.lift.new.self; counts = inside.counts } in
+    let due = subst (λ (k : ℕ). refusal_at c.args.worker k inside.core c.in-Some.batch ≡ None) c.since-since.ensures c.in_default-take_in.ensures.due in
+    subst (λ (x : CombinerState). HasTakenIn c.args.worker c.in-Some.batch.number x new) c.self.view_is
     record {
-      lifted = subst (λ (x : CombinerState). HasLifted c.args.worker x new) c.self.view_is
-          (inr (inl (c.in-Some.batch, record { due = due; node = c.in_default-take_in.ensures.taken; seat = c.in-Some.ensures.lifted; counts = refl })));
+      batch = c.in-Some.batch;
+      took = record { due = due; node = c.in_default-take_in.ensures.taken; seat = c.in-Some.ensures.lifted; counts = refl };
+      number_is = refl;
     }
 
 pub invariant_of-self-2 : goal.invariant_of-self-2
@@ -66,20 +77,18 @@ invariant_of-self-2 g c =
           ∙ ap g.B.ServerName.slots (sym (ap (λ (n : NodeState). n.book.node) c.in-Err.ensures.unchanged)),
     )
 
-pub returns : goal.returns
-returns g c =
+pub returns-clause-lifted : goal.returns-clause-lifted
+returns-clause-lifted g c =
     let inside = c.self.inside in
     let told = c.hand_back.ensures in
     let old : CombinerState = record { node = inside.core; seat = inside.seat; counts = inside.counts } in
     let new : CombinerState = record { node = c.take_in.new.core; seat = c.hand_back.new.seat; counts = inside.counts } in
     let refused = subst (λ (k : ℕ). IsRefusedFor c.args.worker k inside.core c.in-Some.batch c.in-Err.why) c.since-since.ensures c.in-Err.ensures.refused in
-    record {
-      lifted = subst (λ (x : CombinerState). HasLifted c.args.worker x new) c.self.view_is
-          (inr (inr (
-            c.in-Some.batch,
-            told.0,
-            c.in-Err.why,
-            hands_back old new c.lift.new.self c.args.worker c.in-Some.batch c.in-Err.batch c.in-Err.why told.0 refused c.in-Err.ensures.back
-                c.in-Err.ensures.unchanged c.in-Some.ensures.lifted told.3 refl told.1 told.2,
-          )));
-    }
+    subst (λ (x : CombinerState). HasLifted c.args.worker x new) c.self.view_is
+    (inr (inr (
+      c.in-Some.batch,
+      told.0,
+      c.in-Err.why,
+      hands_back old new c.lift.new.self c.args.worker c.in-Some.batch c.in-Err.batch c.in-Err.why told.0 refused c.in-Err.ensures.back
+          c.in-Err.ensures.unchanged c.in-Some.ensures.lifted told.3 refl told.1 told.2,
+    )))

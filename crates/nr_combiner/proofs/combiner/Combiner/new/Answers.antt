@@ -7,8 +7,8 @@ use Rattle.nr_combiner.proofs.combiner.Combiner.new.Goals as goal
 
 pub invariant_of-result : goal.invariant_of-result
 invariant_of-result g c =
-    let long : length c.resize.new.self.items ≡ c.args.shape.workers = omega (arith, c.in_ok-resize.ensures.len, c.resize.new.self.ok.0) in (
-      fresh_served c.args.core c.args.seat c.resize.new.self.items c.args.shape.workers c.requires.owed (ap (λ (v : CombinerView). v.desks) c.requires.seat) long
+    let long : length c.resize.new.self.items ≡ c.args.workers = omega (arith, c.in_ok-resize.ensures.len, c.resize.new.self.ok.0) in (
+      fresh_served c.args.core c.args.seat c.resize.new.self.items c.args.workers c.requires.owed (ap (λ (v : CombinerView). v.desks) c.requires.seat) long
           (none_jobs (IsOwnOfBatch c.args.core c.args.seat.desks) c.args.core c.requires.idle),
       ap (λ (v : CombinerView). v.slots) c.requires.seat,
       sym c.requires.node,

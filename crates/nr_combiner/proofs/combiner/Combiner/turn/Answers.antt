@@ -1,27 +1,23 @@
-use Rattle.std.proofs.Common.{ap, ◌∙◌}
-use Rattle.nr_combiner.proofs.Handed.{handed_down, turned_down}
-use Rattle.nr_combiner.proofs.Rounds.{combined_node}
+use Rattle.std.proofs.Common.{◌≡◌, length, ap, sym, ◌∙◌, arith}
+use Rattle.nr_combiner.specs.Served.{CombinerState}
+use Rattle.nr_combiner.proofs.Rounds.{lifted_by_node}
 use Rattle.nr_combiner.proofs.combiner.Combiner.turn.Goals as goal
 
-pub returns-clause-turned : goal.returns-clause-turned
-returns-clause-turned g c =
-    record { combined = c.combine_by-combined.new.self; has_combined = c.combine_by-combined.ensures.combined; handed = c.collect_pieces-told.ensures.handed }
+pub lift_by-handed_back-requires : goal.lift_by-handed_back-requires
+lift_by-handed_back-requires g c =
+    let inside = c.self.inside in
+    let served = c.self.invariant.0 in
+    let count : c.len-workers.result ≡ length inside.numbers.items = omega (arith, c.len-workers.ensures, inside.numbers.ok.0) in
+    count ∙ served.numbered ∙ sym served.workers ∙ ap (λ (x : CombinerState). length x.seat.desks) c.self.view_is
 
-pub returns-clause-down : goal.returns-clause-down
-returns-clause-down g c =
-    let told = c.collect_pieces-told.result in
-    turned_down c.combine_by-combined.result.round c.combine_by-combined.new.self c.collect_pieces-told.new.self c.combine_by-combined.ensures.down
-    (handed_down c.args.worker c.args.most c.args.taken.now.items c.collect_pieces-told.new.taken.items told.collected.result told.token.standing told.note
-    c.combine_by-combined.new.self c.collect_pieces-told.new.self c.collect_pieces-told.ensures.handed)
+pub returns-clause-turned : goal.returns-clause-turned
+returns-clause-turned g c = c.turn_lifted.ensures.turned c.args.lifts c.args.self.now c.lift_by-handed_back.ensures
 
 pub returns-clause-node : goal.returns-clause-node
 returns-clause-node g c =
-    c.collect_pieces-told.ensures.node
-    ∙ combined_node g.B.LogName.places c.args.worker c.args.lifts c.combine_by-combined.result.round c.combine_by-combined.result.is_behind c.args.self.now
-    c.combine_by-combined.new.self c.combine_by-combined.ensures.combined
+    c.turn_lifted.ensures.node ∙ lifted_by_node c.args.lifts c.args.worker c.args.self.now c.lift_by-handed_back.new.combiner c.lift_by-handed_back.ensures
 
 pub returns-clause-named : goal.returns-clause-named
 returns-clause-named g c =
-    c.collect_pieces-told.ensures.named
-    ∙ ap g.B.ServerName.slots (combined_node g.B.LogName.places c.args.worker c.args.lifts c.combine_by-combined.result.round c.combine_by-combined.result.is_behind
-    c.args.self.now c.combine_by-combined.new.self c.combine_by-combined.ensures.combined)
+    c.turn_lifted.ensures.named
+    ∙ ap g.B.ServerName.slots (lifted_by_node c.args.lifts c.args.worker c.args.self.now c.lift_by-handed_back.new.combiner c.lift_by-handed_back.ensures)

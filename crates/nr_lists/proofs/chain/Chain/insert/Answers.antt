@@ -5,10 +5,10 @@ use Rattle.nr_lists.proofs.chain.Chain.insert.Goals as goal
 
 pub invariant_of-self-2 : goal.invariant_of-self-2
 invariant_of-self-2 c =
-    rw c.in_ok-len.ensures.0
+    rw c.in_ok-len.ensures.more.0
     (inserted_counted c.self.inside.blocks.items c.insert.new.blocks.items c.self.inside.len c.in-Some.place c.find-block.result.0 c.find-block.result.1 c.beside.result
     c.args.side c.args.item c.self.invariant c.find-block.ensures.block c.find-block.ensures.place c.find-block.ensures.whole c.beside.ensures c.in_ok-insert.ensures.ok
-    (rw (← c.in_ok-len.ensures.0) c.in_ok-len.ensures.1))
+    (rw (← c.in_ok-len.ensures.more.0) c.in_ok-len.ensures.more.1))
 
 pub returns-clause-ok : goal.returns-clause-ok
 returns-clause-ok c =

@@ -35,7 +35,7 @@ invariant_of-self-2 c =
     c.grow.ensures.spread c.grow.ensures.same in
     subst (IsTable c.self.inside.keys c.grow.new.level c.put_in.new.packs.items c.put_in.new.long.entries) (sym c.picked-self-inside.ensures)
     (table_put c.self.inside.keys c.grow.new.level c.self.inside.len c.in_ok-more.more c.grow.new.packs.items c.put_in.new.packs.items c.self.inside.long.entries c.put_in.new.long.entries
-    c.args.field.now c.args.value.now c.in_ok-is_new.is_new grown.0 c.in_ok-is_new.ensures.stored c.in_ok-is_new.ensures.put c.in_ok-is_new.ensures.new c.in_ok-more.ensures.0 c.in_ok-more.ensures.1)
+    c.args.field.now c.args.value.now c.in_ok-is_new.is_new grown.0 c.in_ok-is_new.ensures.stored c.in_ok-is_new.ensures.put c.in_ok-is_new.ensures.new c.in_ok-more.ensures.more.0 c.in_ok-more.ensures.more.1)
 
 pub returns-clause-new : goal.returns-clause-new
 returns-clause-new c =

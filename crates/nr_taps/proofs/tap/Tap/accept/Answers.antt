@@ -1,4 +1,4 @@
-use Rattle.std.proofs.Common.{◌≡◌, refl, ap, sym, ◌∙◌, ◌+◌, ◌++◌, ◌^◌, ◌<◌, length, arith, subst}
+use Rattle.std.proofs.Common.{◌≡◌, ap, sym, ◌∙◌, ◌+◌, ◌++◌, ◌^◌, ◌<◌, length, arith, subst}
 use Rattle.nr_entry.specs.Jobs.{connection_of}
 use Rattle.nr_taps.specs.Taps.{TapState, bytes_accepted, refusal, standing_of}
 use Rattle.nr_taps.proofs.Tapped.{accepted_tapped}

@@ -1,4 +1,4 @@
-use Rattle.nr_combiner.specs.declared.node_handle.TheConstants.{MOST_JOBS}
+use Rattle.nr_entry.specs.declared.entry.TheConstants.{MOST_JOBS}
 use Rattle.std.proofs.Common.{ap, arith, length}
 use Rattle.nr_slots.specs.Seats.{one_if}
 use Rattle.nr_worker.specs.Working.{due}
