@@ -23,9 +23,7 @@ fn each_kind_is_copied(rt: HostRuntime) -> Result<(), Fail> {
     let copied = reply.copy()?;
     let mut text = Vec::new(alloc);
     copied.write(&mut text)?;
-    assert_eq!(rt;
-        text.as_slice(),
-        b"*6\r\n+OK\r\n-ERR x\r\n:-5\r\n$7\r\nmessage\r\n$-1\r\n*-1\r\n"
-    );
+    let wanted = b"*6\r\n+OK\r\n-ERR x\r\n:-5\r\n$7\r\nmessage\r\n$-1\r\n*-1\r\n";
+    assert!(rt; text.as_slice() == wanted.as_slice());
     Ok(())
 }
