@@ -12,7 +12,7 @@ const PAST_FOUR: u64 = 1 << 32;
 
 /// The order of the first bytes that differ; a front stands before what it is a front of. Linear in the shorter one, in steps of eight bytes, or of
 /// one byte where it has fewer than four.
-pub(crate) fn compare(left: &[u8], right: &[u8]) -> Ordering
+pub fn compare(left: &[u8], right: &[u8]) -> Ordering
     ensures { result ≡ slice_cmp nat_cmp left.now right.now }
 {
     let both = left.len().min(right.len());

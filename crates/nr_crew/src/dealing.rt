@@ -13,7 +13,7 @@ use std::sync::{Arc, Wait};
 const MOST_DEALT: u32 = 64;
 
 /// What knows whether there is room for one more connection of a node.
-pub(crate) trait Rooms {
+pub(crate) trait Admission {
     ghost use Rattle.std.specs.Prelude.{ℕ, Bool};
 
     // What it said as it was asked for room at a node.
@@ -24,7 +24,7 @@ pub(crate) trait Rooms {
         ensures { admits self.now node result };
 }
 
-impl<K: Rings> Rooms for SharedHints<K> {
+impl<K: Rings> Admission for SharedHints<K> {
     ghost admits = { λ _ _ _. Unit {0} };
 
     fn admit(&self, node: usize) -> bool {
@@ -34,7 +34,7 @@ impl<K: Rings> Rooms for SharedHints<K> {
 
 // Deals one out that is held, which was taken as this number, to the worker of its number at the node of its number, or at the next node that takes it. Where none
 // does it is turned away.
-fn deal_one<L: Accepts, C: Rooms>(main: &mut L, rooms: &C, setup: Setup, number: u64)
+fn deal_one<L: Accepts, C: Admission>(main: &mut L, rooms: &C, setup: Setup, number: u64)
     ensures { DealsOne setup.nodes setup.workers number (C.admits rooms.now) (L.dealt main.old) (L.dealt main.new) }
 {
     for passed in 0..setup.nodes() {

@@ -40,6 +40,8 @@ enum Task {
     Closes(u32),
     /// One connection sends so many requests at once.
     AtOnce(usize),
+    /// A reader asks so often behind a writer of the same worker.
+    BehindAWriter(usize),
     /// So many mebibytes wait for a connection.
     Replies(usize),
     /// So many mebibytes are published to one whose worker does nothing meanwhile.
@@ -55,12 +57,13 @@ enum Task {
 }
 
 /// Servers of so many nodes, of so many workers each, with so many places, and what is done there.
-const ROWS: [(usize, usize, usize, Task); 10] = [
+const ROWS: [(usize, usize, usize, Task); 11] = [
     (8, 16, 1_024, Task::EachAlone),
     (5, 16, 64, Task::Woken),
     (1, 1, 64, Task::Batches(200_100)),
     (1, 2, 64, Task::Closes(140_000)),
     (1, 3, 64, Task::AtOnce(9_000)),
+    (1, 2, 64, Task::BehindAWriter(600)),
     (1, 1, 64, Task::Replies(17)),
     (1, 2, 64, Task::Messages(17)),
     (2, 3, 1_024, Task::Subscribers(1_000)),
@@ -329,6 +332,28 @@ fn at_once<R: Abort, A: Backend>(rt: &R, alloc: Global, server: &mut Server<'_, 
     opens_and_asks(rt, server, (0, 0), (&sent, &wanted));
 }
 
+// A writer asks so often, and a reader of the same worker behind it: the reads go first, beside the lock, so the key isn't there for them. Both get all their replies.
+fn behind_a_writer<R: Abort, A: Backend>(
+    rt: &R,
+    alloc: Global,
+    server: &mut Server<'_, A>,
+    count: usize,
+) {
+    let (writer, reader) = (server.opens(rt, 0, 0), server.opens(rt, 0, 0));
+    let writes = SET.0.repeat(alloc, count).ok().expect(rt, "memory");
+    let reads = b"GET k\r\n".as_slice().repeat(alloc, count).ok();
+    let reads = reads.expect(rt, "memory");
+    let done = SET.1.repeat(alloc, count).ok().expect(rt, "memory");
+    let none = b"$-1\r\n".as_slice().repeat(alloc, count).ok();
+    let none = none.expect(rt, "memory");
+    let desk = server.desk(rt, 0, 0);
+    sends(rt, desk, writer, &writes);
+    sends(rt, desk, reader, &reads);
+    works_for(rt, desk, writer, done.len());
+    gets(rt, desk, reader, &none);
+    gets(rt, desk, writer, &done);
+}
+
 // A value of a mebibyte is asked for so often at once, and none of it is written until all came.
 fn replies<R: Abort, A: Backend>(rt: &R, alloc: Global, server: &mut Server<'_, A>, count: usize) {
     let store = (
@@ -480,6 +505,7 @@ fn does<R: Wait + Abort, A: Backend, N: Falling>(
         Task::Batches(count) => batches(rt, server, count),
         Task::Closes(count) => closes(rt, server, count),
         Task::AtOnce(count) => at_once(rt, alloc, server, count),
+        Task::BehindAWriter(count) => behind_a_writer(rt, alloc, server, count),
         Task::Replies(count) => replies(rt, alloc, server, count),
         Task::Messages(count) => messages(rt, alloc, server, count),
         Task::Subscribers(count) => subscribers(rt, alloc, server, count),

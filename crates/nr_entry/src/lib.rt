@@ -17,6 +17,7 @@ mod entry;
 mod job;
 mod lifting;
 mod moment;
+mod rooms;
 mod run;
 mod runs;
 mod setup;

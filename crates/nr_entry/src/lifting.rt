@@ -4,6 +4,7 @@ ghost use Rattle.std.specs.VecDeque.{deque_len, deque_capacity};
 ghost use Rattle.nr_entry.specs.Runs.{jobs_in, lent_in};
 
 use crate::job::Job;
+use crate::rooms::Rooms;
 use crate::run::Run;
 use nr_blob::Memory;
 use std::alloc::Global;
@@ -13,6 +14,7 @@ use std::collections::VecDeque;
 pub(crate) fn add_all(
     alloc: Global,
     runs: &mut Vec<Run>,
+    rooms: &mut Rooms,
     jobs: Vec<Job>,
 ) -> Result<(), (Vec<Job>, Memory)>
     requires { lent_in runs.old.items ≡ 0 }
@@ -23,7 +25,7 @@ pub(crate) fn add_all(
 {
     let mut left = VecDeque::from_vec(jobs);
     let mut added = Vec::new(alloc);
-    if let Err(refused) = split(alloc, &mut left, &mut added) {
+    if let Err(refused) = split(alloc, &mut left, &mut added, rooms) {
         return Err((restored(added, left), refused));
     }
     match runs.append(&mut added) {
@@ -33,7 +35,12 @@ pub(crate) fn add_all(
 }
 
 // Moves jobs into runs, as many as memory allows.
-fn split(alloc: Global, left: &mut VecDeque<Job>, added: &mut Vec<Run>) -> Result<(), Memory>
+fn split(
+    alloc: Global,
+    left: &mut VecDeque<Job>,
+    added: &mut Vec<Run>,
+    rooms: &mut Rooms,
+) -> Result<(), Memory>
     requires none { added.old.items ≡ [] }
     ensures all { jobs_in added.new.items ++ left.new.items ≡ left.old.items }
     ensures done { OnOk result (left.new.items ≡ []) }
@@ -41,7 +48,7 @@ fn split(alloc: Global, left: &mut VecDeque<Job>, added: &mut Vec<Run>) -> Resul
     ensures room { deque_capacity left.new ≡ deque_capacity left.old }
 {
     while let Some(job) = left.pop_front() {
-        if let Err((job, refused)) = add(alloc, added, job) {
+        if let Err((job, refused)) = add(alloc, added, rooms, job) {
             left.push_front_reserved(job);
             return Err(refused);
         }
@@ -50,7 +57,7 @@ fn split(alloc: Global, left: &mut VecDeque<Job>, added: &mut Vec<Run>) -> Resul
 }
 
 // One job more behind the others, which comes back where there is no memory.
-fn add(alloc: Global, runs: &mut Vec<Run>, job: Job) -> Result<(), (Job, Memory)>
+fn add(alloc: Global, runs: &mut Vec<Run>, rooms: &mut Rooms, job: Job) -> Result<(), (Job, Memory)>
     requires { lent_in runs.old.items ≡ 0 }
     ensures ok { OnOk result (jobs_in runs.new.items ≡ jobs_in runs.old.items ++ job ∷ []) }
     ensures back { IfErr result (λ back. back.0 ≡ job) }
@@ -67,7 +74,7 @@ fn add(alloc: Global, runs: &mut Vec<Run>, job: Job) -> Result<(), (Job, Memory)
     if let Err(failed) = runs.reserve(1) {
         return Err((job, failed.into()));
     }
-    match Run::new(alloc, job) {
+    match Run::new(rooms.take(alloc), job) {
         Ok(run) => {
             runs.push_reserved(run);
             Ok(())

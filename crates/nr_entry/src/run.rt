@@ -6,9 +6,10 @@ ghost use Rattle.nr_entry.specs.Waiting.{are_from};
 
 use crate::conn::ConnId;
 use crate::job::Job;
+use crate::rooms::Rooms;
 use nr_blob::Memory;
-use std::alloc::Global;
 use std::collections::VecDeque;
+use std::mem;
 
 /// Jobs of one connection that were lifted one after the other. Of those that are lent, the first ones, only their number is here.
 #[derive(Drop)]
@@ -23,13 +24,14 @@ pub(crate) struct Run {
 impl Run {
     ghost use Rattle.nr_entry.specs.Runs.{front, is_kind_at, has_other};
 
-    /// A run of one job, which comes back where there is no memory.
-    pub(crate) fn new(alloc: Global, job: Job) -> Result<Run, (Job, Memory)>
+    /// A run of one job in a room, which comes back where there is no memory.
+    pub(crate) fn new(room: VecDeque<Job>, job: Job) -> Result<Run, (Job, Memory)>
+        requires { room.items ≡ [] }
         ensures run { IfOk result (λ run. (run.jobs.items ≡ job ∷ []) × (run.lent ≡ 0)) }
         ensures back { IfErr result (λ back. back.0 ≡ job) }
     {
         let conn = job.conn;
-        let mut jobs = VecDeque::new(alloc);
+        let mut jobs = room;
         if let Err(failed) = jobs.push_back(job) {
             return Err(Memory::giving_back(failed));
         }
@@ -111,6 +113,18 @@ impl Run {
         let lent = self.lent;
         take_front(&mut self.jobs, lent, back);
         self.lent = 0;
+    }
+
+    /// Forgets what it lent. Where no job is here its room is kept for another run.
+    pub(crate) fn settle(&mut self, rooms: &mut Rooms)
+        ensures jobs { self.new.jobs.items ≡ self.old.jobs.items }
+        ensures lent { self.new.lent ≡ 0 }
+    {
+        self.lent = 0;
+        if self.jobs.is_empty() {
+            let none = VecDeque::new(*self.jobs.allocator());
+            rooms.keep(mem::replace(&mut self.jobs, none));
+        }
     }
 }
 

@@ -13,6 +13,7 @@ ghost use Rattle.nr_entry.specs.Waiting.{belong, filled, has_some};
 use crate::blocked::Blocked;
 use crate::conn::ConnId;
 use crate::job::Job;
+use crate::rooms::Rooms;
 use crate::run::Run;
 use nr_blob::Memory;
 use std::alloc::Global;
@@ -168,12 +169,12 @@ pub(crate) fn take_back(runs: &mut [Run], back: Vec<Job>)
     }
 }
 
-/// Forgets the jobs that are lent, and the runs of which no job is here.
-pub(crate) fn settle(runs: &mut Vec<Run>)
+/// Forgets the jobs that are lent, and the runs of which no job is here. Their rooms are kept.
+pub(crate) fn settle(runs: &mut Vec<Run>, rooms: &mut Rooms)
     ensures jobs { jobs_in runs.new.items ≡ jobs_in runs.old.items }
     ensures lent { lent_in runs.new.items ≡ 0 }
 {
-    forget(runs);
+    forget(runs, rooms);
     drop_empty(runs);
 }
 
@@ -183,12 +184,12 @@ fn drop_empty(runs: &mut Vec<Run>)
     runs.retain(|run| !run.jobs.is_empty());
 }
 
-fn forget(runs: &mut [Run])
+fn forget(runs: &mut [Run], rooms: &mut Rooms)
     ensures jobs { jobs_in runs.new ≡ jobs_in runs.old }
     ensures lent { lent_in runs.new ≡ 0 }
 {
     for index in 0..runs.len() {
-        runs[index].lent = 0;
+        runs[index].settle(rooms);
     }
 }
 

@@ -10,6 +10,7 @@ use crate::conn::ConnId;
 use crate::entry::MOST_JOBS;
 use crate::job::Job;
 use crate::lifting::add_all;
+use crate::rooms::Rooms;
 use crate::run::Run;
 use crate::runs::{any_leads, first_number, lend_leading, settle, take_back};
 use nr_blob::Memory;
@@ -26,6 +27,8 @@ pub struct Waiting {
     lent: usize,
     // How many jobs are taken of each run: filled anew by each call, and kept so that it takes no memory.
     counts: Vec<usize>,
+    // Room for the jobs of runs that come.
+    rooms: Rooms,
 }
 
 impl Model for Waiting {
@@ -55,6 +58,7 @@ impl Waiting {
             count: 0,
             lent: 0,
             counts: Vec::new(alloc),
+            rooms: Rooms::new(alloc),
         }
     }
 
@@ -69,7 +73,7 @@ impl Waiting {
         if let Some(refused) = Memory::at_last(self.count.saturating_add(added) as u64) {
             return Err((jobs, refused));
         }
-        match add_all(self.alloc, &mut self.runs, jobs) {
+        match add_all(self.alloc, &mut self.runs, &mut self.rooms, jobs) {
             Ok(()) => {
                 self.count += added;
                 Ok(())
@@ -108,7 +112,7 @@ impl Waiting {
     pub fn take_lent(&mut self)
         ensures { self.new ≡ record { jobs = self.old.jobs; gaps = []; lent = [] } }
     {
-        settle(&mut self.runs);
+        settle(&mut self.runs, &mut self.rooms);
         self.count -= self.lent;
         self.lent = 0;
     }
@@ -138,7 +142,7 @@ impl Waiting {
             false,
             self.count,
         )?;
-        settle(&mut self.runs);
+        settle(&mut self.runs, &mut self.rooms);
         self.count -= taken.len();
         Ok(taken)
     }

@@ -8,7 +8,7 @@ ghost use Rattle.nr_lists.specs.Packed.{joined, total, lens_of, cut, items_in, I
 
 use crate::buffer::Buffer;
 use crate::items::BlockItems;
-use nr_blob::{Blob, Bytes, Memory};
+use nr_blob::{Blob, Bytes, Memory, remove_range};
 use std::alloc::Global;
 use std::marker::Model;
 
@@ -349,12 +349,4 @@ fn take_out(lens: &mut Vec<u16>, bytes: &mut Buffer, start: usize, end: usize)
     let to = offset(lens, bytes.len(), end);
     bytes.remove(from, to);
     remove_range(lens, start, end);
-}
-
-fn remove_range(lens: &mut Vec<u16>, start: usize, end: usize)
-    requires range { start ≤ end }
-    requires within { end ≤ length lens.old.items }
-    ensures { lens.new.items ≡ take start lens.old.items ++ drop end lens.old.items }
-{
-    lens.drain(start..end);
 }

@@ -1,7 +1,7 @@
 // Bytes in one piece, put in and taken out anywhere, and at both ends without moving the others.
 ghost use Rattle.std.specs.Prelude.{◌≡◌, ◌≤◌, ◌<◌, ◌+◌, ◌^◌, ◌++◌, length, take, drop, replicate, IfOk, OnOk, OnErr};
 
-use nr_blob::Memory;
+use nr_blob::{Memory, remove_range};
 use std::alloc::Global;
 use std::cmp;
 use std::marker::Model;
@@ -99,7 +99,7 @@ impl Buffer {
         } else if end == self.len() {
             self.bytes.truncate(self.start + start);
         } else {
-            self.bytes.drain(self.start + start..self.start + end);
+            remove_range(&mut self.bytes, self.start + start, self.start + end);
         }
     }
 
@@ -107,7 +107,7 @@ impl Buffer {
     pub(crate) fn shrink(&mut self)
         ensures { self.new ≡ self.old }
     {
-        self.bytes.drain(..self.start);
+        remove_range(&mut self.bytes, 0, self.start);
         self.start = 0;
         self.bytes.shrink_to_fit();
     }
@@ -117,7 +117,7 @@ impl Buffer {
         ensures { result.items ≡ self }
     {
         let Buffer { start, mut bytes } = self;
-        bytes.drain(..start);
+        remove_range(&mut bytes, 0, start);
         bytes
     }
 }

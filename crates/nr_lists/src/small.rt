@@ -12,7 +12,7 @@ use crate::matches;
 use crate::matches::place_from;
 use crate::places::{beside, place};
 use crate::walk::{Items, Walk};
-use nr_blob::{Blob, Memory, end_of, start_of};
+use nr_blob::{Blob, Memory, end_of, remove_range, start_of};
 use nr_model::command::{End, Side};
 use std::alloc::Global;
 use std::marker::Model;
@@ -422,12 +422,4 @@ fn take_out(block: &mut Vec<u8>, start: usize, end: usize)
     remove_range(block, 1 + count + from, 1 + count + to);
     remove_range(block, 1 + start, 1 + end);
     block.shrink_to_fit();
-}
-
-fn remove_range(bytes: &mut Vec<u8>, start: usize, end: usize)
-    requires range { start ≤ end }
-    requires within { end ≤ length bytes.old.items }
-    ensures { bytes.new.items ≡ take start bytes.old.items ++ drop end bytes.old.items }
-{
-    bytes.drain(start..end);
 }

@@ -3,6 +3,7 @@ ghost use Rattle.std.specs.Prelude.{◌≡◌, length};
 ghost use Rattle.nr_oplog.specs.Opening.{name_of, nodes_of, places_of};
 ghost use Rattle.nr_combiner.specs.Opened.{AreNamed, AreOfWorkers};
 
+use crate::aside::Scene;
 use crate::asserted::{holds, same};
 use crate::beside::serve_beside;
 use crate::desk::Act::{
@@ -33,7 +34,7 @@ use std::sync::Wait;
 
 /// What is done at the nodes of a log, each worker of which has a client.
 #[derive(Clone, Copy)]
-enum Play<'a> {
+pub(crate) enum Play<'a> {
     /// Each act by the worker of this number and its client: those of node 0 first.
     InTurn(&'a [(usize, Act)]),
     /// Each client counts one further.
@@ -60,6 +61,8 @@ enum Play<'a> {
     OthersAreTold,
     /// Two workers of one node serve two connections each.
     BothServe,
+    /// Reads are run beside the lock.
+    ReadsBeside(Scene),
 }
 
 // The workers of a log's nodes, each with a client.
@@ -113,11 +116,17 @@ fn perform<B: ServerName, R: Wait + Abort>(
         Play::CutsAreTold => tell_cuts(rt, alloc, desks),
         Play::OthersAreTold => tell_others(rt, desks),
         Play::BothServe => both_serve(rt, alloc, desks),
+        Play::ReadsBeside(scene) => scene.play(rt, alloc, desks),
     }
 }
 
-// Plays at the nodes of a new log.
-fn play_at<R: RandomSource + Wait + Abort>(rt: &R, alloc: Global, layout: Layout, what: Play<'_>) {
+/// Plays at the nodes of a new log.
+pub(crate) fn play_at<R: RandomSource + Wait + Abort>(
+    rt: &R,
+    alloc: Global,
+    layout: Layout,
+    what: Play<'_>,
+) {
     let keys = RandomState::new(rt)
         .ok()
         .expect(rt, "there are random bytes");

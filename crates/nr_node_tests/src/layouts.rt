@@ -108,7 +108,14 @@ pub(crate) const TWO_WORKERS: Layout = Layout {
     limit: 1 << 20,
 };
 
-/// The same, where five connections are open at most.
+/// Three workers of one node.
+pub(crate) const THREE_WORKERS: Layout = Layout {
+    workers: 3,
+    connections: 6,
+    ..TWO_WORKERS
+};
+
+/// Two of them, where five connections are open at most.
 pub(crate) const TWO_PAIRS: Layout = Layout {
     connections: 5,
     ..TWO_WORKERS

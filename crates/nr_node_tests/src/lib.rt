@@ -2,6 +2,8 @@
 #![tactic(auto)]
 
 #[cfg(test)]
+mod aside;
+#[cfg(test)]
 mod asserted;
 #[cfg(test)]
 mod beside;

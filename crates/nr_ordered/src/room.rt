@@ -2,7 +2,7 @@
 ghost use Rattle.std.specs.Prelude.{◌≡◌, ◌+◌, ◌-◌, ◌≤◌, ◌<◌, ◌++◌, length, take, drop, vec_len, vec_capacity, OnOk, OnErr};
 ghost use Rattle.std.specs.List.{insert};
 
-use nr_blob::Memory;
+use nr_blob::{Memory, remove_range};
 use std::cmp;
 
 /// By how many places a vector grows at least.
@@ -32,12 +32,12 @@ pub(crate) fn put_reserved<T: Drop>(held: &mut Vec<T>, place: usize, one: T)
 }
 
 /// Takes those from one place to another out, and gives room back once much of it is free.
-pub(crate) fn take_out<T: Drop>(held: &mut Vec<T>, from: usize, to: usize)
+pub(crate) fn take_out<T: Copy + Drop>(held: &mut Vec<T>, from: usize, to: usize)
     requires range { from ≤ to }
     requires within { to ≤ length held.old.items }
     ensures { held.new.items ≡ take from held.old.items ++ drop to held.old.items }
 {
-    held.drain(from..to);
+    remove_range(held, from, to);
     shrink(held);
 }
 

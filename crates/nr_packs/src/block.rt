@@ -2,7 +2,7 @@
 ghost use Rattle.std.specs.Prelude.{◌≡◌, ◌+◌, ◌-◌, ◌≤◌, ◌<◌, ◌++◌, ◌^◌, [], length, take, drop, slice_index, IfOk, OnOk, ◌∷◌, ◌%◌, ◌/◌};
 ghost use Rattle.nr_packs.specs.Packed.{word};
 
-use nr_blob::Memory;
+use nr_blob::{Memory, remove_range};
 use std::alloc::Global;
 use std::marker::Model;
 
@@ -106,7 +106,7 @@ impl Block {
         let count = self.count() - 1;
         self.bytes[0] = (count % 256) as u8;
         self.bytes[1] = (count / 256) as u8;
-        self.bytes.drain(start + 2..end + 2);
+        remove_range(&mut self.bytes, start + 2, end + 2);
         self.bytes.shrink_to_fit();
     }
 

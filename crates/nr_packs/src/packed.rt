@@ -1,5 +1,5 @@
 // A few short pairs in one block: each field, then its value, each with its length in the byte in front of it, by the fields' byte order.
-ghost use Rattle.std.specs.Prelude.{◌≡◌, ◌≤◌, ◌<◌, ◌+◌, ◌^◌, ◌++◌, [], true, Some, length, take, drop, IfOk, OnOk, IfSome, OnSome, IfNone, OnErr, is_some, is_none, if◌then◌else◌, IsTrue};
+ghost use Rattle.std.specs.Prelude.{◌≡◌, ◌≢◌, ◌≤◌, ◌<◌, ◌+◌, ◌^◌, ◌++◌, [], true, false, Some, length, take, drop, IfOk, OnOk, IfSome, OnSome, IfNone, OnErr, is_some, is_none, if◌then◌else◌, IsTrue};
 ghost use Rattle.std.specs.Option.{option_map};
 ghost use Rattle.std.specs.Map.{lookup, remove_entry};
 ghost use Rattle.std.specs.BTreeMap.{insert_entry, is_at};
@@ -11,7 +11,7 @@ ghost use Rattle.nr_packs.specs.Placed.{below, from, past, value_first};
 ghost use Rattle.nr_packs.specs.Orders.{AreInOrder};
 
 use crate::block::Block;
-use nr_blob::Memory;
+use nr_blob::{Memory, compare};
 use std::alloc::Global;
 use std::marker::Model;
 
@@ -167,7 +167,7 @@ fn from_field<'a>(bytes: &'a [u8], field: &[u8]) -> &'a [u8]
 {
     let mut rest = bytes;
     while let Some((other, _, behind)) = first_pair(rest) {
-        if !field.cmp(&other).is_gt() {
+        if !compare(field, other).is_gt() {
             return rest;
         }
         rest = behind;
@@ -201,7 +201,7 @@ fn place_of<'a>(bytes: &'a [u8], field: &[u8]) -> Place<'a>
             after: rest,
         };
     };
-    if field.cmp(&other).is_eq() {
+    if compare(field, other).is_eq() {
         return Place {
             before,
             value: Some(value),
@@ -225,7 +225,8 @@ pub(crate) fn count_with(pairs: usize, is_new: bool) -> usize
 
 // Whether there is a value of so many bytes.
 fn has_length(held: Option<&[u8]>, len: usize) -> bool
-    ensures { result ≡ true → (text : Bytes) × (option_map (λ value. value.now) held.entry ≡ Some text) × (length text ≡ len) }
+    ensures has { result ≡ true → (text : Bytes) × (option_map (λ value. value.now) held.entry ≡ Some text) × (length text ≡ len) }
+    ensures lacks { result ≡ false → IfSome held.entry (λ value. length value.now ≢ len) }
 {
     match held {
         Some(value) => value.len() == len,

@@ -243,7 +243,7 @@ impl Outbox {
     }
 
     /// Hands out at most so many of the first bytes that wait, and at least one, or `None` where nothing waits. Linear in them: they are
-    /// copied into a piece of their own size, and the buffer keeps its room for those that come next. More than 1,024 bytes that are all
+    /// copied, the few into a spare buffer, and the buffer keeps its room for those that come next. More than 1,024 bytes that are all
     /// that waits are moved out with the buffer, and not copied; a spare one takes its place, else room for as many is taken, up to 128 KiB.
     /// Where memory runs out nothing is changed.
     pub fn take_piece(
@@ -268,7 +268,8 @@ impl Outbox {
             mem::replace(&mut self.buffer, with_room(alloc, waiting, spares))
         } else {
             let count = cmp::min(most, waiting);
-            let copied = Vec::from_slice(alloc, &self.buffer[self.start..self.start + count])?;
+            let bytes = &self.buffer[self.start..self.start + count];
+            let copied = copied(alloc, bytes, spares)?;
             self.start = drop_front(&mut self.buffer, self.start + count);
             copied
         };
@@ -327,6 +328,19 @@ pub fn share_of(limit: usize) -> usize
     ensures { result ≡ share_of limit }
 {
     (limit / SHARE_PART).min(MOST_SHARE)
+}
+
+// A copy of bytes, in a spare buffer where they are few.
+fn copied(alloc: Global, bytes: &[u8], spares: &mut Spares) -> Result<Vec<u8>, Memory>
+    ensures { IfOk result (λ copy. copy.items ≡ bytes.now) }
+{
+    if bytes.len() > MOST_COPIED {
+        let copy = Vec::from_slice(alloc, bytes)?;
+        return Ok(copy);
+    }
+    let mut copy = spares.take_short(alloc);
+    copy.extend_from_slice(bytes)?;
+    Ok(copy)
 }
 
 // No bytes, with room for those that come next: a spare buffer's, else for as many as came last. Without memory for it there is none.

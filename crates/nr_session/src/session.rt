@@ -20,6 +20,9 @@ use nr_resp::{FeedError, Frame, Reader};
 use std::alloc::Global;
 use std::marker::Model;
 
+/// The most requests of a piece for which a session keeps room: one that pipelines more takes it anew with each piece.
+const MOST_KEPT: usize = 16;
+
 // Reads a piece: its frames and the fault that they end with, or the frames before a refusal.
 fn read(reader: &mut Reader, piece: &[u8], frames: &mut Vec<Frame>) -> Result<Option<Fault>, Memory>
     requires is_open { reader.old.closed ≡ None }
@@ -36,7 +39,7 @@ fn read(reader: &mut Reader, piece: &[u8], frames: &mut Vec<Frame>) -> Result<Op
     }
 }
 
-// Reads a piece, and adds the jobs that it asks for, numbered on. Says whether they end the connection.
+// Reads a piece, and adds the jobs that it asks for, numbered on. Says whether they end the connection. The requests come into room that is there.
 fn feed_requests(
     alloc: Global,
     conn: ConnId,
@@ -45,6 +48,7 @@ fn feed_requests(
     next: &mut u64,
     moment: u64,
     piece: &[u8],
+    frames: &mut Vec<Frame>,
     jobs: &mut Vec<Job>,
 ) -> Result<bool, Memory>
     requires is_open { reader.old.closed ≡ None }
@@ -61,9 +65,9 @@ fn feed_requests(
         (request_jobs (connection_of conn) next.old moment mode.old (framed reader.old.rest piece.now).frames)) }
     ensures no_end { OnErr result (ends (items_of jobs.new.items) ≡ ends (items_of jobs.old.items)) }
 {
-    let mut frames = Vec::new(alloc);
-    let fed = read(reader, piece, &mut frames);
-    if push_jobs(conn, mode, next, moment, &mut frames, jobs)? {
+    frames.clear();
+    let fed = read(reader, piece, frames);
+    if push_jobs(conn, mode, next, moment, frames, jobs)? {
         return Ok(true);
     }
     match fed? {
@@ -73,6 +77,15 @@ fn feed_requests(
             *next += 1;
             Ok(true)
         }
+    }
+}
+
+// Lets go of the requests that are left, and of room for more than are kept.
+fn trim(alloc: Global, frames: &mut Vec<Frame>) {
+    if frames.capacity() > MOST_KEPT {
+        *frames = Vec::new(alloc);
+    } else {
+        frames.clear();
     }
 }
 
@@ -120,6 +133,8 @@ pub struct Session {
     life: Life,
     lost: Option<u64>,
     fell: bool,
+    // Room for the requests of a piece.
+    frames: Vec<Frame>,
 }
 
 impl Model for Session {
@@ -152,6 +167,7 @@ impl Session {
             life: Life::Open,
             lost: None,
             fell: false,
+            frames: Vec::new(alloc),
         }
     }
 
@@ -222,7 +238,7 @@ impl Session {
         if self.has_ended() {
             return Err(SessionError::Ended);
         }
-        match feed_requests(
+        let fed = feed_requests(
             self.alloc,
             self.conn,
             &mut self.reader,
@@ -230,8 +246,11 @@ impl Session {
             &mut self.next,
             moment,
             bytes,
+            &mut self.frames,
             jobs,
-        ) {
+        );
+        trim(self.alloc, &mut self.frames);
+        match fed {
             Ok(true) => {
                 self.fed += bytes.len() as u64;
                 self.life = Life::GaveEnd;
@@ -284,6 +303,7 @@ impl Session {
     {
         self.reader = Reader::new(self.alloc);
         self.mode = Mode::new(self.alloc);
+        self.frames = Vec::new(self.alloc);
         if self.life == Life::GaveEnd && dropped.is_none() {
             return None;
         }

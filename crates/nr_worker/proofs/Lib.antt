@@ -10,6 +10,8 @@ mod Timed
 mod Accounted
 mod Batched
 mod Portioned
+mod Reordered
+mod Beside
 mod Nourished
 mod Gathered
 mod Awaited

@@ -5,6 +5,8 @@ pub mod Worker
 pub mod Moves
 pub mod Law
 pub mod Due
+pub mod Ordering
 pub mod Working
+pub mod Reading
 pub mod Settling
 pub mod Resting

@@ -1,12 +1,15 @@
 // The jobs that wait to be handed in.
-ghost use Rattle.std.specs.Prelude.{◌≡◌, ◌<◌, ◌≤◌, ◌==◌, ◌+◌, ◌++◌, ◌∷◌, [], true, length, take, drop, IsOk, IfOk, OnOk, OnErr};
+ghost use Rattle.std.specs.Prelude.{◌≡◌, ◌<◌, ◌≤◌, ◌==◌, ◌+◌, ◌++◌, ◌∷◌, [], true, length, take, drop, IsOk, IfOk, IfSome, OnOk, OnErr};
 ghost use Rattle.std.specs.Vec.{vec_len, vec_capacity};
+ghost use Rattle.nr_model.specs.Asked.{own_jobs};
+ghost use Rattle.nr_model.specs.Items.{Connection};
 ghost use Rattle.nr_model.specs.Keyspace.{last_moment};
 ghost use Rattle.nr_entry.specs.Jobs.{item_of, items_of};
 ghost use Rattle.nr_worker.specs.Placed.{seat_at, takes_here, FeedsSeat, StopsSeat};
 ghost use Rattle.nr_worker.specs.Due.{emptied, fresh_due, with_room};
 
 use crate::open_connections::OpenConnections;
+use crate::ordering::put_reads_first;
 use nr_blob::Memory;
 use nr_entry::{Job, split_behind, take_front};
 use nr_replica::CutReason;
@@ -147,6 +150,35 @@ impl DueJobs {
             return take_front(alloc, &mut self.jobs, most);
         }
         take_both(alloc, &mut self.jobs, &mut self.lasts, most)
+    }
+
+    /// How many reads stand in front of all updates, at most so many. A hint. Linear in them.
+    pub(crate) fn reads_in_front(&self, most: usize) -> usize
+        ensures { result ≤ most }
+    {
+        let few = self.jobs.len().min(most);
+        match self.jobs[..few].iter().position(|job| job.is_update()) {
+            Some(place) => place.min(few),
+            None => few,
+        }
+    }
+
+    /// Puts the jobs of connections of which no update waits in front of the others, as [`put_reads_first`] says. The late ones stay behind all.
+    pub(crate) fn put_reads_first(&mut self, alloc: Global, least: usize, most: usize) -> usize
+        ensures own { (c : Connection) → own_jobs c (items_of self.new.jobs) ≡ own_jobs c (items_of self.old.jobs) }
+        ensures few { result ≤ most }
+        ensures late { self.new.late ≡ self.old.late }
+        ensures room { self.new.room ≡ self.old.room }
+    {
+        put_reads_first(alloc, &mut self.jobs, least, most)
+    }
+
+    /// The first so many jobs, where so many wait that aren't late.
+    pub(crate) fn front(&self, count: usize) -> Option<&[Job]>
+        ensures front { IfSome result (λ front. front.now ≡ take count self.now.jobs) }
+        ensures there { IfSome result (λ _. count ≤ length self.now.jobs) }
+    {
+        self.jobs.get(..count)
     }
 
     /// No jobs wait any more; the room stays. Linear in them.

@@ -14,8 +14,8 @@ use nr_oplog::{Oplog, Token};
 use nr_taps::Mark;
 use std::sync::Wait;
 
-// Takes in what was handed out: the mark adopts its token, and each piece waits at its connection's seat.
-fn take_in<B: ServerName>(
+/// Takes in what was handed out: the mark adopts its token, and each piece waits at its connection's seat.
+pub(crate) fn take_in<B: ServerName>(
     log: &Oplog<B>,
     token: Token<B>,
     mark: &mut Mark<B>,

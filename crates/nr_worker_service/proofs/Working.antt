@@ -11,7 +11,8 @@ use Rattle.nr_slots.specs.declared.view.CombinerPast.{CombinerPast}
 use Rattle.nr_combiner.specs.Workers.{NodeHandleState, told_of}
 use Rattle.nr_entry.specs.declared.entry.TheConstants.{MOST_JOBS}
 use Rattle.nr_combiner.specs.declared.answering.Collected.{Collected}
-use Rattle.nr_combiner.specs.declared.answering.Lifts.TheVariants.{All}
+use Rattle.nr_combiner.specs.declared.answering.Lifts.{Lifts}
+use Rattle.nr_combiner.specs.declared.answering.Lifts.TheVariants.{Own}
 use Rattle.nr_combiner.specs.declared.answering.Turned.{Turned}
 use Rattle.std.specs.Prelude.{◌==◌}
 use Rattle.std.proofs.lemmas.Bool.{eqb-true}
@@ -21,6 +22,7 @@ use Rattle.nr_worker.specs.Seated.{OpenConnectionState, cut_off}
 use Rattle.nr_worker.specs.Placed.{IsPut, OpenConnectionsState, seat_at}
 use Rattle.nr_worker.specs.Portions.{HandsOut, seat_of, waiting_of}
 use Rattle.nr_worker.specs.Worker.{Served}
+use Rattle.nr_worker.specs.Reading.{KeepsJobs, ReadsAside, Reorders}
 use Rattle.nr_worker.specs.Settling.{HasSettled}
 use Rattle.nr_worker.specs.declared.collecting.Settled.{Settled}
 use Rattle.nr_worker.specs.Working.{CutsOff, EndsNext, Goes, HandsIn, HandsOn, TakesPieces, TakesTurn, WorkState, all_ended, all_handed, back_work, fallen_work, heard_work, is_away, is_bare, unchanged}
@@ -209,14 +211,36 @@ works_ended put v w one none same (ends, g) =
       node = still.1;
     }
 
+pub works_reordered : (v w : WorkState) → Reorders v w → Goes unchanged v w → Works v w
+works_reordered v w o g = works_none v w g (ap (λ (x : WorkState). x.seats) o.changed) (ap (λ (x : WorkState). x.worker.node) o.changed)
+
+-- reads were run beside the lock, or the same jobs wait
+pub works_read : (places count most : ℕ) (turned : Option Turned) (v w : WorkState) → IfSome turned (λ t. ReadsAside places count most t v w)
+    → IfNone turned (KeepsJobs v w) → IfNone turned (Goes unchanged v w) → Works v w
+works_read places count most (Some turned) v w read keeps g =
+    let b = read.between in
+    let p = read.handed_in in
+    works_then v b w
+    (works_none v b read.goes (ap (λ (x : WorkState). x.seats) p.changed)
+    (ap (λ (x : WorkState). x.worker.node) p.changed ∙ ap (λ (x : NodeHandleState). x.node) p.posted.posted))
+    (works_turned (Some turned) b w read.handed tt)
+works_read places count most None v w read keeps g =
+    works_none v w g (ap (λ (x : WorkState). x.seats) keeps.changed) (ap (λ (x : WorkState). x.worker.node) keeps.changed)
+
 pub works_same : (v : WorkState) → Works v v
 works_same v = works_turned {A = Turned} None v v tt refl
 
 -- ---- behind a turn
-pub behind_turned : (places : ℕ) (turned : Option Turned) (v w : WorkState) → IfSome turned (λ t. TakesTurn places All EVERY t v w)
+pub behind_turned : (places : ℕ) (lifts : Lifts) (turned : Option Turned) (v w : WorkState) → IfSome turned (λ t. TakesTurn places lifts EVERY t v w)
     → IfSome turned (λ t. IsBehindTurn places t w)
-behind_turned places (Some turned) v w took = record { before = v; after = w; took = took; node = refl; mark = refl; heard = refl }
-behind_turned places None v w took = tt
+behind_turned places lifts (Some turned) v w took = record { lifts = lifts; before = v; after = w; took = took; node = refl; mark = refl; heard = refl }
+behind_turned places lifts None v w took = tt
+
+pub behind_read : (places count : ℕ) (turned : Option Turned) (v w : WorkState) → IfSome turned (λ t. ReadsAside places count EVERY t v w)
+    → IfSome turned (λ t. IsBehindTurn places t w)
+behind_read places count (Some turned) v w read =
+    record { lifts = Own; before = read.between; after = w; took = read.took; node = refl; mark = refl; heard = refl }
+behind_read places count None v w read = tt
 
 pub behind_pieces : (collected : Option Collected) (v w : WorkState) → IfSome collected (λ c. TakesPieces EVERY c v w)
     → IfSome collected (λ c. IsBehindPieces c w)
@@ -236,7 +260,7 @@ heard_collected (Err why) v w s same = ap (λ (x : WorkState). x.worker.seat.not
 turn_still : (places : ℕ) (turned : Turned) (v w : WorkState) → w.worker.node ≡ v.worker.node → w.mark ≡ v.mark → w.worker.seat.noted ≡ v.worker.seat.noted
     → IsBehindTurn places turned v → IsBehindTurn places turned w
 turn_still places turned v w node mark heard b =
-    record { before = b.before; after = b.after; took = b.took; node = node ∙ b.node; mark = mark ∙ b.mark; heard = heard ∙ b.heard }
+    record { lifts = b.lifts; before = b.before; after = b.after; took = b.took; node = node ∙ b.node; mark = mark ∙ b.mark; heard = heard ∙ b.heard }
 
 pub pieces_still : (collected : Collected) (v w : WorkState) → w.worker.node ≡ v.worker.node → w.mark ≡ v.mark → w.worker.seat.noted ≡ v.worker.seat.noted
     → IsBehindPieces collected v → IsBehindPieces collected w

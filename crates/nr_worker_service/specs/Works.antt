@@ -4,7 +4,7 @@ use Rattle.nr_model.specs.Connections.{Handed}
 use Rattle.nr_model.specs.Items.{Item}
 use Rattle.nr_node.specs.declared.answers.Round.TheVariants as rounds
 use Rattle.nr_combiner.specs.declared.answering.Collected.{Collected}
-use Rattle.nr_combiner.specs.declared.answering.Lifts.TheVariants.{All}
+use Rattle.nr_combiner.specs.declared.answering.Lifts.{Lifts}
 use Rattle.nr_combiner.specs.declared.answering.Turned.{Turned}
 use Rattle.nr_slots.specs.Names.{IsTold}
 use Rattle.nr_worker.specs.Portions.{HandsOut}
@@ -41,11 +41,12 @@ pub record LeftNothing (batches : ℕ) (turned : Turned) : Type 0 where
   pub answered : batches ≤ turned.answered
   pub done : (turned.combined ≡ Ok rounds.Down) ⊎ ((turned.combined ≡ Ok rounds.Done) × (turned.is_behind ≡ false) × (turned.collected ≡ Ok tt))
 
--- The mark of a worker and what it heard last are those that it had behind a turn of its node for all that waits, which tells this.
+-- The mark of a worker and what it heard last are those that it had behind a turn of its node that handed out all that waits, and tells this.
 pub record IsBehindTurn (places : ℕ) (turned : Turned) (w : WorkState) : Type 0 where
+  pub lifts : Lifts
   pub before : WorkState
   pub after : WorkState
-  pub took : TakesTurn places All EVERY turned before after
+  pub took : TakesTurn places lifts EVERY turned before after
   pub node : w.worker.node ≡ after.worker.node
   pub mark : w.mark ≡ after.mark
   pub heard : w.worker.seat.noted ≡ after.worker.seat.noted

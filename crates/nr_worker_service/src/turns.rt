@@ -6,7 +6,7 @@ ghost use Rattle.nr_worker_service.specs.Works.{GaveAll, HasLooked, HasWaited, I
 use crate::wake_list::News;
 use nr_blob::Memory;
 use nr_combiner::{Collected, Lifts, ServerName, Turned};
-use nr_entry::{ConnId, Refusal};
+use nr_entry::{ConnId, MOST_JOBS, Refusal};
 use nr_node::Round;
 use nr_worker::{Settled, Worker};
 use std::hint;
@@ -20,6 +20,9 @@ const MOST_ENDS: u32 = 64;
 
 /// How many bytes a turn hands out for a connection: all that wait.
 const EVERY: usize = usize::MAX;
+
+/// How many reads at least are run beside the lock: below that the second hold of it costs more than what it is free for. By what was measured.
+const FEW_READS: usize = 16;
 
 /// How often a worker tries to take its node's lock, and looks whether its batch was answered meanwhile, before it is put to sleep until the lock is free: some 20
 /// microseconds.
@@ -123,6 +126,30 @@ fn try_turn<R: Wait, B: ServerName>(desk: &mut Worker<'_, R, B>) -> Option<Turne
     ensures turned { IfSome result (λ turned. IsBehindTurn B.places turned desk.new) }
 {
     desk.try_turn(Lifts::All, EVERY)
+}
+
+// How many reads stand in front. Where it is their turn those of connections of which no update waits are put there.
+fn reads_in_front<R: Wait, B: ServerName>(desk: &mut Worker<'_, R, B>, is_their_turn: bool) -> usize
+    ensures works { Works desk.old desk.new }
+    ensures few { result ≤ MOST_JOBS }
+{
+    if is_their_turn {
+        desk.put_reads_first(FEW_READS)
+    } else {
+        desk.reads_due()
+    }
+}
+
+// Has so many reads run beside its node's lock, where they are enough, and a turn take them.
+fn read_aside<R: Wait, B: ServerName>(desk: &mut Worker<'_, R, B>, count: usize) -> Option<Turned>
+    requires { count ≤ MOST_JOBS }
+    ensures works { Works desk.old desk.new }
+    ensures turned { IfSome result (λ turned. IsBehindTurn B.places turned desk.new) }
+{
+    if count < FEW_READS {
+        return None;
+    }
+    desk.read_aside(count, EVERY)
 }
 
 // What waits at its node, without a turn.
@@ -286,14 +313,33 @@ fn go_on_answered<R: Wait, B: ServerName>(
     next_collected(collected, settled, has_more(desk), desk.batches())
 }
 
+// Hands jobs in, and waits for a turn; or has reads run beside the lock.
+fn hand_in_and_wait<R: Wait, B: ServerName>(
+    desk: &mut Worker<'_, R, B>,
+    is_turn_of_reads: bool,
+) -> TurnWait
+    ensures works { Works desk.old desk.new }
+    ensures waited { HasWaited B.places result desk.new }
+{
+    let count = reads_in_front(desk, is_turn_of_reads);
+    if let Some(turned) = read_aside(desk, count) {
+        return TurnWait::Turned(turned);
+    }
+    hand_in(desk);
+    wait_for_turn(desk)
+}
+
 // Puts ends, hands jobs in, waits for a turn, and takes in what became of the batch.
-fn take_turn<R: Wait, B: ServerName>(desk: &mut Worker<'_, R, B>, worked: &mut Worked) -> NextStep
+fn take_turn<R: Wait, B: ServerName>(
+    desk: &mut Worker<'_, R, B>,
+    worked: &mut Worked,
+    is_turn_of_reads: bool,
+) -> NextStep
     ensures works { Works desk.old desk.new }
     ensures rest { result ≡ NextStep.Rest → HasLooked B.places desk.new }
 {
     put_ends(desk);
-    hand_in(desk);
-    match wait_for_turn(desk) {
+    match hand_in_and_wait(desk, is_turn_of_reads) {
         TurnWait::Turned(turned) => go_on_behind(desk, turned, worked),
         TurnWait::Settled(settled) => go_on_answered(desk, settled, worked),
         TurnWait::Nothing => NextStep::Later,
@@ -305,11 +351,12 @@ fn take_bounded<R: Wait, B: ServerName>(
     desk: &mut Worker<'_, R, B>,
     worked: &mut Worked,
     enough: usize,
+    is_turn_of_reads: bool,
 ) -> NextStep
     ensures works { Works desk.old desk.new }
     ensures rest { result ≡ NextStep.Rest → HasLooked B.places desk.new }
 {
-    let next = take_turn(desk, worked);
+    let next = take_turn(desk, worked, is_turn_of_reads);
     if next == NextStep::Turn && desk.most_waiting() > enough {
         return NextStep::Later;
     }
@@ -345,7 +392,8 @@ fn hear_in_time<R: Wait, B: ServerName>(desk: &mut Worker<'_, R, B>, is_time: bo
 }
 
 // Takes turns until nothing is left to be done, others have to do something first, or what was handed out has to be written, at most 64. Whether something is left.
-// Between two of them others have the lock who wait for it.
+// Between two of them others have the lock who wait for it. In each second one reads of connections of which no update waits go first, so neither they nor the others wait for
+// more than a batch of the other kind.
 fn take_turns<R: Wait, B: ServerName>(
     desk: &mut Worker<'_, R, B>,
     worked: &mut Worked,
@@ -354,8 +402,8 @@ fn take_turns<R: Wait, B: ServerName>(
     ensures works { Works desk.old desk.new }
     ensures rest { result ≡ false → HasLooked B.places desk.new }
 {
-    for _ in 0..MOST_TURNS {
-        match take_bounded(desk, worked, enough) {
+    for turn in 0..MOST_TURNS {
+        match take_bounded(desk, worked, enough, turn % 2 == 0) {
             NextStep::Rest => return false,
             NextStep::Later => return true,
             NextStep::Turn => desk.let_others(),

@@ -158,6 +158,7 @@ impl Form {
         most: usize,
     ) -> Result<(), Memory>
         requires within { place ≤ length (items_of self.old) }
+        requires least { 128 ≤ most }
         requires most { most ≤ 512 }
         ensures put { OnOk result (items_of self.new ≡ insert (items_of self.old) place (member.now, score)) }
         ensures form { OnOk result (is_packed self.new ≡ (is_packed self.old && takes most (length (items_of self.old)) member.now)) }

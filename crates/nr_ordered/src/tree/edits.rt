@@ -31,9 +31,7 @@ impl Tree {
         ensures err { OnErr result (self.new ≡ self.old) }
     {
         let len = self.len();
-        if let Some(memory) = Memory::at_last(len as u64) {
-            return Err(memory);
-        }
+        one_more(len)?;
         let stay = if place == len {
             STAY_AT_THE_END
         } else {
@@ -168,6 +166,17 @@ impl Tree {
         }
         let (right, last) = right.without_last();
         (Tree::close(settled(left, top, right)), last)
+    }
+}
+
+// Whether there may be one more, refused at 2^64 alone.
+fn one_more(len: usize) -> Result<(), Memory>
+    ensures more { IfOk result (λ _. len + 1 < 2 ^ 64) }
+    ensures refused { OnErr result (2 ^ 64 ≤ len + 1) }
+{
+    match Memory::at_last(len as u64) {
+        Some(refused) => Err(refused),
+        None => Ok(()),
     }
 }
 

@@ -5,4 +5,4 @@ use Rattle.nr_crew.proofs.dealing.deal_one.Given as goal
 abbrev pub invariant-loop-passed : goal.invariant-loop-passed
 invariant-loop-passed g l =
     (l.main ≡ l.fn.main)
-    × ((before : ℕ) → before < l.passed → g.C.Rooms.admits l.rooms (node_of l.setup.nodes l.number before) false)
+    × ((before : ℕ) → before < l.passed → g.C.Admission.admits l.rooms (node_of l.setup.nodes l.number before) false)

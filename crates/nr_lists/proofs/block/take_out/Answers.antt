@@ -25,7 +25,7 @@ remove_range-requires-clause-within c =
 
 pub returns-clause-whole : goal.returns-clause-whole
 returns-clause-whole c =
-    (cut_out c.args.lens.now.items c.remove_range.new.lens.items c.args.bytes.now c.remove.new.self c.args.start c.args.end c.offset-from.result c.offset-to.result
+    (cut_out c.args.lens.now.items c.remove_range.new.items.items c.args.bytes.now c.remove.new.self c.args.start c.args.end c.offset-from.result c.offset-to.result
     c.requires.whole c.requires.range c.requires.within c.requires.left
     (c.offset-from.ensures.offset ∙ ap (λ ls. total (take c.args.start ls)) c.deref.ensures.value)
     (c.offset-to.ensures.offset ∙ ap (λ ls. total (take c.args.end ls)) c.deref-2.ensures.value)
@@ -33,7 +33,7 @@ returns-clause-whole c =
 
 pub returns-clause-items : goal.returns-clause-items
 returns-clause-items c =
-    (cut_out c.args.lens.now.items c.remove_range.new.lens.items c.args.bytes.now c.remove.new.self c.args.start c.args.end c.offset-from.result c.offset-to.result
+    (cut_out c.args.lens.now.items c.remove_range.new.items.items c.args.bytes.now c.remove.new.self c.args.start c.args.end c.offset-from.result c.offset-to.result
     c.requires.whole c.requires.range c.requires.within c.requires.left
     (c.offset-from.ensures.offset ∙ ap (λ ls. total (take c.args.start ls)) c.deref.ensures.value)
     (c.offset-to.ensures.offset ∙ ap (λ ls. total (take c.args.end ls)) c.deref-2.ensures.value)

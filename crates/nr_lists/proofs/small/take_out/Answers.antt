@@ -18,7 +18,7 @@ returns-clause-laid c =
     let lens_are : c.parts.result.0.now ≡ lens_in c.args.block.now.items = c.parts.ensures.lens ∙ ap lens_in c.deref.ensures.value in
     cut_whole c.args.block.now.items c.args.start c.args.end c.offset-from.result c.offset-to.result (length c.parts.result.0.now) c.requires.laid c.requires.range
     c.requires.within (c.offset-from.ensures.offset ∙ ap (λ ls. total (take c.args.start ls)) lens_are)
-    (c.offset-to.ensures.offset ∙ ap (λ ls. total (take c.args.end ls)) lens_are) (ap length lens_are) c.remove_range.new.bytes.items c.shrink_to_fit.new.self.items
+    (c.offset-to.ensures.offset ∙ ap (λ ls. total (take c.args.end ls)) lens_are) (ap length lens_are) c.remove_range.new.items.items c.shrink_to_fit.new.self.items
     c.remove_range.ensures (c.shrink_to_fit.ensures.items ∙ c.remove_range-2.ensures)
 
 pub returns-clause-items : goal.returns-clause-items
@@ -26,5 +26,5 @@ returns-clause-items c =
     let lens_are : c.parts.result.0.now ≡ lens_in c.args.block.now.items = c.parts.ensures.lens ∙ ap lens_in c.deref.ensures.value in
     cut_read c.args.block.now.items c.args.start c.args.end c.offset-from.result c.offset-to.result (length c.parts.result.0.now) c.requires.laid c.requires.range
     c.requires.within (c.offset-from.ensures.offset ∙ ap (λ ls. total (take c.args.start ls)) lens_are)
-    (c.offset-to.ensures.offset ∙ ap (λ ls. total (take c.args.end ls)) lens_are) (ap length lens_are) c.remove_range.new.bytes.items c.shrink_to_fit.new.self.items
+    (c.offset-to.ensures.offset ∙ ap (λ ls. total (take c.args.end ls)) lens_are) (ap length lens_are) c.remove_range.new.items.items c.shrink_to_fit.new.self.items
     c.remove_range.ensures (c.shrink_to_fit.ensures.items ∙ c.remove_range-2.ensures)

@@ -98,8 +98,8 @@ ends_broken mode rest piece fault seen found ended is some same end on =
       ended = true;
     }) (sym same)
 
-pub returns-clause-jobs : goal.returns-clause-jobs
-returns-clause-jobs c =
+pub returns-in_ok-push_close-in-Some-clause-jobs : goal.returns-in_ok-push_close-in-Some-clause-jobs
+returns-in_ok-push_close-in-Some-clause-jobs c =
     let is = ends_broken c.args.mode.now c.args.reader.now.rest c.args.piece.now c.in-Some.fault _ _ _ c.in_ok-fed.ensures.fault c.in-Some.is c.in_ok-fed.ensures.frames c.in_ok-push_jobs.ensures.ended c.if-branch.false in
     fault_jobs _ c.args.next.now _ c.args.moment c.args.mode.now (items_of c.args.jobs.now.items) (items_of c.push_jobs.new.jobs.items) (items_of c.push_close.new.jobs.items) (frames_seen c.read-fed.new.frames.items)
     (End (Some (Error (fault_text c.in-Some.fault))))
@@ -108,8 +108,8 @@ returns-clause-jobs c =
     ∙ ap (λ reply. items_of c.push_jobs.new.jobs.items ++ jobs_from (connection_of c.args.conn) c.push_jobs.new.next c.args.moment (End (Some reply) ∷ [])) c.in_ok-fault_reply-in-Some.ensures)
     ∙ ap (λ (r : Conversation). items_of c.args.jobs.now.items ++ jobs_from (connection_of c.args.conn) c.args.next.now c.args.moment r.deeds) (sym is)
 
-pub returns-clause-next : goal.returns-clause-next
-returns-clause-next c =
+pub returns-in_ok-push_close-in-Some-clause-next : goal.returns-in_ok-push_close-in-Some-clause-next
+returns-in_ok-push_close-in-Some-clause-next c =
     let is = ends_broken c.args.mode.now c.args.reader.now.rest c.args.piece.now c.in-Some.fault _ _ _ c.in_ok-fed.ensures.fault c.in-Some.is c.in_ok-fed.ensures.frames c.in_ok-push_jobs.ensures.ended c.if-branch.false in
     omega (
       arith,
@@ -118,12 +118,12 @@ returns-clause-next c =
       c.in_ok-push_jobs.ensures.next,
     )
 
-pub returns-clause-mode : goal.returns-clause-mode
-returns-clause-mode c =
+pub returns-in_ok-push_close-in-Some-clause-mode : goal.returns-in_ok-push_close-in-Some-clause-mode
+returns-in_ok-push_close-in-Some-clause-mode c =
     let is = ends_broken c.args.mode.now c.args.reader.now.rest c.args.piece.now c.in-Some.fault _ _ _ c.in_ok-fed.ensures.fault c.in-Some.is c.in_ok-fed.ensures.frames c.in_ok-push_jobs.ensures.ended c.if-branch.false in
     c.in_ok-push_jobs.ensures.mode ∙ ap (λ (r : Conversation). r.mode) (sym is)
 
-pub returns-clause-ended : goal.returns-clause-ended
-returns-clause-ended c =
+pub returns-in_ok-push_close-in-Some-clause-ended : goal.returns-in_ok-push_close-in-Some-clause-ended
+returns-in_ok-push_close-in-Some-clause-ended c =
     let is = ends_broken c.args.mode.now c.args.reader.now.rest c.args.piece.now c.in-Some.fault _ _ _ c.in_ok-fed.ensures.fault c.in-Some.is c.in_ok-fed.ensures.frames c.in_ok-push_jobs.ensures.ended c.if-branch.false in
     sym (ap (λ (r : Conversation). r.ended) is)

@@ -9,4 +9,4 @@ pub returns-clause-works : goal.returns-clause-works
 returns-clause-works g c = works_turned c.try_turn.result c.args.desk.now _ c.try_turn.ensures.turned c.try_turn.ensures.none
 
 pub returns-clause-turned : goal.returns-clause-turned
-returns-clause-turned g c = behind_turned g.B.LogName.places c.try_turn.result c.args.desk.now _ c.try_turn.ensures.took
+returns-clause-turned g c = behind_turned g.B.LogName.places _ c.try_turn.result c.args.desk.now _ c.try_turn.ensures.took

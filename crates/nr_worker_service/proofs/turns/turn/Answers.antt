@@ -9,4 +9,4 @@ pub returns-clause-works : goal.returns-clause-works
 returns-clause-works g c = works_turned c.turn.result c.args.desk.now _ c.turn.ensures.turned c.turn.ensures.none
 
 pub returns-clause-turned : goal.returns-clause-turned
-returns-clause-turned g c = behind_turned g.B.LogName.places c.turn.result c.args.desk.now _ c.turn.ensures.took
+returns-clause-turned g c = behind_turned g.B.LogName.places _ c.turn.result c.args.desk.now _ c.turn.ensures.took

@@ -8,5 +8,5 @@ returns-then-end-len c =
 
 pub returns-else-end-len : goal.returns-else-end-len
 returns-else-end-len c =
-    middle_out c.self.inside.start c.args.start c.args.end c.self.inside.bytes.items c.args.self.now c.drop-drain.new.self.0.items c.self.view_is (search rules) (search rules)
+    middle_out c.self.inside.start c.args.start c.args.end c.self.inside.bytes.items c.args.self.now c.remove_range.new.items.items c.self.view_is (search rules) (search rules)
     (search rules)
