@@ -74,27 +74,16 @@ fn read_four(bytes: &[u8], place: usize) -> u64
     ensures value { result ≡ big_endian 0 (take 4 (drop place bytes.now)) }
     ensures small { result < 2 ^ 32 }
 {
-    let four = [
-        bytes[place],
-        bytes[place + 1],
-        bytes[place + 2],
-        bytes[place + 3],
-    ];
-    u64::from(u32::from_be_bytes(four))
+    let four = &bytes[place..place + 4];
+    u64::from(u32::from_be_bytes([four[0], four[1], four[2], four[3]]))
 }
 
 fn read_eight(bytes: &[u8], place: usize) -> u64
     requires { place + 8 ≤ length bytes.now }
     ensures { result ≡ big_endian 0 (take 8 (drop place bytes.now)) }
 {
+    let eight = &bytes[place..place + 8];
     u64::from_be_bytes([
-        bytes[place],
-        bytes[place + 1],
-        bytes[place + 2],
-        bytes[place + 3],
-        bytes[place + 4],
-        bytes[place + 5],
-        bytes[place + 6],
-        bytes[place + 7],
+        eight[0], eight[1], eight[2], eight[3], eight[4], eight[5], eight[6], eight[7],
     ])
 }

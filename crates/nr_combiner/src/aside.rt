@@ -1,5 +1,5 @@
 // Reads that a worker runs beside its node's lock: it borrows the node's server, and hands the jobs in with the replies prepared.
-ghost use Rattle.std.specs.Prelude.{◌≡◌, ◌<◌, ◌≤◌, length, Some, IfOk, IfErr, IfSome, OnOk, OnErr};
+ghost use Rattle.std.specs.Prelude.{◌≡◌, ◌<◌, ◌≤◌, length, Some, IfOk, IfErr, IfSome, IfNone, OnOk, OnErr};
 ghost use Rattle.nr_entry.specs.Jobs.{items_of};
 ghost use Rattle.nr_slots.specs.Seats.{with_heard, with_posted};
 ghost use Rattle.nr_node.specs.Lending.{AreReadyFor};
@@ -193,7 +193,8 @@ fn prepared_for<B: LogName>(
     number: u64,
     prepared: Prepared<B>,
 ) -> Option<Prepared<B>>
-    ensures { IfSome result (λ kept. (kept ≡ prepared) × (lifted ≡ Some number)) }
+    ensures kept { IfSome result (λ kept. (kept ≡ prepared) × (lifted ≡ Some number)) }
+    ensures none { IfNone result (lifted ≡ Some number → ⊥) }
 {
     if lifted != Some(number) {
         return None;

@@ -38,6 +38,8 @@ enum Task {
     Batches(u32),
     /// So many connections come, and go.
     Closes(u32),
+    /// So many connections are open at once, which are as many as may be.
+    Full(usize),
     /// One connection sends so many requests at once.
     AtOnce(usize),
     /// A reader asks so often behind a writer of the same worker.
@@ -57,11 +59,12 @@ enum Task {
 }
 
 /// Servers of so many nodes, of so many workers each, with so many places, and what is done there.
-const ROWS: [(usize, usize, usize, Task); 11] = [
+const ROWS: [(usize, usize, usize, Task); 12] = [
     (8, 16, 1_024, Task::EachAlone),
     (5, 16, 64, Task::Woken),
     (1, 1, 64, Task::Batches(200_100)),
     (1, 2, 64, Task::Closes(140_000)),
+    (1, 2, 64, Task::Full(1_024)),
     (1, 3, 64, Task::AtOnce(9_000)),
     (1, 2, 64, Task::BehindAWriter(600)),
     (1, 1, 64, Task::Replies(17)),
@@ -325,6 +328,14 @@ fn closes<R: Abort, A: Backend>(rt: &R, server: &mut Server<'_, A>, count: u32) 
     opens_and_asks(rt, server, (0, 1), SET);
 }
 
+// So many are open at once, each of which is answered, and one more isn't let in.
+fn full<R: Abort, A: Backend>(rt: &R, server: &mut Server<'_, A>, count: usize) {
+    for number in 0..count {
+        opens_and_asks(rt, server, (0, number % 2), PING);
+    }
+    holds(rt, "one more isn't let in", !server.crew.admit(0));
+}
+
 // One connection sends so many requests at once.
 fn at_once<R: Abort, A: Backend>(rt: &R, alloc: Global, server: &mut Server<'_, A>, count: usize) {
     let sent = PING.0.repeat(alloc, count).ok().expect(rt, "memory");
@@ -504,6 +515,7 @@ fn does<R: Wait + Abort, A: Backend, N: Falling>(
         Task::Woken => woken(rt, alloc, server),
         Task::Batches(count) => batches(rt, server, count),
         Task::Closes(count) => closes(rt, server, count),
+        Task::Full(count) => full(rt, server, count),
         Task::AtOnce(count) => at_once(rt, alloc, server, count),
         Task::BehindAWriter(count) => behind_a_writer(rt, alloc, server, count),
         Task::Replies(count) => replies(rt, alloc, server, count),
@@ -523,12 +535,16 @@ fn limit_of(task: Task) -> usize {
     }
 }
 
-// Where the connections of no lane come from: a test hands them in itself.
-fn no_places<R: Abort>(rt: &R, alloc: Global, lanes: usize) -> Vec<WorkerPorts<Silent, Silent>> {
+// A number in the place of where the connections of a lane come from: a test hands them in itself.
+fn places_by_number<R: Abort>(
+    rt: &R,
+    alloc: Global,
+    lanes: usize,
+) -> Vec<WorkerPorts<usize, Silent>> {
     let mut places = Vec::new(alloc);
-    for _ in 0..lanes {
+    for number in 0..lanes {
         let put = places.push(WorkerPorts {
-            device: Silent,
+            device: number,
             clock: Silent,
         });
         put.ok().expect(rt, "memory");
@@ -539,13 +555,18 @@ fn no_places<R: Abort>(rt: &R, alloc: Global, lanes: usize) -> Vec<WorkerPorts<S
 fn desks_of<'c, B: ServerName, R: Wait + Abort>(
     rt: &'c R,
     alloc: Global,
-    lanes: Vec<Lane<B, Silent, Silent>>,
+    lanes: Vec<Lane<B, usize, Silent>>,
     crew: &'c SharedHints<Bells>,
     limit: usize,
 ) -> Vec<WorkerBackend<'c, R, B, Bells>> {
     let mut desks = Vec::new(alloc);
     for lane in lanes {
-        let Lane { worker, .. } = lane;
+        let Lane { worker, device, .. } = lane;
+        holds(
+            rt,
+            "each has the place of its number",
+            device == desks.len(),
+        );
         let desk = WorkerBackend::new(alloc, rt, worker, crew, limit, MEBIBYTE);
         desks.push(desk).ok().expect(rt, "memory");
     }
@@ -585,7 +606,7 @@ where
     let shared = Nodes {
         all: share_nodes(alloc, &built)?,
     };
-    let places = no_places(rt, alloc, lanes);
+    let places = places_by_number(rt, alloc, lanes);
     let lanes = lanes_of(alloc, built, setup, places)?;
     let desks = desks_of(rt, alloc, lanes, &crew, limit_of(task));
     let mut server = Server {

@@ -20,13 +20,13 @@ use nr_oplog::{End, LogName};
 use nr_replica::Replica;
 use std::hint;
 
-// How many times it is asked whether a server is still lent: with the pauses between some 20 microseconds.
-const MOST_ASKED: u64 = 400;
+// How many times it is asked whether a server is still lent: with the pauses between some 50 microseconds, in which a worker beside changes has run its reads.
+const MOST_ASKED: u64 = 1_000;
 
 /// Lets go of the shares that are kept of entries which all nodes have passed. Takes all entries in that there are when it begins, and passes them, and the next
 /// one where that is there. It stops, and answers false, where one isn't there yet, or where the replica holds the others back, since much waits for a connection:
 /// see [`Replica::holds_back`](nr_replica::Replica::holds_back). While its server is lent it takes none in: where there are some it waits for the loans to end, some
-/// 20 microseconds at most, and stops where one is still out. The account of each connection whose end is among them goes. A replica that is down passes them
+/// 50 microseconds at most, and stops where one is still out. The account of each connection whose end is among them goes. A replica that is down passes them
 /// too, executes none, and holds none back. Where the replica falls over one of them, what waits and the next entry of its own are dropped, and the accounts go
 /// back by that: see [`drop_lifted`].
 pub(crate) fn catch_up<B: LogName>(
@@ -78,7 +78,7 @@ fn is_lent_out(replica: &mut Replica, count: u64) -> bool
     outlasts(replica)
 }
 
-// Whether a loan of a replica's server is still out after some 20 microseconds.
+// Whether a loan of a replica's server is still out after some 50 microseconds.
 fn outlasts(replica: &mut Replica) -> bool
     ensures lent { result ≡ replica.new.lent }
     ensures was { result ≡ true → replica.old.lent ≡ true }

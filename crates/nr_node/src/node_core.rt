@@ -287,7 +287,7 @@ impl<B: LogName> Core<B> {
 
     /// Applies and passes all entries that there are when it begins, and the next one where that is there, and runs no read. It stops where one isn't filled yet,
     /// and where much waits for a connection, until that was handed out: see [`Replica::holds_back`](nr_replica::Replica::holds_back). While its server is lent it takes
-    /// none in: it waits some 20 microseconds for the loans to end, where there are entries, and stops where one is still out. A node that is down passes
+    /// none in: it waits some 50 microseconds for the loans to end, where there are entries, and stops where one is still out. A node that is down passes
     /// them too, and stops for nothing that waits. The account of each connection whose end is among them goes. Where the node falls over one of them, what it has
     /// lifted and not reserved is dropped, and the account of each connection that has a job there goes back to the first of these: linear in the accounts, times
     /// the runs of jobs that wait and the jobs of an entry. It is never an error for want of memory.

@@ -1,5 +1,7 @@
 // Buffers that were written out, for queues that give theirs away.
 ghost use Rattle.std.specs.Prelude.{◌≡◌, ◌≤◌, ◌+◌, ◌⊎◌, [], IfSome, IfNone, length};
+ghost use Rattle.std.specs.List.{AllByRecursion};
+ghost use Rattle.std.specs.Vec.{vec_capacity};
 
 use crate::outbox::MOST_COPIED;
 use std::alloc::Global;
@@ -22,12 +24,15 @@ pub struct Spares {
 
 impl Model for Spares {
     ghost use Rattle.std.specs.Prelude.{◌≤◌, ℕ, length};
+    ghost use Rattle.std.specs.List.{AllByRecursion};
+    ghost use Rattle.std.specs.Vec.{vec_capacity};
 
     ghost Value = { ℕ };
 
     ghost view = { λ s. length s.buffers.items };
 
-    ghost invariant = { λ s. length s.buffers.items ≤ 64 };
+    ghost invariant = { λ s. ((length s.buffers.items ≤ 64) × AllByRecursion (λ buffer. vec_capacity buffer ≤ 131_072) s.buffers.items)
+        × ((length s.short.items ≤ 64) × AllByRecursion (λ buffer. vec_capacity buffer ≤ 1_024) s.short.items) };
 }
 
 impl Spares {
@@ -50,9 +55,9 @@ impl Spares {
         let is_full = self.buffers.len() >= MOST_KEPT;
         let room = buffer.capacity();
         if room > MOST_COPIED && room <= MOST_ROOM && !is_full {
-            push_emptied(&mut self.buffers, buffer);
+            push_emptied(&mut self.buffers, MOST_ROOM, buffer);
         } else if room <= MOST_COPIED && room > 0 && self.short.len() < MOST_KEPT {
-            push_emptied(&mut self.short, buffer);
+            push_emptied(&mut self.short, MOST_COPIED, buffer);
         }
     }
 
@@ -60,6 +65,7 @@ impl Spares {
     pub(crate) fn take(&mut self) -> Option<Vec<u8>>
         ensures empty { IfSome result (λ buffer. buffer.items ≡ []) }
         ensures some { IfSome result (λ buffer. self.old ≡ self.new + 1) }
+        ensures room { IfSome result (λ buffer. vec_capacity buffer ≤ 131_072) }
         ensures none { IfNone result (self.old ≡ 0) }
     {
         let mut buffer = self.buffers.pop()?;
@@ -70,6 +76,7 @@ impl Spares {
     /// One with room for at most 1,024 bytes and nothing in it: the one that was kept last, else one that takes no memory yet.
     pub(crate) fn take_short(&mut self, alloc: Global) -> Vec<u8>
         ensures empty { result.items ≡ [] }
+        ensures room { vec_capacity result ≤ 1_024 }
         ensures same { self.new ≡ self.old }
     {
         let Some(mut short) = self.short.pop() else {
@@ -81,8 +88,11 @@ impl Spares {
 }
 
 // Puts a buffer to the others without the bytes in it, where there is memory to note it.
-fn push_emptied(buffers: &mut Vec<Vec<u8>>, buffer: Vec<u8>)
-    ensures { (length buffers.new.items ≡ length buffers.old.items) ⊎ (length buffers.new.items ≡ length buffers.old.items + 1) }
+fn push_emptied(buffers: &mut Vec<Vec<u8>>, most: usize, buffer: Vec<u8>)
+    requires room { vec_capacity buffer ≤ most }
+    requires rooms { AllByRecursion (λ buffer. vec_capacity buffer ≤ most) buffers.old.items }
+    ensures rooms { AllByRecursion (λ buffer. vec_capacity buffer ≤ most) buffers.new.items }
+    ensures count { (length buffers.new.items ≡ length buffers.old.items) ⊎ (length buffers.new.items ≡ length buffers.old.items + 1) }
 {
     let mut emptied = buffer;
     emptied.clear();

@@ -7,3 +7,4 @@ pub mod Read
 pub mod Both
 mod Unheard
 mod Finished
+mod ByLane

@@ -1,6 +1,6 @@
 // Serving by TCP: each worker of each node on a thread of its own.
 ghost use Rattle.std.specs.IoError.{error_kind, raw_os_error};
-ghost use Rattle.std.specs.Prelude.{◌≡◌, ◌⊎◌, ◌<◌, ◌+◌, ◌*◌, List, length, IfOk, IfErr};
+ghost use Rattle.std.specs.Prelude.{◌≡◌, ◌⊎◌, ◌<◌, ◌+◌, ◌*◌, List, length, map, IfOk, IfErr};
 ghost use Rattle.std.specs.Vec.{vec_len};
 ghost use Rattle.nr_model.specs.Bytes.{IsBeginningOf};
 ghost use Rattle.nr_crew.specs.Dealing.{HasDealt};
@@ -230,7 +230,8 @@ fn places_of<'a, R>(
     entrance: &'a Inboxes,
     lookouts: Vec<PollHandle>,
 ) -> Result<Vec<WorkerPorts<SocketPoller<'a, R>, MachineClock<'a, R>>>, Fault>
-    ensures { IfErr result IsBefore }
+    ensures lanes { IfOk result (λ places. map (λ place. place.device.lane.now.number) places.items ≡ map (λ lookout. lookout.lane) lookouts.items) }
+    ensures before { IfErr result IsBefore }
 {
     let mut places = Vec::with_capacity(alloc, lookouts.len())?;
     for lookout in lookouts {
@@ -239,9 +240,9 @@ fn places_of<'a, R>(
             Err(why) => return Err(undoored(why)),
         };
         let clock = MachineClock { runtime: rt };
-        if places.push(WorkerPorts { device, clock }).is_err() {
+        let Ok(()) = places.push(WorkerPorts { device, clock }) else {
             return Err(Fault::Memory);
-        }
+        };
     }
     Ok(places)
 }

@@ -1,5 +1,6 @@
 // The session of a connection: bytes in, jobs out. It owns the reader and the number of the next job, and touches nothing else.
 ghost use Rattle.std.specs.Prelude.{◌≡◌, ◌↔◌, ◌+◌, ◌<◌, ◌≤◌, ◌^◌, ◌++◌, [], true, false, None, Some, Err, OnOk, OnErr, IfOk, IfSome, IsNone, IsTrue, is_ok, is_some, cond, not, ◌||◌, unwrap_or, if◌then◌else◌, length};
+ghost use Rattle.std.specs.Vec.{vec_capacity};
 ghost use Rattle.nr_model.specs.Items.{End};
 ghost use Rattle.nr_blob.specs.declared.memory.Memory.{Memory};
 ghost use Rattle.nr_model.specs.Keyspace.{last_moment};
@@ -81,7 +82,10 @@ fn feed_requests(
 }
 
 // Lets go of the requests that are left, and of room for more than are kept.
-fn trim(alloc: Global, frames: &mut Vec<Frame>) {
+fn trim(alloc: Global, frames: &mut Vec<Frame>)
+    ensures empty { frames.new.items ≡ [] }
+    ensures few { vec_capacity frames.new ≤ 16 }
+{
     if frames.capacity() > MOST_KEPT {
         *frames = Vec::new(alloc);
     } else {
@@ -138,7 +142,8 @@ pub struct Session {
 }
 
 impl Model for Session {
-    ghost use Rattle.std.specs.Prelude.{◌≡◌, ◌+◌, ◌≤◌, None, length};
+    ghost use Rattle.std.specs.Prelude.{◌≡◌, ◌+◌, ◌≤◌, None, [], length};
+    ghost use Rattle.std.specs.Vec.{vec_capacity};
     ghost use Rattle.nr_entry.specs.Jobs.{connection_of};
     ghost use Rattle.nr_session.specs.declared.session.Life.TheVariants.{Open};
     ghost use Rattle.nr_session.specs.SessionState.{SessionState, coded_session};
@@ -150,7 +155,8 @@ impl Model for Session {
 
     ghost view = { λ s. record { connection = connection_of s.conn; rest = s.reader.rest; mode = s.mode; next = s.next; fed = s.fed; ended = has_ended s.life; gave_end = gave_end s.life; lost = s.lost; fell = s.fell } };
 
-    ghost invariant = { λ s. s.life ≡ Open → (s.reader.closed ≡ None) × (s.next + length s.reader.rest ≤ s.fed) };
+    ghost invariant = { λ s. (s.life ≡ Open → (s.reader.closed ≡ None) × (s.next + length s.reader.rest ≤ s.fed))
+        × ((vec_capacity s.frames ≤ 16) × (s.frames.items ≡ [])) };
 }
 
 impl Session {

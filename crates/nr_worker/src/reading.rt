@@ -1,5 +1,5 @@
 // Reads that are run beside the lock of the worker's node.
-ghost use Rattle.std.specs.Prelude.{◌≡◌, ◌<◌, ◌≤◌, [], true, take, length, IfSome, IfNone};
+ghost use Rattle.std.specs.Prelude.{◌≡◌, ◌<◌, ◌≤◌, ◌+◌, [], true, false, take, length, IfSome, IfNone};
 ghost use Rattle.nr_entry.specs.Jobs.{items_of};
 ghost use Rattle.nr_node.specs.Lending.{AreReadyFor};
 ghost use Rattle.nr_worker.specs.Reading.{KeepsJobs, ReadsAside, Reorders};
@@ -14,6 +14,26 @@ use nr_node::Prepared;
 use nr_replica::Spares;
 use std::alloc::Global;
 use std::sync::Wait;
+
+/// The fewest reads that are run at once.
+const FEWEST: usize = 128;
+
+/// How many more are run at once where the server was lent.
+const MORE: usize = 32;
+
+// How many reads are run at once where so many were, and the server was lent for them or wasn't.
+fn paced(most: usize, is_lent: bool) -> usize
+    ensures range { (128 ≤ result) × (result ≤ MOST_JOBS) }
+    ensures more { is_lent ≡ true → 128 ≤ most → most + 32 ≤ MOST_JOBS → result ≡ most + 32 }
+    ensures fewer { is_lent ≡ false → 256 ≤ most → result + result ≤ most }
+{
+    let paced = if is_lent {
+        most.saturating_add(MORE)
+    } else {
+        most / 2
+    };
+    paced.max(FEWEST).min(MOST_JOBS)
+}
 
 // Whether there are no jobs.
 fn are_none(jobs: &Vec<Job>) -> bool
@@ -41,20 +61,21 @@ fn prepare<R: Wait, B: ServerName>(
 }
 
 impl<'a, R: Wait, B: ServerName> Worker<'a, R, B> {
-    /// How many reads stand in front of all updates that wait, at most a batch; none where an answer is awaited, where jobs were handed back, or where no other worker is at its
-    /// node. A hint: [`Worker::read_aside`] runs these where they are reads. Linear in them.
+    /// How many reads stand in front of all updates that wait, at most as many as are run at once now ([`Worker::pace_reads`]); none where an answer is awaited, where jobs were handed
+    /// back, or where no other worker is at its node. A hint: [`Worker::read_aside`] runs these where they are reads. Linear in them.
     pub fn reads_due(&self) -> usize
         ensures few { result ≤ MOST_JOBS }
     {
         if self.is_waiting || !self.returned.is_empty() || self.worker.shared().workers() < 2 {
             return 0;
         }
-        self.due.reads_in_front(MOST_JOBS)
+        self.due.reads_in_front(self.most_reads.min(MOST_JOBS))
     }
 
     /// Puts the jobs of connections of which no update waits in front of the others, at most a batch, where there are at least so many of them, so that a writer's pipeline in front
-    /// doesn't hide the reads behind it. Those of each connection stay in their order. How many stand in front then; none where [`Worker::reads_due`] says none, where there are fewer,
-    /// where updates of more than 32 connections wait, or where memory runs out. A hint. Linear in the jobs, for each of them in the connections of which updates wait.
+    /// doesn't hide the reads behind it. Those of each connection stay in their order. How many stand in front then, at most as many as are run at once now; none where
+    /// [`Worker::reads_due`] says none, where there are fewer, where updates of more than 32 connections wait, or where memory runs out. A hint. Linear in the jobs, for each of them in
+    /// the connections of which updates wait.
     pub fn put_reads_first(&mut self, least: usize) -> usize
         ensures few { result ≤ MOST_JOBS }
         ensures reorders { Reorders self.old self.new }
@@ -63,7 +84,16 @@ impl<'a, R: Wait, B: ServerName> Worker<'a, R, B> {
         if self.is_waiting || !self.returned.is_empty() || self.worker.shared().workers() < 2 {
             return 0;
         }
-        self.due.put_reads_first(self.alloc, least, MOST_JOBS)
+        let count = self.due.put_reads_first(self.alloc, least, MOST_JOBS);
+        count.min(self.most_reads)
+    }
+
+    /// Says that its node lent its server for reads, or didn't. An update waits for reads that are under way, so where it didn't at most half as many are run at once from then on, and
+    /// not fewer than 128; and where it did 32 more, up to a batch. Constant.
+    pub fn pace_reads(&mut self, is_lent: bool)
+        ensures { self.new ≡ self.old }
+    {
+        self.most_reads = paced(self.most_reads, is_lent);
     }
 
     /// Has the first so many jobs run beside the lock of its node, where all are reads, and hands them in with their replies: as [`Worker::post`] and then [`Worker::turn`] with the own

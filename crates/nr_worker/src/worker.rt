@@ -7,7 +7,7 @@ ghost use Rattle.nr_worker.specs.Working.{fresh_work, without_mark, Reflects};
 use crate::due::DueJobs;
 use crate::open_connections::OpenConnections;
 use nr_combiner::{NodeHandle, ServerName};
-use nr_entry::Job;
+use nr_entry::{Job, MOST_JOBS};
 use nr_node::LastPiece;
 use nr_replica::Spares;
 use nr_taps::Mark;
@@ -37,6 +37,8 @@ pub struct Worker<'a, R, B: ServerName> {
     pub(crate) pieces: Vec<LastPiece>,
     // Buffers that were written out, for its node's queues.
     pub(crate) spares: Spares,
+    // How many reads are run at once beside its node's lock, at most.
+    pub(crate) most_reads: usize,
     pub(crate) is_down: bool,
     pub(crate) limit: usize,
     // How many connections its node had as it came back last, as far as was heard; and whether ends are to be put for those, and behind which serial.
@@ -78,6 +80,7 @@ impl<'a, R: Wait, B: ServerName> Worker<'a, R, B> {
             mark: Mark::new(),
             pieces: Vec::new(alloc),
             spares: Spares::new(alloc),
+            most_reads: MOST_JOBS,
             is_down: false,
             limit,
             since: 0,

@@ -21,8 +21,14 @@ const MOST_ENDS: u32 = 64;
 /// How many bytes a turn hands out for a connection: all that wait.
 const EVERY: usize = usize::MAX;
 
-/// How many reads at least are run beside the lock: below that the second hold of it costs more than what it is free for. By what was measured.
+/// How many reads at least are run beside the lock: below that the second hold of it costs more than what it is free for.
 const FEW_READS: usize = 16;
+
+/// How often it is tried to have reads run beside the lock before they are handed in by a turn as the others are.
+const LOAN_TRIES: u32 = 4;
+
+/// In each of so many turns reads of connections of which no update waits are put in front, at most a batch, which is run in up to eight turns.
+const READS_PERIOD: u32 = 16;
 
 /// How often a worker tries to take its node's lock, and looks whether its batch was answered meanwhile, before it is put to sleep until the lock is free: some 20
 /// microseconds.
@@ -150,6 +156,38 @@ fn read_aside<R: Wait, B: ServerName>(desk: &mut Worker<'_, R, B>, count: usize)
         return None;
     }
     desk.read_aside(count, EVERY)
+}
+
+// Says whether its node lent its server for reads. Where it didn't, those have the lock first who wait for it.
+fn pace_reads<R: Wait, B: ServerName>(desk: &mut Worker<'_, R, B>, is_lent: bool)
+    ensures { desk.new ≡ desk.old }
+{
+    desk.pace_reads(is_lent);
+    if !is_lent {
+        desk.let_others();
+    }
+}
+
+// The same, tried a few times: the update for which the node lends nothing is applied soon, and handed in by a turn the reads would be run under its lock.
+fn read_aside_soon<R: Wait, B: ServerName>(
+    desk: &mut Worker<'_, R, B>,
+    count: usize,
+) -> Option<Turned>
+    requires { count ≤ MOST_JOBS }
+    ensures works { Works desk.old desk.new }
+    ensures turned { IfSome result (λ turned. IsBehindTurn B.places turned desk.new) }
+{
+    if count < FEW_READS {
+        return None;
+    }
+    for _ in 0..LOAN_TRIES {
+        let turned = read_aside(desk, count);
+        pace_reads(desk, turned.is_some());
+        if turned.is_some() {
+            return turned;
+        }
+    }
+    None
 }
 
 // What waits at its node, without a turn.
@@ -322,7 +360,7 @@ fn hand_in_and_wait<R: Wait, B: ServerName>(
     ensures waited { HasWaited B.places result desk.new }
 {
     let count = reads_in_front(desk, is_turn_of_reads);
-    if let Some(turned) = read_aside(desk, count) {
+    if let Some(turned) = read_aside_soon(desk, count) {
         return TurnWait::Turned(turned);
     }
     hand_in(desk);
@@ -392,8 +430,8 @@ fn hear_in_time<R: Wait, B: ServerName>(desk: &mut Worker<'_, R, B>, is_time: bo
 }
 
 // Takes turns until nothing is left to be done, others have to do something first, or what was handed out has to be written, at most 64. Whether something is left.
-// Between two of them others have the lock who wait for it. In each second one reads of connections of which no update waits go first, so neither they nor the others wait for
-// more than a batch of the other kind.
+// Between two of them others have the lock who wait for it. In each sixteenth one reads of connections of which no update waits go to the front, at most a batch of them, so neither
+// they nor the others wait for more than some batches of the other kind.
 fn take_turns<R: Wait, B: ServerName>(
     desk: &mut Worker<'_, R, B>,
     worked: &mut Worked,
@@ -403,7 +441,7 @@ fn take_turns<R: Wait, B: ServerName>(
     ensures rest { result ≡ false → HasLooked B.places desk.new }
 {
     for turn in 0..MOST_TURNS {
-        match take_bounded(desk, worked, enough, turn % 2 == 0) {
+        match take_bounded(desk, worked, enough, turn % READS_PERIOD == 0) {
             NextStep::Rest => return false,
             NextStep::Later => return true,
             NextStep::Turn => desk.let_others(),

@@ -17,7 +17,7 @@ turn_lifted-told-requires-clause-ready g c =
     let alone = subst (λ (x : CombinerState). IfSome c.lift_alone-lifted.result (λ n. HoldsAlone c.args.worker n c.args.combiner.now x)) same c.lift_alone-lifted.ensures.alone in
     kept_ready c.args.worker seat.worker c.args.number c.args.combiner.now c.note-note.new.self c.note-note.result c.lift_alone-lifted.result c.prepared_for-prepared.result
     c.args.prepared seat.lane c.requires.worker (c.note-note.ensures.kept ∙ ap (λ (x : CombinerState). note_of x.seat) same) alone c.hear.ensures.told c.requires.last
-    c.prepared_for-prepared.ensures
+    c.prepared_for-prepared.ensures.kept
 
 pub returns-clause-turned : goal.returns-clause-turned
 returns-clause-turned g c =

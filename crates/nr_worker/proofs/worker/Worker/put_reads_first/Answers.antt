@@ -4,5 +4,5 @@ use Rattle.nr_worker.proofs.worker.Worker.put_reads_first.Goals as goal
 
 pub returns-clause-goes : goal.returns-clause-goes
 returns-clause-goes g c =
-    reordered c.args.self.now _ c.self.inside.returned.items c.self.inside.due.jobs c.put_reads_first.new.self.jobs c.put_reads_first.new.self.late c.self.view_is refl
-    c.put_reads_first.ensures.own
+    reordered c.args.self.now _ c.self.inside.returned.items c.self.inside.due.jobs c.put_reads_first-count.new.self.jobs c.put_reads_first-count.new.self.late c.self.view_is refl
+    c.put_reads_first-count.ensures.own
