@@ -13,7 +13,7 @@ use std::thread;
 use std::time::Instant;
 
 /// How many nodes there are, and how many workers each of them has.
-pub(crate) const NODES: usize = 5;
+pub(crate) const NODES: usize = 3;
 
 pub(crate) const WORKERS: usize = 2;
 

@@ -168,7 +168,7 @@ fn have_counted<R: Abort>(rt: &R, alloc: Global, done: &[Caller], total: u64) {
     is_each_once(rt, all, total);
 }
 
-// Five nodes over a log of so many places fall in so many rounds, and come back so often, while clients of all of them count up. Then each worker of each node tells
+// Three nodes over a log of so many places fall in so many rounds, and come back so often, while clients of all of them count up. Then each worker of each node tells
 // how far was counted, at least as far as was answered and at most as was asked; and nobody is subscribed.
 fn count_beside<R>(
     rt: &R,
@@ -203,7 +203,7 @@ where
 #[test]
 fn each_comes_back(rt: HostRuntime) {
     for places in [2, 64] {
-        count_beside(&rt, rt.alloc(), places, (Trouble::InTurn, 15, 15));
+        count_beside(&rt, rt.alloc(), places, (Trouble::InTurn, 9, 9));
     }
 }
 
