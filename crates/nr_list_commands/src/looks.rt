@@ -124,8 +124,9 @@ fn lent_range<'k>(
 ) -> Result<Vec<Item<'k>>, Memory>
     ensures { IfOk result (λ items. map item_reply items.items ≡ map Bulk (range first last list.now)) }
 {
-    let mut items = Vec::new(alloc);
-    for item in list.range(first, last) {
+    let shown = list.range(first, last);
+    let mut items = Vec::with_capacity(alloc, shown.len())?;
+    for item in shown {
         items.push(Item::Bulk(item))?;
     }
     Ok(items)

@@ -4,7 +4,7 @@ use Rattle.std.specs.Prelude.{slice_get, Option, Some, None, bytes_eq, cond, if�
 use Rattle.std.specs.List.{insert, position_from}
 use Rattle.std.specs.Option.{option_map, unwrap_or}
 use Rattle.std.proofs.lemmas.Bool.{lt-ltb}
-use Rattle.std.proofs.lemmas.List.{set_split, take-append-drop, drop-drop, length-set, get_or_read, reverse-reverse, reverse-append, drop_all, take_at, get_or_at}
+use Rattle.std.proofs.lemmas.List.{set_split, take-append-drop, drop-drop, length-set, length-drop, get_or_read, reverse-reverse, reverse-append, drop_all, take_at, get_or_at}
 use Rattle.std.proofs.lemmas.Iterator.Adapters.{position_from-zero}
 use Rattle.nr_model.specs.Bytes.{Bytes}
 use Rattle.nr_model.specs.Strings.{range, range_start, range_end}
@@ -58,6 +58,14 @@ ranged blocks items shown len k i start end first last counted view begins ends 
     are ∙ ap (take (end - start)) (behind_is blocks k i start within (omega (arith, inside)) at ∙ ap (drop start) view)
     ∙ (λ j. take ((ends ∙ ap (λ n. range_end n last) same) j - (begins ∙ ap (λ n. range_start n first) same) j)
     (drop ((begins ∙ ap (λ n. range_start n first) same) j) items))
+
+-- as many items as a range has are from its first on
+pub reached : (blocks : List (List Bytes)) (len k i start end : ℕ) → len ≡ length (joined blocks) → end ≤ len → k < length blocks → i < length (block_at blocks k)
+    → start ≡ length (joined (take k blocks)) + i → end - start ≤ length (behind blocks k i)
+reached blocks len k i start end counted bound within inside at =
+    let all : length (behind blocks k i) ≡ length (joined blocks) - start =
+    ap length (behind_is blocks k i start within (omega (arith, inside)) at) ∙ length-drop start (joined blocks) in
+    omega (arith, all, counted, bound)
 
 pub trimmed : (old items cut new : List Bytes) (len start end : ℕ) (first last : ℤ) → len ≡ length old → old ≡ items → start ≡ range_start len first
     → end ≡ range_end len last → start ≤ end → cut ≡ take end old → new ≡ drop start cut → new ≡ range first last items

@@ -1,5 +1,5 @@
 // The items of a list, lent one after another.
-ghost use Rattle.std.specs.Prelude.{◌≡◌, ◌++◌, [], take, IfNone};
+ghost use Rattle.std.specs.Prelude.{◌≡◌, ◌≤◌, ◌++◌, [], length, take, IfNone};
 ghost use Rattle.std.specs.Option.{option_map, option_to_list};
 ghost use Rattle.nr_model.specs.Lists.{seen_from};
 
@@ -66,22 +66,25 @@ impl<'a> Walk<'a> {
 #[derive(Drop)]
 pub struct Items<'a> {
     walk: Walk<'a>,
-    // How many of the walk's.
+    // How many of the walk's, which has as many.
     left: usize,
 }
 
 impl<'a> Model for Items<'a> {
-    ghost use Rattle.std.specs.Prelude.{List, take};
+    ghost use Rattle.std.specs.Prelude.{◌≤◌, List, length, take};
     ghost use Rattle.nr_model.specs.Bytes.{Bytes};
 
     ghost Value = { List Bytes };
 
     ghost view = { λ items. take items.left items.walk };
+
+    ghost invariant = { λ items. items.left ≤ length items.walk };
 }
 
 impl<'a> Items<'a> {
-    /// The first so many of a walk.
+    /// The first so many of a walk, which has as many.
     pub(crate) fn new(walk: Walk<'a>, left: usize) -> Items<'a>
+        requires { left ≤ length walk }
         ensures { result ≡ take left walk.entry }
     {
         Items { walk, left }
@@ -103,5 +106,11 @@ impl<'a> Iterator for Items<'a> {
         }
         self.left -= 1;
         self.walk.take(End::Left)
+    }
+}
+
+impl<'a> ExactSizeIterator for Items<'a> {
+    fn len(&self) -> usize {
+        self.left
     }
 }
