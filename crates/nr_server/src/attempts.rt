@@ -1,6 +1,6 @@
 // When it is tried to bring a node back that is down.
 ghost use Rattle.std.specs.Prelude.{◌≡◌, ◌⊎◌, ◌↔◌, ◌+◌, ◌≤◌, ◌<◌, IsTrue};
-ghost use Rattle.nr_server.specs.Attempts.{IsPausedBehind};
+ghost use Rattle.nr_server.specs.Attempts.{IsDue, IsPausedBehind};
 
 /// How many milliseconds it is waited behind the first try, and at most.
 const FIRST_PAUSE: u64 = 1_000;
@@ -30,7 +30,7 @@ impl Attempts {
 
     /// Whether it is time for one at this moment, in milliseconds. Where the clock went back behind the last one it is.
     pub(crate) fn is_due(&self, moment: u64) -> bool
-        ensures { IsTrue result ↔ ((moment < self.now.last) ⊎ (self.now.last + self.now.pause ≤ moment)) }
+        ensures { IsTrue result ↔ IsDue self.now moment }
     {
         match moment.checked_sub(self.last) {
             Some(gone) => gone >= self.pause,

@@ -1,5 +1,6 @@
 // The thread that takes connections, as it tells an operator what there is to know.
-ghost use Rattle.std.specs.Prelude.{◌≡◌};
+ghost use Rattle.std.specs.Prelude.{◌≡◌, ◌↔◌, IsTrue, IfSome, slice_get};
+ghost use Rattle.nr_server.specs.Attempts.{HasNoted, IsDue};
 
 use crate::attempts::Attempts;
 use crate::fault::Fault;
@@ -146,11 +147,21 @@ impl<L: Receives, M: Moments, O, E: Write> Reception<L, M, O, E> {
         }
     }
 
-    // Tells this, where it can be told.
-    fn tell(&mut self, notice: Notice)
-        ensures { self.new.listener ≡ self.old.listener }
+    // Reads the clock; where that fails the last moment stays.
+    fn read_clock(&mut self)
+        ensures listener { self.new.listener ≡ self.old.listener }
+        ensures revives { self.new.revives ≡ self.old.revives }
+        ensures attempts { self.new.attempts ≡ self.old.attempts }
     {
         self.moment = self.clock.now().unwrap_or(self.moment);
+    }
+
+    // Tells this, where it can be told.
+    fn tell(&mut self, notice: Notice)
+        ensures listener { self.new.listener ≡ self.old.listener }
+        ensures attempts { self.new.attempts ≡ self.old.attempts }
+    {
+        self.read_clock();
         let _ = tell(&mut self.errors, self.moment, notice);
     }
 
@@ -181,24 +192,26 @@ impl<L: Receives, M: Moments, O, E: Write> Reception<L, M, O, E> {
         if self.listener.turned_away() == 0 && self.listener.short() == 0 {
             return;
         }
-        self.moment = self.clock.now().unwrap_or(self.moment);
+        self.read_clock();
         self.tell_of_turned_away();
         self.tell_of_shortage();
     }
 
     // A try to bring a node back is over.
     fn note_attempt(&mut self, node: usize)
-        ensures { self.new.listener ≡ self.old.listener }
+        ensures listener { self.new.listener ≡ self.old.listener }
+        ensures noted { HasNoted node self.new.moment self.old.attempts self.new.attempts }
     {
-        self.moment = self.clock.now().unwrap_or(self.moment);
-        if let Some(attempts) = self.attempts.get_mut(node) {
-            attempts.note(self.moment);
+        self.read_clock();
+        if node < MOST_NODES {
+            self.attempts[node].note(self.moment);
         }
     }
 
     // Tells that a try to bring a node back found no memory, where it is time to.
     fn tell_of_no_copy(&mut self, node: usize)
-        ensures { self.new.listener ≡ self.old.listener }
+        ensures listener { self.new.listener ≡ self.old.listener }
+        ensures attempts { self.new.attempts ≡ self.old.attempts }
     {
         self.no_copies = self.no_copies.saturating_add(1);
         if let Some(tries) = self.no_copy.take(self.no_copies, self.moment) {
@@ -208,7 +221,8 @@ impl<L: Receives, M: Moments, O, E: Write> Reception<L, M, O, E> {
 
     // Tells what became of a try to bring a node back that is over now, and began at a moment.
     fn tell_of_revival(&mut self, node: usize, began: u64, revival: Revival)
-        ensures { self.new.listener ≡ self.old.listener }
+        ensures listener { self.new.listener ≡ self.old.listener }
+        ensures attempts { self.new.attempts ≡ self.old.attempts }
     {
         match revival {
             Revival::Back(keys) => self.tell(Notice::Back {
@@ -271,17 +285,26 @@ impl<L: Receives, M: Moments, O: Write, E: Write> Accepts for Reception<L, M, O,
         self.tell(Notice::Down { node, connections });
     }
 
-    fn is_time_to_revive(&mut self, node: usize) -> bool {
-        self.moment = self.clock.now().unwrap_or(self.moment);
+    fn is_time_to_revive(&mut self, node: usize) -> bool
+        ensures listener { self.new.listener ≡ self.old.listener }
+        ensures attempts { self.new.attempts ≡ self.old.attempts }
+        ensures due { IfSome (slice_get self.old.attempts node) (λ attempts. IsTrue result ↔ (IsTrue self.old.revives × IsDue attempts self.new.moment)) }
+    {
+        self.read_clock();
         match self.attempts.get(node) {
             Some(attempts) => self.revives && attempts.is_due(self.moment),
             None => false,
         }
     }
 
-    fn hear_of_revival(&mut self, node: usize, revival: Revival) {
+    // Whatever came of it, the next try waits.
+    fn hear_of_revival(&mut self, node: usize, revival: Revival)
+        ensures listener { self.new.listener ≡ self.old.listener }
+        ensures noted { HasNoted node self.new.moment self.old.attempts self.new.attempts }
+    {
         let began = self.moment;
-        self.note_attempt(node);
+        self.read_clock();
         self.tell_of_revival(node, began, revival);
+        self.note_attempt(node);
     }
 }

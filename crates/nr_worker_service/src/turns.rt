@@ -1,5 +1,5 @@
 // The work of a worker: its jobs are handed in, its node takes turns, and what becomes of its batches is taken in.
-ghost use Rattle.std.specs.Prelude.{◌≡◌, ◌≤◌, false, Ok, IfSome};
+ghost use Rattle.std.specs.Prelude.{◌≡◌, ◌≤◌, ◌<◌, false, Ok, IfSome};
 ghost use Rattle.std.specs.Bool.{OnFalse};
 ghost use Rattle.nr_worker_service.specs.Works.{GaveAll, HasLooked, HasWaited, IsBehindPieces, IsBehindTurn, IsIdle, IsResting, LeftNothing, Works};
 
@@ -146,15 +146,13 @@ fn reads_in_front<R: Wait, B: ServerName>(desk: &mut Worker<'_, R, B>, is_their_
     }
 }
 
-// Has so many reads run beside its node's lock, where they are enough, and a turn take them.
+// Has so many reads run beside its node's lock, and a turn take them.
 fn read_aside<R: Wait, B: ServerName>(desk: &mut Worker<'_, R, B>, count: usize) -> Option<Turned>
-    requires { count ≤ MOST_JOBS }
+    requires some { 0 < count }
+    requires few { count ≤ MOST_JOBS }
     ensures works { Works desk.old desk.new }
     ensures turned { IfSome result (λ turned. IsBehindTurn B.places turned desk.new) }
 {
-    if count < FEW_READS {
-        return None;
-    }
     desk.read_aside(count, EVERY)
 }
 
@@ -168,7 +166,7 @@ fn pace_reads<R: Wait, B: ServerName>(desk: &mut Worker<'_, R, B>, is_lent: bool
     }
 }
 
-// The same, tried a few times: the update for which the node lends nothing is applied soon, and handed in by a turn the reads would be run under its lock.
+// Where reads are enough, the same, tried a few times: the update for which the node lends nothing is applied soon, and handed in by a turn the reads would be run under its lock.
 fn read_aside_soon<R: Wait, B: ServerName>(
     desk: &mut Worker<'_, R, B>,
     count: usize,

@@ -1,4 +1,3 @@
-use Rattle.std.proofs.Common.{◌≡◌, ◌∙◌, ap, sym, ◌++◌, [], ◌∷◌, map}
 use Rattle.nr_server.proofs.ByLane.{moved}
 use Rattle.nr_server.proofs.serve.places_of.Goals as goal
 

@@ -1,4 +1,4 @@
-use Rattle.nr_worker_service.proofs.Working.{behind_read, works_read, works_same}
+use Rattle.nr_worker_service.proofs.Working.{behind_read, works_read}
 use Rattle.nr_worker_service.proofs.turns.read_aside.Goals as goal
 
 pub returns-clause-works : goal.returns-clause-works
@@ -7,6 +7,3 @@ returns-clause-works g c =
 
 pub returns-clause-turned : goal.returns-clause-turned
 returns-clause-turned g c = behind_read g.B.LogName.places c.args.count c.read_aside.result c.args.desk.now _ c.read_aside.ensures.read
-
-pub returns-then-count-lt-FEW_READS-clause-works : goal.returns-then-count-lt-FEW_READS-clause-works
-returns-then-count-lt-FEW_READS-clause-works g c = works_same c.args.desk.now
