@@ -1,7 +1,7 @@
 // Who deals connections out to three nodes, has them fall, and lets them come back.
 use crate::asserted::holds;
 use crate::callers::{Asked, Caller, Question, Shared};
-use crate::falling::Falls;
+use crate::falling::{Falls, bit};
 use nr_service::{Accepts, Ends, Gate, Go, Revival};
 use std::alloc::Global;
 use std::collections::VecDeque;
@@ -127,10 +127,6 @@ pub(crate) struct Director<'a, R> {
     /// How far was counted, and whether each lane says so.
     pub(crate) total: u64,
     pub(crate) is_agreed: bool,
-}
-
-fn bit(place: usize) -> u64 {
-    if place < 64 { 1 << place } else { 0 }
 }
 
 // The node so many behind this one.

@@ -209,8 +209,8 @@ pub(crate) struct Trial {
     /// How a worker's door breaks, and at which lane.
     pub breaks: Breaks,
     pub breaks_at: usize,
-    /// The first node falls over the first entry; and comes back once all have come, and falls again, time and again.
-    pub falls: bool,
+    /// The node that falls over the first entry; and whether the first one comes back once all have come, and falls again, time and again.
+    pub falls: Option<usize>,
     pub falls_again: bool,
     /// It comes back once one was turned away, who comes again.
     pub comes_back: bool,
@@ -345,7 +345,7 @@ where
         letters.push(empty).ok().expect(rt, "memory");
     }
     let ends = ends_of(rt, alloc, trial, &mut lines);
-    let falls = Falls::new(u64::from(trial.falls));
+    let falls = Falls::of(trial.falls);
     lines.reverse();
     let arrivals = Arrivals {
         rt,

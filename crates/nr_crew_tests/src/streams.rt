@@ -24,7 +24,7 @@ const TRIAL: Trial = Trial {
     held: Held::Nobody,
     breaks: Breaks::Never,
     breaks_at: 0,
-    falls: false,
+    falls: None,
     falls_again: false,
     comes_back: false,
     waits: u64::MAX,
@@ -407,11 +407,45 @@ fn a_fall_holds_nobody_up(rt: HostRuntime) {
     }
     let mut trial = TRIAL;
     trial.workers = 1;
-    trial.falls = true;
+    trial.falls = Some(0);
     trial.stay = 1;
     let came = serve(&rt, rt.alloc(), trial, lines);
     holds(&rt, "all are served", served_well(&rt, &came, 5) == 5);
     went_to(&rt, &came, &[0, 1, 0, 1, 1, 1].map(Some));
+}
+
+/// One that says nothing is at each of five nodes; a key is set at the first, and once that one and the one at the last node went, four come.
+const BESIDE_A_FALL_OF_FIVE: [(usize, &[u8], &[u8]); 10] = [
+    (0, b"", b""),
+    (0, b"", b""),
+    (0, b"", b""),
+    (0, b"", b""),
+    (0, b"", b""),
+    (0, b"SET k v\r\n", b"+OK\r\n"),
+    (2, b"GET k\r\n", b"$1\r\nv\r\n"),
+    (2, b"GET k\r\n", b"$1\r\nv\r\n"),
+    (2, b"GET k\r\n", b"$1\r\nv\r\n"),
+    (2, b"GET k\r\n", b"$1\r\nv\r\n"),
+];
+
+// Of five nodes the last falls: who would be dealt to it goes to the first.
+#[test]
+fn a_fall_of_the_last_of_five_is_heard(rt: HostRuntime) {
+    let mut lines = Vec::new(rt.alloc());
+    for (number, row) in BESIDE_A_FALL_OF_FIVE.into_iter().enumerate() {
+        let mut line = comes(&rt, rt.alloc(), row);
+        line.stays = number < 5;
+        lines.push(line).ok().expect(&rt, "memory");
+    }
+    let mut trial = TRIAL;
+    trial.nodes = 5;
+    trial.workers = 1;
+    trial.falls = Some(4);
+    trial.stay = 4;
+    let came = serve(&rt, rt.alloc(), trial, lines);
+    holds(&rt, "all are served", served_well(&rt, &came, 6) == 6);
+    let lanes = [0, 1, 2, 3, 4, 0, 1, 2, 3, 0];
+    went_to(&rt, &came, &lanes.map(Some));
 }
 
 /// One that says nothing is at the node that falls; the next sets a key at the other, which is full with it; and one reads that key once the first went.
@@ -433,7 +467,7 @@ fn a_node_that_came_back_takes_others(rt: HostRuntime) {
     let mut trial = TRIAL;
     trial.workers = 1;
     trial.connections = 1;
-    trial.falls = true;
+    trial.falls = Some(0);
     trial.comes_back = true;
     trial.stay = 1;
     let came = serve(&rt, rt.alloc(), trial, lines);
@@ -570,7 +604,7 @@ fn an_end_in_order_beside_falls_owes_nothing(rt: HostRuntime) {
         let mut trial = TRIAL;
         trial.nodes = 3;
         trial.ends = true;
-        trial.falls = true;
+        trial.falls = Some(0);
         trial.falls_again = true;
         let came = serve(&rt, rt.alloc(), trial, lines);
         owes_nothing(&rt, rt.alloc(), &came);
